@@ -1,0 +1,199 @@
+-- An ELF32 file as a list of bytes: its fields, the reasons to refuse it, and what it loads.
+-- Sources: System V ABI, edition 4.1, chapters 4 and 5 (ELF-32 object file format); RISC-V ELF psABI 1.0 (e_machine).
+use Rattle.std.specs.Prelude.{◌≡◌, ℕ, ◌+◌, ◌-◌, ◌*◌, ◌^◌, ◌<◌, ◌≤◌, min, max, Bool, false, not, ◌&&◌, ◌||◌, ◌==◌, nat_eq, nat_lt, if◌then◌else◌, List, [], ◌∷◌, length, drop, map, filter, sum_by, slice_index, Option, Some, None}
+use Rattle.std.specs.List.{list_any, range_with_len, starts_with}
+use Rattle.std.specs.Option.{option_or}
+use Rattle.byteorder.specs.Endian.{little_number}
+use Rattle.guest_elf.specs.declared.fault.ElfFault.{ElfFault}
+use Rattle.guest_elf.specs.declared.fault.ElfFault.TheVariants.{NotElf, NotClass32, NotLittleEndian, BadVersion, NotExecutable, NotRiscV, BadTable, Interpreter, BadSegment, Overlap, TooLarge}
+use Rattle.guest_elf.specs.declared.image.Image.{Image}
+use Rattle.guest_elf.specs.declared.program.ProgramHeader.{ProgramHeader}
+use Rattle.guest_elf.specs.Images.{loaded_at, entry_of}
+
+-- one byte (unsigned char, "Data Representation")
+unfoldable pub byte_at : List ℕ → ℕ → ℕ
+byte_at file offset = slice_index file offset
+
+-- two bytes, the lowest first (Elf32_Half under ELFDATA2LSB)
+unfoldable pub half_at : List ℕ → ℕ → ℕ
+half_at file offset = little_number 2 (drop offset file)
+
+-- four bytes, the lowest first (Elf32_Word, Elf32_Addr and Elf32_Off under ELFDATA2LSB)
+unfoldable pub word_at : List ℕ → ℕ → ℕ
+word_at file offset = little_number 4 (drop offset file)
+
+-- e_entry: the address of the first instruction
+abbrev pub entry_in : List ℕ → ℕ
+entry_in file = word_at file 24
+
+-- e_phoff: where the program header table begins
+abbrev pub table_offset : List ℕ → ℕ
+table_offset file = word_at file 28
+
+-- e_phentsize: the size of a program header
+abbrev pub header_size : List ℕ → ℕ
+header_size file = half_at file 42
+
+-- e_phnum: the number of program headers
+abbrev pub header_count : List ℕ → ℕ
+header_count file = half_at file 44
+
+-- the program header that begins at an offset: p_type, p_offset, p_vaddr, p_filesz and p_memsz
+unfoldable pub header_from : List ℕ → ℕ → ProgramHeader
+header_from file start = record {
+  kind = word_at file start;
+  offset = word_at file (start + 4);
+  vaddr = word_at file (start + 8);
+  filesz = word_at file (start + 16);
+  memsz = word_at file (start + 20);
+}
+
+-- the program header at an index
+abbrev pub header_at : List ℕ → ℕ → ProgramHeader
+header_at file index = header_from file (table_offset file + 32 * index)
+
+-- the program headers, in the order of the table
+abbrev pub headers_of : List ℕ → List ProgramHeader
+headers_of file = map (header_at file) (range_with_len 0 (header_count file))
+
+-- whether it is a PT_INTERP
+unfoldable pub is_interpreter : ProgramHeader → Bool
+is_interpreter header = header.kind == 3
+
+-- whether it is a PT_LOAD that is not empty
+unfoldable pub is_load : ProgramHeader → Bool
+is_load header = header.kind == 1 && not (header.filesz == 0 && header.memsz == 0)
+
+-- the program headers that are loaded
+abbrev pub loads_of : List ℕ → List ProgramHeader
+loads_of file = filter is_load (headers_of file)
+
+-- 20: fewer bytes than a header has, or another beginning than 7F 45 4C 46
+unfoldable pub is_not_elf : List ℕ → Bool
+is_not_elf file = nat_lt (length file) 52 || not (starts_with nat_eq file (127 ∷ 69 ∷ 76 ∷ 70 ∷ []))
+
+-- 21: EI_CLASS is not ELFCLASS32
+unfoldable pub is_not_class_32 : List ℕ → Bool
+is_not_class_32 file = not (byte_at file 4 == 1)
+
+-- 22: EI_DATA is not ELFDATA2LSB
+unfoldable pub is_not_little_endian : List ℕ → Bool
+is_not_little_endian file = not (byte_at file 5 == 1)
+
+-- 23: EI_VERSION or e_version is not EV_CURRENT
+unfoldable pub has_bad_version : List ℕ → Bool
+has_bad_version file = not (byte_at file 6 == 1) || not (word_at file 20 == 1)
+
+-- 24: e_type is not ET_EXEC
+unfoldable pub is_not_executable : List ℕ → Bool
+is_not_executable file = not (half_at file 16 == 2)
+
+-- 25: e_machine is not EM_RISCV
+unfoldable pub is_not_risc_v : List ℕ → Bool
+is_not_risc_v file = not (half_at file 18 == 243)
+
+-- 26: e_phnum is PN_XNUM; or there are program headers whose size is not 32, or whose table ends past the file
+unfoldable pub has_bad_table : List ℕ → Bool
+has_bad_table file =
+    header_count file == 65535
+    || (not (header_count file == 0)
+    && (not (header_size file == 32)
+    || nat_lt (length file) (table_offset file + 32 * header_count file)))
+
+-- 27: a program header of type PT_INTERP
+unfoldable pub has_interpreter : List ℕ → Bool
+has_interpreter file = list_any is_interpreter (headers_of file)
+
+-- more bytes of the file than of memory, or bytes past the end of a file of that length, or an end above 2^32
+unfoldable pub is_bad_segment : ℕ → ProgramHeader → Bool
+is_bad_segment file_length header =
+    nat_lt header.memsz header.filesz
+    || (not (header.filesz == 0) && nat_lt file_length (header.offset + header.filesz))
+    || nat_lt (2 ^ 32) (header.vaddr + header.memsz)
+
+-- 28: a loaded segment is bad, or there is more than one
+unfoldable pub has_bad_segment : List ℕ → Bool
+has_bad_segment file =
+    list_any (is_bad_segment (length file)) (loads_of file) || nat_lt 1 (length (loads_of file))
+
+-- whether the addresses from a start up to an end, not with it, and those of another such range have one in common
+abbrev pub ranges_meet : ℕ → ℕ → ℕ → ℕ → Bool
+ranges_meet start end other_start other_end = nat_lt (max start other_start) (min end other_end)
+
+-- whether a segment has an address of the heap's region or of the stack's
+unfoldable pub meets_region : ProgramHeader → Bool
+meets_region header =
+    ranges_meet header.vaddr (header.vaddr + header.memsz) 0x40000000 0x60000000
+    || ranges_meet header.vaddr (header.vaddr + header.memsz) 0x7F000000 0x80000000
+
+-- whether two segments have an address in common
+unfoldable pub segments_meet : ProgramHeader → ProgramHeader → Bool
+segments_meet header other =
+    ranges_meet header.vaddr (header.vaddr + header.memsz) other.vaddr (other.vaddr + other.memsz)
+
+-- whether any two segments of a list have an address in common
+abbrev pub any_two_meet : List ProgramHeader → Bool
+any_two_meet [] = false
+any_two_meet (header ∷ headers) = list_any (segments_meet header) headers || any_two_meet headers
+
+-- 29: two loaded segments share an address, or one meets the heap's region or the stack's
+unfoldable pub has_overlap : List ℕ → Bool
+has_overlap file = list_any meets_region (loads_of file) || any_two_meet (loads_of file)
+
+-- 30: the file, or what its segments take in memory, has more than 16 MiB
+unfoldable pub is_too_large : List ℕ → Bool
+is_too_large file =
+    nat_lt 16777216 (length file) || nat_lt 16777216 (sum_by (λ header. header.memsz) (loads_of file))
+
+-- why a file is refused: the first of the conditions that holds
+unfoldable pub refusal : List ℕ → Option ElfFault
+refusal file =
+    if is_not_elf file then Some NotElf
+    else if is_not_class_32 file then Some NotClass32
+    else if is_not_little_endian file then Some NotLittleEndian
+    else if has_bad_version file then Some BadVersion
+    else if is_not_executable file then Some NotExecutable
+    else if is_not_risc_v file then Some NotRiscV
+    else if has_bad_table file then Some BadTable
+    else if has_interpreter file then Some Interpreter
+    else if has_bad_segment file then Some BadSegment
+    else if has_overlap file then Some Overlap
+    else if is_too_large file then Some TooLarge
+    else None
+
+-- the byte that a program header loads at an address: the file's up to p_filesz, 0 from there up to p_memsz
+unfoldable pub loaded_from : List ℕ → ProgramHeader → ℕ → Option ℕ
+loaded_from file header address =
+    if nat_lt address header.vaddr then None
+    else if nat_lt address (header.vaddr + header.filesz) then Some (byte_at file (header.offset + (address - header.vaddr)))
+    else if nat_lt address (header.vaddr + header.memsz) then Some 0
+    else None
+
+-- the byte at an address, of the first of the program headers that load one there
+abbrev pub first_loaded : List ℕ → List ProgramHeader → ℕ → Option ℕ
+first_loaded file [] address = None
+first_loaded file (header ∷ headers) address =
+    option_or (loaded_from file header address) (first_loaded file headers address)
+
+-- the byte that the file loads at an address
+unfoldable pub loaded_in : List ℕ → ℕ → Option ℕ
+loaded_in file address = first_loaded file (loads_of file) address
+
+-- the file has an ELF header
+pub record HasHeader (file : List ℕ) : Type 0 where
+  pub long : 52 ≤ length file
+
+-- the table of program headers lies in the file
+pub record HasTable (file : List ℕ) : Type 0 where
+  pub long : 52 ≤ length file
+  pub inside : 0 < header_count file → table_offset file + 32 * header_count file ≤ length file
+
+-- the bytes of each loaded segment lie in the file, and its addresses below 2^32
+pub record HasSegments (file : List ℕ) : Type 0 where
+  pub good : list_any (is_bad_segment (length file)) (loads_of file) ≡ false
+
+-- the image is the file's: it is not refused, and the image loads what the file does and begins where it does
+pub record IsImageOf (file : List ℕ) (image : Image) : Type 0 where
+  pub accepted : refusal file ≡ None
+  pub loads : (address : ℕ) → loaded_at image address ≡ loaded_in file address
+  pub entry : entry_of image ≡ entry_in file

@@ -1,0 +1,21 @@
+-- What callers see of an image.
+use Rattle.std.specs.Prelude.{ℕ, List, Option, codes}
+use Rattle.guest_elf.specs.Segments.{loaded}
+use Rattle.guest_elf.specs.declared.image.Image.{Image}
+use Rattle.guest_elf.specs.declared.segment.Segment.{Segment}
+
+-- the loaded segments, in the order of the program headers
+unfoldable pub segments_of : Image → List Segment
+segments_of image = image.segments.items
+
+-- the address of the first instruction (ELF header, e_entry)
+unfoldable pub entry_of : Image → ℕ
+entry_of image = image.entry
+
+-- the byte that the image loads at an address
+unfoldable pub loaded_at : Image → ℕ → Option ℕ
+loaded_at image address = loaded (segments_of image) address
+
+-- the name of the function at an address: none is known
+unfoldable pub name_at : Image → ℕ → List ℕ
+name_at image address = codes "???"

@@ -1,0 +1,4 @@
+pub mod Faults
+pub mod File
+pub mod Images
+pub mod Segments

@@ -1,0 +1,77 @@
+//! What a file loads.
+ghost use Rattle.std.specs.Prelude.{◌≡◌, ℕ, ◌+◌, ◌%◌, ◌^◌, ◌<◌, ◌↔◌, All, IsSome, IsTrue, is_some};
+ghost use Rattle.guest_elf.specs.Images.{segments_of, entry_of, loaded_at, name_at};
+ghost use Rattle.guest_elf.specs.Segments.{loaded_by, Fits};
+ghost use Rattle.std.specs.List.{list_any};
+
+use crate::segment::Segment;
+
+/// The text in place of a name that is not known.
+const UNKNOWN: &[u8] = b"???";
+/// The number of bytes in a word.
+const WORD_SIZE: u32 = 4;
+
+/// What an executable file loads, and where it begins.
+#[derive(Debug, Drop)]
+pub struct Image<'a> {
+    segments: Vec<Segment<'a>>,
+    entry: u32,
+}
+
+impl<'a> Image<'a> {
+    /// The image of these segments, which begins at `entry`.
+    #[tactic(auto, unfolding(crate::specs::Images::segments_of, crate::specs::Images::entry_of))]
+    pub(crate) fn new(segments: Vec<Segment<'a>>, entry: u32) -> Self
+        ensures segments { segments_of result ≡ segments.entry.items }
+        ensures entry { entry_of result ≡ entry }
+    {
+        Image { segments, entry }
+    }
+
+    /// The loaded segments, in the order of the file's program headers.
+    #[tactic(auto, unfolding(crate::specs::Images::segments_of))]
+    pub fn segments(&self) -> &[Segment<'a>]
+        ensures list { result.now ≡ segments_of self.now }
+        ensures fits { All Fits result.now }
+    {
+        self.segments.as_slice()
+    }
+
+    /// The address of the first instruction.
+    #[tactic(auto, unfolding(crate::specs::Images::entry_of))]
+    pub fn entry(&self) -> u32
+        ensures { result ≡ entry_of self.now }
+    {
+        self.entry
+    }
+
+    /// The name of the function at an address: `???`, since no symbols are read.
+    #[tactic(auto, unfolding(crate::specs::Images::name_at))]
+    pub fn name_of(&self, addr: u32) -> &[u8]
+        ensures { result.now ≡ name_at self.now addr }
+    {
+        UNKNOWN
+    }
+
+    /// Whether each byte of the word at an address is loaded. Addresses wrap at 2^32.
+    pub fn patchable(&self, addr: u32) -> bool
+        ensures { IsTrue result
+            ↔ ((i : ℕ) → i < 4 → IsSome (loaded_at self.now ((addr + i) % 2 ^ 32))) }
+    {
+        (0..WORD_SIZE).all(|offset| self.is_loaded(addr.wrapping_add(offset)))
+    }
+
+    /// Whether the byte at an address is loaded.
+    fn is_loaded(&self, addr: u32) -> bool
+        ensures { result ≡ is_some (loaded_at self.now addr) }
+    {
+        has_any(&self.segments, addr)
+    }
+}
+
+/// Whether an address is among those of a segment of a list.
+fn has_any(segments: &[Segment], addr: u32) -> bool
+    ensures { result ≡ list_any (λ segment. is_some (loaded_by segment addr)) segments.now }
+{
+    segments.iter().any(|segment| segment.has(addr))
+}

@@ -1,0 +1,116 @@
+//! From a file's bytes to an image.
+ghost use Rattle.std.specs.Prelude.{◌≡◌, ℕ, ◌+◌, ◌<◌, ◌⊎◌, false, length, slice_index, IfOk, IfErr, IfNone};
+ghost use Rattle.guest_elf.specs.File.{byte_at, refusal, is_bad_segment, first_loaded, loads_of, loaded_from, HasHeader, HasTable, HasSegments, IsImageOf};
+ghost use Rattle.guest_elf.specs.Segments.{loaded, loaded_by};
+ghost use Rattle.guest_elf.specs.declared.fault.ElfFault.{ElfFault};
+
+use crate::fault::ElfFault;
+use crate::fields::{E_ENTRY, word_at};
+use crate::image::Image;
+use crate::program::{ProgramHeader, header_at, header_count};
+use crate::refusals::{
+    has_bad_table, has_bad_version, is_not_class_32, is_not_elf, is_not_executable,
+    is_not_little_endian, is_not_risc_v,
+};
+use crate::segment::Segment;
+use crate::segments::{has_bad_segment, has_interpreter, has_overlap, is_too_large};
+use std::alloc::{AllocError, Global};
+
+/// Why a file is refused: the first of the conditions that holds.
+#[tactic(auto, unfolding(crate::specs::File::refusal))]
+fn refusal(file: &[u8]) -> Option<ElfFault>
+    ensures value { result ≡ refusal file.now }
+    ensures header { IfNone result (HasHeader file.now) }
+    ensures table { IfNone result (HasTable file.now) }
+    ensures segments { IfNone result (HasSegments file.now) }
+{
+    if is_not_elf(file) {
+        Some(ElfFault::NotElf)
+    } else if is_not_class_32(file) {
+        Some(ElfFault::NotClass32)
+    } else if is_not_little_endian(file) {
+        Some(ElfFault::NotLittleEndian)
+    } else if has_bad_version(file) {
+        Some(ElfFault::BadVersion)
+    } else if is_not_executable(file) {
+        Some(ElfFault::NotExecutable)
+    } else if is_not_risc_v(file) {
+        Some(ElfFault::NotRiscV)
+    } else if has_bad_table(file) {
+        Some(ElfFault::BadTable)
+    } else if has_interpreter(file) {
+        Some(ElfFault::Interpreter)
+    } else if has_bad_segment(file) {
+        Some(ElfFault::BadSegment)
+    } else if has_overlap(file) {
+        Some(ElfFault::Overlap)
+    } else if is_too_large(file) {
+        Some(ElfFault::TooLarge)
+    } else {
+        None
+    }
+}
+
+/// The bytes in the file of a program header that is not bad. Without any, p_offset may be anywhere.
+fn bytes_of(file: &[u8], header: ProgramHeader) -> &[u8]
+    requires { is_bad_segment (length file.now) header ≡ false }
+    ensures count { length result.now ≡ header.filesz }
+    ensures each { (i : ℕ) → i < header.filesz →
+        slice_index result.now i ≡ byte_at file.now (header.offset + i) }
+{
+    if header.filesz == 0 {
+        return &[];
+    }
+    let start = header.offset as usize;
+    &file[start..start + header.filesz as usize]
+}
+
+/// The segment of a program header that is not bad.
+fn segment_of<'a>(file: &'a [u8], header: ProgramHeader) -> Segment<'a>
+    requires { is_bad_segment (length file.now) header ≡ false }
+    ensures { (address : ℕ) → loaded_by result address ≡ loaded_from file.now header address }
+{
+    Segment {
+        vaddr: header.vaddr,
+        memsz: header.memsz,
+        bytes: bytes_of(file, header),
+    }
+}
+
+/// The loaded segments, in the order of the program headers.
+fn segments_of<'a>(alloc: Global, file: &'a [u8]) -> Result<Vec<Segment<'a>>, AllocError>
+    requires table { HasTable file.now }
+    requires good { HasSegments file.now }
+    ensures { IfOk result (λ segments. (address : ℕ) →
+        loaded segments.items address ≡ first_loaded file.now (loads_of file.now) address) }
+{
+    let mut segments = Vec::new(alloc);
+    for index in 0..header_count(file) {
+        let header = header_at(file, index);
+        if header.is_load() {
+            segments.push(segment_of(file, header))?;
+        }
+    }
+    Ok(segments)
+}
+
+/// Reads a static executable for RV32 from the bytes of an ELF32 file, which the image borrows.
+/// Files with at most one PT_LOAD that is not empty are taken. Sections are not looked at.
+///
+/// # Errors
+///
+/// The first condition that holds, in the order of `ElfFault::number`; or `Memory`, where the list of
+/// segments could not grow.
+pub fn read<'a>(alloc: Global, file: &'a [u8]) -> Result<Image<'a>, ElfFault>
+    ensures image { IfOk result (IsImageOf file.entry.now) }
+    ensures refused { IfErr result (λ fault.
+        (fault ≡ ElfFault.Memory) ⊎ (refusal file.entry.now ≡ Some fault)) }
+    // Want of memory hides no refusal.
+    ensures least { (fault : ElfFault) → refusal file.entry.now ≡ Some fault → result ≡ Err fault }
+{
+    if let Some(fault) = refusal(file) {
+        return Err(fault);
+    }
+    let segments = segments_of(alloc, file)?;
+    Ok(Image::new(segments, word_at(file, E_ENTRY)))
+}

@@ -1,0 +1,96 @@
+//! The conditions under which a file is refused, each with the name of its definition.
+ghost use Rattle.std.specs.Prelude.{◌≡◌};
+ghost use Rattle.guest_elf.specs.File.{is_not_elf, is_not_class_32, is_not_little_endian, has_bad_version, is_not_executable, is_not_risc_v, has_bad_table, HasHeader, HasTable};
+ghost use Rattle.std.specs.Bool.{OnFalse};
+
+use crate::fault::ElfFault;
+use crate::fields::{
+    E_MACHINE, E_PHENTSIZE, E_PHOFF, E_TYPE, E_VERSION, EI_CLASS, EI_DATA, EI_VERSION, HEADER_SIZE,
+    byte_at, half_at, word_at,
+};
+use crate::program::{PROGRAM_HEADER_SIZE, header_count};
+
+/// The first bytes of an ELF file.
+const MAGIC: [u8; 4] = *b"\x7FELF";
+/// ELFCLASS32.
+const CLASS_32: u8 = 1;
+/// ELFDATA2LSB.
+const LITTLE_ENDIAN: u8 = 1;
+/// EV_CURRENT.
+const CURRENT_VERSION: u32 = 1;
+/// ET_EXEC.
+const EXECUTABLE: u16 = 2;
+/// EM_RISCV.
+const RISC_V: u16 = 243;
+/// PN_XNUM: the number of program headers stands elsewhere.
+const COUNT_ELSEWHERE: u16 = 0xFFFF;
+
+/// Fewer bytes than a header has, or another beginning.
+#[tactic(auto, unfolding(crate::specs::File::is_not_elf))]
+pub fn is_not_elf(file: &[u8]) -> bool
+    ensures value { result ≡ is_not_elf file.now }
+    ensures long { OnFalse result (HasHeader file.now) }
+{
+    file.len() < HEADER_SIZE || !file.starts_with(&MAGIC)
+}
+
+/// EI_CLASS is not ELFCLASS32.
+#[tactic(auto, unfolding(crate::specs::File::is_not_class_32))]
+pub fn is_not_class_32(file: &[u8]) -> bool
+    requires { HasHeader file.now }
+    ensures { result ≡ is_not_class_32 file.now }
+{
+    byte_at(file, EI_CLASS) != CLASS_32
+}
+
+/// EI_DATA is not ELFDATA2LSB.
+#[tactic(auto, unfolding(crate::specs::File::is_not_little_endian))]
+pub fn is_not_little_endian(file: &[u8]) -> bool
+    requires { HasHeader file.now }
+    ensures { result ≡ is_not_little_endian file.now }
+{
+    byte_at(file, EI_DATA) != LITTLE_ENDIAN
+}
+
+/// EI_VERSION or e_version is not EV_CURRENT.
+#[tactic(auto, unfolding(crate::specs::File::has_bad_version))]
+pub fn has_bad_version(file: &[u8]) -> bool
+    requires { HasHeader file.now }
+    ensures { result ≡ has_bad_version file.now }
+{
+    u32::from(byte_at(file, EI_VERSION)) != CURRENT_VERSION
+        || word_at(file, E_VERSION) != CURRENT_VERSION
+}
+
+/// e_type is not ET_EXEC.
+#[tactic(auto, unfolding(crate::specs::File::is_not_executable))]
+pub fn is_not_executable(file: &[u8]) -> bool
+    requires { HasHeader file.now }
+    ensures { result ≡ is_not_executable file.now }
+{
+    half_at(file, E_TYPE) != EXECUTABLE
+}
+
+/// e_machine is not EM_RISCV.
+#[tactic(auto, unfolding(crate::specs::File::is_not_risc_v))]
+pub fn is_not_risc_v(file: &[u8]) -> bool
+    requires { HasHeader file.now }
+    ensures { result ≡ is_not_risc_v file.now }
+{
+    half_at(file, E_MACHINE) != RISC_V
+}
+
+/// e_phnum is PN_XNUM; or there are program headers of another size, or that end past the file.
+#[tactic(auto, unfolding(crate::specs::File::has_bad_table))]
+pub fn has_bad_table(file: &[u8]) -> bool
+    requires { HasHeader file.now }
+    ensures value { result ≡ has_bad_table file.now }
+    ensures inside { OnFalse result (HasTable file.now) }
+{
+    let count = header_count(file);
+    if count == 0 || count == COUNT_ELSEWHERE {
+        return count == COUNT_ELSEWHERE;
+    }
+    let table_end = word_at(file, E_PHOFF) as usize + PROGRAM_HEADER_SIZE * count as usize;
+    half_at(file, E_PHENTSIZE) as usize != PROGRAM_HEADER_SIZE || table_end > file.len()
+}

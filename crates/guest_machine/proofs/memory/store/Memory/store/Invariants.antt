@@ -1,0 +1,11 @@
+use Rattle.std.proofs.Common.{◌≡◌}
+use Rattle.guest_machine.specs.Ranges.{written, byte_of}
+use Rattle.guest_machine.specs.Shadows.{stored_undef}
+use Rattle.guest_machine.specs.Memories.{bytes_in, shadows_in}
+use Rattle.guest_machine.proofs.memory.store.Memory.store.Given as goal
+
+abbrev pub invariant-loop-i : goal.invariant-loop-i
+invariant-loop-i l = record {
+  bytes : bytes_in l.self ≡ written (bytes_in l.initial.self) l.addr l.i (byte_of l.bits.value);
+  shadows : shadows_in l.self ≡ stored_undef (shadows_in l.initial.self) l.addr l.i l.bits.undef;
+}

@@ -1,0 +1,146 @@
+-- What each instruction does, as a function of what decides it, of the input that it reads and of the bytes that it takes
+-- (RISC-V Unprivileged ISA 20191213, chapters 2 and 7; undefined bits as in Memcheck).
+use Rattle.std.specs.Prelude.{ℕ, ◌+◌, ◌*◌, ◌/◌, ◌%◌, ◌^◌, ◌==◌, Bool, true, false, if◌then◌else◌, List, [], ◌∷◌}
+use Rattle.definedness.specs.declared.Bits.{Bits}
+use Rattle.definedness.specs.Undefined.{undef_branch}
+use Rattle.guest_machine.specs.Ranges.{window, little_word}
+use Rattle.guest_machine.specs.Shadows.{loaded_undef, stored_undef}
+use Rattle.guest_machine.specs.Ranges.{byte_of}
+use Rattle.guest_machine.specs.Widths.{width_len}
+use Rattle.guest_machine.specs.State.{Core}
+use Rattle.guest_machine.specs.Registers.{known, register, set_register, defined, tested}
+use Rattle.guest_machine.specs.Alu.{computed, passes, extended}
+use Rattle.guest_machine.specs.Groups.{trace_of}
+use Rattle.guest_machine.specs.declared.memory.cells.Width.{Width}
+use Rattle.guest_machine.specs.declared.instruction.Test.{Test}
+use Rattle.guest_machine.specs.declared.instruction.Operation.{Operation}
+use Rattle.guest_machine.specs.declared.status.Status.TheVariants.{Exited, Stopped}
+use Rattle.guest_machine.specs.declared.status.Stop.{Stop}
+use Rattle.guest_machine.specs.declared.status.Stop.TheVariants.{Misaligned}
+use Rattle.guest_machine.specs.declared.errors.event.Event.{Event}
+use Rattle.guest_machine.specs.declared.errors.event.Kind.{Kind}
+use Rattle.guest_machine.specs.declared.errors.event.Kind.TheVariants.{Cond}
+use Rattle.guest_machine.specs.declared.errors.event.Note.{Note}
+use Rattle.guest_machine.specs.declared.errors.event.Note.TheVariants.{Absent}
+
+-- what a step leaves: the new core, the errors that it raises, the byte for each offset of the range that it writes, and the
+-- bytes that it writes out
+pub record Effect : Type 0 where
+  pub core : Core
+  pub raised : List Event
+  pub made : ℕ → ℕ
+  pub output : List ℕ
+
+abbrev pub no_bytes : ℕ → ℕ
+no_bytes i = 0
+
+-- an effect on the core alone
+abbrev pub quiet : Core → Effect
+quiet core = record { core = core; raised = []; made = no_bytes; output = [] }
+
+-- an effect on the core, with errors
+abbrev pub raising : Core → List Event → Effect
+raising core events = record { core = core; raised = events; made = no_bytes; output = [] }
+
+-- an error at this instruction
+abbrev pub event_at : Core → Kind → Note → Event
+event_at core kind note = record { kind = kind; trace = trace_of core.pc; note = note }
+
+abbrev pub moved_to : Core → ℕ → Core
+moved_to core to = record core { pc = to }
+
+abbrev pub advanced : Core → Core
+advanced core = moved_to core ((core.pc + 4) % 2 ^ 32)
+
+abbrev pub stopped : Core → Stop → Core
+stopped core stop = record core { status = Stopped stop }
+
+abbrev pub exited : Core → ℕ → Core
+exited core code = record core { status = Exited code }
+
+-- the undefined bits of a number stored at n bytes
+abbrev pub stored_core : Core → ℕ → ℕ → ℕ → Core
+stored_core core start n undef = record core { shadow = stored_undef core.shadow start n undef }
+
+-- an instruction that only writes rd
+abbrev pub results_in : Core → ℕ → Bits → Effect
+results_in core rd bits = quiet (advanced (set_register core rd bits))
+
+-- LUI and AUIPC (section 2.4)
+abbrev pub load_upper : Core → ℕ → ℕ → Effect
+load_upper core rd imm = results_in core rd (known imm)
+
+abbrev pub add_upper : Core → ℕ → ℕ → Effect
+add_upper core rd imm = results_in core rd (known ((core.pc + imm) % 2 ^ 32))
+
+-- computations with an immediate, and of two registers (sections 2.4 and 7)
+abbrev pub compute_immediate : Core → Operation → ℕ → ℕ → ℕ → Effect
+compute_immediate core operation rd rs1 imm = results_in core rd (computed operation (register core rs1) (known imm))
+
+abbrev pub compute : Core → Operation → ℕ → ℕ → ℕ → Effect
+compute core operation rd rs1 rs2 = results_in core rd (computed operation (register core rs1) (register core rs2))
+
+-- rs1 plus the immediate: where a load, a store or JALR goes
+unfoldable pub target : Core → ℕ → ℕ → ℕ
+target core rs1 imm = ((register core rs1).value + imm) % 2 ^ 32
+
+-- loads (section 2.6): rs1 is tested; the sign bit and its undefined bit are repeated together
+abbrev pub load : Core → Width → Bool → ℕ → ℕ → ℕ → (ℕ → ℕ) → Effect
+load core width signed rd rs1 imm taken =
+    let now = tested core rs1 in
+    let undef = little_word (window (λ a. loaded_undef (now.shadow a)) (target core rs1 imm) (width_len width)) in
+    results_in now rd (record { value = extended width signed (little_word taken); undef = extended width signed undef })
+
+-- stores (section 2.6): rs1 is tested, and then the low bytes of rs2 are stored with their undefined bits
+abbrev pub store : Core → Width → ℕ → ℕ → ℕ → Effect
+store core width rs1 rs2 imm =
+    let now = tested core rs1 in
+    record {
+      core = advanced (stored_core now (target core rs1 imm) (width_len width) (register now rs2).undef);
+      raised = [];
+      made = byte_of (register now rs2).value;
+      output = [];
+    }
+
+-- a jump to an address: one that is no multiple of 4 stops the machine (section 2.5)
+unfoldable pub jumped : Core → ℕ → Core
+jumped core to = if to % 4 == 0 then moved_to core to else stopped core Misaligned
+
+-- does a branch depend on undefined bits?
+abbrev pub is_undefined : Core → ℕ → ℕ → Bool
+is_undefined core rs1 rs2 = undef_branch (register core rs1) (register core rs2)
+
+-- after the test of a branch, which makes both registers defined
+unfoldable pub branch_tested : Core → ℕ → ℕ → Core
+branch_tested core rs1 rs2 = if is_undefined core rs1 rs2 then defined (defined core rs1) rs2 else core
+
+-- the error of a branch
+unfoldable pub branch_errors : Core → ℕ → ℕ → List Event
+branch_errors core rs1 rs2 = if is_undefined core rs1 rs2 then event_at core Cond Absent ∷ [] else []
+
+-- conditional branches (section 2.5)
+unfoldable pub branched : Bool → Core → ℕ → Core
+branched true core to = jumped core to
+branched false core to = advanced core
+
+abbrev pub branch : Core → Test → ℕ → ℕ → ℕ → Effect
+branch core test rs1 rs2 imm =
+    raising
+    (branched (passes test (register core rs1).value (register core rs2).value) (branch_tested core rs1 rs2) ((core.pc + imm) % 2 ^ 32))
+    (branch_errors core rs1 rs2)
+
+-- a jump that leaves the address after it in rd; one to an address that is no multiple of 4 stops the machine, and leaves rd
+unfoldable pub linked_jump : Core → ℕ → ℕ → Core
+linked_jump core rd to =
+    if to % 4 == 0 then moved_to (set_register core rd (known ((core.pc + 4) % 2 ^ 32))) to else stopped core Misaligned
+
+-- JAL and JALR (section 2.5): JALR's target is computed before rd is written, and its lowest bit is cleared
+abbrev pub jump : Core → ℕ → ℕ → Effect
+jump core rd imm = quiet (linked_jump core rd ((core.pc + imm) % 2 ^ 32))
+
+abbrev pub jump_register : Core → ℕ → ℕ → ℕ → Effect
+jump_register core rd rs1 imm = quiet (linked_jump (tested core rs1) rd (target core rs1 imm / 2 * 2))
+
+-- a step that only stops the machine
+abbrev pub stops : Core → Stop → Effect
+stops core stop = quiet (stopped core stop)

@@ -1,0 +1,51 @@
+-- Laws of one step, which follow from its form and not from any instruction.
+use Rattle.std.specs.Prelude.{◌≡◌, ℕ, ◌/◌, ◌≤◌, false, Bool, length, slice_get}
+use Rattle.guest_machine.specs.State.{State}
+use Rattle.guest_machine.specs.Exec.{exec, touches, counted, calls_heap, row_at, fetched}
+use Rattle.guest_machine.specs.declared.setup.Setup.{Setup}
+
+-- the addresses of the word at an address
+abbrev pub InWord : ℕ → ℕ → Type 0
+InWord word a = a / 4 ≡ word / 4
+
+-- two states differ in byte values alone, and only at these addresses
+pub record DifferWithin (W : ℕ → Type 0) (s t : State) : Type 0 where
+  pub bytes : (a : ℕ) → (W a → ⊥) → s.bytes a ≡ t.bytes a
+  pub core : s.core ≡ t.core
+  pub position : s.position ≡ t.position
+  pub output : s.output ≡ t.output
+  pub heap_calls : s.heap_calls ≡ t.heap_calls
+  pub events : s.events ≡ t.events
+
+-- a step touches none of these addresses
+abbrev pub TouchesNone : (ℕ → Type 0) → State → Setup → Type 0
+TouchesNone W s setup = (a : ℕ) → W a → touches s setup a ≡ false
+
+-- a step that doesn't touch a word goes the same way whatever its bytes are, touches the same, and leaves them
+abbrev pub KeepsWords : Type 0
+KeepsWords =
+    (setup : Setup) (word : ℕ) (s t : State) → DifferWithin (InWord word) s t → TouchesNone (InWord word) s setup
+    → (touches s setup ≡ touches t setup) × DifferWithin (InWord word) (exec s setup) (exec t setup)
+
+-- two setups differ in the input's byte at one offset alone
+pub record DifferAt (offset : ℕ) (one other : Setup) : Type 0 where
+  pub redzone : one.redzone ≡ other.redzone
+  pub volume : one.volume ≡ other.volume
+  pub len : length one.input ≡ length other.input
+  pub bytes : (i : ℕ) → (i ≡ offset → ⊥) → slice_get one.input i ≡ slice_get other.input i
+
+-- a step that leaves the position at or below an offset doesn't look at the input there
+abbrev pub KeepsInput : Type 0
+KeepsInput =
+    (one other : Setup) (offset : ℕ) (s : State) → DifferAt offset one other → (exec s one).position ≤ offset
+    → (touches s one ≡ touches s other) × (exec s one ≡ exec s other)
+
+-- is the step of a state a heap call?
+abbrev pub is_heap_step : State → Bool
+is_heap_step s = calls_heap s.core (row_at (fetched s.core s.bytes))
+
+-- a step that is no heap call doesn't look at the red zone nor at the volume; and the state counts its heap calls
+pub record KeepsHeap : Type 0 where
+  pub same : (one other : Setup) (s : State) → one.input ≡ other.input → is_heap_step s ≡ false
+      → (touches s one ≡ touches s other) × (exec s one ≡ exec s other)
+  pub counts : (setup : Setup) (s : State) → (exec s setup).heap_calls ≡ counted s.heap_calls (is_heap_step s)

@@ -1,0 +1,72 @@
+-- A run from step zero, with marks between steps.
+use Rattle.std.specs.Prelude.{ℕ, zero, suc, ◌==◌, List, filter, fold, unwrap_or, is_some, if◌then◌else◌, replicate, slice_set, []}
+use Rattle.guest_elf.specs.declared.image.Image.{Image}
+use Rattle.guest_elf.specs.Images.{loaded_at, entry_of}
+use Rattle.guest_machine.specs.Ranges.{written, byte_of}
+use Rattle.guest_machine.specs.Shadows.{Shadow, shadow_of, made_so}
+use Rattle.guest_machine.specs.State.{State}
+use Rattle.guest_machine.specs.Registers.{known}
+use Rattle.guest_machine.specs.Effects.{no_bytes}
+use Rattle.guest_machine.specs.Exec.{exec}
+use Rattle.guest_machine.specs.declared.memory.cells.RangeKind.{RangeKind}
+use Rattle.guest_machine.specs.declared.memory.cells.RangeKind.TheVariants.{NoAccess, Defined}
+use Rattle.guest_machine.specs.declared.setup.Setup.{Setup}
+use Rattle.guest_machine.specs.declared.setup.Mark.{Mark}
+use Rattle.guest_machine.specs.declared.status.Status.TheVariants.{Running}
+
+-- the loaded bytes, and 0 elsewhere
+abbrev pub image_bytes : Image → ℕ → ℕ
+image_bytes image a = unwrap_or (loaded_at image a) 0
+
+-- loaded bytes are accessible and defined, the others inaccessible
+abbrev pub image_shadows : Image → ℕ → Shadow
+image_shadows image a = if is_some (loaded_at image a) then shadow_of Defined else shadow_of NoAccess
+
+-- where the stack pointer points at the start: at sixteen bytes that are zero, accessible and defined
+abbrev pub stack_start : ℕ
+stack_start = 0x7FFFFFF0
+
+-- the start of a program: pc at its entry, x2 at the stack, the other registers 0, all registers defined
+unfoldable pub start_state : Image → State
+start_state image =
+    record {
+      bytes = written (image_bytes image) stack_start 16 no_bytes;
+      core = record {
+        shadow = made_so (image_shadows image) stack_start 16 Defined;
+        registers = slice_set (replicate 32 (known 0)) 2 (known stack_start);
+        pc = entry_of image;
+        status = Running;
+      };
+      position = 0;
+      output = [];
+      heap_calls = 0;
+      events = [];
+    }
+
+-- a range of a state made so
+abbrev pub made_state : State → ℕ → ℕ → RangeKind → State
+made_state s start len kind = record s { core = record s.core { shadow = made_so s.core.shadow start len kind } }
+
+-- a mark applied
+unfoldable pub marked : State → Mark → State
+marked s mark = made_state s mark.addr mark.len mark.kind
+
+-- four byte values of a state changed, little-endian
+unfoldable pub poked : State → ℕ → ℕ → State
+poked s addr word = record s { bytes = written s.bytes addr 4 (byte_of word) }
+
+-- the marks of a step, in list order
+abbrev pub marks_at : ℕ → List Mark → List Mark
+marks_at k marks = filter (λ m. m.step == k) marks
+
+-- the marks of step k applied
+unfoldable pub after_marks : ℕ → List Mark → State → State
+after_marks k marks s = fold marked s (marks_at k marks)
+
+-- the state before step k of the run from a state, and the state that step k starts from
+unfoldable pub pre : State → Setup → List Mark → ℕ → State
+pre start setup marks zero = start
+pre start setup marks (suc k) = exec (after_marks k marks (pre start setup marks k)) setup
+
+unfoldable pub post : State → Setup → List Mark → ℕ → State
+post start setup marks k = after_marks k marks (pre start setup marks k)

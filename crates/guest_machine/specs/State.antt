@@ -1,0 +1,24 @@
+-- What a run is at a moment: the byte values, what decides a step beside them, and what only adds up.
+use Rattle.std.specs.Prelude.{ℕ, List}
+use Rattle.definedness.specs.declared.Bits.{Bits}
+use Rattle.guest_machine.specs.Shadows.{Shadow}
+use Rattle.guest_machine.specs.declared.status.Status.{Status}
+use Rattle.guest_machine.specs.declared.errors.event.Event.{Event}
+
+-- what decides a step, beside the byte values: of each address whether it may be accessed and its undefined bits, the 32
+-- registers with their undefined bits, pc, and whether the machine runs
+pub record Core : Type 0 where
+  pub shadow : ℕ → Shadow
+  pub registers : List Bits
+  pub pc : ℕ
+  pub status : Status
+
+-- a state: beside the core, the byte at each address, how many bytes of input were read, the bytes that were written out,
+-- how many heap calls were made, and all errors so far
+pub record State : Type 0 where
+  pub bytes : ℕ → ℕ
+  pub core : Core
+  pub position : ℕ
+  pub output : List ℕ
+  pub heap_calls : ℕ
+  pub events : List Event

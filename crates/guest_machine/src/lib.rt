@@ -1,0 +1,92 @@
+//! One step of an RV32IM program, with what Memcheck knows of each byte and of each bit: the layer between a program's image
+//! and the runs of it.
+//!
+//! A [`Machine`] holds, of each of the 2^32 addresses, a byte, whether it may be accessed, and which of its bits are undefined;
+//! the 32 registers with their undefined bits; pc; whether it runs; how much of the input was read, of the output written, and
+//! how many heap calls were made; and the errors so far, counted by kind and trace. It is moved by [`Machine::step`] alone, one
+//! instruction at a time, ECALL included; between steps a range can be marked and a word poked.
+//!
+//! # Public items
+//!
+//! | Call | What it answers |
+//! |---|---|
+//! | [`Machine::start`] | the machine before the first step of an image |
+//! | [`Machine::step`] | the machine after one step, and the addresses whose bytes it took or wrote |
+//! | [`Machine::mark`] | the machine with a range made inaccessible, undefined or defined |
+//! | [`Machine::poke_word`] | the machine with the four bytes at an address changed |
+//! | [`Machine::share`] | a copy, which later changes of the other don't reach |
+//! | [`Machine::status`], [`Machine::pc`], [`Machine::register`] | whether it runs, and its registers |
+//! | [`Machine::position`], [`Machine::output_len`], [`Machine::heap_calls`] | what was read, written and called so far |
+//! | [`Machine::error_groups`] | the errors so far, in order of first occurrence |
+//! | [`Meter::new`], [`Meter::read`] | a count of steps, raised by `step` alone |
+//! | [`laws::keeps_words`], [`laws::keeps_input`], [`laws::keeps_heap`] | nothing: their contracts are laws of one step |
+//!
+//! [`Setup`], [`Input`], [`Mark`], [`Touched`], [`Span`], [`RangeKind`], [`Register`], [`Status`], [`Stop`], [`Event`], [`Group`],
+//! [`Kind`], [`Note`] and [`Trace`] are the values that these take and answer. What consumes a machine and finds no memory
+//! drops it and answers `AllocError`; nothing else fails.
+//!
+//! # What a caller relies on
+//!
+//! The contract of [`Machine::step`]. A machine shows a state, which is a value of `specs/` and no code (`Shows`); for each
+//! state that it shows,
+//!
+//! - `shows`: the machine after the step shows `exec` of that state and the setup;
+//! - `touched`: an address is in the spans answered just where the step `touches` it;
+//! - `meter`: the meter has risen by one, up to the greatest `u64`;
+//! - `unmoved`: where memory failed, the meter stands where it stood.
+//!
+//! The calls between steps have the same form: `start` shows `start_state`, `mark` goes from a state to `marked`, `poke_word`
+//! to `poked`, `share` to the same state, and each observer answers a field of it. So a run of any length is the definition
+//! `pre` or `post`, by as many calls. The laws let a caller replay less after an edit: a step is the same if the edit changed
+//! only a word that it doesn't touch, input that it hasn't come to, or, where it is no heap call, the heap's options.
+//!
+//! # Where the definitions stand
+//!
+//! In `specs/`, from the outside in:
+//!
+//! - `Run`: the state at the start, marks, pokes, and the states before and after the marks of each step.
+//! - `Exec`: one step (`exec`) and what it touches (`touches`), in three parts: the word at pc, what the step uses, and what
+//!   it leaves. No other byte and no other part of the setup enters; the laws follow from this form.
+//! - `Effects` and `Calls`: what each class of instruction and each call of the environment leaves; `Alu`: what instructions
+//!   compute; `Instructions`: the class of each row of the instruction table.
+//! - `State`, `Registers`, `Shadows`, `Ranges`: what a state is, and how registers and ranges of addresses change.
+//! - `Groups`: the groups of a list of errors. `Laws`: the laws of one step.
+//! - `Shows`: that a machine shows a state. `Memories`, `Grouping`, `Loading`, `Cells`, `Widths` are for this crate's proofs.
+//!
+//! Sources: RISC-V Unprivileged ISA 20191213, chapters 1, 2 and 7; the Memcheck manual, chapter 4; Seward and Nethercote,
+//! "Using Valgrind to detect undefined value errors with bit-precision" (USENIX 2005). The undefined bits of a result are those
+//! of the crate `definedness`, the instruction table that of `rv_decode`, the image that of `guest_elf`.
+//!
+//! # What is left out
+//!
+//! Of the calls of the environment only `exit` and `exit_group` are known; each other one answers -38 (ENOSYS), so that no
+//! input is read, no output written and no heap call made. A move of the stack pointer makes no bytes accessible or
+//! inaccessible, and callers' addresses are not kept. Errors are recorded for branches on undefined bits and for jumps to
+//! inaccessible bytes; the other tests are made, and make their registers defined, in silence.
+#![tactic(auto)]
+
+mod alu;
+mod errors;
+mod input;
+mod instruction;
+pub mod laws;
+mod machine;
+mod memory;
+mod meter;
+mod register;
+mod setup;
+mod span;
+mod status;
+#[cfg(test)]
+mod tests;
+
+pub use errors::event::{Event, Group, Kind, Note};
+pub use errors::trace::Trace;
+pub use input::Input;
+pub use machine::Machine;
+pub use memory::cells::RangeKind;
+pub use meter::Meter;
+pub use register::Register;
+pub use setup::{Mark, Setup, Touched};
+pub use span::Span;
+pub use status::{Status, Stop};

@@ -1,0 +1,39 @@
+ghost use Rattle.std.specs.Prelude.{◌≡◌, ◌+◌, min};
+
+use std::marker::Model;
+
+/// How many steps were made on it. It has no copy, and stands still at the greatest `u64`.
+#[derive(Drop)]
+pub struct Meter {
+    steps: u64,
+}
+
+impl Model for Meter {
+    ghost use Rattle.std.specs.Prelude.{ℕ};
+
+    ghost Value = { ℕ };
+
+    ghost view = { λ m. m.steps };
+}
+
+impl Meter {
+    /// A meter at 0.
+    pub fn new() -> Self
+        ensures { result ≡ 0 }
+    {
+        Meter { steps: 0 }
+    }
+
+    /// How many steps were made on it.
+    pub fn read(&self) -> u64
+        ensures { result ≡ self.now }
+    {
+        self.steps
+    }
+
+    pub(crate) fn rise(&mut self)
+        ensures { self.new ≡ min (self.old + 1) u64.MAX }
+    {
+        self.steps = self.steps.saturating_add(1);
+    }
+}

@@ -1,0 +1,38 @@
+use crate::input::Input;
+use crate::memory::cells::RangeKind;
+use crate::span::Span;
+
+/// What a run is given: its input, and the options of its heap.
+#[derive(Drop)]
+pub struct Setup {
+    /// The bytes that the program can read.
+    pub input: Input,
+    /// How many bytes before and after each block of the heap are inaccessible.
+    pub redzone: u32,
+    /// How many bytes the freed blocks may have that aren't used again yet.
+    pub volume: u32,
+}
+
+/// A range that is made inaccessible, undefined or defined just before a step.
+#[derive(Clone, Copy, Debug, PartialEq, Eq)]
+pub struct Mark {
+    /// The number of the step, from 0.
+    pub step: u32,
+    /// The first address.
+    pub addr: u32,
+    /// How many bytes there are; addresses are modulo 2^32.
+    pub len: u32,
+    /// What the bytes are made.
+    pub kind: RangeKind,
+}
+
+/// The addresses whose bytes a step took or wrote.
+#[derive(Clone, Copy, Debug, PartialEq, Eq)]
+pub struct Touched {
+    /// The word at pc, where it was taken.
+    pub fetch: Option<Span>,
+    /// What the step read beside its word.
+    pub reads: Option<Span>,
+    /// What it wrote.
+    pub writes: Option<Span>,
+}

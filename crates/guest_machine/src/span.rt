@@ -1,0 +1,8 @@
+/// A range of addresses: `len` bytes from `start` on, modulo 2^32.
+#[derive(Clone, Copy, Debug, PartialEq, Eq)]
+pub struct Span {
+    /// The first address.
+    pub start: u32,
+    /// How many bytes there are.
+    pub len: u32,
+}

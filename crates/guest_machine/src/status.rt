@@ -1,0 +1,23 @@
+/// Why a run stopped. pc stays at the instruction.
+#[derive(Clone, Copy, Debug, PartialEq, Eq)]
+pub enum Stop {
+    /// A byte of the word at pc is inaccessible.
+    Jump,
+    /// The instruction is EBREAK.
+    Break,
+    /// The word at pc is no instruction.
+    Illegal,
+    /// pc, or the address that a jump or a taken branch goes to, is no multiple of 4.
+    Misaligned,
+}
+
+/// Whether a machine runs. A stopped or exited one is its own successor.
+#[derive(Clone, Copy, Debug, PartialEq, Eq)]
+pub enum Status {
+    /// It goes on.
+    Running,
+    /// The program ended by the call `exit`, with the low 8 bits of its status.
+    Exited(u8),
+    /// The machine stopped by itself.
+    Stopped(Stop),
+}

@@ -1,0 +1,319 @@
+//! Programs by hand, and what becomes of them. The expected values are those of the instruction set's manual.
+mod values;
+
+use crate::laws::{keeps_heap, keeps_input, keeps_words};
+use crate::{
+    Input, Kind, Machine, Mark, Meter, Note, RangeKind, Register, Setup, Span, Status, Stop,
+    Touched,
+};
+use definedness::Bits;
+use guest_elf::read;
+use std::alloc::{AllocError, Global};
+use std::test::Fail;
+
+/// A file's header, and its program header up to p_filesz: one segment at 0x10000, whose bytes stand at offset 84.
+const HEADERS: [u8; 68] = [
+    0x7F, 0x45, 0x4C, 0x46, 0x01, 0x01, 0x01, 0x00, 0x00, 0x00, 0x00, 0x00, 0x00, 0x00, 0x00, 0x00,
+    0x02, 0x00, 0xF3, 0x00, 0x01, 0x00, 0x00, 0x00, 0x00, 0x00, 0x01, 0x00, 0x34, 0x00, 0x00, 0x00,
+    0x00, 0x00, 0x00, 0x00, 0x00, 0x00, 0x00, 0x00, 0x34, 0x00, 0x20, 0x00, 0x01, 0x00, 0x00, 0x00,
+    0x00, 0x00, 0x00, 0x00, 0x01, 0x00, 0x00, 0x00, 0x54, 0x00, 0x00, 0x00, 0x00, 0x00, 0x01, 0x00,
+    0x00, 0x00, 0x01, 0x00,
+];
+
+/// p_flags and p_align, which follow p_filesz and p_memsz.
+const LAST_FIELDS: [u8; 8] = [0x05, 0x00, 0x00, 0x00, 0x04, 0x00, 0x00, 0x00];
+
+/// The file of a program: its words at 0x10000, and nothing else.
+fn file_of(alloc: Global, words: &[u32]) -> Result<Vec<u8>, AllocError> {
+    let size = (words.len() % 1024) as u32 * 4;
+    let mut file = Vec::new(alloc);
+    file.extend_from_slice(&HEADERS)?;
+    file.extend_from_slice(&size.to_le_bytes())?;
+    file.extend_from_slice(&size.to_le_bytes())?;
+    file.extend_from_slice(&LAST_FIELDS)?;
+    for word in words {
+        file.extend_from_slice(&word.to_le_bytes())?;
+    }
+    Ok(file)
+}
+
+/// The machine before the first step of a program.
+fn started(alloc: Global, words: &[u32]) -> Result<Machine, Fail> {
+    let file = file_of(alloc, words)?;
+    let image = read(alloc, &file)?;
+    Ok(Machine::start(alloc, &image)?)
+}
+
+/// No input, and a heap that these programs don't use.
+fn setup(alloc: Global) -> Setup {
+    Setup {
+        input: Input::new(Vec::new(alloc)),
+        redzone: 16,
+        volume: 20_000_000,
+    }
+}
+
+/// The machine after some steps.
+fn stepped(alloc: Global, machine: Machine, steps: u32) -> Result<Machine, AllocError> {
+    let setup = setup(alloc);
+    let mut meter = Meter::new();
+    let mut machine = machine;
+    for _ in 0..steps {
+        let (next, _) = machine.step(&setup, &mut meter)?;
+        machine = next;
+    }
+    Ok(machine)
+}
+
+/// A program after some steps.
+fn run(alloc: Global, words: &[u32], steps: u32) -> Result<Machine, Fail> {
+    Ok(stepped(alloc, started(alloc, words)?, steps)?)
+}
+
+/// The value and the undefined bits of x`number`.
+fn bits_of(machine: &Machine, number: u8) -> Bits {
+    machine.register(Register::new(number % 32))
+}
+
+/// Some addresses that a step touched.
+fn span(start: u32, len: u32) -> Option<Span> {
+    Some(Span { start, len })
+}
+
+/// How often the first error was met; 0 for none.
+fn first_count(machine: &Machine) -> u64 {
+    machine
+        .error_groups()
+        .first()
+        .map_or(0, |group| group.count)
+}
+
+/// A mark of four bytes, before the first step.
+fn marked(machine: Machine, addr: u32, kind: RangeKind) -> Result<Machine, AllocError> {
+    machine.mark(&Mark {
+        step: 0,
+        addr,
+        len: 4,
+        kind,
+    })
+}
+
+#[test]
+fn a_program_starts_at_its_entry(rt: HostRuntime) -> Result<(), Fail> {
+    let machine = started(rt.alloc(), &[0x05D0_0893, 0x0000_0513, 0x0000_0073])?;
+    assert_eq!(rt; machine.status(), Status::Running);
+    assert_eq!(rt; machine.pc(), 0x10000);
+    assert_eq!(rt; machine.position(), 0);
+    assert_eq!(rt; machine.output_len(), 0);
+    assert_eq!(rt; machine.heap_calls(), 0);
+    assert_eq!(rt; machine.error_groups().len(), 0);
+    for number in 0..32 {
+        let want = if number == 2 { 0x7FFF_FFF0 } else { 0 };
+        let bits = bits_of(&machine, number);
+        assert_eq!(rt; bits.value, want, "x{number}");
+        assert_eq!(rt; bits.undef, 0, "x{number}");
+    }
+    Ok(())
+}
+
+// `addi a7, x0, CALL; addi a0, x0, STATUS; ecall`: the low 8 bits count, and pc stays at the ECALL.
+#[test]
+fn exit_ends_a_run(rt: HostRuntime) -> Result<(), Fail> {
+    for (call, status, want) in [
+        (0x05D0_0893, 0x0000_0513, 0),
+        (0x05D0_0893, 0xFFF0_0513, 255),
+        (0x05E0_0893, 0x12C0_0513, 44),
+    ] {
+        let machine = run(rt.alloc(), &[call, status, 0x0000_0073], 5)?;
+        assert_eq!(rt; machine.status(), Status::Exited(want));
+        assert_eq!(rt; machine.pc(), 0x10008);
+    }
+    Ok(())
+}
+
+// `addi a7, x0, 1234; ecall`
+#[test]
+fn an_unknown_call_is_refused(rt: HostRuntime) -> Result<(), Fail> {
+    let machine = run(rt.alloc(), &[0x4D20_0893, 0x0000_0073], 2)?;
+    assert_eq!(rt; machine.status(), Status::Running);
+    assert_eq!(rt; machine.pc(), 0x10008);
+    assert_eq!(rt; bits_of(&machine, 10).value, 0xFFFF_FFDA);
+    Ok(())
+}
+
+// Jumps to an address that is no multiple of 4 (JALR, JAL and a taken BEQ), no instruction, and EBREAK.
+#[test]
+fn a_stop_leaves_pc(rt: HostRuntime) -> Result<(), Fail> {
+    for (word, want) in [
+        (0x0020_0067, Stop::Misaligned),
+        (0x0020_00E7, Stop::Misaligned),
+        (0x0020_006F, Stop::Misaligned),
+        (0x0000_0163, Stop::Misaligned),
+        (0x0000_0000, Stop::Illegal),
+        (0x6015_5513, Stop::Illegal),
+        (0x0010_0073, Stop::Break),
+    ] {
+        let machine = run(rt.alloc(), &[word], 2)?;
+        assert_eq!(rt; machine.status(), Status::Stopped(want), "at {word}");
+        assert_eq!(rt; machine.pc(), 0x10000, "at {word}");
+        assert_eq!(rt; bits_of(&machine, 1).value, 0, "at {word}");
+        assert_eq!(rt; machine.error_groups().len(), 0, "at {word}");
+    }
+    Ok(())
+}
+
+// `lw a0, 0(x2); beq a0, x0, +8`: the branch depends on undefined bits, and the jump goes past the program.
+#[test]
+fn an_undefined_branch_is_an_error(rt: HostRuntime) -> Result<(), Fail> {
+    let start = started(rt.alloc(), &[0x0001_2503, 0x0005_0463])?;
+    let start = marked(start, 0x7FFF_FFF0, RangeKind::Undefined)?;
+    let loaded = stepped(rt.alloc(), start, 1)?;
+    assert_eq!(rt;
+        bits_of(&loaded, 10),
+        Bits {
+            value: 0,
+            undef: u32::MAX
+        }
+    );
+    let branched = stepped(rt.alloc(), loaded, 1)?;
+    assert_eq!(rt; branched.status(), Status::Running);
+    assert_eq!(rt; branched.pc(), 0x1000C);
+    assert_eq!(rt; bits_of(&branched, 10), Bits { value: 0, undef: 0 });
+    assert_eq!(rt; branched.error_groups().len(), 1);
+    let stopped = stepped(rt.alloc(), branched, 1)?;
+    assert_eq!(rt; stopped.status(), Status::Stopped(Stop::Jump));
+    assert_eq!(rt; stopped.pc(), 0x1000C);
+    let groups = stopped.error_groups();
+    assert_eq!(rt; groups.len(), 2);
+    assert_eq!(rt; groups[0].kind, Kind::Cond);
+    assert_eq!(rt; groups[0].trace.addresses(), [0x10004].as_slice());
+    assert_eq!(rt; groups[0].count, 1);
+    assert_eq!(rt; groups[0].note, Note::Absent);
+    assert_eq!(rt; groups[1].kind, Kind::Jump);
+    assert_eq!(rt; groups[1].trace.addresses(), [0x1000C].as_slice());
+    assert_eq!(rt; groups[1].count, 1);
+    assert_eq!(rt; groups[1].note, Note::Elsewhere(0x1000C));
+    Ok(())
+}
+
+// `lw a0, 0(x2); beq a0, x0, -4`, round and round.
+#[test]
+fn the_same_error_is_counted(rt: HostRuntime) -> Result<(), Fail> {
+    let start = started(rt.alloc(), &[0x0001_2503, 0xFE05_0EE3])?;
+    let start = marked(start, 0x7FFF_FFF0, RangeKind::Undefined)?;
+    let machine = stepped(rt.alloc(), start, 6)?;
+    assert_eq!(rt; machine.pc(), 0x10000);
+    assert_eq!(rt; machine.error_groups().len(), 1);
+    assert_eq!(rt; first_count(&machine), 3);
+    Ok(())
+}
+
+// `jalr x0, -16(x2)`: below the sixteen bytes that may be accessed, in the stack region.
+#[test]
+fn a_jump_to_the_stack_is_noted(rt: HostRuntime) -> Result<(), Fail> {
+    let machine = run(rt.alloc(), &[0xFF01_0067], 2)?;
+    assert_eq!(rt; machine.status(), Status::Stopped(Stop::Jump));
+    let groups = machine.error_groups();
+    assert_eq!(rt; groups.len(), 1);
+    assert_eq!(rt; groups[0].note, Note::Stack(0x7FFF_FFE0));
+    Ok(())
+}
+
+// `lui x5, 0x10; lw x7, 16(x5); sh x7, 22(x5); ebreak; .word 0x12345678; .word 0`
+#[test]
+fn a_step_tells_what_it_touched(rt: HostRuntime) -> Result<(), Fail> {
+    let words = [
+        0x0001_02B7,
+        0x0102_A383,
+        0x0072_9B23,
+        0x0010_0073,
+        0x1234_5678,
+        0,
+    ];
+    let setup = setup(rt.alloc());
+    let mut meter = Meter::new();
+    let mut machine = started(rt.alloc(), &words)?;
+    for (fetch, reads, writes) in [
+        (span(0x10000, 4), None, None),
+        (span(0x10004, 4), span(0x10010, 4), None),
+        (span(0x10008, 4), None, span(0x10016, 2)),
+        (span(0x1000C, 4), None, None),
+        (None, None, None),
+    ] {
+        let (next, touched) = machine.step(&setup, &mut meter)?;
+        machine = next;
+        assert_eq!(rt;
+            touched,
+            Touched {
+                fetch,
+                reads,
+                writes
+            }
+        );
+    }
+    assert_eq!(rt; meter.read(), 5);
+    Ok(())
+}
+
+// `lw a0, 0(x2)` of a word that is written by hand, and marked.
+#[test]
+fn marks_and_pokes_are_seen(rt: HostRuntime) -> Result<(), Fail> {
+    for (kind, undef) in [
+        (RangeKind::NoAccess, 0),
+        (RangeKind::Undefined, u32::MAX),
+        (RangeKind::Defined, 0),
+    ] {
+        let start = started(rt.alloc(), &[0x0001_2503])?;
+        let poked = start.poke_word(0x7FFF_FFF0, 0x8765_4321)?;
+        let machine = stepped(rt.alloc(), marked(poked, 0x7FFF_FFF0, kind)?, 1)?;
+        assert_eq!(rt;
+            bits_of(&machine, 10),
+            Bits {
+                value: 0x8765_4321,
+                undef
+            }
+        );
+    }
+    Ok(())
+}
+
+// `lw a0, 0(x2); beq a0, x0, -4`
+#[test]
+fn a_copy_stays_as_it_was(rt: HostRuntime) -> Result<(), Fail> {
+    let start = started(rt.alloc(), &[0x0001_2503, 0xFE05_0EE3])?;
+    let start = marked(start, 0x7FFF_FFF0, RangeKind::Undefined)?;
+    let machine = stepped(rt.alloc(), start, 2)?;
+    let copy = machine.share()?;
+    let poked = machine.poke_word(0x7FFF_FFF0, 5)?;
+    let later = stepped(
+        rt.alloc(),
+        marked(poked, 0x7FFF_FFF0, RangeKind::Defined)?,
+        2,
+    )?;
+    assert_eq!(rt; later.pc(), 0x10008);
+    assert_eq!(rt; copy.pc(), 0x10000);
+    assert_eq!(rt; copy.error_groups().len(), 1);
+    assert_eq!(rt; first_count(&copy), 1);
+    let again = stepped(rt.alloc(), copy, 2)?;
+    assert_eq!(rt; first_count(&again), 2);
+    assert_eq!(rt; first_count(&later), 1);
+    assert_eq!(rt; bits_of(&again, 10).value, 0);
+    assert_eq!(rt; bits_of(&later, 10).value, 5);
+    Ok(())
+}
+
+#[test]
+fn the_laws_can_be_called() {
+    keeps_words();
+    keeps_input();
+    keeps_heap();
+}
+
+#[test]
+fn an_input_is_made_from_a_vector_and_gives_it_back(rt: HostRuntime) -> Result<(), Fail> {
+    let input = Input::new(b"ab".to_vec(rt.alloc())?);
+    assert_eq!(rt; input.len(), 2);
+    let bytes = input.into_vec();
+    assert_eq!(rt; bytes.as_slice(), b"ab".as_slice());
+    Ok(())
+}

@@ -1,0 +1,24 @@
+//! What a user chooses of a report.
+ghost use Rattle.std.specs.Prelude.{◌≡◌, ◌∷◌, [], true, false};
+
+/// What a user chooses of a report (Memcheck manual, options `--num-callers` and `--show-leak-kinds`).
+#[derive(Clone, Copy, Debug, PartialEq, Eq)]
+pub struct Options {
+    /// How many addresses of a trace are shown, from 1 to 24.
+    pub callers: u32,
+    /// Which kinds of leak are shown: definitely lost, indirectly lost, possibly lost, still reachable.
+    pub show: [bool; 4],
+}
+
+/// What Memcheck has by default: 12 addresses, definite and possible leaks.
+impl Default for Options {
+    fn default() -> Self
+        ensures callers { result.callers ≡ 12 }
+        ensures show { result.show ≡ true ∷ false ∷ true ∷ false ∷ [] }
+    {
+        Options {
+            callers: 12,
+            show: [true, false, true, false],
+        }
+    }
+}

@@ -1,0 +1,4 @@
+pub mod CommandSteps
+pub mod MarkSteps
+pub mod SessionSteps
+pub mod SentSteps

@@ -1,0 +1,48 @@
+//! How the program ends: its error line and exit status.
+ghost use Rattle.std.specs.Prelude.{◌≡◌};
+ghost use Rattle.replaycheck.specs.Ends.{status_of};
+
+use guest_elf::ElfFault;
+use std::io::Write;
+
+/// How the program ends. `Done` stands for help too, and `Usage` for a fault of the command line, whose text the command-line
+/// parser has written.
+#[derive(Clone, Copy, Debug)]
+pub enum End<'a> {
+    Done,
+    /// A file, named as it was given.
+    CannotRead(&'a str),
+    CannotWrite,
+    Usage,
+    Image(ElfFault),
+    NoMemory,
+}
+
+/// Writes the error line, if the end has one, and answers the exit status, whatever becomes of the write.
+pub fn tell<W: Write>(end: &End, writer: &mut W) -> u8
+    ensures { result ≡ status_of end.now }
+{
+    let _told = write_line(end, writer);
+    match end {
+        End::Done => 0,
+        End::CannotRead(_) | End::CannotWrite => 1,
+        End::Usage => 2,
+        End::Image(ElfFault::Memory) | End::NoMemory => 4,
+        End::Image(_) => 3,
+    }
+}
+
+fn write_line<W: Write>(end: &End, writer: &mut W) -> std::io::Result<()> {
+    match end {
+        End::Done | End::Usage => Ok(()),
+        End::CannotRead(path) => writeln!(writer, "replaycheck: cannot read {path}"),
+        End::CannotWrite => writeln!(writer, "replaycheck: cannot write"),
+        End::Image(ElfFault::Memory) | End::NoMemory => {
+            writeln!(writer, "replaycheck: out of memory")
+        }
+        End::Image(fault) => {
+            let number = fault.number();
+            writeln!(writer, "replaycheck: image refused {number}")
+        }
+    }
+}

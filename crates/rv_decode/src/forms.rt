@@ -1,0 +1,111 @@
+//! An operation with the operands that its form has, and 0 for the others
+//! (RISC-V Unprivileged ISA 20191213, section 2.2).
+ghost use Rattle.std.specs.Prelude.{◌≡◌};
+ghost use Rattle.rv_decode.specs.Table.{with_fields, R, I, Shift, S, B, U, J, Bare};
+
+use crate::fields::{imm_b, imm_i, imm_j, imm_s, imm_u, rd, rs1, rs2, shift_amount};
+use crate::{Insn, Op};
+
+/// Two source registers and a destination.
+pub fn r_form(op: Op, word: u32) -> Insn
+    ensures { result ≡ with_fields R op word }
+{
+    Insn {
+        op,
+        rd: rd(word),
+        rs1: rs1(word),
+        rs2: rs2(word),
+        imm: 0,
+    }
+}
+
+/// A source register, an immediate and a destination.
+pub fn i_form(op: Op, word: u32) -> Insn
+    ensures { result ≡ with_fields I op word }
+{
+    Insn {
+        op,
+        rd: rd(word),
+        rs1: rs1(word),
+        rs2: 0,
+        imm: imm_i(word),
+    }
+}
+
+/// A source register, an amount to shift by and a destination.
+pub fn shift_form(op: Op, word: u32) -> Insn
+    ensures { result ≡ with_fields Shift op word }
+{
+    Insn {
+        op,
+        rd: rd(word),
+        rs1: rs1(word),
+        rs2: 0,
+        imm: shift_amount(word),
+    }
+}
+
+/// A store.
+pub fn s_form(op: Op, word: u32) -> Insn
+    ensures { result ≡ with_fields S op word }
+{
+    Insn {
+        op,
+        rd: 0,
+        rs1: rs1(word),
+        rs2: rs2(word),
+        imm: imm_s(word),
+    }
+}
+
+/// A branch.
+pub fn b_form(op: Op, word: u32) -> Insn
+    ensures { result ≡ with_fields B op word }
+{
+    Insn {
+        op,
+        rd: 0,
+        rs1: rs1(word),
+        rs2: rs2(word),
+        imm: imm_b(word),
+    }
+}
+
+/// A destination and an upper immediate.
+pub fn u_form(op: Op, word: u32) -> Insn
+    ensures { result ≡ with_fields U op word }
+{
+    Insn {
+        op,
+        rd: rd(word),
+        rs1: 0,
+        rs2: 0,
+        imm: imm_u(word),
+    }
+}
+
+/// A destination and the distance of a jump.
+pub fn j_form(op: Op, word: u32) -> Insn
+    ensures { result ≡ with_fields J op word }
+{
+    Insn {
+        op,
+        rd: rd(word),
+        rs1: 0,
+        rs2: 0,
+        imm: imm_j(word),
+    }
+}
+
+/// No operands.
+pub fn bare(op: Op) -> Insn
+    ensures { result ≡ with_fields Bare op 0 }
+{
+    Insn {
+        op,
+        rd: 0,
+        rs1: 0,
+        rs2: 0,
+        imm: 0,
+    }
+}
