@@ -1,5 +1,5 @@
 -- The lines of a report, each with its newline. Numbers are decimal.
-use Rattle.std.specs.Prelude.{ℕ, List, [], ◌∷◌, ◌++◌, codes, take, sum_by, min, length}
+use Rattle.std.specs.Prelude.{ℕ, List, [], ◌∷◌, ◌++◌, codes, take, sum_by, min}
 use Rattle.std.specs.List.{flat_map}
 use Rattle.std.specs.Fmt.{decimal}
 use Rattle.guest_elf.specs.declared.image.Image.{Image}
@@ -19,6 +19,7 @@ use Rattle.replay_report.specs.Text.{address_text, shown_name, newline}
 unfoldable pub step_line : ℕ → List ℕ
 step_line n = codes "step " ++ decimal n ++ newline
 
+-- why a machine stopped, in one word
 abbrev pub stop_word : Stop → List ℕ
 stop_word JumpStop = codes "jump"
 stop_word Break = codes "break"

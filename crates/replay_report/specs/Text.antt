@@ -1,5 +1,5 @@
 -- The pieces of a report's lines, as bytes.
-use Rattle.std.specs.Prelude.{ℕ, ◌+◌, ◌/◌, ◌%◌, ◌^◌, ◌&&◌, nat_le, if◌then◌else◌, List, [], ◌∷◌, ◌++◌, map, codes}
+use Rattle.std.specs.Prelude.{ℕ, ◌/◌, ◌%◌, ◌^◌, ◌&&◌, nat_le, if◌then◌else◌, List, [], ◌∷◌, ◌++◌, map, codes}
 use Rattle.std.specs.Fmt.{digit_glyph}
 use Rattle.std.specs.Prelude.{false}
 
@@ -15,6 +15,7 @@ address_text a = codes "0x" ++ map (hex_digit a) (7 ∷ 6 ∷ 5 ∷ 4 ∷ 3 ∷ 
 abbrev pub shown_byte : ℕ → ℕ
 shown_byte b = if nat_le 0x21 b && nat_le b 0x7E then b else 0x3F
 
+-- a name, each byte as it is shown
 unfoldable pub shown_name : List ℕ → List ℕ
 shown_name name = map shown_byte name
 

@@ -1,12 +1,11 @@
 -- The command language of a session: one line, its fields, and the command that they are.
-use Rattle.std.specs.Prelude.{ℕ, zero, suc, ◌==◌, ◌&&◌, ◌^◌, nat_eq, nat_le, nat_lt, Bool, if◌then◌else◌, List, [], ◌∷◌, length, drop, Option, Some, None, codes}
+use Rattle.std.specs.Prelude.{ℕ, ◌==◌, ◌&&◌, ◌^◌, nat_eq, nat_le, nat_lt, Bool, if◌then◌else◌, List, [], ◌∷◌, length, drop, Option, Some, None, codes}
 use Rattle.std.specs.Char.{digit_value}
 use Rattle.std.specs.List.{list_all, starts_with}
 use Rattle.std.specs.Str.{bytes_eq}
 use Rattle.std.specs.Str.Parse.{digits_value}
 use Rattle.guest_machine.specs.declared.memory.cells.RangeKind.{RangeKind}
 use Rattle.guest_machine.specs.declared.memory.cells.RangeKind.TheVariants.{NoAccess, Undefined, Defined}
-use Rattle.guest_machine.specs.declared.setup.Mark.{Mark as MarkAt}
 use Rattle.replaycheck.specs.declared.session.command.Command.{Command}
 use Rattle.replaycheck.specs.declared.session.command.Command.TheVariants.{Goto, Report, Mark, Unmark}
 

@@ -1,6 +1,5 @@
 -- The exit statuses of the program.
 use Rattle.std.specs.Prelude.{ℕ}
-use Rattle.guest_elf.specs.declared.fault.ElfFault.{ElfFault}
 use Rattle.guest_elf.specs.declared.fault.ElfFault.TheVariants.{Memory}
 use Rattle.replaycheck.specs.declared.ends.End.{End}
 use Rattle.replaycheck.specs.declared.ends.End.TheVariants.{Done, CannotRead, CannotWrite, Usage, Image, NoMemory}

@@ -35,7 +35,12 @@ fn program(alloc: Global) -> Result<Vec<u8>, AllocError> {
 }
 
 /// Makes so many steps.
-fn run(alloc: Global, machine: Machine, steps: u32, meter: &mut Meter) -> Result<Machine, AllocError> {
+fn run(
+    alloc: Global,
+    machine: Machine,
+    steps: u32,
+    meter: &mut Meter,
+) -> Result<Machine, AllocError> {
     let setup = Setup {
         input: Input::new(Vec::new(alloc)),
         redzone: 16,
@@ -70,5 +75,9 @@ fn main(rt: HostRuntime) -> io::Result<()> {
     let began = Instant::now(&rt)?;
     let machine = run(rt.alloc(), start, steps, &mut meter)?;
     let seconds = began.elapsed(&rt)?.as_secs_f64();
-    println!(rt; "{} steps in {seconds:.3} seconds, pc {:#010x}", meter.read(), machine.pc())
+    println!(rt;
+        "{} steps in {seconds:.3} seconds, pc {:#010x}",
+        meter.read(),
+        machine.pc()
+    )
 }

@@ -1,4 +1,3 @@
-use Rattle.std.proofs.Common.{◌≡◌, ◌++◌, ◌∙◌, ap, sym}
 use Rattle.replay_report.specs.Report.{leak_lines}
 use Rattle.replay_report.proofs.Joins.{joined}
 use Rattle.replay_report.proofs.lines.push_leaks.Goals as goal

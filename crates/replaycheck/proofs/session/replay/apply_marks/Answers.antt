@@ -1,5 +1,4 @@
 use Rattle.std.proofs.Common.{◌<◌, length, arith, refl}
-use Rattle.guest_machine.specs.Run.{after_marks}
 use Rattle.replaycheck.proofs.MarkSteps.{after-none, after-one, after-other, shows-along}
 use Rattle.replaycheck.proofs.session.replay.apply_marks.Goals as goal
 use Rattle.replaycheck.proofs.session.replay.apply_marks.Goals.{then-mark-step+in_ok-machine, else-mark-step}

@@ -1,6 +1,4 @@
-use Rattle.std.proofs.Common.{◌≡◌, refl, ap₂}
-use Rattle.guest_machine.specs.Run.{start_state}
-use Rattle.replay_report.specs.declared.options.Options.{Options}
+use Rattle.std.proofs.Common.{refl}
 use Rattle.replaycheck.specs.Scenario.{begun, first_state}
 use Rattle.replaycheck.proofs.session.keeper.Session.begin.Goals as goal
 
