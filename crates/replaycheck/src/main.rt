@@ -3,6 +3,8 @@
 
 mod arguments;
 mod ends;
+#[cfg(test)]
+mod reference;
 mod run_once;
 mod sending;
 mod session;

@@ -31,7 +31,7 @@ fn report_once(alloc: Global, image: &Image, step: u32) -> Result<Vec<u8>, Alloc
     let start = Machine::start(alloc, image)?;
     let setup = default_setup(alloc);
     let mut meter = Meter::new();
-    let machine = run_to(&start, &setup, &[], step, &mut meter)?;
+    let machine = run_to(start, &setup, &[], step, &mut meter)?;
     let mut text = Vec::new(alloc);
     render(
         alloc,

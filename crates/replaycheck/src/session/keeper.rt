@@ -151,13 +151,8 @@ impl<'a> Session<'a> {
         ensures ok { OnOk result ((sc : Scenario) → HasScenario self.old sc → out.new.items ≡ out.old.items ++ report_of sc) }
         ensures err { OnErr result (out.new.items ≡ out.old.items) }
     {
-        let machine = run_to(
-            &self.start,
-            &self.setup,
-            &self.marks,
-            self.step,
-            &mut self.meter,
-        )?;
+        let start = self.start.share()?;
+        let machine = run_to(start, &self.setup, &self.marks, self.step, &mut self.meter)?;
         let input_len = self.setup.input.len() as u64;
         render(
             self.alloc,

@@ -65,17 +65,17 @@ fn pass_marks(
     }
 }
 
-/// The machine at a step of the run from step zero, with its marks. Each step is made on the meter.
+/// The machine at a step of the run from a start, with its marks. Each step is made on the meter.
 pub(crate) fn run_to(
-    start: &Machine,
+    start: Machine,
     setup: &Setup,
     marks: &[Mark],
     step: u32,
     meter: &mut Meter,
 ) -> Result<Machine, AllocError>
-    ensures { IfOk result (λ r. (s : State) → Shows start.now s → Shows r (post s setup.now marks.now step)) }
+    ensures { IfOk result (λ r. (s : State) → Shows start s → Shows r (post s setup.now marks.now step)) }
 {
-    let mut machine = start.share()?;
+    let mut machine = start;
     let mut next = next_step(marks, 0);
     for k in 0..step {
         let marked = pass_marks(machine, marks, k, &mut next)?;

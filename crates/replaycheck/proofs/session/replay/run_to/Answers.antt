@@ -4,7 +4,7 @@ use Rattle.replaycheck.proofs.session.replay.run_to.Goals as goal
 
 pub loop-k-init : goal.loop-k-init
 loop-k-init c = record {
-  shows = λ s h. shows-along _ _ s _ refl (pre-none s c.args.setup.now c.args.marks.now) (c.in_ok-machine.ensures s h);
+  shows = λ s h. shows-along _ _ s _ refl (pre-none s c.args.setup.now c.args.marks.now) h;
   none = c.next_step-next.ensures;
 }
 

@@ -6,6 +6,6 @@ use Rattle.replaycheck.proofs.session.replay.run_to.Given as goal
 
 abbrev pub invariant-loop-k : goal.invariant-loop-k
 invariant-loop-k l = record {
-  shows : (s : State) → Shows l.start s → Shows l.machine (pre s l.setup l.marks l.k);
+  shows : (s : State) → Shows l.fn.start s → Shows l.machine (pre s l.setup l.marks l.k);
   none : NoneUntil l.k l.next l.marks;
 }
