@@ -1,7 +1,7 @@
 //! Reports of programs by hand, against texts written down from the format of a report.
 use crate::{Options, render};
 use guest_elf::read;
-use guest_machine::{Machine, Mark, Meter, RangeKind, Setup};
+use guest_machine::{Input, Machine, Mark, Meter, RangeKind, Setup};
 use std::alloc::{AllocError, Global};
 use std::test::Fail;
 
@@ -43,7 +43,7 @@ fn file_of(alloc: Global, words: &[u32]) -> Result<Vec<u8>, AllocError> {
 /// The machine after some steps, with no input.
 fn stepped(alloc: Global, machine: Machine, steps: u32) -> Result<Machine, AllocError> {
     let setup = Setup {
-        input: Vec::new(alloc),
+        input: Input::new(Vec::new(alloc)),
         redzone: 16,
         volume: 20_000_000,
     };
