@@ -8,38 +8,13 @@ use crate::{
 };
 use definedness::Bits;
 use guest_elf::read;
+use guest_programs::program;
 use std::alloc::{AllocError, Global};
 use std::test::Fail;
 
-/// A file's header, and its program header up to p_filesz: one segment at 0x10000, whose bytes stand at offset 84.
-const HEADERS: [u8; 68] = [
-    0x7F, 0x45, 0x4C, 0x46, 0x01, 0x01, 0x01, 0x00, 0x00, 0x00, 0x00, 0x00, 0x00, 0x00, 0x00, 0x00,
-    0x02, 0x00, 0xF3, 0x00, 0x01, 0x00, 0x00, 0x00, 0x00, 0x00, 0x01, 0x00, 0x34, 0x00, 0x00, 0x00,
-    0x00, 0x00, 0x00, 0x00, 0x00, 0x00, 0x00, 0x00, 0x34, 0x00, 0x20, 0x00, 0x01, 0x00, 0x00, 0x00,
-    0x00, 0x00, 0x00, 0x00, 0x01, 0x00, 0x00, 0x00, 0x54, 0x00, 0x00, 0x00, 0x00, 0x00, 0x01, 0x00,
-    0x00, 0x00, 0x01, 0x00,
-];
-
-/// p_flags and p_align, which follow p_filesz and p_memsz.
-const LAST_FIELDS: [u8; 8] = [0x05, 0x00, 0x00, 0x00, 0x04, 0x00, 0x00, 0x00];
-
-/// The file of a program: its words at 0x10000, and nothing else.
-fn file_of(alloc: Global, words: &[u32]) -> Result<Vec<u8>, AllocError> {
-    let size = (words.len() % 1024) as u32 * 4;
-    let mut file = Vec::new(alloc);
-    file.extend_from_slice(&HEADERS)?;
-    file.extend_from_slice(&size.to_le_bytes())?;
-    file.extend_from_slice(&size.to_le_bytes())?;
-    file.extend_from_slice(&LAST_FIELDS)?;
-    for word in words {
-        file.extend_from_slice(&word.to_le_bytes())?;
-    }
-    Ok(file)
-}
-
 /// The machine before the first step of a program.
 fn started(alloc: Global, words: &[u32]) -> Result<Machine, Fail> {
-    let file = file_of(alloc, words)?;
+    let file = program(alloc, words)?;
     let image = read(alloc, &file)?;
     Ok(Machine::start(alloc, &image)?)
 }

@@ -2,20 +2,9 @@
 use crate::{Options, render};
 use guest_elf::read;
 use guest_machine::{Input, Machine, Mark, Meter, RangeKind, Setup};
+use guest_programs::program;
 use std::alloc::{AllocError, Global};
 use std::test::Fail;
-
-/// A file's header, and its program header up to p_filesz: one segment at 0x10000, whose bytes stand at offset 84.
-const HEADERS: [u8; 68] = [
-    0x7F, 0x45, 0x4C, 0x46, 0x01, 0x01, 0x01, 0x00, 0x00, 0x00, 0x00, 0x00, 0x00, 0x00, 0x00, 0x00,
-    0x02, 0x00, 0xF3, 0x00, 0x01, 0x00, 0x00, 0x00, 0x00, 0x00, 0x01, 0x00, 0x34, 0x00, 0x00, 0x00,
-    0x00, 0x00, 0x00, 0x00, 0x00, 0x00, 0x00, 0x00, 0x34, 0x00, 0x20, 0x00, 0x01, 0x00, 0x00, 0x00,
-    0x00, 0x00, 0x00, 0x00, 0x01, 0x00, 0x00, 0x00, 0x54, 0x00, 0x00, 0x00, 0x00, 0x00, 0x01, 0x00,
-    0x00, 0x00, 0x01, 0x00,
-];
-
-/// p_flags and p_align, which follow p_filesz and p_memsz.
-const LAST_FIELDS: [u8; 8] = [0x05, 0x00, 0x00, 0x00, 0x04, 0x00, 0x00, 0x00];
 
 /// `addi a7, x0, 93; addi a0, x0, 0; ecall`: the call `exit`.
 const EXIT: [u32; 3] = [0x05D0_0893, 0x0000_0513, 0x0000_0073];
@@ -25,20 +14,6 @@ const BRANCH_PAST_THE_END: [u32; 2] = [0x0001_2503, 0x0005_0463];
 
 /// `lw a0, 0(sp); beq a0, x0, -4`
 const BRANCH_BACK: [u32; 2] = [0x0001_2503, 0xFE05_0EE3];
-
-/// The file of a program: its words at 0x10000, and nothing else.
-fn file_of(alloc: Global, words: &[u32]) -> Result<Vec<u8>, AllocError> {
-    let size = (words.len() % 1024) as u32 * 4;
-    let mut file = Vec::new(alloc);
-    file.extend_from_slice(&HEADERS)?;
-    file.extend_from_slice(&size.to_le_bytes())?;
-    file.extend_from_slice(&size.to_le_bytes())?;
-    file.extend_from_slice(&LAST_FIELDS)?;
-    for word in words {
-        file.extend_from_slice(&word.to_le_bytes())?;
-    }
-    Ok(file)
-}
 
 /// The machine after some steps, with no input.
 fn stepped(alloc: Global, machine: Machine, steps: u32) -> Result<Machine, AllocError> {
@@ -59,7 +34,7 @@ fn stepped(alloc: Global, machine: Machine, steps: u32) -> Result<Machine, Alloc
 /// The report of a program after some steps, for an input of `input_len` bytes of which none is read. The four bytes at the
 /// stack pointer, which are 0, are undefined from the start.
 fn report_for(alloc: Global, words: &[u32], steps: u32, input_len: u64) -> Result<Vec<u8>, Fail> {
-    let file = file_of(alloc, words)?;
+    let file = program(alloc, words)?;
     let image = read(alloc, &file)?;
     let started = Machine::start(alloc, &image)?.mark(&Mark {
         step: 0,
@@ -241,7 +216,7 @@ fn numbers_are_decimal(rt: HostRuntime) -> Result<(), Fail> {
 
 #[test]
 fn a_report_is_appended(rt: HostRuntime) -> Result<(), Fail> {
-    let file = file_of(rt.alloc(), &EXIT)?;
+    let file = program(rt.alloc(), &EXIT)?;
     let image = read(rt.alloc(), &file)?;
     let machine = Machine::start(rt.alloc(), &image)?;
     let mut out = b"ok\n".to_vec(rt.alloc())?;

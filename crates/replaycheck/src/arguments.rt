@@ -9,6 +9,10 @@ pub(crate) struct Order<'a> {
     pub(crate) step: u32,
 }
 
+const ABOUT: &str =
+    "Finds memory errors in static RV32IM programs, and shows what an edit of the run would change. \
+    It is this program that was proved, not each of its reports";
+
 fn make_command<'a>(alloc: Global) -> Result<Command<'a>, AllocError> {
     let file = Arg::new(alloc, "FILE")
         .required(true)
@@ -24,7 +28,8 @@ fn make_command<'a>(alloc: Global) -> Result<Command<'a>, AllocError> {
         .arg(file)?
         .arg(step)?;
     Command::new(alloc, "replaycheck")
-        .about("Finds memory errors in RV32IM programs, and proves every report")
+        .version("0.1.0")
+        .about(ABOUT)
         .subcommand_required(true)
         .subcommand(run)
 }

@@ -3,8 +3,6 @@
 
 mod arguments;
 mod ends;
-#[cfg(test)]
-mod reference;
 mod run_once;
 mod sending;
 mod session;

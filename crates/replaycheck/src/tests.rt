@@ -1,8 +1,8 @@
 //! The program's parts: one report, and the ends.
 use crate::ends::{End, tell};
 use crate::run_once::{RunFault, run_once};
-use crate::session::tests::program;
 use guest_elf::{ElfFault, read};
+use guest_programs::program;
 use std::io;
 use std::io::Write;
 use std::test::Fail;

@@ -4,6 +4,7 @@
 
 use guest_elf::read;
 use guest_machine::{Input, Machine, Meter, Setup};
+use guest_programs::sized_program;
 use std::alloc::{AllocError, Global};
 use std::rt::Env;
 use std::time::Instant;
@@ -19,20 +20,6 @@ const WORDS: [u32; 7] = [
     0x0063_C433,
     0xFE03_16E3,
 ];
-
-/// An ELF file with the words at 0x10000, in a segment of 0x2000 bytes.
-fn program(alloc: Global) -> Result<Vec<u8>, AllocError> {
-    let mut file = Vec::new(alloc);
-    file.extend_from_slice(b"\x7fELF\x01\x01\x01\0\0\0\0\0\0\0\0\0")?;
-    file.extend_from_slice(b"\x02\0\xf3\0\x01\0\0\0\0\0\x01\0\x34\0\0\0")?;
-    file.extend_from_slice(b"\0\0\0\0\0\0\0\0\x34\0\x20\0\x01\0\0\0")?;
-    file.extend_from_slice(b"\0\0\0\0\x01\0\0\0\x54\0\0\0\0\0\x01\0\0\0\x01\0")?;
-    file.extend_from_slice(b"\x1c\0\0\0\0\x20\0\0\x05\0\0\0\x04\0\0\0")?;
-    for word in &WORDS {
-        file.extend_from_slice(&word.to_le_bytes())?;
-    }
-    Ok(file)
-}
 
 /// Makes so many steps.
 fn run(
@@ -66,7 +53,7 @@ fn main(rt: HostRuntime) -> io::Result<()> {
     let Some(steps) = steps_of(&rt)? else {
         return println!(rt; "usage: step_bench STEPS");
     };
-    let file = program(rt.alloc())?;
+    let file = sized_program(rt.alloc(), &WORDS, 0x2000)?;
     let Ok(image) = read(rt.alloc(), &file) else {
         return println!(rt; "the program is refused");
     };

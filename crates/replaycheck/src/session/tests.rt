@@ -2,32 +2,9 @@
 use crate::session::keeper::Session;
 use crate::session::reply::Reply;
 use guest_elf::read;
+use guest_programs::program;
 use std::alloc::{AllocError, Global};
 use std::test::Fail;
-
-/// The header of an ELF file with one program header, for `len` bytes of words at 0x10000.
-fn header(alloc: Global, len: u32) -> Result<Vec<u8>, AllocError> {
-    let mut file = Vec::new(alloc);
-    file.extend_from_slice(b"\x7fELF\x01\x01\x01\0\0\0\0\0\0\0\0\0")?;
-    file.extend_from_slice(b"\x02\0\xf3\0\x01\0\0\0\0\0\x01\0\x34\0\0\0")?;
-    file.extend_from_slice(b"\0\0\0\0\0\0\0\0\x34\0\x20\0\x01\0\0\0")?;
-    file.extend_from_slice(b"\0\0\0\0\x01\0\0\0\x54\0\0\0\0\0\x01\0")?;
-    file.extend_from_slice(b"\0\0\x01\0")?;
-    file.extend_from_slice(&len.to_le_bytes())?;
-    file.extend_from_slice(&len.to_le_bytes())?;
-    file.extend_from_slice(b"\x05\0\0\0\x04\0\0\0")?;
-    Ok(file)
-}
-
-/// A program of some words, fewer than 100.
-pub(crate) fn program(alloc: Global, words: &[u32]) -> Result<Vec<u8>, AllocError> {
-    let count = u32::try_from(words.len()).unwrap_or(0).min(100);
-    let mut file = header(alloc, 4 * count)?;
-    for word in words {
-        file.extend_from_slice(&word.to_le_bytes())?;
-    }
-    Ok(file)
-}
 
 /// What the lines are answered, as a session prints it.
 fn transcript(alloc: Global, words: &[u32], lines: &[&str]) -> Result<String, Fail> {
