@@ -6,31 +6,31 @@ ghost use Rattle.guest_elf.specs.File.{byte_at, half_at, word_at};
 use byteorder::{ByteOrder, LittleEndian};
 
 /// The size of the ELF header, in bytes.
-pub const HEADER_SIZE: usize = 52;
+pub(crate) const HEADER_SIZE: usize = 52;
 /// EI_CLASS: 1 is a file of 32 bits.
-pub const EI_CLASS: usize = 4;
+pub(crate) const EI_CLASS: usize = 4;
 /// EI_DATA: 1 is little-endian.
-pub const EI_DATA: usize = 5;
+pub(crate) const EI_DATA: usize = 5;
 /// EI_VERSION: 1 is the current version.
-pub const EI_VERSION: usize = 6;
+pub(crate) const EI_VERSION: usize = 6;
 /// Two bytes: 2 is an executable file.
-pub const E_TYPE: usize = 16;
+pub(crate) const E_TYPE: usize = 16;
 /// Two bytes: 243 is RISC-V.
-pub const E_MACHINE: usize = 18;
+pub(crate) const E_MACHINE: usize = 18;
 /// Four bytes: 1 is the current version.
-pub const E_VERSION: usize = 20;
+pub(crate) const E_VERSION: usize = 20;
 /// Four bytes: the address of the first instruction.
-pub const E_ENTRY: usize = 24;
+pub(crate) const E_ENTRY: usize = 24;
 /// Four bytes: where the program header table begins.
-pub const E_PHOFF: usize = 28;
+pub(crate) const E_PHOFF: usize = 28;
 /// Two bytes: the size of a program header.
-pub const E_PHENTSIZE: usize = 42;
+pub(crate) const E_PHENTSIZE: usize = 42;
 /// Two bytes: the number of program headers.
-pub const E_PHNUM: usize = 44;
+pub(crate) const E_PHNUM: usize = 44;
 
 /// The byte at an offset.
 #[tactic(auto, unfolding(crate::specs::File::byte_at))]
-pub fn byte_at(file: &[u8], offset: usize) -> u8
+pub(crate) fn byte_at(file: &[u8], offset: usize) -> u8
     requires { offset < length file.now }
     ensures { result ≡ byte_at file.now offset }
 {
@@ -39,7 +39,7 @@ pub fn byte_at(file: &[u8], offset: usize) -> u8
 
 /// The two bytes at an offset as a number.
 #[tactic(auto, unfolding(crate::specs::File::half_at))]
-pub fn half_at(file: &[u8], offset: usize) -> u16
+pub(crate) fn half_at(file: &[u8], offset: usize) -> u16
     requires { offset + 2 ≤ length file.now }
     ensures { result ≡ half_at file.now offset }
 {
@@ -48,7 +48,7 @@ pub fn half_at(file: &[u8], offset: usize) -> u16
 
 /// The four bytes at an offset as a number.
 #[tactic(auto, unfolding(crate::specs::File::word_at))]
-pub fn word_at(file: &[u8], offset: usize) -> u32
+pub(crate) fn word_at(file: &[u8], offset: usize) -> u32
     requires { offset + 4 ≤ length file.now }
     ensures { result ≡ word_at file.now offset }
 {

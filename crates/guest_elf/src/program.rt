@@ -9,7 +9,7 @@ const PT_LOAD: u32 = 1;
 /// PT_INTERP: the path of an interpreter.
 const PT_INTERP: u32 = 3;
 /// The size of a program header, in bytes.
-pub const PROGRAM_HEADER_SIZE: usize = 32;
+pub(crate) const PROGRAM_HEADER_SIZE: usize = 32;
 /// The heap's region ends before this address.
 const HEAP_END: u64 = 0x6000_0000;
 /// The heap's region begins at this address.
@@ -21,23 +21,23 @@ const STACK_START: u64 = 0x7F00_0000;
 
 /// The fields of a program header that matter here (Elf32_Phdr, figure 5-1).
 #[derive(Clone, Copy)]
-pub struct ProgramHeader {
+pub(crate) struct ProgramHeader {
     /// p_type.
-    pub kind: u32,
+    pub(crate) kind: u32,
     /// p_offset: where its bytes begin in the file.
-    pub offset: u32,
+    pub(crate) offset: u32,
     /// p_vaddr: the address of its first byte.
-    pub vaddr: u32,
+    pub(crate) vaddr: u32,
     /// p_filesz: the number of its bytes in the file.
-    pub filesz: u32,
+    pub(crate) filesz: u32,
     /// p_memsz: the number of its bytes in memory.
-    pub memsz: u32,
+    pub(crate) memsz: u32,
 }
 
 impl ProgramHeader {
     /// Whether it is a PT_INTERP.
     #[tactic(auto, unfolding(crate::specs::File::is_interpreter))]
-    pub fn is_interpreter(self) -> bool
+    pub(crate) fn is_interpreter(self) -> bool
         ensures { result ≡ is_interpreter self }
     {
         self.kind == PT_INTERP
@@ -45,7 +45,7 @@ impl ProgramHeader {
 
     /// Whether it is a PT_LOAD that is not empty.
     #[tactic(auto, unfolding(crate::specs::File::is_load))]
-    pub fn is_load(self) -> bool
+    pub(crate) fn is_load(self) -> bool
         ensures { result ≡ is_load self }
     {
         self.kind == PT_LOAD && !(self.filesz == 0 && self.memsz == 0)
@@ -54,7 +54,7 @@ impl ProgramHeader {
     /// Whether it has more bytes in the file than in memory, or bytes past the end of a file of
     /// `file_length` bytes, or an end above 2^32.
     #[tactic(auto, unfolding(crate::specs::File::is_bad_segment))]
-    pub fn is_bad_segment(self, file_length: usize) -> bool
+    pub(crate) fn is_bad_segment(self, file_length: usize) -> bool
         ensures { result ≡ is_bad_segment file_length self }
     {
         self.filesz > self.memsz
@@ -64,7 +64,7 @@ impl ProgramHeader {
 
     /// Whether it has an address of the heap's region or of the stack's.
     #[tactic(auto, unfolding(crate::specs::File::meets_region))]
-    pub fn meets_region(self) -> bool
+    pub(crate) fn meets_region(self) -> bool
         ensures { result ≡ meets_region self }
     {
         self.meets(HEAP_START, HEAP_END) || self.meets(STACK_START, STACK_END)
@@ -86,7 +86,7 @@ impl ProgramHeader {
 }
 
 /// The number of program headers.
-pub fn header_count(file: &[u8]) -> u16
+pub(crate) fn header_count(file: &[u8]) -> u16
     requires { HasHeader file.now }
     ensures { result ≡ header_count file.now }
 {
@@ -95,7 +95,7 @@ pub fn header_count(file: &[u8]) -> u16
 
 /// The program header at an index of the table.
 #[tactic(auto, unfolding(crate::specs::File::header_from))]
-pub fn header_at(file: &[u8], index: u16) -> ProgramHeader
+pub(crate) fn header_at(file: &[u8], index: u16) -> ProgramHeader
     requires table { HasTable file.now }
     requires listed { index < header_count file.now }
     ensures { result ≡ header_at file.now index }

@@ -27,7 +27,7 @@ const COUNT_ELSEWHERE: u16 = 0xFFFF;
 
 /// Fewer bytes than a header has, or another beginning.
 #[tactic(auto, unfolding(crate::specs::File::is_not_elf))]
-pub fn is_not_elf(file: &[u8]) -> bool
+pub(crate) fn is_not_elf(file: &[u8]) -> bool
     ensures value { result ≡ is_not_elf file.now }
     ensures long { OnFalse result (HasHeader file.now) }
 {
@@ -36,7 +36,7 @@ pub fn is_not_elf(file: &[u8]) -> bool
 
 /// EI_CLASS is not ELFCLASS32.
 #[tactic(auto, unfolding(crate::specs::File::is_not_class_32))]
-pub fn is_not_class_32(file: &[u8]) -> bool
+pub(crate) fn is_not_class_32(file: &[u8]) -> bool
     requires { HasHeader file.now }
     ensures { result ≡ is_not_class_32 file.now }
 {
@@ -45,7 +45,7 @@ pub fn is_not_class_32(file: &[u8]) -> bool
 
 /// EI_DATA is not ELFDATA2LSB.
 #[tactic(auto, unfolding(crate::specs::File::is_not_little_endian))]
-pub fn is_not_little_endian(file: &[u8]) -> bool
+pub(crate) fn is_not_little_endian(file: &[u8]) -> bool
     requires { HasHeader file.now }
     ensures { result ≡ is_not_little_endian file.now }
 {
@@ -54,7 +54,7 @@ pub fn is_not_little_endian(file: &[u8]) -> bool
 
 /// EI_VERSION or e_version is not EV_CURRENT.
 #[tactic(auto, unfolding(crate::specs::File::has_bad_version))]
-pub fn has_bad_version(file: &[u8]) -> bool
+pub(crate) fn has_bad_version(file: &[u8]) -> bool
     requires { HasHeader file.now }
     ensures { result ≡ has_bad_version file.now }
 {
@@ -64,7 +64,7 @@ pub fn has_bad_version(file: &[u8]) -> bool
 
 /// e_type is not ET_EXEC.
 #[tactic(auto, unfolding(crate::specs::File::is_not_executable))]
-pub fn is_not_executable(file: &[u8]) -> bool
+pub(crate) fn is_not_executable(file: &[u8]) -> bool
     requires { HasHeader file.now }
     ensures { result ≡ is_not_executable file.now }
 {
@@ -73,7 +73,7 @@ pub fn is_not_executable(file: &[u8]) -> bool
 
 /// e_machine is not EM_RISCV.
 #[tactic(auto, unfolding(crate::specs::File::is_not_risc_v))]
-pub fn is_not_risc_v(file: &[u8]) -> bool
+pub(crate) fn is_not_risc_v(file: &[u8]) -> bool
     requires { HasHeader file.now }
     ensures { result ≡ is_not_risc_v file.now }
 {
@@ -82,7 +82,7 @@ pub fn is_not_risc_v(file: &[u8]) -> bool
 
 /// e_phnum is PN_XNUM; or there are program headers of another size, or that end past the file.
 #[tactic(auto, unfolding(crate::specs::File::has_bad_table))]
-pub fn has_bad_table(file: &[u8]) -> bool
+pub(crate) fn has_bad_table(file: &[u8]) -> bool
     requires { HasHeader file.now }
     ensures value { result ≡ has_bad_table file.now }
     ensures inside { OnFalse result (HasTable file.now) }

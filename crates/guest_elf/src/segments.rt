@@ -11,7 +11,7 @@ const MOST_BYTES: usize = 16_777_216;
 
 /// A program header of type PT_INTERP.
 #[tactic(auto, unfolding(crate::specs::File::has_interpreter))]
-pub fn has_interpreter(file: &[u8]) -> bool
+pub(crate) fn has_interpreter(file: &[u8]) -> bool
     requires { HasTable file.now }
     ensures { result ≡ has_interpreter file.now }
 {
@@ -82,7 +82,7 @@ fn memory_size(file: &[u8]) -> u64
 
 /// A loaded segment is bad, or there is more than one.
 #[tactic(auto, unfolding(crate::specs::File::has_bad_segment))]
-pub fn has_bad_segment(file: &[u8]) -> bool
+pub(crate) fn has_bad_segment(file: &[u8]) -> bool
     requires { HasTable file.now }
     ensures value { result ≡ has_bad_segment file.now }
     ensures good { OnFalse result (HasSegments file.now) }
@@ -93,7 +93,7 @@ pub fn has_bad_segment(file: &[u8]) -> bool
 
 /// A loaded segment meets another, or the heap's region or the stack's.
 #[tactic(auto, unfolding(crate::specs::File::has_overlap))]
-pub fn has_overlap(file: &[u8]) -> bool
+pub(crate) fn has_overlap(file: &[u8]) -> bool
     requires table { HasTable file.now }
     requires single { length (loads_of file.now) ≤ 1 }
     ensures { result ≡ has_overlap file.now }
@@ -103,7 +103,7 @@ pub fn has_overlap(file: &[u8]) -> bool
 
 /// The file or what its segments take in memory has more than 16 MiB.
 #[tactic(auto, unfolding(crate::specs::File::is_too_large))]
-pub fn is_too_large(file: &[u8]) -> bool
+pub(crate) fn is_too_large(file: &[u8]) -> bool
     requires { HasTable file.now }
     ensures { result ≡ is_too_large file.now }
 {

@@ -1,6 +1,6 @@
 -- The calls that a program makes of its environment by ECALL (RISC-V Unprivileged ISA 20191213, section 2.8), numbered as in
 -- Linux for RISC-V: the number is in a7 (x17), the arguments in a0 (x10) and on, and the answer goes to a0.
-use Rattle.std.specs.Prelude.{ℕ, ◌%◌, ◌==◌, ◌||◌, Bool, false, if◌then◌else◌}
+use Rattle.std.specs.Prelude.{ℕ, ◌-◌, ◌^◌, ◌%◌, ◌==◌, ◌||◌, Bool, false, if◌then◌else◌}
 use Rattle.guest_machine.specs.State.{Core}
 use Rattle.guest_machine.specs.Registers.{known, register, set_register, tested}
 use Rattle.guest_machine.specs.Effects.{Effect, quiet, advanced, exited}
@@ -30,9 +30,17 @@ answered core n = advanced (set_register core 10 (known n))
 abbrev pub exit_call : Core → Effect
 exit_call core = let now = tested (tested core 17) 10 in quiet (exited now ((register now 10).value % 256))
 
--- a7 is tested, and the answer is -38 (ENOSYS), modulo 2^32
+-- the answer of a call that fails with an error number, as Linux gives it: the number negated, modulo 2^32
+abbrev pub failure : ℕ → ℕ
+failure errno = 2 ^ 32 - errno
+
+-- no such call (errno(3): ENOSYS)
+abbrev pub enosys : ℕ
+enosys = 38
+
+-- a7 is tested, and the answer is that there is no such call
 abbrev pub unknown_call : Core → Effect
-unknown_call core = quiet (answered (tested core 17) 4294967258)
+unknown_call core = quiet (answered (tested core 17) (failure enosys))
 
 unfoldable pub call_effect : Core → Call → Effect
 call_effect core ExitCall = exit_call core

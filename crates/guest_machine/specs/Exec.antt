@@ -9,6 +9,7 @@ use Rattle.guest_machine.specs.Instructions.{row_of}
 use Rattle.guest_machine.specs.Effects.{Effect, no_bytes, quiet, raising, event_at, advanced, stopped, target, load_upper, add_upper, compute_immediate, compute, load, store, branch, jump, jump_register, stops}
 use Rattle.guest_machine.specs.Calls.{Call, call_at, call_effect, is_heap}
 use Rattle.guest_machine.specs.Groups.{note_at}
+use Rattle.guest_machine.specs.declared.memory.cells.Width.{Width}
 use Rattle.guest_machine.specs.declared.span.Span.{Span}
 use Rattle.guest_machine.specs.declared.setup.Setup.{Setup}
 use Rattle.guest_machine.specs.declared.setup.Touched.{Touched}
@@ -65,12 +66,23 @@ nothing = record { reads = None; writes = None; inputs = 0; heap_call = false }
 abbrev pub span_at : ℕ → ℕ → Span
 span_at start len = record { start = start; len = len }
 
+-- a range read, and a range written, alone
+abbrev pub reading : Span → Uses
+reading span = record { reads = Some span; writes = None; inputs = 0; heap_call = false }
+
+abbrev pub writing : Span → Uses
+writing span = record { reads = None; writes = Some span; inputs = 0; heap_call = false }
+
+-- the bytes that a load or a store accesses
+abbrev pub accessed : Core → ℕ → ℕ → Width → Span
+accessed core rs1 imm width = span_at (target core rs1 imm) (width_len width)
+
 abbrev pub call_uses : Core → Call → Terms → Uses
 call_uses core call terms = record { reads = None; writes = None; inputs = 0; heap_call = is_heap call }
 
 unfoldable pub row_uses : Core → Option Instruction → Terms → Uses
-row_uses core (Some (Load width signed rd rs1 imm)) terms = record { reads = Some (span_at (target core rs1 imm) (width_len width)); writes = None; inputs = 0; heap_call = false }
-row_uses core (Some (Store width rs1 rs2 imm)) terms = record { reads = None; writes = Some (span_at (target core rs1 imm) (width_len width)); inputs = 0; heap_call = false }
+row_uses core (Some (Load width signed rd rs1 imm)) terms = reading (accessed core rs1 imm width)
+row_uses core (Some (Store width rs1 rs2 imm)) terms = writing (accessed core rs1 imm width)
 row_uses core (Some CallRow) terms = call_uses core (call_at core) terms
 row_uses core _ terms = nothing
 

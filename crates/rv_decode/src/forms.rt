@@ -7,7 +7,7 @@ use crate::fields::{imm_b, imm_i, imm_j, imm_s, imm_u, rd, rs1, rs2, shift_amoun
 use crate::{Insn, Op};
 
 /// Two source registers and a destination.
-pub fn r_form(op: Op, word: u32) -> Insn
+pub(crate) fn r_form(op: Op, word: u32) -> Insn
     ensures { result ≡ with_fields R op word }
 {
     Insn {
@@ -20,7 +20,7 @@ pub fn r_form(op: Op, word: u32) -> Insn
 }
 
 /// A source register, an immediate and a destination.
-pub fn i_form(op: Op, word: u32) -> Insn
+pub(crate) fn i_form(op: Op, word: u32) -> Insn
     ensures { result ≡ with_fields I op word }
 {
     Insn {
@@ -33,7 +33,7 @@ pub fn i_form(op: Op, word: u32) -> Insn
 }
 
 /// A source register, an amount to shift by and a destination.
-pub fn shift_form(op: Op, word: u32) -> Insn
+pub(crate) fn shift_form(op: Op, word: u32) -> Insn
     ensures { result ≡ with_fields Shift op word }
 {
     Insn {
@@ -46,7 +46,7 @@ pub fn shift_form(op: Op, word: u32) -> Insn
 }
 
 /// A store.
-pub fn s_form(op: Op, word: u32) -> Insn
+pub(crate) fn s_form(op: Op, word: u32) -> Insn
     ensures { result ≡ with_fields S op word }
 {
     Insn {
@@ -59,7 +59,7 @@ pub fn s_form(op: Op, word: u32) -> Insn
 }
 
 /// A branch.
-pub fn b_form(op: Op, word: u32) -> Insn
+pub(crate) fn b_form(op: Op, word: u32) -> Insn
     ensures { result ≡ with_fields B op word }
 {
     Insn {
@@ -72,7 +72,7 @@ pub fn b_form(op: Op, word: u32) -> Insn
 }
 
 /// A destination and an upper immediate.
-pub fn u_form(op: Op, word: u32) -> Insn
+pub(crate) fn u_form(op: Op, word: u32) -> Insn
     ensures { result ≡ with_fields U op word }
 {
     Insn {
@@ -85,7 +85,7 @@ pub fn u_form(op: Op, word: u32) -> Insn
 }
 
 /// A destination and the distance of a jump.
-pub fn j_form(op: Op, word: u32) -> Insn
+pub(crate) fn j_form(op: Op, word: u32) -> Insn
     ensures { result ≡ with_fields J op word }
 {
     Insn {
@@ -98,7 +98,7 @@ pub fn j_form(op: Op, word: u32) -> Insn
 }
 
 /// No operands.
-pub fn bare(op: Op) -> Insn
+pub(crate) fn bare(op: Op) -> Insn
     ensures { result ≡ with_fields Bare op 0 }
 {
     Insn {

@@ -8,6 +8,9 @@ ghost use Rattle.guest_machine.specs.Shows.{core_of, Does};
 use crate::machine::Machine;
 use crate::register::Register;
 
+// What a call that is not known answers: -38, which is ENOSYS negated.
+const NO_SUCH_CALL: u32 = u32::MAX - 37;
+
 impl Machine {
     /// The value of a register that a call reads.
     fn argument(&self, r: u8) -> u32
@@ -32,7 +35,7 @@ impl Machine {
         ensures { Does self.old self.new (unknown_call (core_of self.old)) nothing }
     {
         self.test(Register::new(17));
-        self.answer(4294967258);
+        self.answer(NO_SUCH_CALL);
     }
 
     /// Carries ECALL out.

@@ -1,9 +1,9 @@
 //! The instructions.
-ghost use Rattle.std.specs.Prelude.{◌≡◌, None, Some, false, OnOk, IfOk};
-ghost use Rattle.guest_machine.specs.Ranges.{byte_of, window, written};
+ghost use Rattle.std.specs.Prelude.{◌≡◌, Some, OnOk, IfOk};
+ghost use Rattle.guest_machine.specs.Ranges.{byte_of, written};
 ghost use Rattle.guest_machine.specs.Widths.{width_len};
-ghost use Rattle.guest_machine.specs.Effects.{target, results_in, load, store, branch, jump, jump_register, branched, stored_core};
-ghost use Rattle.guest_machine.specs.Exec.{nothing, span_at};
+ghost use Rattle.guest_machine.specs.Effects.{results_in, load, store, branch, jump, jump_register, branched, stored_core};
+ghost use Rattle.guest_machine.specs.Exec.{nothing, accessed, writing, taken_from};
 ghost use Rattle.guest_machine.specs.Shows.{core_of, bytes_of, Does};
 
 use crate::alu::{extended, passes};
@@ -34,8 +34,8 @@ impl Machine {
         rs1: Register,
         imm: u32,
     ) -> Span
-        ensures does { Does self.old self.new (load (core_of self.old) width signed rd rs1 imm (window (bytes_of self.old) (target (core_of self.old) rs1 imm) (width_len width))) nothing }
-        ensures reads { result ≡ span_at (target (core_of self.old) rs1 imm) (width_len width) }
+        ensures does { Does self.old self.new (load (core_of self.old) width signed rd rs1 imm (taken_from (bytes_of self.old) (Some result))) nothing }
+        ensures reads { result ≡ accessed (core_of self.old) rs1 imm width }
     {
         let start = self.target(rs1, imm);
         self.test(rs1);
@@ -57,8 +57,8 @@ impl Machine {
         rs2: Register,
         imm: u32,
     ) -> Result<Span, AllocError>
-        ensures does { OnOk result (Does self.old self.new (store (core_of self.old) width rs1 rs2 imm) (record { reads = None; writes = Some (span_at (target (core_of self.old) rs1 imm) (width_len width)); inputs = 0; heap_call = false })) }
-        ensures writes { IfOk result (λ span. span ≡ span_at (target (core_of self.old) rs1 imm) (width_len width)) }
+        ensures does { IfOk result (λ span. Does self.old self.new (store (core_of self.old) width rs1 rs2 imm) (writing span)) }
+        ensures writes { IfOk result (λ span. span ≡ accessed (core_of self.old) rs1 imm width) }
     {
         let to = self.target(rs1, imm);
         self.test(rs1);

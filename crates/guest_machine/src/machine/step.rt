@@ -1,8 +1,8 @@
 //! One step.
 ghost use Rattle.std.specs.Prelude.{◌≡◌, ◌+◌, min, Option, Some, None, IfOk, OnErr, OnOk};
 ghost use Rattle.guest_machine.specs.State.{State};
-ghost use Rattle.guest_machine.specs.Exec.{nothing, row_uses, row_effect, terms_of, given_at, taken_from, fetches, fetched, unfetched, jump_fault, uses_at, effect_at, touched_at, exec, touches, has_touched};
-ghost use Rattle.guest_machine.specs.Shows.{core_of, bytes_of, Shows, Does};
+ghost use Rattle.guest_machine.specs.Exec.{nothing, fetches, fetched, unfetched, jump_fault, exec, touches, has_touched};
+ghost use Rattle.guest_machine.specs.Shows.{core_of, bytes_of, uses_by, touched_by, Shows, Does, DoesRow, DoesStep};
 
 use crate::alu::computed;
 use crate::errors::event::{Kind, Note};
@@ -32,9 +32,9 @@ impl Machine {
     /// Carries an instruction out, and says which bytes it took and which it wrote.
     #[tactic(auto, unfolding(crate::specs::Exec::row_effect, crate::specs::Exec::row_uses, crate::specs::Grouping::add_events))]
     fn carry_out(&mut self, setup: &Setup, row: Option<Instruction>) -> Result<Used, AllocError>
-        ensures does { OnOk result (let uses = row_uses (core_of self.old) row (terms_of (core_of self.old) row self.old.counts.position self.old.counts.output_len setup.now) in Does self.old self.new (row_effect (core_of self.old) row (terms_of (core_of self.old) row self.old.counts.position self.old.counts.output_len setup.now) (given_at self.old.counts.position uses.inputs setup.now) (taken_from (bytes_of self.old) uses.reads)) uses) }
-        ensures reads { IfOk result (λ used. used.reads ≡ (row_uses (core_of self.old) row (terms_of (core_of self.old) row self.old.counts.position self.old.counts.output_len setup.now)).reads) }
-        ensures writes { IfOk result (λ used. used.writes ≡ (row_uses (core_of self.old) row (terms_of (core_of self.old) row self.old.counts.position self.old.counts.output_len setup.now)).writes) }
+        ensures does { OnOk result (DoesRow self.old self.new row setup.now) }
+        ensures reads { IfOk result (λ used. used.reads ≡ (uses_by self.old row setup.now).reads) }
+        ensures writes { IfOk result (λ used. used.writes ≡ (uses_by self.old row setup.now).writes) }
     {
         let Some(instruction) = row else {
             self.stop(Stop::Illegal);
@@ -174,8 +174,8 @@ impl Machine {
     /// One step, and the bytes that it took or wrote.
     #[tactic(auto, unfolding(crate::specs::Exec::uses_at, crate::specs::Exec::effect_at, crate::specs::Exec::touched_at))]
     fn act(&mut self, setup: &Setup) -> Result<Touched, AllocError>
-        ensures does { OnOk result (Does self.old self.new (effect_at (core_of self.old) (bytes_of self.old) self.old.counts.position self.old.counts.output_len setup.now) (uses_at (core_of self.old) (bytes_of self.old) self.old.counts.position self.old.counts.output_len setup.now)) }
-        ensures touched { IfOk result (λ t. t ≡ touched_at (core_of self.old) (bytes_of self.old) self.old.counts.position self.old.counts.output_len setup.now) }
+        ensures does { OnOk result (DoesStep self.old self.new setup.now) }
+        ensures touched { IfOk result (λ t. t ≡ touched_by self.old setup.now) }
     {
         let pc = self.pc;
         match self.fetch() {
