@@ -1,0 +1,35 @@
+-- Tables whose slots show the same show the same.
+use Rattle.std.proofs.Common.{◌≡◌, ℕ, zero, suc, List, [], ◌∷◌, ◌++◌, slice_index_or, refl, ap, ◌/◌, ◌%◌}
+use Rattle.std.proofs.Math.Path.{fun_ext}
+use Rattle.std.specs.List.{AllZip}
+use Rattle.shadow_memory.specs.Directories.{cells_at, cells_under}
+use Rattle.shadow_memory.specs.Memories.{cells_below, cells_of}
+use Rattle.shadow_memory.specs.declared.cells.Cell.{Cell}
+use Rattle.shadow_memory.specs.declared.cells.RangeKind.TheVariants.{NoAccess}
+use Rattle.shadow_memory.specs.declared.directories.Directory.{Directory}
+use Rattle.shadow_memory.specs.declared.memory.Memory.{Memory}
+use Rattle.shadow_memory.specs.declared.memory.DirectorySlot.TheVariants as Below
+use Rattle.shadow_memory.specs.declared.slots.PageSlot.TheVariants as At
+
+-- lists that agree slot by slot in what the slots show
+pub same_slots : {S : Type 0} (shown : S → ℕ → Cell) (d : S) (xs ys : List S) → AllZip (λ x y. shown y ≡ shown x) xs ys → (i : ℕ) → shown (slice_index_or ys i d) ≡ shown (slice_index_or xs i d)
+same_slots shown d [] [] h i = refl
+same_slots shown d [] (y ∷ ys) h i = absurd h
+same_slots shown d (x ∷ xs) [] h i = absurd h
+same_slots shown d (x ∷ xs) (y ∷ ys) h zero = h.0
+same_slots shown d (x ∷ xs) (y ∷ ys) h (suc i) = same_slots shown d xs ys h.1 i
+
+pub same_under : (a b : Directory) → ((i : ℕ) → cells_at (slice_index_or b.pages.items i (At.Blank NoAccess)) ≡ cells_at (slice_index_or a.pages.items i (At.Blank NoAccess))) → cells_under b ≡ cells_under a
+unfolding cells_under
+same_under a b h = fun_ext (λ n. ap (λ f. f (n % 4096)) (h (n / 4096)))
+
+pub same_of : (a b : Memory) → ((i : ℕ) → cells_below (slice_index_or b.directories.items i (Below.Blank NoAccess)) ≡ cells_below (slice_index_or a.directories.items i (Below.Blank NoAccess))) → cells_of b ≡ cells_of a
+unfolding cells_of
+same_of a b h = fun_ext (λ n. ap (λ f. f (n % 4194304)) (h (n / 4194304)))
+
+-- a slot that shows what lies past the end changes nothing
+pub one_more : {S : Type 0} (d : S) (xs : List S) (i : ℕ) → slice_index_or (xs ++ (d ∷ [])) i d ≡ slice_index_or xs i d
+one_more d [] zero = refl
+one_more d [] (suc i) = refl
+one_more d (x ∷ xs) zero = refl
+one_more d (x ∷ xs) (suc i) = one_more d xs i

@@ -1,0 +1,10 @@
+pub mod Between
+pub mod Clones
+pub mod Tables
+pub mod Growing
+pub mod Seen
+pub mod Parts
+pub mod Searching
+pub mod Copying
+pub mod Loading
+pub mod Storing

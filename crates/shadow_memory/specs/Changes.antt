@@ -1,0 +1,44 @@
+-- What each call of a memory makes of the cells of its range.
+use Rattle.std.specs.Prelude.{ℕ, List, length, slice_index, ◌+◌, ◌-◌, ◌<◌, ◌≡◌, ◌⊎◌, true, false, if◌then◌else◌}
+use Rattle.shadow_memory.specs.Cells.{is_between, marked, mark_of, shadow_in}
+use Rattle.shadow_memory.specs.Ranges.{above, byte_of, is_in}
+use Rattle.shadow_memory.specs.Shadows.{loaded_undef}
+use Rattle.shadow_memory.specs.declared.cells.Cell.{Cell}
+use Rattle.shadow_memory.specs.declared.cells.RangeKind.{RangeKind}
+use Rattle.definedness.specs.declared.Bits.{Bits}
+
+-- an access has 1, 2 or 4 bytes
+abbrev pub IsWidth : ℕ → Type 0
+IsWidth n = (n ≡ 1) ⊎ ((n ≡ 2) ⊎ (n ≡ 4))
+
+-- a front of n places, less than all of them, of which this holds
+abbrev pub SomeFront : ℕ → (ℕ → Type 0) → Type 0
+SomeFront n P = (k : ℕ) × (k < n) × P k
+
+-- a cell that gets byte i of a number with undefined bits: an inaccessible one takes the byte and stays inaccessible
+abbrev pub stored : Bits → ℕ → Cell → Cell
+stored bits i cell = record { byte = byte_of bits.value i; accessible = cell.accessible; undef = if cell.accessible then byte_of bits.undef i else cell.undef }
+
+-- and one that gets a byte all of whose bits are defined
+abbrev pub received : (ℕ → ℕ) → ℕ → Cell → Cell
+received bytes i cell = record { byte = bytes i; accessible = cell.accessible; undef = if cell.accessible then 0 else cell.undef }
+
+-- a cell of a range that is made so: its byte stays
+abbrev pub ranged : RangeKind → ℕ → Cell → Cell
+ranged kind i cell = marked cell.byte (mark_of kind)
+
+-- a cell that is made accessible and defined, with a byte
+abbrev pub filled : (ℕ → ℕ) → ℕ → Cell → Cell
+filled bytes i cell = record { byte = bytes i; accessible = true; undef = 0 }
+
+-- a cell that gets the byte i above an address, as it loads: an inaccessible target takes the byte and stays inaccessible
+abbrev pub copied_cell : (ℕ → Cell) → ℕ → ℕ → Cell → Cell
+copied_cell cells from i cell = let source = cells (above from i) in record { byte = source.byte; accessible = cell.accessible; undef = if cell.accessible then loaded_undef (shadow_in source) else cell.undef }
+
+-- none of n bytes from one address on is among the n from another on
+abbrev pub AreApart : ℕ → ℕ → ℕ → Type 0
+AreApart from to n = (i : ℕ) → i < n → is_in to n (above from i) ≡ false
+
+-- bytes, with others written over them from a place on
+abbrev pub overwritten : List ℕ → ℕ → List ℕ → ℕ → ℕ
+overwritten bytes at made k = if is_between at (at + length made) k then slice_index made (k - at) else slice_index bytes k

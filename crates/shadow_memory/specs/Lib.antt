@@ -1,0 +1,14 @@
+pub mod Ranges
+pub mod Shadows
+pub mod Cells
+pub mod Parts
+pub mod Firsts
+pub mod Codes
+pub mod Pages
+pub mod Edits
+pub mod Directories
+pub mod Views
+pub mod Memories
+pub mod Changes
+pub mod Loads
+pub mod Fronts

@@ -1,0 +1,20 @@
+-- The two bits of a byte of a page: four numbers below four in a byte, and what each number says.
+use Rattle.std.specs.Prelude.{ℕ, true, ◌/◌, ◌%◌, ◌==◌, if◌then◌else◌}
+use Rattle.shadow_memory.specs.Cells.{mark_of}
+use Rattle.shadow_memory.specs.declared.cells.Mark.{Mark}
+use Rattle.shadow_memory.specs.declared.cells.RangeKind.{RangeKind}
+use Rattle.shadow_memory.specs.declared.cells.RangeKind.TheVariants.{NoAccess, Undefined, Defined}
+
+-- the numbers in a byte, the first in its low bits
+abbrev pub part_of : ℕ → ℕ → ℕ
+part_of byte place = if place == 0 then byte % 4 else if place == 1 then byte / 4 % 4 else if place == 2 then byte / 16 % 4 else byte / 64
+
+-- the number of a kind; the fourth one is that of a partly defined byte
+abbrev pub code_of : RangeKind → ℕ
+code_of NoAccess = 0
+code_of Undefined = 1
+code_of Defined = 2
+
+-- what a number says, where a partly defined byte has these bits undefined
+abbrev pub mark_by : ℕ → ℕ → Mark
+mark_by code partly = if code == 0 then mark_of NoAccess else if code == 1 then mark_of Undefined else if code == 2 then mark_of Defined else record { accessible = true; undef = partly }

@@ -1,0 +1,11 @@
+-- What is seen of one page of a memory.
+use Rattle.std.specs.Prelude.{ℕ}
+use Rattle.shadow_memory.specs.Cells.{blank}
+use Rattle.shadow_memory.specs.Pages.{cells_in}
+use Rattle.shadow_memory.specs.declared.cells.Cell.{Cell}
+use Rattle.shadow_memory.specs.declared.views.View.{View}
+use Rattle.shadow_memory.specs.declared.views.View.TheVariants.{Blank, Held}
+
+unfoldable pub cells_seen : View → ℕ → Cell
+cells_seen (Blank kind) = λ at. blank kind
+cells_seen (Held page) = cells_in page.now

@@ -1,0 +1,161 @@
+//! Loads and stores of words, and changes of bytes from outside the program.
+ghost use Rattle.std.specs.Prelude.{◌≡◌, ℕ, ◌+◌, ◌*◌, ◌%◌, ◌^◌, ◌<◌, ◌≤◌, IfOk, OnOk, OnErr};
+ghost use Rattle.shadow_memory.specs.Cells.{set_at};
+ghost use Rattle.shadow_memory.specs.Ranges.{above, byte_of, changed_in, little_word, window, written};
+ghost use Rattle.shadow_memory.specs.Shadows.{loaded_undef, stored_undef, first_inaccessible};
+ghost use Rattle.shadow_memory.specs.Changes.{stored, IsWidth, SomeFront};
+ghost use Rattle.shadow_memory.specs.Loads.{loaded_at};
+ghost use Rattle.shadow_memory.specs.Fronts.{HasStored};
+ghost use Rattle.shadow_memory.specs.Memories.{bytes_in, shadows_in, cells_of};
+
+use crate::cells::{Cell, Loaded};
+use crate::edits::Edit;
+use crate::memory::Memory;
+use crate::pages::PAGE;
+use crate::words::{ABSENT, byte_at, loaded_from, stored_cell, word_bytes};
+use definedness::Bits;
+use std::alloc::AllocError;
+
+impl Memory {
+    /// The low n bytes at an address, their undefined bits, and the first inaccessible address among them; n is 1, 2 or 4.
+    /// What is above the n bytes is 0.
+    #[inline]
+    #[tactic(auto, unfolding(crate::specs::Loads::loaded_at, crate::specs::Ranges::window, crate::specs::Shadows::first_inaccessible, crate::specs::Memories::bytes_in, crate::specs::Memories::shadows_in))]
+    pub fn load(&self, addr: u32, n: u32) -> Loaded
+        requires { IsWidth n }
+        ensures value { result.value ≡ little_word (window (bytes_in self.now) addr n) }
+        ensures undef { result.undef ≡ little_word (window (λ a. loaded_undef (shadows_in self.now a)) addr n) }
+        ensures bad { result.bad ≡ first_inaccessible (shadows_in self.now) addr n }
+        ensures small { result.value < 2 ^ (8 * n) }
+        ensures small_undef { result.undef < 2 ^ (8 * n) }
+    {
+        self.load_at(addr, n)
+    }
+
+    // The same, of cells: by one look-up, where they lie in one page.
+    #[inline]
+    fn load_at(&self, addr: u32, n: u32) -> Loaded
+        requires { IsWidth n }
+        ensures value { result ≡ loaded_at (λ i. cells_of self.now (above addr i)) addr n }
+        ensures small { result.value < 2 ^ (8 * n) }
+        ensures small_undef { result.undef < 2 ^ (8 * n) }
+    {
+        let place = addr as usize % PAGE;
+        if place + n as usize <= PAGE {
+            self.view(addr).load(place, addr, n)
+        } else {
+            self.load_cells(addr, n)
+        }
+    }
+
+    // Loads byte by byte, from one page and the next.
+    #[cold]
+    #[inline(never)]
+    #[tactic(auto, unfolding(crate::specs::Loads::loaded_at, crate::specs::Ranges::little_word, crate::specs::Ranges::first_from))]
+    fn load_cells(&self, addr: u32, n: u32) -> Loaded
+        requires { IsWidth n }
+        ensures value { result ≡ loaded_at (λ i. cells_of self.now (above addr i)) addr n }
+        ensures small { result.value < 2 ^ (8 * n) }
+        ensures small_undef { result.undef < 2 ^ (8 * n) }
+    {
+        let first = self.cell(addr.wrapping_add(0));
+        match n {
+            1 => loaded_from(addr, first, ABSENT, ABSENT, ABSENT),
+            2 => {
+                let second = self.cell(addr.wrapping_add(1));
+                loaded_from(addr, first, second, ABSENT, ABSENT)
+            }
+            _ => {
+                let second = self.cell(addr.wrapping_add(1));
+                let third = self.cell(addr.wrapping_add(2));
+                let fourth = self.cell(addr.wrapping_add(3));
+                loaded_from(addr, first, second, third, fourth)
+            }
+        }
+    }
+
+    /// Stores the low n bytes of a number with its undefined bits, and answers the first inaccessible address; n is 1, 2 or 4. An
+    /// inaccessible byte takes its value and stays inaccessible. A refusal leaves a front of them stored.
+    pub fn store(&mut self, addr: u32, n: u32, bits: Bits) -> Result<Option<u32>, AllocError>
+        requires { IsWidth n }
+        ensures bad { IfOk result (λ bad. bad ≡ first_inaccessible (shadows_in self.old) addr n) }
+        ensures bytes { OnOk result (bytes_in self.new ≡ written (bytes_in self.old) addr n (byte_of bits.value)) }
+        ensures shadows { OnOk result (shadows_in self.new ≡ stored_undef (shadows_in self.old) addr n bits.undef) }
+        ensures err { OnErr result (SomeFront n (λ k. HasStored self.old self.new addr k bits)) }
+    {
+        let bad = self.load(addr, n).bad;
+        self.store_at(addr, n, bits)?;
+        Ok(bad)
+    }
+
+    // The same, of cells: by one look-up, where they lie in one page and are stored defined.
+    fn store_at(&mut self, addr: u32, n: u32, bits: Bits) -> Result<(), AllocError>
+        requires { IsWidth n }
+        ensures ok { OnOk result (cells_of self.new ≡ changed_in (cells_of self.old) addr n (stored bits)) }
+        ensures err { OnErr result (SomeFront n (λ k. cells_of self.new ≡ changed_in (cells_of self.old) addr k (stored bits))) }
+    {
+        if bits.undef == 0 && addr as usize % PAGE + n as usize <= PAGE {
+            self.store_defined(addr, n, bits.value)
+        } else {
+            self.store_cells(addr, n, bits)
+        }
+    }
+
+    // Stores defined bytes in one page, all of them or none.
+    #[tactic(auto, unfolding(crate::specs::Edits::count_of, crate::specs::Edits::change_of, crate::specs::Edits::Fits))]
+    fn store_defined(&mut self, addr: u32, n: u32, value: u32) -> Result<(), AllocError>
+        requires width { n ≤ 4 }
+        requires one_page { addr % 4096 + n ≤ 4096 }
+        ensures ok { OnOk result (cells_of self.new ≡ changed_in (cells_of self.old) addr n (stored (record { value = value; undef = 0 }))) }
+        ensures err { OnErr result (cells_of self.new ≡ cells_of self.old) }
+    {
+        let bytes = word_bytes(value);
+        self.change(addr, &Edit::Store(&bytes[..n as usize]))
+    }
+
+    // Stores cell by cell.
+    #[inline(never)]
+    #[tactic(auto, unfolding(crate::specs::Edits::count_of, crate::specs::Edits::change_of, crate::specs::Edits::Fits))]
+    fn store_cells(&mut self, addr: u32, n: u32, bits: Bits) -> Result<(), AllocError>
+        requires { n ≤ 4 }
+        ensures ok { OnOk result (cells_of self.new ≡ changed_in (cells_of self.old) addr n (stored bits)) }
+        ensures err { OnErr result (SomeFront n (λ k. cells_of self.new ≡ changed_in (cells_of self.old) addr k (stored bits))) }
+    {
+        for i in 0..n {
+            let at = addr.wrapping_add(i);
+            let cell = self.cell(at);
+            self.change(at, &Edit::Set(stored_cell(bits, i, cell)))?;
+        }
+        Ok(())
+    }
+
+    #[tactic(auto, unfolding(crate::specs::Edits::count_of, crate::specs::Edits::change_of, crate::specs::Edits::Fits))]
+    /// Changes the byte at an address. What else is known of it stays.
+    pub fn poke(&mut self, addr: u32, byte: u8) -> Result<(), AllocError>
+        ensures bytes { OnOk result (bytes_in self.new ≡ set_at (bytes_in self.old) addr byte) }
+        ensures shadows { shadows_in self.new ≡ shadows_in self.old }
+        ensures err { OnErr result (bytes_in self.new ≡ bytes_in self.old) }
+    {
+        let cell = self.cell(addr);
+        self.change(
+            addr,
+            &Edit::Set(Cell {
+                byte,
+                accessible: cell.accessible,
+                undef: cell.undef,
+            }),
+        )
+    }
+
+    /// Changes the four bytes of a word. What else is known of them stays. A refusal leaves a front of them changed.
+    pub fn poke_word(&mut self, addr: u32, word: u32) -> Result<(), AllocError>
+        ensures bytes { OnOk result (bytes_in self.new ≡ written (bytes_in self.old) addr 4 (byte_of word)) }
+        ensures shadows { shadows_in self.new ≡ shadows_in self.old }
+        ensures err { OnErr result (SomeFront 4 (λ k. bytes_in self.new ≡ written (bytes_in self.old) addr k (byte_of word))) }
+    {
+        for i in 0..4 {
+            self.poke(addr.wrapping_add(i), byte_at(word, i))?;
+        }
+        Ok(())
+    }
+}

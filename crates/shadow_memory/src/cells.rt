@@ -1,0 +1,96 @@
+//! What one address holds, and what the calls of a memory take and answer.
+ghost use Rattle.std.specs.Prelude.{◌≡◌};
+ghost use Rattle.shadow_memory.specs.Cells.{blank, mark_of, marked, shadow_of_mark, IsClean, IsCleanMark};
+ghost use Rattle.shadow_memory.specs.Shadows.{is_bad};
+
+/// The byte at an address, whether it may be accessed, and which of its bits are undefined (a set bit is undefined). An
+/// inaccessible byte has no undefined bits.
+#[derive(Clone, Copy, Debug, PartialEq, Eq)]
+pub struct Cell {
+    pub byte: u8,
+    pub accessible: bool,
+    pub undef: u8,
+}
+
+/// What a range of bytes is made (Memcheck manual, section 4.7, client requests `VALGRIND_MAKE_MEM_NOACCESS`, `_UNDEFINED` and
+/// `_DEFINED`).
+#[derive(Clone, Copy, Debug, PartialEq, Eq)]
+pub enum RangeKind {
+    /// Inaccessible.
+    NoAccess,
+    /// Accessible, with all bits undefined.
+    Undefined,
+    /// Accessible, with all bits defined.
+    Defined,
+}
+
+/// The bytes of a load as a number, its undefined bits, and the first inaccessible address among them.
+#[derive(Clone, Copy, Debug, PartialEq, Eq)]
+pub struct Loaded {
+    pub value: u32,
+    pub undef: u32,
+    pub bad: Option<u32>,
+}
+
+/// An address that is inaccessible or has an undefined bit.
+#[derive(Clone, Copy, Debug, PartialEq, Eq)]
+pub struct Bad {
+    pub addr: u32,
+    pub accessible: bool,
+}
+
+/// What is known of a byte beside its value.
+#[derive(Clone, Copy, Debug, PartialEq, Eq)]
+pub(crate) struct Mark {
+    pub(crate) accessible: bool,
+    pub(crate) undef: u8,
+}
+
+/// The mark of a byte of a kind.
+pub(crate) fn mark_of_kind(kind: RangeKind) -> Mark
+    ensures value { result ≡ mark_of kind }
+    ensures clean { IsCleanMark result }
+{
+    match kind {
+        RangeKind::NoAccess => Mark {
+            accessible: false,
+            undef: 0,
+        },
+        RangeKind::Undefined => Mark {
+            accessible: true,
+            undef: 255,
+        },
+        RangeKind::Defined => Mark {
+            accessible: true,
+            undef: 0,
+        },
+    }
+}
+
+/// The cell of a byte and a mark.
+pub(crate) fn marked_cell(byte: u8, mark: Mark) -> Cell
+    requires { IsCleanMark mark }
+    ensures value { result ≡ marked byte mark }
+    ensures clean { IsClean result }
+{
+    Cell {
+        byte,
+        accessible: mark.accessible,
+        undef: mark.undef,
+    }
+}
+
+/// Byte 0, of a kind.
+pub(crate) fn blank_cell(kind: RangeKind) -> Cell
+    ensures value { result ≡ blank kind }
+    ensures clean { IsClean result }
+{
+    marked_cell(0, mark_of_kind(kind))
+}
+
+/// Is a byte inaccessible or, where asked, has it an undefined bit?
+pub(crate) fn is_bad_mark(mark: Mark, need_defined: bool) -> bool
+    ensures { result ≡ is_bad need_defined (shadow_of_mark mark) }
+{
+    !mark.accessible || (need_defined && mark.undef != 0)
+}

@@ -1,0 +1,53 @@
+//! Scans of bytes, sixteen at a time.
+ghost use Rattle.std.specs.Prelude.{◌≡◌, ◌≢◌, ℕ, ◌+◌, ◌<◌, ◌≤◌, ◌==◌, ◌↔◌, not, length, slice_index, IsTrue, IfNone, IfSome, EachIndex};
+ghost use Rattle.std.specs.Simd.Lanes.{chunk};
+ghost use Rattle.std.specs.List.{prefix_len};
+
+use std::simd::prelude::*;
+
+const LANES: usize = 16;
+
+// How many of the sixteen bytes from a place on come before the first that differs.
+fn run_at(bytes: &[u8], at: usize, byte: u8) -> u32
+    requires { at + 16 ≤ length bytes.now }
+    ensures { result ≡ prefix_len (λ x. not (not (x == byte))) (chunk at 16 bytes.now) }
+{
+    let others = u8x16::from_slice(&bytes[at..])
+        .simd_ne(u8x16::splat(byte))
+        .to_bitmask();
+    if others == 0 {
+        16
+    } else {
+        others.trailing_zeros()
+    }
+}
+
+/// The least index whose byte differs.
+pub fn first_not(bytes: &[u8], byte: u8) -> Option<usize>
+    ensures none { IfNone result (EachIndex bytes.now (λ k. slice_index bytes.now k ≡ byte)) }
+    ensures within { IfSome result (λ i. i < length bytes.now) }
+    ensures differs { IfSome result (λ i. slice_index bytes.now i ≢ byte) }
+    ensures least { IfSome result (λ i. (k : ℕ) → k < i → slice_index bytes.now k ≡ byte) }
+{
+    let mut at = 0;
+    while bytes.len() - at >= LANES {
+        let run = run_at(bytes, at, byte) as usize;
+        if run < LANES {
+            return Some(at + run);
+        }
+        at += LANES;
+    }
+    for i in at..bytes.len() {
+        if bytes[i] != byte {
+            return Some(i);
+        }
+    }
+    None
+}
+
+/// Is each byte this one?
+pub fn all_are(bytes: &[u8], byte: u8) -> bool
+    ensures { IsTrue result ↔ EachIndex bytes.now (λ k. slice_index bytes.now k ≡ byte) }
+{
+    first_not(bytes, byte).is_none()
+}

@@ -1,0 +1,88 @@
+//! The memory of a guest program, with what Memcheck knows of each byte: the layer below the machine that steps.
+//!
+//! A [`Memory`] holds, of each of the 2^32 addresses, a byte, whether it may be accessed, and which of its bits are undefined.
+//! At first each byte is 0 and inaccessible. An inaccessible byte has no undefined bits. Ranges go round the end of the address
+//! space: the address after the last is 0.
+//!
+//! # Public items
+//!
+//! | Call | What it does or answers | Takes memory |
+//! |---|---|---|
+//! | [`Memory::new`] | each byte 0 and inaccessible | no |
+//! | [`Memory::byte`] | what an address holds | no |
+//! | [`Memory::load`] | 1, 2 or 4 bytes as a number, their undefined bits, the first inaccessible address | no |
+//! | [`Memory::store`] | stores 1, 2 or 4 bytes with their undefined bits; answers the first inaccessible address | yes |
+//! | [`Memory::set_range`] | makes a range inaccessible, undefined or defined; its bytes stay | yes |
+//! | [`Memory::fill`] | makes a range defined, with these bytes and zeros after them | yes |
+//! | [`Memory::poke`], [`Memory::poke_word`] | change a byte or four; what else is known of them stays | yes |
+//! | [`Memory::store_bytes`] | stores bytes that are all defined, as input is | yes |
+//! | [`Memory::read_bytes`] | takes the bytes of a range out, as output is | no |
+//! | [`Memory::copy_with_shadow`] | copies a range, with what is known of it, to one that is apart | yes |
+//! | [`Memory::first_bad`] | the first byte of a range that is inaccessible or, where asked, not defined | no |
+//! | [`Memory::next_word`] | the next multiple of 4 whose four bytes are accessible and defined | no |
+//! | [`Memory::share`] | a memory that holds the same; a later change of one of the two doesn't reach the other | yes |
+//! | [`laws::first_not`], [`laws::all_are`] | scans of bytes, sixteen at a time | no |
+//!
+//! [`Cell`], [`Loaded`], [`RangeKind`] and [`Bad`] are the values that these take and answer. What takes memory answers
+//! `AllocError` where there is none; nothing else fails.
+//!
+//! # What a caller relies on
+//!
+//! A memory is seen as two functions of the address, `bytes_in` and `shadows_in` (`specs/Memories`), and each contract is an
+//! equation of them, for every address and length. So `store` ensures
+//!
+//! - `bytes`: the bytes are those before it, `written` at the range with the bytes of the number;
+//! - `shadows`: the shadows are those before it, with `stored_undef` of the range;
+//! - `bad`: the answer is `first_inaccessible` of the shadows before it;
+//! - `err`: where memory failed, a front of the range was stored (`SomeFront`), and nothing else was changed.
+//!
+//! A refused `poke` changes nothing, a refused `set_range` no byte. No other word tells how a memory is kept.
+//!
+//! # Where the definitions stand
+//!
+//! In `specs/`. For callers:
+//!
+//! - `Ranges`: ranges of addresses, a function changed at a range, bytes written and copied.
+//! - `Shadows`: what is known of a byte, and what loads, stores, copies and marks make of it; the first inaccessible or bad
+//!   byte, and the next word.
+//! - `Memories`: `bytes_in` and `shadows_in`. `Fronts` and `Changes`: what a refused call leaves, `IsWidth`, `AreApart`.
+//!   `Cells`: `shadow_in`, `set_at`, `IsClean`.
+//!
+//! For this crate's own proofs: `Edits` (one change of cells in a page), `Loads` (what a load takes of cells), `Directories`,
+//! `Pages`, `Views`, `Codes` and `Parts` (what each level of the table holds), `Firsts`.
+//!
+//! # How it is kept
+//!
+//! 1,024 directories of 1,024 pages of 4,096 bytes, each directory and page behind an `Rc`. One that holds zeros of one kind is
+//! blank: it has no bytes at all, so a range of whole pages that were not written to costs a step a page. The marks of a page
+//! are of one kind, or two bits a byte with an ordered map for the bytes that are defined in part (as in N.
+//! Nethercote and J. Seward, "How to shadow every byte of memory used by a program", VEE 2007); a range that makes
+//! them one kind again is found by a scan. Every change goes through `Memory::change`, which changes cells of one page, all of
+//! them or none, in a page of its own: `Rc::make_mut` copies a directory or a page that others share first. A load that
+//! lies in one page looks it up once, and a store of defined bits twice: to find what is inaccessible, and to write.
+//!
+//! Sources: RISC-V Unprivileged ISA 20191213, sections 1.4 and 1.5; the Memcheck manual, sections 4.5 and 4.7.
+#![tactic(auto)]
+
+mod access;
+mod cells;
+mod codes;
+mod copies;
+mod directories;
+mod edits;
+pub mod laws;
+mod marks;
+mod memory;
+mod pages;
+mod ranges;
+mod searches;
+mod slices;
+mod slots;
+mod views;
+mod words;
+
+pub use cells::{Bad, Cell, Loaded, RangeKind};
+pub use memory::Memory;
+
+#[cfg(test)]
+mod tests;

@@ -1,0 +1,378 @@
+//! Which bytes of a page are accessible, and which of their bits are undefined.
+ghost use Rattle.std.specs.Prelude.{◌≡◌, ◌+◌, ◌%◌, ◌<◌, ◌≤◌, ℕ, OnOk, OnErr, IfOk, IfNone, IfSome, IsTrue, not};
+ghost use Rattle.shadow_memory.specs.Firsts.{IsFirst, NonePass};
+ghost use Rattle.shadow_memory.specs.Shadows.{holds_word, is_bad, HoldNoWord, IsNextWord};
+ghost use Rattle.shadow_memory.specs.Cells.{defined, mark_of, set_at, shadow_of_mark, is_between, IsCleanMark};
+
+use crate::cells::{Mark, RangeKind, is_bad_mark, mark_of_kind};
+use crate::codes::{Codes, DEFINED, NO_ACCESS, PARTLY, UNDEFINED, code_of_kind, defined_code};
+use crate::pages::PAGE;
+use std::alloc::{AllocError, Global};
+use std::collections::BTreeMap;
+
+/// Marks that differ: two bits for each byte, and beside them the undefined bits of the partly defined bytes.
+#[derive(Drop)]
+pub(crate) struct Mixed {
+    codes: Codes,
+    partly: BTreeMap<u16, u8>,
+}
+
+/// The marks of a page.
+#[derive(Drop)]
+pub(crate) enum Marks {
+    Uniform(RangeKind),
+    Mixed(Mixed),
+}
+
+/// The first multiple of 4, from one on, that has four accessible and defined bytes, where all are of one kind.
+pub(crate) fn next_word_of(kind: RangeKind, from: usize) -> Option<usize>
+    requires within { from ≤ 4096 }
+    requires aligned { from % 4 ≡ 0 }
+    ensures none { IfNone result (HoldNoWord (λ k. shadow_of_mark (mark_of kind)) from 4096) }
+    ensures some { IfSome result (IsNextWord (λ k. shadow_of_mark (mark_of kind)) from) }
+    ensures inside { IfSome result (λ at. at < 4096) }
+{
+    if from < PAGE && kind == RangeKind::Defined {
+        Some(from)
+    } else {
+        None
+    }
+}
+
+/// The first bad byte, where all are of one kind.
+pub(crate) fn first_bad_of(
+    kind: RangeKind,
+    from: usize,
+    to: usize,
+    need_defined: bool,
+) -> Option<usize>
+    requires { from ≤ to }
+    ensures none { IfNone result (NonePass (λ k. is_bad need_defined (shadow_of_mark (mark_of kind))) from to) }
+    ensures some { IfSome result (IsFirst (λ k. is_bad need_defined (shadow_of_mark (mark_of kind))) from to) }
+{
+    if from < to && is_bad_mark(mark_of_kind(kind), need_defined) {
+        Some(from)
+    } else {
+        None
+    }
+}
+
+#[tactic(auto, unfolding(crate::specs::Pages::marks_mixed))]
+impl Mixed {
+    ghost use Rattle.std.specs.Prelude.{if◌then◌else◌};
+    ghost use Rattle.shadow_memory.specs.Pages.{marks_mixed};
+    ghost use Rattle.shadow_memory.specs.Cells.{Agree, AgreeInPage};
+
+    fn filled(alloc: Global, kind: RangeKind) -> Result<Mixed, AllocError>
+        ensures { IfOk result (λ mixed. (at : ℕ) → at < 4096 → marks_mixed mixed at ≡ mark_of kind) }
+    {
+        let codes = Codes::filled(alloc, code_of_kind(kind))?;
+        Ok(Mixed {
+            codes,
+            partly: BTreeMap::new(alloc),
+        })
+    }
+
+    fn mark(&self, at: usize) -> Mark
+        requires { at < 4096 }
+        ensures value { result ≡ marks_mixed self.now at }
+        ensures clean { IsCleanMark result }
+    {
+        match self.codes.code(at) {
+            NO_ACCESS => Mark {
+                accessible: false,
+                undef: 0,
+            },
+            UNDEFINED => Mark {
+                accessible: true,
+                undef: 255,
+            },
+            DEFINED => Mark {
+                accessible: true,
+                undef: 0,
+            },
+            _ => Mark {
+                accessible: true,
+                undef: self.partly.get(&(at as u16)).copied().unwrap_or(0),
+            },
+        }
+    }
+
+    // The side map is written first, which can fail. What it has of a byte that is not partly defined is never read.
+    fn set(&mut self, at: usize, mark: Mark) -> Result<(), AllocError>
+        requires within { at < 4096 }
+        requires clean { IsCleanMark mark }
+        ensures ok { OnOk result ((k : ℕ) → marks_mixed self.new k ≡ set_at (marks_mixed self.old) at mark k) }
+        ensures err { OnErr result ((k : ℕ) → marks_mixed self.new k ≡ marks_mixed self.old k) }
+    {
+        if !mark.accessible {
+            self.codes.set(at, NO_ACCESS);
+        } else if mark.undef == 255 {
+            self.codes.set(at, UNDEFINED);
+        } else if mark.undef == 0 {
+            self.codes.set(at, DEFINED);
+        } else {
+            self.partly.insert(at as u16, mark.undef)?;
+            self.codes.set(at, PARTLY);
+        }
+        Ok(())
+    }
+
+    // Sets the marks from one place up to, not with, another.
+    fn make(&mut self, from: usize, to: usize, kind: RangeKind)
+        requires order { from ≤ to }
+        requires within { to ≤ 4096 }
+        ensures { Agree (marks_mixed self.new) (λ k. if is_between from to k then mark_of kind else marks_mixed self.old k) }
+    {
+        self.codes.make(from, to, code_of_kind(kind));
+    }
+
+    // Are the bytes from one place up to, not with, another all accessible and defined? `false` may be told of such bytes too.
+    fn are_defined(&self, from: usize, to: usize) -> bool
+        requires order { from ≤ to }
+        requires within { to ≤ 4096 }
+        ensures { IsTrue result → (k : ℕ) → from ≤ k → k < to → marks_mixed self.now k ≡ mark_of RangeKind.Defined }
+    {
+        self.codes.are_defined(from, to)
+    }
+
+    // Makes the bits of the accessible bytes defined.
+    fn define(&mut self, from: usize, to: usize)
+        requires order { from ≤ to }
+        requires within { to ≤ 4096 }
+        ensures { Agree (marks_mixed self.new) (λ k. if is_between from to k then defined (marks_mixed self.old k) else marks_mixed self.old k) }
+    {
+        if self.are_defined(from, to) {
+            return;
+        }
+        for at in from..to {
+            let code = defined_code(self.codes.code(at));
+            self.codes.set(at, code);
+        }
+    }
+
+    // The first bad byte from one place up to, not with, another. Defined bytes are skipped by a scan.
+    fn first_bad(&self, from: usize, to: usize, need_defined: bool) -> Option<usize>
+        requires order { from ≤ to }
+        requires within { to ≤ 4096 }
+        ensures none { IfNone result (NonePass (λ k. is_bad need_defined (shadow_of_mark (marks_mixed self.now k))) from to) }
+        ensures some { IfSome result (IsFirst (λ k. is_bad need_defined (shadow_of_mark (marks_mixed self.now k))) from to) }
+    {
+        let start = if from % 4 == 0 {
+            self.codes.skip(from, DEFINED).min(to)
+        } else {
+            from
+        };
+        for at in start..to {
+            if is_bad_mark(self.mark(at), need_defined) {
+                return Some(at);
+            }
+        }
+        None
+    }
+
+    // Are four bytes all accessible and defined?
+    fn holds_word(&self, at: usize) -> bool
+        requires { at + 4 ≤ 4096 }
+        ensures { result ≡ holds_word (λ k. shadow_of_mark (marks_mixed self.now k)) at }
+    {
+        !is_bad_mark(self.mark(at), true)
+            && !is_bad_mark(self.mark(at + 1), true)
+            && !is_bad_mark(self.mark(at + 2), true)
+            && !is_bad_mark(self.mark(at + 3), true)
+    }
+
+    // The first multiple of 4, from one on, that has four such bytes.
+    fn next_word(&self, from: usize) -> Option<usize>
+        requires within { from ≤ 4096 }
+        requires aligned { from % 4 ≡ 0 }
+        ensures none { IfNone result (HoldNoWord (λ k. shadow_of_mark (marks_mixed self.now k)) from 4096) }
+        ensures some { IfSome result (IsNextWord (λ k. shadow_of_mark (marks_mixed self.now k)) from) }
+        ensures inside { IfSome result (λ at. at < 4096) }
+    {
+        for word in from / 4..PAGE / 4 {
+            if self.holds_word(4 * word) {
+                return Some(4 * word);
+            }
+        }
+        None
+    }
+
+    // Is each byte of this kind?
+    fn are_all(&self, kind: RangeKind) -> bool
+        ensures { IsTrue result → AgreeInPage (marks_mixed self.now) (λ k. mark_of kind) }
+    {
+        self.codes.are_all(code_of_kind(kind))
+    }
+}
+
+#[tactic(auto, unfolding(crate::specs::Pages::marks_mixed))]
+impl Clone for Mixed {
+    ghost use Rattle.shadow_memory.specs.Pages.{marks_mixed};
+    ghost use Rattle.shadow_memory.specs.Cells.{Agree};
+
+    ghost is_clone = { λ mixed copy. Agree (marks_mixed copy) (marks_mixed mixed) };
+
+    fn clone(&self) -> Result<Mixed, AllocError> {
+        let codes = self.codes.clone()?;
+        let partly = self.partly.clone()?;
+        Ok(Mixed { codes, partly })
+    }
+}
+
+#[tactic(auto, unfolding(crate::specs::Pages::marks_in))]
+impl Clone for Marks {
+    ghost use Rattle.shadow_memory.specs.Pages.{marks_in};
+    ghost use Rattle.shadow_memory.specs.Cells.{Agree};
+
+    ghost is_clone = { λ marks copy. Agree (marks_in copy) (marks_in marks) };
+
+    fn clone(&self) -> Result<Marks, AllocError> {
+        match self {
+            Marks::Uniform(kind) => Ok(Marks::Uniform(*kind)),
+            Marks::Mixed(mixed) => Ok(Marks::Mixed(mixed.clone()?)),
+        }
+    }
+}
+
+#[tactic(auto, unfolding(crate::specs::Pages::marks_in))]
+impl Marks {
+    ghost use Rattle.std.specs.Prelude.{if◌then◌else◌};
+    ghost use Rattle.shadow_memory.specs.Pages.{marks_in};
+    ghost use Rattle.shadow_memory.specs.Cells.{AgreeInPage};
+
+    pub(crate) fn mark(&self, at: usize) -> Mark
+        requires { at < 4096 }
+        ensures value { result ≡ marks_in self.now at }
+        ensures clean { IsCleanMark result }
+    {
+        match self {
+            Marks::Uniform(kind) => mark_of_kind(*kind),
+            Marks::Mixed(mixed) => mixed.mark(at),
+        }
+    }
+
+    /// The first multiple of 4, from one on, that has four accessible and defined bytes.
+    pub(crate) fn next_word(&self, from: usize) -> Option<usize>
+        requires within { from ≤ 4096 }
+        requires aligned { from % 4 ≡ 0 }
+        ensures none { IfNone result (HoldNoWord (λ k. shadow_of_mark (marks_in self.now k)) from 4096) }
+        ensures some { IfSome result (IsNextWord (λ k. shadow_of_mark (marks_in self.now k)) from) }
+        ensures inside { IfSome result (λ at. at < 4096) }
+    {
+        match self {
+            Marks::Uniform(kind) => next_word_of(*kind, from),
+            Marks::Mixed(mixed) => mixed.next_word(from),
+        }
+    }
+
+    /// The first bad byte from one place up to, not with, another.
+    pub(crate) fn first_bad(&self, from: usize, to: usize, need_defined: bool) -> Option<usize>
+        requires order { from ≤ to }
+        requires within { to ≤ 4096 }
+        ensures none { IfNone result (NonePass (λ k. is_bad need_defined (shadow_of_mark (marks_in self.now k))) from to) }
+        ensures some { IfSome result (IsFirst (λ k. is_bad need_defined (shadow_of_mark (marks_in self.now k))) from to) }
+    {
+        match self {
+            Marks::Uniform(kind) => first_bad_of(*kind, from, to, need_defined),
+            Marks::Mixed(mixed) => mixed.first_bad(from, to, need_defined),
+        }
+    }
+
+    pub(crate) fn set(&mut self, alloc: Global, at: usize, mark: Mark) -> Result<(), AllocError>
+        requires within { at < 4096 }
+        requires clean { IsCleanMark mark }
+        ensures ok { OnOk result (AgreeInPage (marks_in self.new) (set_at (marks_in self.old) at mark)) }
+        ensures err { OnErr result (AgreeInPage (marks_in self.new) (marks_in self.old)) }
+    {
+        match self {
+            Marks::Mixed(mixed) => mixed.set(at, mark),
+            Marks::Uniform(kind) => {
+                if mark_of_kind(*kind) == mark {
+                    return Ok(());
+                }
+                let mut mixed = Mixed::filled(alloc, *kind)?;
+                mixed.set(at, mark)?;
+                *self = Marks::Mixed(mixed);
+                Ok(())
+            }
+        }
+    }
+
+    /// Are the bytes from one place up to, not with, another all accessible and defined? `false` may be told of such bytes too.
+    pub(crate) fn are_defined(&self, from: usize, to: usize) -> bool
+        requires order { from ≤ to }
+        requires within { to ≤ 4096 }
+        ensures { IsTrue result → (k : ℕ) → from ≤ k → k < to → marks_in self.now k ≡ mark_of RangeKind.Defined }
+    {
+        match self {
+            Marks::Uniform(kind) => *kind == RangeKind::Defined,
+            Marks::Mixed(mixed) => mixed.are_defined(from, to),
+        }
+    }
+
+    // Is each byte of this kind? Then the marks are held as one again.
+    fn fold(&mut self, kind: RangeKind)
+        ensures { AgreeInPage (marks_in self.new) (marks_in self.old) }
+    {
+        if let Marks::Mixed(mixed) = self
+            && mixed.are_all(kind)
+        {
+            *self = Marks::Uniform(kind);
+        }
+    }
+
+    /// Makes the bits of the accessible bytes from one place up to, not with, another defined.
+    pub(crate) fn define(&mut self, alloc: Global, from: usize, to: usize) -> Result<(), AllocError>
+        requires order { from ≤ to }
+        requires within { to ≤ 4096 }
+        ensures ok { OnOk result (AgreeInPage (marks_in self.new) (λ k. if is_between from to k then defined (marks_in self.old k) else marks_in self.old k)) }
+        ensures err { OnErr result (AgreeInPage (marks_in self.new) (marks_in self.old)) }
+    {
+        match self {
+            Marks::Uniform(RangeKind::Undefined) => {
+                self.make(alloc, from, to, RangeKind::Defined)
+            }
+            Marks::Uniform(_) => Ok(()),
+            Marks::Mixed(mixed) => {
+                mixed.define(from, to);
+                Ok(())
+            }
+        }
+    }
+
+    /// Sets the marks from one place up to, not with, another.
+    pub(crate) fn make(
+        &mut self,
+        alloc: Global,
+        from: usize,
+        to: usize,
+        kind: RangeKind,
+    ) -> Result<(), AllocError>
+        requires order { from ≤ to }
+        requires within { to ≤ 4096 }
+        ensures ok { OnOk result (AgreeInPage (marks_in self.new) (λ k. if is_between from to k then mark_of kind else marks_in self.old k)) }
+        ensures err { OnErr result (AgreeInPage (marks_in self.new) (marks_in self.old)) }
+    {
+        if from == 0 && to == 4096 {
+            *self = Marks::Uniform(kind);
+            return Ok(());
+        }
+        match self {
+            Marks::Mixed(mixed) => {
+                mixed.make(from, to, kind);
+                self.fold(kind);
+                Ok(())
+            }
+            Marks::Uniform(old) => {
+                if *old == kind {
+                    return Ok(());
+                }
+                let mut mixed = Mixed::filled(alloc, *old)?;
+                mixed.make(from, to, kind);
+                *self = Marks::Mixed(mixed);
+                Ok(())
+            }
+        }
+    }
+}

@@ -1,0 +1,186 @@
+//! The whole memory, and one change of it.
+ghost use Rattle.std.specs.Prelude.{◌≡◌, ℕ, ◌+◌, ◌/◌, ◌%◌, ◌<◌, ◌≤◌, true, IfOk, IsTrue, OnOk, OnErr, vec_len};
+ghost use Rattle.shadow_memory.specs.Shadows.{is_bad, shadow_of};
+ghost use Rattle.shadow_memory.specs.Edits.{change_of, count_of, Fits};
+ghost use Rattle.shadow_memory.specs.Cells.{changed_from, shadow_in, AgreeInDirectory, IsClean};
+ghost use Rattle.shadow_memory.specs.Views.{cells_seen};
+ghost use Rattle.shadow_memory.specs.Memories.{bytes_in, shadows_in, cells_of, cells_below};
+
+use crate::cells::{Cell, RangeKind};
+use crate::directories::Directory;
+use crate::edits::Edit;
+use crate::pages::PAGE;
+use crate::views::View;
+use std::alloc::{AllocError, Global};
+use std::rc::Rc;
+
+// How many directories the addresses have, and how many bytes one of them has.
+const DIRECTORIES: usize = 1024;
+
+const DIRECTORY: usize = 4194304;
+
+/// 1,024 pages, which may be blank, or shared.
+#[derive(Drop)]
+pub(crate) enum DirectorySlot {
+    /// Zeros, all of one kind.
+    Blank(RangeKind),
+    /// Pages, which other memories may hold too.
+    Held(Rc<Directory>),
+}
+
+/// A byte for each of 2^32 addresses, and what is known of it.
+#[derive(Drop)]
+pub struct Memory {
+    // Those from its end on are blank and inaccessible.
+    directories: Vec<DirectorySlot>,
+    alloc: Global,
+}
+
+#[tactic(auto, unfolding(crate::specs::Memories::cells_below, crate::specs::Views::cells_seen))]
+impl DirectorySlot {
+    // The page of a place, to read.
+    fn view(&self, at: usize) -> View<'_>
+        requires { at < 4194304 }
+        ensures { (a : ℕ) → a / 4096 ≡ at / 4096 → a < 4194304 → cells_below self.now a ≡ cells_seen result (a % 4096) }
+    {
+        match self {
+            DirectorySlot::Blank(kind) => View::Blank(*kind),
+            DirectorySlot::Held(directory) => directory.view(at),
+        }
+    }
+
+    // Is it blank, and not all defined?
+    fn has_no_word(&self) -> bool
+        ensures { IsTrue result → (k : ℕ) → is_bad true (shadow_in (cells_below self.now k)) ≡ true }
+    {
+        match self {
+            DirectorySlot::Blank(kind) => *kind != RangeKind::Defined,
+            DirectorySlot::Held(_) => false,
+        }
+    }
+
+    // Changes cells of one page, in a directory of its own.
+    fn change(&mut self, alloc: Global, at: usize, edit: &Edit<'_>) -> Result<(), AllocError>
+        requires within { at < 4194304 }
+        requires one_page { at % 4096 + count_of edit.now ≤ 4096 }
+        requires fits { Fits edit.now }
+        ensures ok { OnOk result (AgreeInDirectory (cells_below self.new) (changed_from (cells_below self.old) at (count_of edit.now) (change_of edit.now))) }
+        ensures err { OnErr result (AgreeInDirectory (cells_below self.new) (cells_below self.old)) }
+    {
+        match self {
+            DirectorySlot::Held(shared) => {
+                let own = Rc::make_mut(shared)?;
+                own.change(alloc, at, edit)
+            }
+            DirectorySlot::Blank(kind) => {
+                let mut directory = Directory::new(alloc, *kind)?;
+                directory.change(alloc, at, edit)?;
+                *self = DirectorySlot::Held(Rc::new(alloc, directory)?);
+                Ok(())
+            }
+        }
+    }
+}
+
+#[tactic(auto, unfolding(crate::specs::Memories::cells_below))]
+impl Clone for DirectorySlot {
+    ghost is_clone = { λ slot copy. cells_below copy ≡ cells_below slot };
+
+    fn clone(&self) -> Result<DirectorySlot, AllocError> {
+        match self {
+            DirectorySlot::Blank(kind) => Ok(DirectorySlot::Blank(*kind)),
+            DirectorySlot::Held(directory) => Ok(DirectorySlot::Held(directory.clone()?)),
+        }
+    }
+}
+
+#[tactic(auto, unfolding(crate::specs::Memories::cells_of, crate::specs::Memories::cells_below, crate::specs::Views::cells_seen, crate::specs::Memories::bytes_in, crate::specs::Memories::shadows_in))]
+impl Memory {
+    /// Every byte is 0 and inaccessible.
+    pub fn new(alloc: Global) -> Self
+        ensures bytes { bytes_in result ≡ (λ a. 0) }
+        ensures shadows { shadows_in result ≡ (λ a. shadow_of RangeKind.NoAccess) }
+    {
+        Memory {
+            directories: Vec::new(alloc),
+            alloc,
+        }
+    }
+
+    /// What an address holds.
+    pub fn byte(&self, addr: u32) -> Cell
+        ensures byte { result.byte ≡ bytes_in self.now addr }
+        ensures shadow { shadow_in result ≡ shadows_in self.now addr }
+        ensures clean { IsClean result }
+    {
+        self.cell(addr)
+    }
+
+    pub(crate) fn cell(&self, addr: u32) -> Cell
+        ensures value { result ≡ cells_of self.now addr }
+        ensures clean { IsClean result }
+    {
+        self.view(addr).cell(addr as usize % PAGE)
+    }
+
+    /// The page of an address, to read.
+    #[inline]
+    pub(crate) fn view(&self, addr: u32) -> View<'_>
+        ensures { (a : ℕ) → a / 4096 ≡ addr / 4096 → cells_of self.now a ≡ cells_seen result (a % 4096) }
+    {
+        let at = addr as usize;
+        if at / DIRECTORY < self.directories.len() {
+            self.directories[at / DIRECTORY].view(at % DIRECTORY)
+        } else {
+            View::Blank(RangeKind::NoAccess)
+        }
+    }
+
+    /// Is a directory, by its number, blank, and not all defined?
+    pub(crate) fn has_no_word(&self, number: u32) -> bool
+        ensures { IsTrue result → (a : ℕ) → a / 4194304 ≡ number → is_bad true (shadows_in self.now a) ≡ true }
+    {
+        let number = number as usize;
+        if number < self.directories.len() {
+            self.directories[number].has_no_word()
+        } else {
+            true
+        }
+    }
+
+    // Makes room for all directories.
+    fn grow(&mut self) -> Result<(), AllocError>
+        ensures same { cells_of self.new ≡ cells_of self.old }
+        ensures full { OnOk result (1024 ≤ vec_len self.new.directories) }
+    {
+        for _i in self.directories.len()..DIRECTORIES {
+            self.directories
+                .push(DirectorySlot::Blank(RangeKind::NoAccess))?;
+        }
+        Ok(())
+    }
+
+    /// Changes cells of one page, all of them or none.
+    pub(crate) fn change(&mut self, addr: u32, edit: &Edit<'_>) -> Result<(), AllocError>
+        requires one_page { addr % 4096 + count_of edit.now ≤ 4096 }
+        requires fits { Fits edit.now }
+        ensures ok { OnOk result (cells_of self.new ≡ changed_from (cells_of self.old) addr (count_of edit.now) (change_of edit.now)) }
+        ensures err { OnErr result (cells_of self.new ≡ cells_of self.old) }
+    {
+        self.grow()?;
+        let at = addr as usize;
+        self.directories[at / DIRECTORY].change(self.alloc, at % DIRECTORY, edit)
+    }
+
+    /// A memory that holds the same. Later changes of one of the two don't reach the other.
+    pub fn share(&self) -> Result<Memory, AllocError>
+        ensures bytes { IfOk result (λ copy. bytes_in copy ≡ bytes_in self.now) }
+        ensures shadows { IfOk result (λ copy. shadows_in copy ≡ shadows_in self.now) }
+    {
+        let directories = self.directories.clone()?;
+        Ok(Memory {
+            directories,
+            alloc: self.alloc,
+        })
+    }
+}

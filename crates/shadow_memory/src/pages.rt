@@ -1,0 +1,223 @@
+//! One page of 4,096 bytes.
+ghost use Rattle.std.specs.Prelude.{◌≡◌, ◌+◌, ◌*◌, ◌%◌, ◌^◌, ◌<◌, ◌≤◌, OnOk, OnErr, IfOk, IfNone, IfSome, length, nat_lt, slice_index, vec_len};
+ghost use Rattle.shadow_memory.specs.Cells.{blank, changed_from, set_at, shadow_in, IsClean, AgreeInPage};
+ghost use Rattle.shadow_memory.specs.Edits.{change_of, count_of, Fits};
+ghost use Rattle.shadow_memory.specs.Changes.{IsWidth};
+ghost use Rattle.shadow_memory.specs.Loads.{loaded_at};
+ghost use Rattle.shadow_memory.specs.Ranges.{little_word};
+ghost use Rattle.shadow_memory.specs.Firsts.{IsFirst, NonePass};
+ghost use Rattle.shadow_memory.specs.Shadows.{is_bad, HoldNoWord, IsNextWord};
+
+use crate::cells::{Cell, Loaded, Mark, RangeKind, marked_cell};
+use crate::edits::Edit;
+use crate::marks::Marks;
+use crate::slices::{set_all, write_at};
+use crate::words::{ABSENT, loaded_from, word};
+use std::alloc::{AllocError, Global};
+
+/// How many bytes a page has.
+pub(crate) const PAGE: usize = 4096;
+
+/// The bytes of a page, and their marks.
+#[derive(Drop)]
+pub(crate) struct Page {
+    bytes: Vec<u8>,
+    marks: Marks,
+    ghost long: { vec_len bytes ≡ 4096 },
+}
+
+#[tactic(auto, unfolding(crate::specs::Pages::cells_in, crate::specs::Pages::marks_in, crate::specs::Edits::count_of, crate::specs::Edits::change_of, crate::specs::Edits::Fits, crate::specs::Loads::loaded_at, crate::specs::Ranges::little_word, crate::specs::Ranges::first_from))]
+impl Page {
+    ghost use Rattle.std.specs.Prelude.{if◌then◌else◌};
+    ghost use Rattle.shadow_memory.specs.Cells.{is_between};
+    ghost use Rattle.shadow_memory.specs.Changes.{filled, ranged, received};
+    ghost use Rattle.shadow_memory.specs.Pages.{cells_in};
+
+    /// A page of zeros, of a kind.
+    pub(crate) fn new(alloc: Global, kind: RangeKind) -> Result<Page, AllocError>
+        ensures { IfOk result (λ page. AgreeInPage (cells_in page) (λ at. blank kind)) }
+    {
+        let bytes = vec![in alloc; 0u8; PAGE]?;
+        Ok(Page {
+            bytes,
+            marks: Marks::Uniform(kind),
+        })
+    }
+
+    pub(crate) fn cell(&self, at: usize) -> Cell
+        requires { at < 4096 }
+        ensures value { result ≡ cells_in self.now at }
+        ensures clean { IsClean result }
+    {
+        marked_cell(self.bytes[at], self.marks.mark(at))
+    }
+
+    // The number of n bytes from a place on.
+    fn number(&self, at: usize, n: u32) -> u32
+        requires width { IsWidth n }
+        requires within { at + n ≤ 4096 }
+        ensures value { result ≡ little_word (λ i. if nat_lt i n then slice_index self.now.bytes.items (at + i) else 0) }
+        ensures small { result < 2 ^ (8 * n) }
+    {
+        let bytes = &self.bytes;
+        match n {
+            1 => word(bytes[at], 0, 0, 0),
+            2 => word(bytes[at], bytes[at + 1], 0, 0),
+            _ => word(bytes[at], bytes[at + 1], bytes[at + 2], bytes[at + 3]),
+        }
+    }
+
+    /// What a load takes of n bytes from a place on, which lie from an address on.
+    #[inline]
+    pub(crate) fn load(&self, at: usize, addr: u32, n: u32) -> Loaded
+        requires width { IsWidth n }
+        requires within { at + n ≤ 4096 }
+        ensures value { result ≡ loaded_at (λ i. cells_in self.now (at + i)) addr n }
+        ensures small { result.value < 2 ^ (8 * n) }
+        ensures small_undef { result.undef < 2 ^ (8 * n) }
+    {
+        if self.marks.are_defined(at, at + n as usize) {
+            return Loaded {
+                value: self.number(at, n),
+                undef: 0,
+                bad: None,
+            };
+        }
+        self.load_cells(at, addr, n)
+    }
+
+    // The same, cell by cell.
+    #[inline(never)]
+    fn load_cells(&self, at: usize, addr: u32, n: u32) -> Loaded
+        requires width { IsWidth n }
+        requires within { at + n ≤ 4096 }
+        ensures value { result ≡ loaded_at (λ i. cells_in self.now (at + i)) addr n }
+        ensures small { result.value < 2 ^ (8 * n) }
+        ensures small_undef { result.undef < 2 ^ (8 * n) }
+    {
+        match n {
+            1 => loaded_from(addr, self.cell(at), ABSENT, ABSENT, ABSENT),
+            2 => loaded_from(addr, self.cell(at), self.cell(at + 1), ABSENT, ABSENT),
+            _ => loaded_from(
+                addr,
+                self.cell(at),
+                self.cell(at + 1),
+                self.cell(at + 2),
+                self.cell(at + 3),
+            ),
+        }
+    }
+
+    /// The first multiple of 4, from one on, that has four accessible and defined bytes.
+    pub(crate) fn next_word(&self, from: usize) -> Option<usize>
+        requires within { from ≤ 4096 }
+        requires aligned { from % 4 ≡ 0 }
+        ensures none { IfNone result (HoldNoWord (λ k. shadow_in (cells_in self.now k)) from 4096) }
+        ensures some { IfSome result (IsNextWord (λ k. shadow_in (cells_in self.now k)) from) }
+        ensures inside { IfSome result (λ at. at < 4096) }
+    {
+        self.marks.next_word(from)
+    }
+
+    /// The first bad byte from one place up to, not with, another.
+    pub(crate) fn first_bad(&self, from: usize, to: usize, need_defined: bool) -> Option<usize>
+        requires order { from ≤ to }
+        requires within { to ≤ 4096 }
+        ensures none { IfNone result (NonePass (λ k. is_bad need_defined (shadow_in (cells_in self.now k))) from to) }
+        ensures some { IfSome result (IsFirst (λ k. is_bad need_defined (shadow_in (cells_in self.now k))) from to) }
+    {
+        self.marks.first_bad(from, to, need_defined)
+    }
+
+    fn set(&mut self, alloc: Global, at: usize, cell: Cell) -> Result<(), AllocError>
+        requires within { at < 4096 }
+        requires clean { IsClean cell }
+        ensures ok { OnOk result (AgreeInPage (cells_in self.new) (set_at (cells_in self.old) at cell)) }
+        ensures err { OnErr result (AgreeInPage (cells_in self.new) (cells_in self.old)) }
+    {
+        let mark = Mark {
+            accessible: cell.accessible,
+            undef: cell.undef,
+        };
+        self.marks.set(alloc, at, mark)?;
+        self.bytes[at] = cell.byte;
+        Ok(())
+    }
+
+    fn make(
+        &mut self,
+        alloc: Global,
+        from: usize,
+        to: usize,
+        kind: RangeKind,
+    ) -> Result<(), AllocError>
+        requires order { from ≤ to }
+        requires within { to ≤ 4096 }
+        ensures ok { OnOk result (AgreeInPage (cells_in self.new) (λ k. if is_between from to k then ranged kind 0 (cells_in self.old k) else cells_in self.old k)) }
+        ensures err { OnErr result (AgreeInPage (cells_in self.new) (cells_in self.old)) }
+    {
+        self.marks.make(alloc, from, to, kind)
+    }
+
+    fn fill(
+        &mut self,
+        alloc: Global,
+        at: usize,
+        count: usize,
+        bytes: &[u8],
+    ) -> Result<(), AllocError>
+        requires { at + count ≤ 4096 }
+        ensures ok { OnOk result (AgreeInPage (cells_in self.new) (changed_from (cells_in self.old) at count (filled (slice_index bytes.now)))) }
+        ensures err { OnErr result (AgreeInPage (cells_in self.new) (cells_in self.old)) }
+    {
+        self.marks.make(alloc, at, at + count, RangeKind::Defined)?;
+        let len = bytes.len().min(count);
+        write_at(&mut self.bytes, at, &bytes[..len]);
+        set_all(&mut self.bytes, at + len, at + count, 0);
+        Ok(())
+    }
+
+    fn store(&mut self, alloc: Global, at: usize, bytes: &[u8]) -> Result<(), AllocError>
+        requires { at + length bytes.now ≤ 4096 }
+        ensures ok { OnOk result (AgreeInPage (cells_in self.new) (changed_from (cells_in self.old) at (length bytes.now) (received (slice_index bytes.now)))) }
+        ensures err { OnErr result (AgreeInPage (cells_in self.new) (cells_in self.old)) }
+    {
+        self.marks.define(alloc, at, at + bytes.len())?;
+        write_at(&mut self.bytes, at, bytes);
+        Ok(())
+    }
+
+    /// Changes cells from a place on.
+    pub(crate) fn change(
+        &mut self,
+        alloc: Global,
+        at: usize,
+        edit: &Edit<'_>,
+    ) -> Result<(), AllocError>
+        requires within { at + count_of edit.now ≤ 4096 }
+        requires fits { Fits edit.now }
+        ensures ok { OnOk result (AgreeInPage (cells_in self.new) (changed_from (cells_in self.old) at (count_of edit.now) (change_of edit.now))) }
+        ensures err { OnErr result (AgreeInPage (cells_in self.new) (cells_in self.old)) }
+    {
+        match edit {
+            Edit::Set(cell) => self.set(alloc, at, *cell),
+            Edit::Make(count, kind) => self.make(alloc, at, at + *count, *kind),
+            Edit::Fill(count, bytes) => self.fill(alloc, at, *count, bytes),
+            Edit::Store(bytes) => self.store(alloc, at, bytes),
+        }
+    }
+}
+
+#[tactic(auto, unfolding(crate::specs::Pages::cells_in))]
+impl Clone for Page {
+    ghost use Rattle.shadow_memory.specs.Cells.{Agree};
+    ghost use Rattle.shadow_memory.specs.Pages.{cells_in};
+
+    ghost is_clone = { λ page copy. Agree (cells_in copy) (cells_in page) };
+
+    fn clone(&self) -> Result<Page, AllocError> {
+        let bytes = self.bytes.clone()?;
+        let marks = self.marks.clone()?;
+        Ok(Page { bytes, marks })
+    }
+}

@@ -1,0 +1,109 @@
+//! Changes of whole ranges, page by page.
+ghost use Rattle.std.specs.Prelude.{◌≡◌, ◌+◌, ◌%◌, ◌<◌, ◌≤◌, ◌^◌, OnOk, OnErr, length, slice_index};
+ghost use Rattle.shadow_memory.specs.Ranges.{changed_in, written};
+ghost use Rattle.shadow_memory.specs.Shadows.{made_so, stored_undef};
+ghost use Rattle.shadow_memory.specs.Changes.{filled, ranged, SomeFront};
+ghost use Rattle.shadow_memory.specs.Fronts.{CellsReceived, HasFilled, HasReceived};
+ghost use Rattle.shadow_memory.specs.Memories.{bytes_in, shadows_in, cells_of};
+
+use crate::cells::RangeKind;
+use crate::edits::Edit;
+use crate::memory::Memory;
+use std::alloc::AllocError;
+
+/// How many bytes a page has.
+pub(crate) const PAGE_LEN: u32 = 4096;
+
+/// How many bytes of a page there are from an address on, and at most so many.
+pub(crate) fn count_in_page(at: u32, most: u32) -> u32
+    requires { 0 < most }
+    ensures some { 0 < result }
+    ensures within { result ≤ most }
+    ensures one_page { at % 4096 + result ≤ 4096 }
+{
+    (PAGE_LEN - at % PAGE_LEN).min(most)
+}
+
+impl Memory {
+    /// Makes a range inaccessible, undefined or defined. Its bytes stay. A refusal leaves a front of it changed.
+    pub fn set_range(&mut self, addr: u32, len: u32, kind: RangeKind) -> Result<(), AllocError>
+        ensures bytes { bytes_in self.new ≡ bytes_in self.old }
+        ensures shadows { OnOk result (shadows_in self.new ≡ made_so (shadows_in self.old) addr len kind) }
+        ensures err { OnErr result (SomeFront len (λ k. shadows_in self.new ≡ made_so (shadows_in self.old) addr k kind)) }
+    {
+        self.make_cells(addr, len, kind)
+    }
+
+    // The cells of a range, page by page.
+    #[tactic(auto, unfolding(crate::specs::Edits::count_of, crate::specs::Edits::change_of, crate::specs::Edits::Fits))]
+    fn make_cells(&mut self, addr: u32, len: u32, kind: RangeKind) -> Result<(), AllocError>
+        ensures ok { OnOk result (cells_of self.new ≡ changed_in (cells_of self.old) addr len (ranged kind)) }
+        ensures err { OnErr result (SomeFront len (λ k. cells_of self.new ≡ changed_in (cells_of self.old) addr k (ranged kind))) }
+    {
+        let mut done = 0;
+        while done < len {
+            let at = addr.wrapping_add(done);
+            let count = count_in_page(at, len - done);
+            self.change(at, &Edit::Make(count as usize, kind))?;
+            done += count;
+        }
+        Ok(())
+    }
+
+    /// Makes a range accessible and defined, with these bytes and zeros after them. A refusal leaves a front of it changed.
+    pub fn fill(&mut self, addr: u32, len: u32, bytes: &[u8]) -> Result<(), AllocError>
+        ensures bytes { OnOk result (bytes_in self.new ≡ written (bytes_in self.old) addr len (slice_index bytes.now)) }
+        ensures shadows { OnOk result (shadows_in self.new ≡ made_so (shadows_in self.old) addr len RangeKind.Defined) }
+        ensures err { OnErr result (SomeFront len (λ k. HasFilled self.old self.new addr k bytes.now)) }
+    {
+        self.fill_cells(addr, len, bytes)
+    }
+
+    // The cells of a range, page by page.
+    #[tactic(auto, unfolding(crate::specs::Edits::count_of, crate::specs::Edits::change_of, crate::specs::Edits::Fits))]
+    fn fill_cells(&mut self, addr: u32, len: u32, bytes: &[u8]) -> Result<(), AllocError>
+        ensures ok { OnOk result (cells_of self.new ≡ changed_in (cells_of self.old) addr len (filled (slice_index bytes.now))) }
+        ensures err { OnErr result (SomeFront len (λ k. cells_of self.new ≡ changed_in (cells_of self.old) addr k (filled (slice_index bytes.now)))) }
+    {
+        let mut done = 0;
+        while done < len {
+            let at = addr.wrapping_add(done);
+            let count = count_in_page(at, len - done);
+            let rest = &bytes[bytes.len().min(done as usize)..];
+            self.change(at, &Edit::Fill(count as usize, rest))?;
+            done += count;
+        }
+        Ok(())
+    }
+
+    /// Stores bytes all of whose bits are defined. An inaccessible one takes its value and stays inaccessible. A refusal
+    /// leaves a front of them stored.
+    pub fn store_bytes(&mut self, addr: u32, bytes: &[u8]) -> Result<(), AllocError>
+        requires { length bytes.now < 2 ^ 32 }
+        ensures bytes { OnOk result (bytes_in self.new ≡ written (bytes_in self.old) addr (length bytes.now) (slice_index bytes.now)) }
+        ensures shadows { OnOk result (shadows_in self.new ≡ stored_undef (shadows_in self.old) addr (length bytes.now) 0) }
+        ensures err { OnErr result (SomeFront (length bytes.now) (λ k. HasReceived self.old self.new addr k bytes.now)) }
+    {
+        self.store_bytes_cells(addr, bytes)
+    }
+
+    // The cells of a range, page by page.
+    #[tactic(auto, unfolding(crate::specs::Edits::count_of, crate::specs::Edits::change_of, crate::specs::Edits::Fits))]
+    fn store_bytes_cells(&mut self, addr: u32, bytes: &[u8]) -> Result<(), AllocError>
+        requires { length bytes.now < 2 ^ 32 }
+        ensures ok { OnOk result (CellsReceived self.old self.new addr bytes.now (length bytes.now)) }
+        ensures err { OnErr result (SomeFront (length bytes.now) (CellsReceived self.old self.new addr bytes.now)) }
+    {
+        let len = bytes.len() as u32;
+        let mut done = 0;
+        while done < len {
+            let at = addr.wrapping_add(done);
+            let count = count_in_page(at, len - done);
+            let from = done as usize;
+            let part = &bytes[from..from + count as usize];
+            self.change(at, &Edit::Store(part))?;
+            done += count;
+        }
+        Ok(())
+    }
+}

@@ -1,0 +1,58 @@
+//! Searches of memory, page by page.
+ghost use Rattle.std.specs.Prelude.{◌≡◌, ◌^◌, IfNone, IfSome};
+ghost use Rattle.shadow_memory.specs.Shadows.{first_bad, HoldNoWord, IsNextWord};
+ghost use Rattle.shadow_memory.specs.Memories.{shadows_in};
+
+use crate::cells::Bad;
+use crate::memory::Memory;
+use crate::pages::PAGE;
+use crate::ranges::{PAGE_LEN, count_in_page};
+
+// How many pages the addresses have, and how many a directory has.
+const PAGES: u32 = 1048576;
+
+const DIRECTORY_PAGES: u32 = 1024;
+
+impl Memory {
+    /// The first byte of a range that is inaccessible or, where asked, has an undefined bit.
+    pub fn first_bad(&self, addr: u32, len: u32, need_defined: bool) -> Option<Bad>
+        ensures { result ≡ first_bad (shadows_in self.now) addr len need_defined }
+    {
+        let mut done = 0;
+        while done < len {
+            let at = addr.wrapping_add(done);
+            let count = count_in_page(at, len - done);
+            let place = at as usize % PAGE;
+            let view = self.view(at);
+            if let Some(found) = view.first_bad(place, place + count as usize, need_defined) {
+                let accessible = view.cell(found).accessible;
+                let addr = at - at % PAGE_LEN + found as u32;
+                return Some(Bad { addr, accessible });
+            }
+            done += count;
+        }
+        None
+    }
+
+    /// The least multiple of 4, at or above an address, whose four bytes are all accessible and defined.
+    pub fn next_word(&self, addr: u32) -> Option<u32>
+        ensures none { IfNone result (HoldNoWord (shadows_in self.now) addr (2 ^ 32)) }
+        ensures some { IfSome result (IsNextWord (shadows_in self.now) addr) }
+    {
+        let mut page = addr / PAGE_LEN;
+        let mut from = (addr % PAGE_LEN + 3) / 4 * 4;
+        while page < PAGES {
+            if self.has_no_word(page / DIRECTORY_PAGES) {
+                page = (page / DIRECTORY_PAGES + 1) * DIRECTORY_PAGES;
+            } else {
+                let start = page * PAGE_LEN;
+                if let Some(place) = self.view(start).next_word(from as usize) {
+                    return Some(start + place as u32);
+                }
+                page += 1;
+            }
+            from = 0;
+        }
+        None
+    }
+}

@@ -1,0 +1,90 @@
+//! A page that may be blank, or shared.
+ghost use Rattle.std.specs.Prelude.{◌≡◌, ◌+◌, ◌<◌, ◌≤◌, IfSome, OnOk, OnErr};
+ghost use Rattle.shadow_memory.specs.Cells.{changed_from, AgreeInPage};
+ghost use Rattle.shadow_memory.specs.Directories.{cells_at};
+ghost use Rattle.shadow_memory.specs.Views.{cells_seen};
+ghost use Rattle.shadow_memory.specs.Edits.{change_of, count_of, Fits, LeavesBlank};
+
+use crate::cells::RangeKind;
+use crate::edits::Edit;
+use crate::pages::{PAGE, Page};
+use crate::views::View;
+use std::alloc::{AllocError, Global};
+use std::rc::Rc;
+
+/// One page of a directory.
+#[derive(Drop)]
+pub(crate) enum PageSlot {
+    /// Zeros, all of one kind.
+    Blank(RangeKind),
+    /// A page, which other memories may hold too.
+    Held(Rc<Page>),
+}
+
+// The kind that a blank page has after a change, where it stays blank.
+#[tactic(auto, unfolding(crate::specs::Edits::count_of, crate::specs::Edits::change_of))]
+fn blank_after(old: RangeKind, edit: &Edit<'_>) -> Option<RangeKind>
+    ensures { IfSome result (LeavesBlank old edit.now) }
+{
+    match edit {
+        Edit::Make(PAGE, kind) => Some(*kind),
+        Edit::Fill(PAGE, []) => Some(RangeKind::Defined),
+        Edit::Make(_, kind) if *kind == old => Some(old),
+        _ => None,
+    }
+}
+
+#[tactic(auto, unfolding(crate::specs::Directories::cells_at, crate::specs::Views::cells_seen, crate::specs::Edits::count_of, crate::specs::Edits::change_of))]
+impl PageSlot {
+    /// The page, to read.
+    pub(crate) fn view(&self) -> View<'_>
+        ensures { cells_seen result ≡ cells_at self.now }
+    {
+        match self {
+            PageSlot::Blank(kind) => View::Blank(*kind),
+            PageSlot::Held(page) => View::Held(page),
+        }
+    }
+
+    /// Changes cells from a place on, in a page of its own.
+    pub(crate) fn change(
+        &mut self,
+        alloc: Global,
+        at: usize,
+        edit: &Edit<'_>,
+    ) -> Result<(), AllocError>
+        requires within { at + count_of edit.now ≤ 4096 }
+        requires fits { Fits edit.now }
+        ensures ok { OnOk result (AgreeInPage (cells_at self.new) (changed_from (cells_at self.old) at (count_of edit.now) (change_of edit.now))) }
+        ensures err { OnErr result (AgreeInPage (cells_at self.new) (cells_at self.old)) }
+    {
+        match self {
+            PageSlot::Held(shared) => {
+                let own = Rc::make_mut(shared)?;
+                own.change(alloc, at, edit)
+            }
+            PageSlot::Blank(old) => {
+                if let Some(kind) = blank_after(*old, edit) {
+                    *self = PageSlot::Blank(kind);
+                    return Ok(());
+                }
+                let mut page = Page::new(alloc, *old)?;
+                page.change(alloc, at, edit)?;
+                *self = PageSlot::Held(Rc::new(alloc, page)?);
+                Ok(())
+            }
+        }
+    }
+}
+
+#[tactic(auto, unfolding(crate::specs::Directories::cells_at))]
+impl Clone for PageSlot {
+    ghost is_clone = { λ slot copy. cells_at copy ≡ cells_at slot };
+
+    fn clone(&self) -> Result<PageSlot, AllocError> {
+        match self {
+            PageSlot::Blank(kind) => Ok(PageSlot::Blank(*kind)),
+            PageSlot::Held(page) => Ok(PageSlot::Held(page.clone()?)),
+        }
+    }
+}

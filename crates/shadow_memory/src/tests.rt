@@ -1,0 +1,144 @@
+//! Each call on its happy path, and ranges across the end of a page and of the address space. Expected values are worked out by
+//! hand from the definitions.
+use crate::laws::{all_are, first_not};
+use crate::{Bad, Cell, Memory, RangeKind};
+use definedness::Bits;
+use std::test::Fail;
+
+// A cell.
+const fn cell(byte: u8, accessible: bool, undef: u8) -> Cell {
+    Cell {
+        byte,
+        accessible,
+        undef,
+    }
+}
+
+// One byte is written into each of 1,025 memories that share their pages; after each write, the ones before it have theirs and
+// the ones after it have none.
+#[test]
+fn shares_are_apart(rt: HostRuntime) -> Result<(), Fail> {
+    let alloc = rt.alloc();
+    let mut first = Memory::new(alloc);
+    first.fill(0x1000_0000, 8192, b"abcd")?;
+    let mut shares = Vec::new(alloc);
+    for _share in 0..1025u32 {
+        shares.push(first.share()?)?;
+    }
+    let mut written = 0usize;
+    for _share in 0..1025u32 {
+        let Some(share) = shares.get_mut(written) else {
+            break;
+        };
+        share.poke(0x1000_0001, (written & 0x7f) as u8)?;
+        written = written.saturating_add(1);
+        let mut i = 0usize;
+        for other in &shares {
+            let want = if i < written { (i & 0x7f) as u8 } else { b'b' };
+            assert_eq!(rt; other.byte(0x1000_0001).byte, want);
+            i = i.saturating_add(1);
+        }
+    }
+    assert_eq!(rt; first.load(0x1000_0000, 4).value, 0x6463_6261);
+    Ok(())
+}
+
+// Loads and stores across the end of a page and of the address space.
+#[test]
+fn accesses_cross_pages(rt: HostRuntime) -> Result<(), Fail> {
+    let alloc = rt.alloc();
+    let cases: [(u32, u32); 2] = [(0x1FFE, 0x2000), (0xFFFF_FFFE, 0)];
+    for (addr, next) in &cases {
+        let mut memory = Memory::new(alloc);
+        memory.set_range(*addr, 3, RangeKind::Defined)?;
+        let bits = Bits {
+            value: 0x4433_2211,
+            undef: 0x0000_F000,
+        };
+        let bad = memory.store(*addr, 4, bits)?;
+        assert_eq!(rt; bad, Some(addr.wrapping_add(3)));
+        assert_eq!(rt; memory.byte(addr.wrapping_add(1)), cell(0x22, true, 0xF0));
+        assert_eq!(rt; memory.byte(*next), cell(0x33, true, 0));
+        assert_eq!(rt; memory.byte(next.wrapping_add(1)), cell(0x44, false, 0));
+        let loaded = memory.load(*addr, 4);
+        assert_eq!(rt; loaded.value, 0x4433_2211);
+        assert_eq!(rt; loaded.undef, 0xF000);
+        assert_eq!(rt; loaded.bad, Some(addr.wrapping_add(3)));
+        assert_eq!(rt; memory.load(*next, 2).value, 0x4433);
+        memory.copy_with_shadow(*addr, 0x5FFF, 4)?;
+        assert_eq!(rt; memory.byte(0x6000), cell(0x22, false, 0));
+        memory.set_range(0x5FFF, 4, RangeKind::Undefined)?;
+        memory.copy_with_shadow(*addr, 0x5FFF, 4)?;
+        assert_eq!(rt; memory.byte(0x6000), cell(0x22, true, 0xF0));
+        assert_eq!(rt; memory.byte(0x6002), cell(0x44, true, 0));
+    }
+    Ok(())
+}
+
+// A page of one kind is split by a range and by a partly defined byte, and made one again.
+#[test]
+fn pages_split_and_fold(rt: HostRuntime) -> Result<(), Fail> {
+    let alloc = rt.alloc();
+    let mut memory = Memory::new(alloc);
+    memory.fill(0x4000, 0x2000, b"xyz")?;
+    memory.set_range(0x4010, 16, RangeKind::NoAccess)?;
+    assert_eq!(rt; memory.byte(0x400F), cell(0, true, 0));
+    assert_eq!(rt; memory.byte(0x4010), cell(0, false, 0));
+    let partly = Bits {
+        value: 7,
+        undef: 0x81,
+    };
+    assert_eq!(rt; memory.store(0x4030, 1, partly)?, None);
+    assert_eq!(rt; memory.byte(0x4030), cell(7, true, 0x81));
+    assert_eq!(rt;
+        memory.first_bad(0x4000, 0x2000, true),
+        Some(Bad {
+            addr: 0x4010,
+            accessible: false
+        })
+    );
+    assert_eq!(rt;
+        memory.first_bad(0x4020, 0x1000, true),
+        Some(Bad {
+            addr: 0x4030,
+            accessible: true
+        })
+    );
+    assert_eq!(rt; memory.first_bad(0x4020, 0x1000, false), None);
+    assert_eq!(rt; memory.next_word(0x400D), Some(0x4020));
+    assert_eq!(rt; memory.next_word(0x402D), Some(0x4034));
+    assert_eq!(rt; memory.next_word(0x6000), None);
+    memory.set_range(0x4000, 0x1000, RangeKind::Defined)?;
+    assert_eq!(rt; memory.first_bad(0x4000, 0x2000, true), None);
+    assert_eq!(rt; memory.load(0x4000, 4).value, 0x007A_7978);
+    assert_eq!(rt; memory.byte(0x4030), cell(7, true, 0));
+    Ok(())
+}
+
+// Bytes from outside the program.
+#[test]
+fn bytes_come_and_go(rt: HostRuntime) -> Result<(), Fail> {
+    let alloc = rt.alloc();
+    let mut memory = Memory::new(alloc);
+    memory.set_range(0x8FFE, 3, RangeKind::Undefined)?;
+    memory.store_bytes(0x8FFE, b"pqrs")?;
+    assert_eq!(rt; memory.byte(0x9000), cell(b'r', true, 0));
+    assert_eq!(rt; memory.byte(0x9001), cell(b's', false, 0));
+    memory.poke_word(0x8FFF, 0x0403_0201)?;
+    let mut bytes = [0u8; 6];
+    memory.read_bytes(0x8FFD, &mut bytes);
+    assert_eq!(rt; bytes, [0, b'p', 1, 2, 3, 4]);
+    assert_eq!(rt; memory.byte(0x9001), cell(3, false, 0));
+    Ok(())
+}
+
+#[test]
+fn scans(rt: HostRuntime) -> Result<(), Fail> {
+    let bytes = *b"aaaaaaaaaaaaaaaaaaaaab";
+    assert_eq!(rt; first_not(&bytes, b'a'), Some(21));
+    assert_eq!(rt; first_not(&bytes[..21], b'a'), None);
+    assert_eq!(rt; first_not(&bytes, b'b'), Some(0));
+    assert!(rt; all_are(&bytes[..17], b'a'));
+    assert!(rt; !all_are(&bytes, b'a'));
+    Ok(())
+}

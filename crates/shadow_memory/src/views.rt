@@ -1,0 +1,85 @@
+//! One page of a memory, to read.
+ghost use Rattle.std.specs.Prelude.{◌≡◌, ◌+◌, ◌*◌, ◌%◌, ◌^◌, ◌<◌, ◌≤◌, IfNone, IfSome};
+ghost use Rattle.shadow_memory.specs.Cells.{shadow_in, IsClean};
+ghost use Rattle.shadow_memory.specs.Changes.{IsWidth};
+ghost use Rattle.shadow_memory.specs.Loads.{loaded_at};
+ghost use Rattle.shadow_memory.specs.Firsts.{IsFirst, NonePass};
+ghost use Rattle.shadow_memory.specs.Shadows.{is_bad, HoldNoWord, IsNextWord};
+ghost use Rattle.shadow_memory.specs.Views.{cells_seen};
+
+use crate::cells::{Cell, Loaded, RangeKind, blank_cell};
+use crate::marks::{first_bad_of, next_word_of};
+use crate::pages::Page;
+use crate::words::{ABSENT, loaded_from};
+
+/// A page that may be blank.
+#[derive(Clone, Copy)]
+pub(crate) enum View<'a> {
+    /// Zeros, all of one kind.
+    Blank(RangeKind),
+    /// A page that is held.
+    Held(&'a Page),
+}
+
+#[tactic(auto, unfolding(crate::specs::Views::cells_seen, crate::specs::Loads::loaded_at, crate::specs::Ranges::little_word, crate::specs::Ranges::first_from))]
+impl View<'_> {
+    pub(crate) fn cell(self, at: usize) -> Cell
+        requires { at < 4096 }
+        ensures value { result ≡ cells_seen self.entry at }
+        ensures clean { IsClean result }
+    {
+        match self {
+            View::Blank(kind) => blank_cell(kind),
+            View::Held(page) => page.cell(at),
+        }
+    }
+
+    /// What a load takes of n bytes from a place on, which lie from an address on.
+    #[inline]
+    pub(crate) fn load(self, at: usize, addr: u32, n: u32) -> Loaded
+        requires width { IsWidth n }
+        requires within { at + n ≤ 4096 }
+        ensures value { result ≡ loaded_at (λ i. cells_seen self.entry (at + i)) addr n }
+        ensures small { result.value < 2 ^ (8 * n) }
+        ensures small_undef { result.undef < 2 ^ (8 * n) }
+    {
+        match self {
+            View::Held(page) => page.load(at, addr, n),
+            View::Blank(kind) => {
+                let cell = blank_cell(kind);
+                match n {
+                    1 => loaded_from(addr, cell, ABSENT, ABSENT, ABSENT),
+                    2 => loaded_from(addr, cell, cell, ABSENT, ABSENT),
+                    _ => loaded_from(addr, cell, cell, cell, cell),
+                }
+            }
+        }
+    }
+
+    /// The first multiple of 4, from one on, that has four accessible and defined bytes.
+    pub(crate) fn next_word(self, from: usize) -> Option<usize>
+        requires within { from ≤ 4096 }
+        requires aligned { from % 4 ≡ 0 }
+        ensures none { IfNone result (HoldNoWord (λ k. shadow_in (cells_seen self.entry k)) from 4096) }
+        ensures some { IfSome result (IsNextWord (λ k. shadow_in (cells_seen self.entry k)) from) }
+        ensures inside { IfSome result (λ at. at < 4096) }
+    {
+        match self {
+            View::Blank(kind) => next_word_of(kind, from),
+            View::Held(page) => page.next_word(from),
+        }
+    }
+
+    /// The first bad byte from one place up to, not with, another.
+    pub(crate) fn first_bad(self, from: usize, to: usize, need_defined: bool) -> Option<usize>
+        requires order { from ≤ to }
+        requires within { to ≤ 4096 }
+        ensures none { IfNone result (NonePass (λ k. is_bad need_defined (shadow_in (cells_seen self.entry k))) from to) }
+        ensures some { IfSome result (IsFirst (λ k. is_bad need_defined (shadow_in (cells_seen self.entry k))) from to) }
+    {
+        match self {
+            View::Blank(kind) => first_bad_of(kind, from, to, need_defined),
+            View::Held(page) => page.first_bad(from, to, need_defined),
+        }
+    }
+}

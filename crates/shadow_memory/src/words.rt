@@ -1,0 +1,124 @@
+//! The bytes of words, and the cells that they are stored in or loaded from.
+ghost use Rattle.std.specs.Prelude.{◌≡◌, ℕ, ◌<◌, slice_index, if◌then◌else◌};
+ghost use Rattle.shadow_memory.specs.Ranges.{byte_of};
+ghost use Rattle.shadow_memory.specs.Cells.{IsClean};
+ghost use Rattle.shadow_memory.specs.Loads.{inaccessible_of, undef_of, word_of};
+ghost use Rattle.shadow_memory.specs.Changes.{stored};
+
+use crate::cells::{Cell, Loaded};
+use definedness::Bits;
+
+/// What a load takes above its bytes.
+pub(crate) const ABSENT: Cell = Cell {
+    byte: 0,
+    accessible: true,
+    undef: 0,
+};
+
+/// Byte i of a word, from the low end.
+#[tactic(auto, unfolding(crate::specs::Ranges::byte_of))]
+pub(crate) fn byte_at(word: u32, i: u32) -> u8
+    requires { i < 4 }
+    ensures { result ≡ byte_of word i }
+{
+    let byte = match i {
+        0 => word % 256,
+        1 => word / 256 % 256,
+        2 => word / 65536 % 256,
+        _ => word / 16777216 % 256,
+    };
+    byte as u8
+}
+
+/// The bytes of a word, the lowest first.
+pub(crate) fn word_bytes(word: u32) -> [u8; 4]
+    ensures { (i : ℕ) → i < 4 → slice_index result i ≡ byte_of word i }
+{
+    [
+        byte_at(word, 0),
+        byte_at(word, 1),
+        byte_at(word, 2),
+        byte_at(word, 3),
+    ]
+}
+
+/// The number of four bytes, the lowest first.
+pub(crate) fn word(first: u8, second: u8, third: u8, fourth: u8) -> u32
+    ensures { result ≡ word_of first second third fourth }
+{
+    u32::from_le_bytes([first, second, third, fourth])
+}
+
+// The undefined bits that a load takes of a cell.
+fn loaded_undef(cell: Cell) -> u8
+    ensures { result ≡ undef_of cell }
+{
+    if cell.accessible { cell.undef } else { 0 }
+}
+
+/// A cell after byte i of a number was stored in it.
+pub(crate) fn stored_cell(bits: Bits, i: u32, cell: Cell) -> Cell
+    requires width { i < 4 }
+    requires clean { IsClean cell }
+    ensures value { result ≡ stored bits i cell }
+    ensures clean { IsClean result }
+{
+    Cell {
+        byte: byte_at(bits.value, i),
+        accessible: cell.accessible,
+        undef: if cell.accessible {
+            byte_at(bits.undef, i)
+        } else {
+            cell.undef
+        },
+    }
+}
+
+/// A target's cell after a source's was copied to it.
+pub(crate) fn copied_from(source: Cell, target: Cell) -> Cell
+    requires source { IsClean source }
+    requires target { IsClean target }
+    ensures byte { result.byte ≡ source.byte }
+    ensures accessible { result.accessible ≡ target.accessible }
+    ensures undef { result.undef ≡ (if target.accessible then undef_of source else target.undef) }
+    ensures clean { IsClean result }
+{
+    Cell {
+        byte: source.byte,
+        accessible: target.accessible,
+        undef: if target.accessible {
+            loaded_undef(source)
+        } else {
+            target.undef
+        },
+    }
+}
+
+/// What a load takes of four cells from an address on.
+pub(crate) fn loaded_from(addr: u32, first: Cell, second: Cell, third: Cell, fourth: Cell) -> Loaded
+    ensures value { result.value ≡ word_of first.byte second.byte third.byte fourth.byte }
+    ensures undef { result.undef ≡ word_of (undef_of first) (undef_of second) (undef_of third) (undef_of fourth) }
+    ensures bad { result.bad ≡ inaccessible_of addr first second third fourth }
+{
+    let bad = if !first.accessible {
+        Some(addr.wrapping_add(0))
+    } else if !second.accessible {
+        Some(addr.wrapping_add(1))
+    } else if !third.accessible {
+        Some(addr.wrapping_add(2))
+    } else if !fourth.accessible {
+        Some(addr.wrapping_add(3))
+    } else {
+        None
+    };
+    Loaded {
+        value: word(first.byte, second.byte, third.byte, fourth.byte),
+        undef: word(
+            loaded_undef(first),
+            loaded_undef(second),
+            loaded_undef(third),
+            loaded_undef(fourth),
+        ),
+        bad,
+    }
+}
