@@ -1,0 +1,21 @@
+-- Call stacks: lists of frames, newest first, as a stack of return addresses keeps them (RISC-V Unprivileged ISA 20191213,
+-- section 2.5, "return-address stack"); the depth of stacks and traces is this project's own.
+use Rattle.std.specs.Prelude.{ℕ, ◌+◌, ◌==◌, List, ◌∷◌, Option, Some, None, map, take, drop, position}
+use Rattle.call_stacks.specs.declared.stack.Frame.{Frame}
+
+-- a call is on the stack as a frame; of 257 frames the oldest is dropped
+abbrev pub called : Frame → List Frame → List Frame
+called frame frames = take 256 (frame ∷ frames)
+
+-- what is left without the newest frame at a place and all newer ones
+abbrev pub older_than : Option ℕ → List Frame → List Frame
+older_than None frames = frames
+older_than (Some i) frames = drop (i + 1) frames
+
+-- a return to an address: the newest frame with that return address goes, and all newer ones; if there is none, nothing
+unfoldable pub returned : ℕ → List Frame → List Frame
+returned target frames = older_than (position (λ frame. frame.return_to == target) frames) frames
+
+-- a trace at an instruction: its address, and the sites of the newest calls; 24 addresses in all
+unfoldable pub trace_at : ℕ → List Frame → List ℕ
+trace_at pc frames = take 24 (pc ∷ map (λ frame. frame.site) frames)
