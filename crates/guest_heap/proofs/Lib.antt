@@ -1,0 +1,15 @@
+pub mod Clones
+pub mod Places
+pub mod RunSteps
+pub mod KeptSteps
+pub mod PlaceSteps
+pub mod PutSteps
+pub mod Bounding
+mod BoundSteps
+pub mod FreeSteps
+pub mod NearSteps
+pub mod Firsts
+pub mod StepLaws
+pub mod LawSteps
+pub mod ApartLaws
+pub mod Unused

@@ -1,0 +1,6 @@
+use Rattle.std.proofs.Common.{◌≡◌, ◌++◌, map, take, drop}
+use Rattle.guest_heap.specs.Bounds.{unknown}
+use Rattle.guest_heap.proofs.bounds.Bounds.forget.Given as goal
+
+abbrev pub invariant-loop-bound : goal.invariant-loop-bound
+invariant-loop-bound l = l.bound-items ≡ map unknown (take l.bound-index l.initial.bound-items) ++ drop l.bound-index l.initial.bound-items

@@ -1,0 +1,13 @@
+pub mod Entries
+pub mod Unused
+pub mod Leaves
+pub mod Branches
+pub mod Tables
+pub mod Runs
+pub mod Queues
+pub mod Blocks
+pub mod Steps
+pub mod Laws
+pub mod States
+pub mod Bounds
+pub mod Heaps

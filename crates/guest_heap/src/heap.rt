@@ -1,0 +1,94 @@
+// The heap: what it holds, and its changes.
+ghost use Rattle.std.specs.Prelude.{◌≡◌, ◌+◌, ◌≤◌, length};
+ghost use Rattle.guest_heap.specs.Tables.{entries_of};
+ghost use Rattle.guest_heap.specs.Queues.{queued};
+ghost use Rattle.guest_heap.specs.States.{AreSound, volume_in, shown};
+ghost use Rattle.guest_heap.specs.Bounds.{AreBounds};
+
+use crate::bounds::Bounds;
+use crate::queue::Queue;
+use crate::table::Table;
+use std::alloc::{AllocError, Global};
+
+pub(crate) mod placing;
+pub(crate) mod reading;
+pub(crate) mod releasing;
+pub(crate) mod searches;
+
+/// The live blocks of a guest's heap, and the queue of those freed.
+#[derive(Drop)]
+pub struct Heap {
+    live: Table,
+    freed: Table,
+    queue: Queue,
+    // How many left the queue, and how many were freed.
+    first: u64,
+    next: u64,
+    // The sum of the sizes in the queue.
+    held: u64,
+    // Bounds of places with this red zone.
+    redzone: u32,
+    bounds: Bounds,
+    ghost sound: { AreSound (entries_of live) (entries_of freed) (queued queue) first },
+    ghost numbered: { next ≡ first + length (queued queue) },
+    ghost volume: { held ≡ volume_in (queued queue) },
+    ghost bounded: { AreBounds (shown (entries_of live) (queued queue)) redzone bounds.list.items },
+}
+
+#[tactic(auto, unfolding(crate::specs::Heaps::blocks_of))]
+impl Heap {
+    ghost use Rattle.std.specs.Prelude.{IfOk, None, []};
+    ghost use Rattle.guest_heap.specs.Heaps.{blocks_of};
+    ghost use Rattle.guest_heap.specs.Blocks.{no_blocks};
+    ghost use Rattle.guest_heap.specs.Steps.{AreInRegion, AreApart};
+
+    /// A heap with no blocks. Fails where there is no memory for its empty tables.
+    pub fn new(alloc: Global) -> Result<Heap, AllocError>
+        ensures { IfOk result (λ heap. blocks_of heap ≡ no_blocks) }
+    {
+        let live = Table::new(alloc)?;
+        let freed = Table::new(alloc)?;
+        let queue = Queue::new(alloc);
+        let bounds = Bounds::new(alloc)?;
+        Ok(Heap {
+            live,
+            freed,
+            queue,
+            first: 0,
+            next: 0,
+            held: 0,
+            redzone: 0,
+            bounds,
+        })
+    }
+
+    /// A heap that holds the same. Changes of one of the two don't reach the other. It takes memory for references, and none for blocks.
+    pub fn share(&self) -> Result<Heap, AllocError>
+        ensures { IfOk result (λ copy. blocks_of copy ≡ blocks_of self.now) }
+    {
+        let live = self.live.share()?;
+        let freed = self.freed.share()?;
+        let queue = self.queue.share()?;
+        let bounds = self.bounds.share()?;
+        Ok(Heap {
+            live,
+            freed,
+            queue,
+            first: self.first,
+            next: self.next,
+            held: self.held,
+            redzone: self.redzone,
+            bounds,
+        })
+    }
+
+    /// Nothing: its contract says that the live blocks of a heap are in the heap region, which the laws of the heap calls ask for.
+    pub fn in_region(&self)
+        ensures { AreInRegion (blocks_of self.now) }
+    {}
+
+    /// Nothing: its contract says that the kept blocks of a heap are apart.
+    pub fn apart(&self)
+        ensures { AreApart (blocks_of self.now) }
+    {}
+}

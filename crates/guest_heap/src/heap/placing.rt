@@ -1,0 +1,142 @@
+// Places for new blocks.
+ghost use Rattle.std.specs.Prelude.{◌≡◌, ◌<◌, ◌≤◌, ◌+◌, ◌%◌, ◌^◌, ℕ, None};
+
+use crate::bounds::{Bound, SizeClass, class_of, past};
+use crate::entry::Entry;
+use crate::heap::Heap;
+use crate::interval::high_end;
+use crate::region::{GREATEST_SIZE, HEAP_BEGIN, HEAP_END, aligned, slot_of};
+use call_stacks::{Block, Trace};
+use std::alloc::{AllocError, Global};
+use std::rc::Rc;
+
+#[tactic(auto, unfolding(crate::specs::Heaps::blocks_of))]
+impl Heap {
+    ghost use Rattle.std.specs.Prelude.{IfOk, OnOk, OnErr};
+    ghost use Rattle.guest_heap.specs.Blocks.{IsPlace, Places, allocated, with_block};
+    ghost use Rattle.guest_heap.specs.Steps.{place};
+    ghost use Rattle.guest_heap.specs.Heaps.{blocks_of, redzone_in};
+    ghost use Rattle.guest_heap.specs.States.{AreNoPlaces};
+    ghost use Rattle.guest_heap.specs.Bounds.{Holds};
+
+    // The least place from an address on, where there is none below it.
+    fn place_from(&self, from: u64, size: u32, redzone: u32, known: &Bound) -> Option<u32>
+        requires multiple { from % 16 ≡ 0 }
+        requires above { 0x40000000 + redzone ≤ from }
+        requires below { from < 17179869184 }
+        requires small { size ≤ 16777216 }
+        requires none { (q : ℕ) → q < from → ¬ (IsPlace (blocks_of self.now) size redzone q) }
+        requires skipped { AreNoPlaces (blocks_of self.now) size redzone known.now.next known.now.until }
+        ensures { Places (blocks_of self.now) size redzone result }
+    {
+        let before = u64::from(redzone);
+        let after = u64::from(size.max(1)) + before;
+        let mut at = from;
+        while at + after <= HEAP_END {
+            match self.meeting(at - before, at + after) {
+                None => return Some(at as u32),
+                Some(block) => {
+                    let behind = aligned(high_end(block) + before);
+                    at = past(behind, known);
+                }
+            }
+        }
+        None
+    }
+
+    // The bounds are those of a red zone.
+    #[tactic(auto, unfolding(crate::specs::Heaps::blocks_of, crate::specs::Heaps::redzone_in))]
+    fn use_redzone(&mut self, redzone: u32)
+        ensures same { blocks_of self.new ≡ blocks_of self.old }
+        ensures redzone { redzone_in self.new ≡ redzone }
+    {
+        if self.redzone != redzone {
+            self.bounds.forget();
+            self.redzone = redzone;
+        }
+    }
+
+    // Raises the bound of a class to the least place of its least block, and answers it.
+    #[tactic(auto, unfolding(crate::specs::Heaps::blocks_of, crate::specs::Heaps::redzone_in))]
+    fn raise_bound(&mut self, class: &SizeClass) -> Bound
+        requires index { class.now.index < 268 }
+        requires small { class.now.least ≤ 16777216 }
+        ensures same { blocks_of self.new ≡ blocks_of self.old }
+        ensures redzone { redzone_in self.new ≡ redzone_in self.old }
+        ensures size { result.size ≡ class.now.least }
+        ensures holds { Holds (blocks_of self.new) (redzone_in self.new) result }
+    {
+        let known = u64::from(self.bounds.known(class));
+        let own = self.bounds.get(class);
+        let from = aligned(known.max(HEAP_BEGIN + u64::from(self.redzone)));
+        let least = match self.place_from(from, class.least, self.redzone, &own) {
+            Some(place) => place,
+            None => HEAP_END as u32,
+        };
+        let raised = Bound {
+            size: own.size,
+            from: least,
+            next: own.next,
+            until: own.until,
+        };
+        self.bounds.put(class.index, raised);
+        raised
+    }
+
+    // The least place for a block.
+    fn place(&mut self, size: u32, redzone: u32) -> Option<u32>
+        ensures same { blocks_of self.new ≡ blocks_of self.old }
+        ensures place { Places (blocks_of self.new) size redzone result }
+    {
+        if size > GREATEST_SIZE {
+            return None;
+        }
+        self.use_redzone(redzone);
+        let bound = self.raise_bound(&class_of(size));
+        let from = aligned(u64::from(bound.from).max(HEAP_BEGIN + u64::from(redzone)));
+        self.place_from(from, size, redzone, &bound)
+    }
+
+    // A new live block at a place.
+    fn put(&mut self, alloc: Global, block: Block) -> Result<(), AllocError>
+        requires place { IsPlace (blocks_of self.old) block.size block.redzone block.start }
+        requires live { block.freed ≡ None }
+        ensures ok { OnOk result (blocks_of self.new ≡ with_block (blocks_of self.old) block) }
+        ensures err { OnErr result (blocks_of self.new ≡ blocks_of self.old) }
+    {
+        let slot = slot_of(block.start);
+        let entry = Rc::new(alloc, Entry { block, number: 0 })?;
+        self.live.set(alloc, slot, Some(entry))?;
+        Ok(())
+    }
+
+    /// A new live block of `size` bytes, with `redzone` bytes on either side and the trace of its allocation: where it begins, at the least
+    /// place for it. `None` where there is no place, as for more than 16,777,216 bytes. Where memory fails the heap is as before.
+    pub fn allocate(
+        &mut self,
+        alloc: Global,
+        size: u32,
+        trace: Trace,
+        redzone: u32,
+    ) -> Result<Option<u32>, AllocError>
+        ensures place { IfOk result (λ start. start ≡ place (blocks_of self.old) size redzone) }
+        ensures least { IfOk result (λ start. Places (blocks_of self.old) size redzone start) }
+        ensures ok { IfOk result (λ start. blocks_of self.new ≡ allocated (blocks_of self.old) start size trace redzone) }
+        ensures err { OnErr result (blocks_of self.new ≡ blocks_of self.old) }
+    {
+        match self.place(size, redzone) {
+            Some(start) => {
+                let block = Block {
+                    start,
+                    size,
+                    redzone,
+                    trace,
+                    freed: None,
+                };
+                self.put(alloc, block)?;
+                Ok(Some(start))
+            }
+            None => Ok(None),
+        }
+    }
+}

@@ -1,0 +1,112 @@
+// What a heap answers of its blocks.
+ghost use Rattle.std.specs.Prelude.{◌≡◌, ◌≤◌, ℕ, None};
+ghost use Rattle.guest_heap.specs.Blocks.{near_of, high_end};
+
+use crate::heap::Heap;
+use crate::region::{HEAP_BEGIN, HEAP_END, SLOTS};
+use call_stacks::{Block, Near, Place};
+
+fn near_of(block: &Block, address: u32) -> Near
+    requires { high_end block.now ≤ 0x60000000 }
+    ensures { result ≡ near_of block.now address }
+{
+    let found = *block;
+    let start = block.start;
+    let size = block.size;
+    if address < start {
+        return Near {
+            block: found,
+            place: Place::Before,
+            distance: start - address,
+        };
+    }
+    if start + size <= address {
+        return Near {
+            block: found,
+            place: Place::After,
+            distance: address - (start + size),
+        };
+    }
+    Near {
+        block: found,
+        place: Place::Inside,
+        distance: address - start,
+    }
+}
+
+#[tactic(auto, unfolding(crate::specs::Heaps::blocks_of, crate::specs::Heaps::live_in))]
+impl Heap {
+    ghost use Rattle.std.specs.Prelude.{IfSome, IfNone, IsSomeAnd};
+    ghost use Rattle.std.specs.Option.{option_copied};
+    ghost use Rattle.guest_heap.specs.Blocks.{IsKept, Holds, IsFirstLive};
+    ghost use Rattle.guest_heap.specs.States.{IsNextKept, live_block};
+    ghost use Rattle.guest_heap.specs.Steps.{near, live_from};
+    ghost use Rattle.guest_heap.specs.Heaps.{blocks_of, live_in};
+
+    // The first live block from a place on.
+    fn first_live(&self, slot: usize) -> Option<&Block>
+        requires { slot ≤ 33554432 }
+        ensures { IsNextKept (live_block (live_in self.now)) slot (option_copied result) }
+    {
+        match self.live.next_from(slot) {
+            Some(at) => match self.live.get(at) {
+                Some(entry) => Some(&entry.block),
+                None => None,
+            },
+            None => None,
+        }
+    }
+
+    // The live block with the least start that isn't below an address.
+    fn next_live(&self, from: u32) -> Option<Block>
+        ensures some { IfSome result (λ b. IsFirstLive (blocks_of self.now).live from b) }
+        ensures none { IfNone result ((a : ℕ) → from ≤ a → (blocks_of self.now).live a ≡ None) }
+    {
+        let above = u64::from(from).max(HEAP_BEGIN) - HEAP_BEGIN;
+        let slot = ((above + 15) / 16) as usize;
+        match self.first_live(slot.min(SLOTS)) {
+            Some(block) => Some(*block),
+            None => None,
+        }
+    }
+
+    /// The live block with the least start that isn't below an address. It takes no memory.
+    pub fn live(&self, from: u32) -> Option<Block>
+        ensures first { result ≡ live_from (blocks_of self.now) from }
+        ensures some { IfSome result (λ b. IsFirstLive (blocks_of self.now).live from b) }
+        ensures none { IfNone result ((a : ℕ) → from ≤ a → (blocks_of self.now).live a ≡ None) }
+    {
+        self.next_live(from)
+    }
+
+    // The kept block whose interval holds an address, of which there is at most one, and how far from it the address is.
+    fn holding(&self, address: u32) -> Option<Near>
+        ensures kept { IfSome result (λ near. IsKept (blocks_of self.now) near.block) }
+        ensures holds { IfSome result (λ near. Holds near.block address) }
+        ensures near { IfSome result (λ near. near ≡ near_of near.block address) }
+        ensures only { (b : Block) → IsKept (blocks_of self.now) b → Holds b address → IsSomeAnd result (λ near. near.block ≡ b) }
+    {
+        let low = u64::from(address);
+        if low < HEAP_BEGIN {
+            return None;
+        }
+        if low >= HEAP_END {
+            return None;
+        }
+        match self.meeting(low, low + 1) {
+            Some(block) => Some(near_of(block, address)),
+            None => None,
+        }
+    }
+
+    /// The kept block whose interval holds an address, of which there is at most one, and how far from it the address is. It takes no
+    /// memory.
+    pub fn block_near(&self, address: u32) -> Option<Near>
+        ensures near { result ≡ near (blocks_of self.now) address }
+        ensures kept { IfSome result (λ near. IsKept (blocks_of self.now) near.block) }
+        ensures holds { IfSome result (λ near. Holds near.block address) }
+        ensures only { (b : Block) → IsKept (blocks_of self.now) b → Holds b address → IsSomeAnd result (λ near. near.block ≡ b) }
+    {
+        self.holding(address)
+    }
+}

@@ -1,0 +1,143 @@
+// Blocks that are freed, and blocks that are forgotten.
+ghost use Rattle.std.specs.Prelude.{◌≡◌, ◌<◌, ◌≤◌, ◌∷◌, ◌++◌, [], None, Some};
+ghost use Rattle.guest_heap.specs.Blocks.{freed_by};
+
+use crate::bounds::Opened;
+use crate::entry::Entry;
+use crate::heap::Heap;
+use crate::region::{HEAP_BEGIN, SLOTS, aligned, slot_of};
+use crate::released::Released;
+use call_stacks::{Block, Trace};
+use std::alloc::{AllocError, Global};
+use std::rc::Rc;
+
+fn freed_by(block: &Block, trace: Trace) -> Block
+    ensures { result ≡ freed_by trace block.now }
+{
+    Block {
+        start: block.start,
+        size: block.size,
+        redzone: block.redzone,
+        trace: block.trace,
+        freed: Some(trace),
+    }
+}
+
+#[tactic(auto, using(crate::proofs::FreeSteps::spare_sound, crate::proofs::BoundSteps::same_bounds), unfolding(crate::specs::Heaps::blocks_of))]
+impl Heap {
+    ghost use Rattle.std.specs.Prelude.{IfOk, OnOk, OnErr, drop};
+    ghost use Rattle.std.specs.Option.{option_copied};
+    ghost use Rattle.guest_heap.specs.Blocks.{released_at, Releases, Frees, IsLongestFitting, queue_with};
+    ghost use Rattle.guest_heap.specs.Steps.{released_blocks};
+    ghost use Rattle.guest_heap.specs.Heaps.{blocks_of};
+
+    // The live block that begins at an address.
+    fn live_at(&self, address: u32) -> Option<&Block>
+        ensures { option_copied result ≡ (blocks_of self.now).live address }
+    {
+        if u64::from(address) < HEAP_BEGIN {
+            return None;
+        }
+        if slot_of(address) >= SLOTS {
+            return None;
+        }
+        match self.live.get(slot_of(address)) {
+            Some(entry) => {
+                if entry.block.start == address {
+                    return Some(&entry.block);
+                }
+                None
+            }
+            None => None,
+        }
+    }
+
+    // A live block goes to the end of the queue.
+    fn enqueue(&mut self, alloc: Global, block: &Block, trace: Trace) -> Result<(), AllocError>
+        requires { (blocks_of self.old).live block.now.start ≡ Some block.now }
+        ensures ok { OnOk result (blocks_of self.new ≡ queue_with (blocks_of self.old) (freed_by trace block.now)) }
+        ensures err { OnErr result (blocks_of self.new ≡ blocks_of self.old) }
+    {
+        // No run comes to 2^64 releases or bytes; there it would be want of memory.
+        let Some(next) = self.next.checked_add(1) else {
+            return Err(AllocError);
+        };
+        let Some(held) = self.held.checked_add(u64::from(block.size)) else {
+            return Err(AllocError);
+        };
+        self.queue.prepare(alloc)?;
+        let freed = freed_by(block, trace);
+        let number = self.next;
+        let made = Entry {
+            block: freed,
+            number,
+        };
+        let entry = Rc::new(alloc, made)?;
+        let shared = entry.clone()?;
+        let slot = slot_of(block.start);
+        self.freed.set(alloc, slot, Some(shared))?;
+        self.live.set(alloc, slot, None)?;
+        self.queue.push(entry);
+        self.next = next;
+        self.held = held;
+        Ok(())
+    }
+
+    // The oldest block leaves the queue.
+    fn forget_oldest(&mut self, alloc: Global)
+        ensures live { (blocks_of self.new).live ≡ (blocks_of self.old).live }
+        ensures queue { (blocks_of self.new).queue ≡ drop 1 (blocks_of self.old).queue }
+    {
+        let (start, size) = match self.queue.front() {
+            Some(entry) => (entry.block.start, entry.block.size),
+            None => return,
+        };
+        let redzone = u64::from(self.redzone);
+        let first = aligned(self.end_below(start) + redzone);
+        let end = self.begin_above(start);
+        let room = end.saturating_sub(first + redzone);
+        self.queue.pop_front();
+        self.first += 1;
+        self.held -= u64::from(size);
+        self.bounds.lower(&Opened { first, end, room });
+        // Where this fails the entry stays, and counts for nothing: its number is too small.
+        let _ = self.freed.set(alloc, slot_of(start), None);
+    }
+
+    // The oldest blocks leave the queue, until the sizes in it sum to no more than a volume.
+    fn forget(&mut self, alloc: Global, volume: u32)
+        ensures live { (blocks_of self.new).live ≡ (blocks_of self.old).live }
+        ensures queue { IsLongestFitting volume (blocks_of self.old).queue (blocks_of self.new).queue }
+    {
+        while self.held > u64::from(volume) {
+            self.forget_oldest(alloc);
+        }
+    }
+
+    /// Frees the live block that begins at `ptr`, with the trace of the release. It goes to the end of the queue, from which the oldest
+    /// blocks leave while the sizes in it sum to more than `volume`. Where memory fails the heap is as before.
+    pub fn release(
+        &mut self,
+        alloc: Global,
+        ptr: u32,
+        trace: Trace,
+        volume: u32,
+    ) -> Result<Released, AllocError>
+        ensures answer { IfOk result (λ released. released ≡ released_at (blocks_of self.old) ptr trace) }
+        ensures ok { IfOk result (λ _. blocks_of self.new ≡ released_blocks (blocks_of self.old) ptr trace volume) }
+        ensures longest { IfOk result (λ released. Releases released volume (blocks_of self.old) (blocks_of self.new)) }
+        ensures err { OnErr result (blocks_of self.new ≡ blocks_of self.old) }
+    {
+        if ptr == 0 {
+            return Ok(Released::Nothing);
+        }
+        match self.live_at(ptr).copied() {
+            Some(block) => {
+                self.enqueue(alloc, &block, trace)?;
+                self.forget(alloc, volume);
+                Ok(Released::Done(freed_by(&block, trace)))
+            }
+            None => Ok(Released::Invalid),
+        }
+    }
+}

@@ -1,0 +1,170 @@
+// Blocks found by their places.
+ghost use Rattle.std.specs.Prelude.{◌≡◌, ◌<◌, ◌≤◌, ◌+◌, ◌*◌, ◌==◌, ℕ, IsNone};
+
+use crate::heap::Heap;
+use crate::interval::{high_end, low_end};
+use crate::region::{HEAP_BEGIN, HEAP_END, slot_of};
+use call_stacks::Block;
+
+#[tactic(auto, unfolding(crate::specs::Heaps::live_in, crate::specs::Heaps::freed_in, crate::specs::Heaps::first_in))]
+impl Heap {
+    ghost use Rattle.std.specs.Prelude.{IfSome, IfNone};
+    ghost use Rattle.std.specs.Option.{option_copied};
+    ghost use Rattle.guest_heap.specs.Entries.{IsNext, IsLast};
+    ghost use Rattle.guest_heap.specs.States.{kept_at, either, IsNextKept, IsLastKept, MeetsBelow, MeetsFrom, EndsBelow, BeginsAbove};
+    ghost use Rattle.guest_heap.specs.Heaps.{blocks_of, live_in, freed_in, first_in};
+    ghost use Rattle.guest_heap.specs.Blocks.{IsKept, Meets, high_end};
+
+    // The kept block at a place.
+    fn kept_in(&self, slot: usize) -> Option<&Block>
+        requires { slot < 33554432 }
+        ensures { option_copied result ≡ kept_at (live_in self.now) (freed_in self.now) (first_in self.now) slot }
+    {
+        if let Some(entry) = self.live.get(slot) {
+            return Some(&entry.block);
+        }
+        match self.freed.get(slot) {
+            Some(entry) => {
+                if entry.number >= self.first {
+                    return Some(&entry.block);
+                }
+                None
+            }
+            None => None,
+        }
+    }
+
+    // The first place from this one on that has an entry in one of the tables.
+    fn used_from(&self, at: usize) -> Option<usize>
+        requires { at ≤ 33554432 }
+        ensures { IsNext (either (live_in self.now) (freed_in self.now)) at 33554432 result }
+    {
+        match self.live.next_from(at) {
+            Some(live) => match self.freed.next_from(at) {
+                Some(freed) => Some(live.min(freed)),
+                None => Some(live),
+            },
+            None => self.freed.next_from(at),
+        }
+    }
+
+    // The last place below this one that has an entry in one of the tables.
+    fn used_below(&self, at: usize) -> Option<usize>
+        requires { at ≤ 33554432 }
+        ensures { IsLast (either (live_in self.now) (freed_in self.now)) at result }
+    {
+        match self.live.last_below(at) {
+            Some(live) => match self.freed.last_below(at) {
+                Some(freed) => Some(live.max(freed)),
+                None => Some(live),
+            },
+            None => self.freed.last_below(at),
+        }
+    }
+
+    // The first kept block from a place on.
+    #[tactic(auto, using(crate::proofs::KeptSteps::none_kept), unfolding(crate::specs::Heaps::live_in, crate::specs::Heaps::freed_in, crate::specs::Heaps::first_in))]
+    fn kept_from(&self, from: usize) -> Option<&Block>
+        requires { from ≤ 33554432 }
+        ensures { IsNextKept (kept_at (live_in self.now) (freed_in self.now) (first_in self.now)) from (option_copied result) }
+    {
+        let mut at = from;
+        while let Some(slot) = self.used_from(at) {
+            if let Some(block) = self.kept_in(slot) {
+                return Some(block);
+            }
+            at = slot + 1;
+        }
+        None
+    }
+
+    // The last kept block below a place.
+    #[tactic(auto, using(crate::proofs::KeptSteps::none_kept), unfolding(crate::specs::Heaps::live_in, crate::specs::Heaps::freed_in, crate::specs::Heaps::first_in))]
+    fn kept_below(&self, to: usize) -> Option<&Block>
+        requires { to ≤ 33554432 }
+        ensures { IsLastKept (kept_at (live_in self.now) (freed_in self.now) (first_in self.now)) to (option_copied result) }
+    {
+        let mut at = to;
+        while let Some(slot) = self.used_below(at) {
+            if let Some(block) = self.kept_in(slot) {
+                return Some(block);
+            }
+            at = slot;
+        }
+        None
+    }
+
+    // A kept block that begins below a place and whose interval goes past an address.
+    fn meeting_below(&self, to: usize, low: u64) -> Option<&Block>
+        requires { to ≤ 33554432 }
+        ensures { MeetsBelow (blocks_of self.now) to low (option_copied result) }
+    {
+        match self.kept_below(to) {
+            Some(block) => {
+                if low < high_end(block) {
+                    return Some(block);
+                }
+                None
+            }
+            None => None,
+        }
+    }
+
+    // A kept block that begins at a place or above it, and whose interval begins below an address.
+    fn meeting_from(&self, from: usize, high: u64) -> Option<&Block>
+        requires { from ≤ 33554432 }
+        ensures { MeetsFrom (blocks_of self.now) from high (option_copied result) }
+    {
+        match self.kept_from(from) {
+            Some(block) => {
+                if low_end(block) < high {
+                    return Some(block);
+                }
+                None
+            }
+            None => None,
+        }
+    }
+
+    /// Where the kept block's interval ends that begins below an address, or the region begins.
+    pub(crate) fn end_below(&self, start: u32) -> u64
+        requires above { 0x40000000 ≤ start }
+        requires below { start < 0x60000000 }
+        ensures end { EndsBelow (blocks_of self.now) start result }
+        ensures within { result ≤ 0x60000000 }
+    {
+        match self.kept_below(slot_of(start)) {
+            Some(block) => high_end(block),
+            None => HEAP_BEGIN,
+        }
+    }
+
+    /// Where the kept block's interval begins that begins above an address, or the region ends.
+    pub(crate) fn begin_above(&self, start: u32) -> u64
+        requires above { 0x40000000 ≤ start }
+        requires below { start < 0x60000000 }
+        ensures begin { BeginsAbove (blocks_of self.now) start result }
+    {
+        match self.kept_from(slot_of(start) + 1) {
+            Some(block) => low_end(block),
+            None => HEAP_END,
+        }
+    }
+
+    /// A kept block whose interval meets a range.
+    pub(crate) fn meeting(&self, low: u64, high: u64) -> Option<&Block>
+        requires above { 0x40000000 ≤ low }
+        requires below { low ≤ 0x60000000 }
+        requires order { low < high }
+        ensures some { IfSome result (λ b. IsKept (blocks_of self.now) b.now) }
+        ensures meets { IfSome result (λ b. Meets low high b.now) }
+        ensures within { IfSome result (λ b. high_end b.now ≤ 0x60000000) }
+        ensures none { IfNone result ((b : Block) → IsKept (blocks_of self.now) b → ¬ (Meets low high b)) }
+    {
+        let from = ((low - HEAP_BEGIN + 15) / 16) as usize;
+        match self.meeting_below(from, low) {
+            Some(block) => Some(block),
+            None => self.meeting_from(from, high),
+        }
+    }
+}

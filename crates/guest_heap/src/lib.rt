@@ -1,0 +1,57 @@
+//! The heap of a guest: its live blocks, and the queue of those freed that aren't forgotten yet.
+//!
+//! A heap call of the guest asks a [`Heap`] for the lowest place of all, or frees the block at an address. A freed block is kept in a queue of
+//! bounded volume, so that uses of it are told with the block, and its place isn't given again before (Memcheck manual, section 4.3,
+//! `--freelist-vol`). Either side of a block has a red zone (Valgrind core manual, section 2.6, `--redzone-size`).
+//!
+//! # Public items
+//!
+//! | Call | What it answers |
+//! |---|---|
+//! | [`Heap::new`] | a heap with no blocks |
+//! | [`Heap::allocate`] | the least place of all, where the new block then is, or none |
+//! | [`Heap::release`] | the block that is freed; the queue is then the longest suffix whose sizes sum to at most the volume |
+//! | [`Heap::live`] | the live block with the least start that isn't below an address |
+//! | [`Heap::block_near`] | the kept block whose interval holds an address, and where in it the address lies |
+//! | [`Heap::share`] | a copy, which later changes of the other don't reach |
+//! | [`Heap::in_region`], [`Heap::apart`] | nothing: their contracts say what the laws ask of a heap's blocks |
+//! | [`laws`] | nothing: their contracts say what the functions of the definitions mean |
+//!
+//! `new`, `allocate`, `release` and `share` take memory; where there is none a heap holds what it held. The other calls are total.
+//!
+//! # What a caller relies on
+//!
+//! Contracts speak of `blocks_of` a heap: the live blocks by their starts, and the queue as a list. A caller keeps such a value in its
+//! own state and never unfolds the word. Each call is a function of it: `place` and `allocated`, `released_at` and `released_blocks`,
+//! `live_from`, `near`. Further clauses and the laws say the same as relations: the least place of all (`Places`), the longest suffix
+//! (`IsLongestFitting`), the one kept block that holds an address (`NearIsOne`).
+//!
+//! # Where the definitions stand
+//!
+//! - `specs/Blocks.antt`: blocks, intervals, places, the queue, what is near an address, as relations.
+//! - `specs/Steps.antt`: the calls as functions. `specs/Laws.antt`: what these mean, at all blocks.
+//! - The others are for this crate's proofs: `Heaps` (`blocks_of`), `States` and `Bounds` (what a heap keeps true), and `Entries`, `Leaves`,
+//!   `Branches`, `Tables`, `Runs`, `Queues`, `Unused` (how it stores blocks).
+//!
+//! # Costs
+//!
+//! Blocks are in two tables, live and freed, that are trees of fixed depth over the multiples of 16 of the heap region, and the queue is
+//! in runs of 64; copies share what neither has changed. So a search is a few steps, a change copies one leaf and one branch, and `share`
+//! copies references. `allocate` keeps a bound for each class of sizes, below which they have no place, and one range further up (`bounds.rt`):
+//! it looks at kept blocks only from there on, and forgets no more of this than a block that leaves the queue makes room for.
+#![tactic(auto)]
+
+mod bounds;
+mod entry;
+mod heap;
+mod interval;
+pub mod laws;
+mod queue;
+mod region;
+mod released;
+mod table;
+#[cfg(test)]
+mod tests;
+
+pub use heap::Heap;
+pub use released::Released;

@@ -1,0 +1,33 @@
+// The heap region, and the multiples of 16 in it, at which blocks begin.
+ghost use Rattle.std.specs.Prelude.{◌≡◌, ◌<◌, ◌≤◌, ◌+◌, ◌%◌};
+ghost use Rattle.guest_heap.specs.States.{slot_of};
+
+/// The first address of the region.
+pub(crate) const HEAP_BEGIN: u64 = 0x4000_0000;
+
+/// The first address behind it.
+pub(crate) const HEAP_END: u64 = 0x6000_0000;
+
+/// How many multiples of 16 the region has.
+pub(crate) const SLOTS: usize = 33554432;
+
+/// The number of bytes of the greatest block.
+pub(crate) const GREATEST_SIZE: u32 = 16777216;
+
+/// The slot of an address of the region: how many multiples of 16 of the region lie below it.
+pub(crate) fn slot_of(address: u32) -> usize
+    requires { 0x40000000 ≤ address }
+    ensures { result ≡ slot_of address }
+{
+    ((u64::from(address) - HEAP_BEGIN) / 16) as usize
+}
+
+/// The least multiple of 16 that isn't below an address.
+pub(crate) fn aligned(address: u64) -> u64
+    requires { address < 17179869184 }
+    ensures multiple { result % 16 ≡ 0 }
+    ensures above { address ≤ result }
+    ensures near { result < address + 16 }
+{
+    (address + 15) / 16 * 16
+}

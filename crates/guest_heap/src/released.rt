@@ -1,0 +1,12 @@
+use call_stacks::Block;
+
+/// What the release of an address did.
+#[derive(Clone, Copy, Debug)]
+pub enum Released {
+    /// The block that was live there is freed; it has the trace of the release.
+    Done(Block),
+    /// Nothing: the address is 0.
+    Nothing,
+    /// Nothing: no live block begins at the address.
+    Invalid,
+}
