@@ -1,0 +1,9 @@
+pub mod SameKeys
+pub mod KeySteps
+pub mod GroupSteps
+pub mod EntrySteps
+pub mod LayerSteps
+pub mod ShownSteps
+pub mod AddSteps
+pub mod MergeSteps
+pub mod LoopSteps

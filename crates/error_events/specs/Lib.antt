@@ -1,0 +1,7 @@
+pub mod Parameters
+pub mod Groups
+pub mod Adding
+pub mod Regrouping
+pub mod Entries
+pub mod Merging
+pub mod Shown

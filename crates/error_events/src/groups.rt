@@ -1,0 +1,204 @@
+ghost use Rattle.std.specs.Prelude.{◌≡◌, [], ◌∷◌, ◌++◌, map, None, position, length, take, List, min, ◌≤◌, ◌+◌, ◌<◌, slice_get, slice_set, slice_index, OnOk, OnErr, IfOk};
+ghost use Rattle.std.specs.List.{filter_map, range_with_len};
+ghost use Rattle.error_events.specs.Merging.{cut_group, merged, merged_with};
+ghost use Rattle.error_events.specs.Regrouping.{regrouped};
+
+use crate::event::{Event, Group, Key, Note};
+use crate::layered_map::LayeredMap;
+use call_stacks::Trace;
+use std::alloc::{AllocError, Global};
+
+/// Errors counted by kind and trace, in order of first occurrence. Contracts see the list of the groups, `groups_of`.
+#[derive(Drop)]
+pub struct Groups {
+    known: LayeredMap<Key, Note>,
+    counts: Vec<u64>,
+    ghost matched: { length known ≡ length counts.items },
+}
+
+/// The count at a place.
+fn count_at(counts: &[u64], index: usize) -> Option<u64>
+    ensures { result ≡ slice_get counts.now index }
+{
+    counts.get(index).copied()
+}
+
+/// A copy of the counts.
+fn copied(counts: &Vec<u64>) -> Result<Vec<u64>, AllocError>
+    ensures { IfOk result (λ copy. copy.items ≡ counts.now.items) }
+{
+    counts.clone()
+}
+
+/// The first addresses of a trace.
+fn front(trace: &Trace, callers: u32) -> Trace
+    requires { 0 < callers }
+    ensures { result ≡ take callers trace.now }
+{
+    let addresses = trace.addresses();
+    let len = addresses.len().min(callers as usize);
+    match Trace::new(&addresses[..len]) {
+        Some(front) => front,
+        None => *trace,
+    }
+}
+
+/// A group with the first addresses of its trace alone.
+fn cut(group: Group, callers: u32) -> Group
+    requires { 0 < callers }
+    ensures { result ≡ cut_group callers group }
+{
+    Group {
+        kind: group.kind,
+        trace: front(&group.trace, callers),
+        count: group.count,
+        note: group.note,
+    }
+}
+
+impl Groups {
+    ghost use Rattle.error_events.specs.Shown.{groups_of};
+    ghost use Rattle.error_events.specs.declared.event.Event.{Event};
+    ghost use Rattle.error_events.specs.Groups.{grouped, most};
+    ghost use Rattle.error_events.specs.Adding.{add_group, add_event};
+
+    /// No groups, which take no memory.
+    pub fn new(alloc: Global) -> Self
+        ensures { groups_of result ≡ [] }
+    {
+        Groups {
+            known: LayeredMap::new(),
+            counts: Vec::new(alloc),
+        }
+    }
+
+    /// How many groups there are.
+    pub fn len(&self) -> usize
+        ensures { result ≡ length (groups_of self.now) }
+    {
+        self.counts.len()
+    }
+
+    /// The group at a place, in order of first occurrence.
+    pub fn get(&self, index: usize) -> Option<Group>
+        ensures { result ≡ slice_get (groups_of self.now) index }
+    {
+        let (key, note) = self.known.get(index)?;
+        let count = count_at(&self.counts, index)?;
+        Some(Group {
+            kind: key.kind,
+            trace: key.trace,
+            count,
+            note,
+        })
+    }
+
+    /// One more error. Where memory fails, the groups stay as they were.
+    pub fn add(&mut self, event: Event) -> Result<(), AllocError>
+        ensures ok { OnOk result (groups_of self.new ≡ add_event (groups_of self.old) event) }
+        ensures err { OnErr result (groups_of self.new ≡ groups_of self.old) }
+    {
+        self.add_group(Group {
+            kind: event.kind,
+            trace: event.trace,
+            count: 1,
+            note: event.note,
+        })
+    }
+
+    /// The errors of one more group.
+    pub(crate) fn add_group(&mut self, group: Group) -> Result<(), AllocError>
+        ensures ok { OnOk result (groups_of self.new ≡ add_group (groups_of self.old) group) }
+        ensures err { OnErr result (groups_of self.new ≡ groups_of self.old) }
+    {
+        let key = Key {
+            kind: group.kind,
+            trace: group.trace,
+        };
+        match self.known.position(&key) {
+            Some(index) => {
+                self.raise(index, group.count);
+                Ok(())
+            }
+            None => self.begin(key, group.note, group.count),
+        }
+    }
+
+    /// So many more errors of a group.
+    fn raise(&mut self, index: usize, by: u64)
+        requires { index < length self.old.known }
+        ensures known { self.new.known ≡ self.old.known }
+        ensures counts { self.new.counts.items ≡ slice_set self.old.counts.items index (min (slice_index self.old.counts.items index + by) most) }
+    {
+        self.counts[index] = self.counts[index].saturating_add(by);
+    }
+
+    /// A new group. All that can fail comes before the count, so that keys and counts stay matched.
+    fn begin(&mut self, key: Key, note: Note, count: u64) -> Result<(), AllocError>
+        requires { position (⟦<Key as PartialEq>⟧.eq key) (map (λ e. e.0) self.old.known) ≡ None }
+        ensures known { OnOk result (self.new.known ≡ self.old.known ++ (key, note) ∷ []) }
+        ensures counts { OnOk result (self.new.counts.items ≡ self.old.counts.items ++ count ∷ []) }
+        ensures known_err { OnErr result (self.new.known ≡ self.old.known) }
+        ensures counts_err { OnErr result (self.new.counts.items ≡ self.old.counts.items) }
+    {
+        self.counts.reserve(1)?;
+        let alloc = *self.counts.allocator();
+        self.known.push(alloc, key, note)?;
+        self.counts.push(count).unwrap();
+        Ok(())
+    }
+
+    /// The errors of the groups that are kept, of which `keep` says for each group in turn whether it is, grouped by kind and the
+    /// first `callers` addresses of their traces (above 24 all addresses count): in order of first occurrence, each group with
+    /// its first error's note.
+    pub fn regroup(&self, callers: u32, keep: &[bool]) -> Result<Vec<Group>, AllocError>
+        requires each { length keep.now ≡ length (groups_of self.now) }
+        requires some { 0 < callers }
+        ensures { IfOk result (λ groups. (es : List Event) → groups_of self.now ≡ grouped es → groups.items ≡ regrouped callers keep.now es) }
+    {
+        self.merged(callers, keep)?.collected()
+    }
+
+    /// The groups of the errors that are kept, by fewer addresses.
+    fn merged(&self, callers: u32, keep: &[bool]) -> Result<Groups, AllocError>
+        requires each { length keep.now ≡ length (groups_of self.now) }
+        requires some { 0 < callers }
+        ensures { IfOk result (λ groups. groups_of groups ≡ merged callers [] keep.now (groups_of self.now)) }
+    {
+        let mut groups = Groups::new(*self.counts.allocator());
+        for index in 0..keep.len() {
+            groups.merge(callers, keep[index], self.get(index))?;
+        }
+        Ok(groups)
+    }
+
+    /// The errors of one more group, if it is kept, with the first addresses of its trace.
+    fn merge(&mut self, callers: u32, keep: bool, group: Option<Group>) -> Result<(), AllocError>
+        requires { 0 < callers }
+        ensures { OnOk result (groups_of self.new ≡ merged_with callers (groups_of self.old) keep group) }
+    {
+        match group {
+            Some(group) if keep => self.add_group(cut(group, callers)),
+            _ => Ok(()),
+        }
+    }
+
+    /// All groups.
+    fn collected(&self) -> Result<Vec<Group>, AllocError>
+        ensures { IfOk result (λ groups. groups.items ≡ filter_map (slice_get (groups_of self.now)) (range_with_len 0 (length (groups_of self.now)))) }
+    {
+        (0..self.len())
+            .filter_map(|index| self.get(index))
+            .collect(*self.counts.allocator())
+    }
+
+    /// A copy, which later errors of the other don't reach.
+    pub fn share(&self) -> Result<Groups, AllocError>
+        ensures { IfOk result (λ copy. groups_of copy ≡ groups_of self.now) }
+    {
+        Ok(Groups {
+            known: self.known.share()?,
+            counts: copied(&self.counts)?,
+        })
+    }
+}

@@ -1,0 +1,31 @@
+use crate::parameter::Parameter;
+
+/// What is wrong with a parameter of a call (Memcheck manual, section 4.2.3).
+#[derive(Clone, Copy, Debug, PartialEq, Eq, Hash)]
+pub enum Fault3 {
+    /// A register has an undefined bit.
+    Contains,
+    /// A byte of the buffer has an undefined bit.
+    Uninit,
+    /// A byte of the buffer may not be accessed.
+    Unaddressable,
+}
+
+/// What an error is (Memcheck manual, section 4.2). Each kind has one text in a report.
+#[derive(Clone, Copy, Debug, PartialEq, Eq, Hash)]
+pub enum Kind {
+    /// A read, of so many bytes, of which one may not be accessed.
+    Read(u8),
+    /// A write, of so many bytes, of which one may not be accessed.
+    Write(u8),
+    /// A use of undefined bits as an address.
+    Value,
+    /// A conditional jump that depends on undefined bits.
+    Cond,
+    /// A parameter of a call.
+    Param(Parameter, Fault3),
+    /// A free or a realloc of what is no live block's start.
+    Free,
+    /// A jump to bytes that may not be accessed.
+    Jump,
+}

@@ -1,0 +1,66 @@
+//! Errors and their groups: what Memcheck complains of, and how often, by kind and place.
+//!
+//! An [`Event`] is one error: its [`Kind`], the [`Trace`](call_stacks::Trace) where it was met, and a [`Note`] on the address
+//! that it is about. [`Groups`] count errors as they come: those of one kind and one trace are one [`Group`], in order of first
+//! occurrence, with the first one's note. No list of errors is kept, and an error of a known group costs a look-up in a table,
+//! however many groups there are. [`Groups::share`] copies the counts alone: kinds, traces and notes are shared, and the first
+//! new group after it copies about as many of them as the square root of the number of groups.
+//!
+//! # Public items
+//!
+//! | Call | What it answers |
+//! |---|---|
+//! | [`Groups::new`] | no groups |
+//! | [`Groups::add`] | one more error; where memory fails, the groups stay |
+//! | [`Groups::len`], [`Groups::get`] | how many groups there are, and the group at a place |
+//! | [`Groups::regroup`] | the errors of the groups that are kept, grouped by fewer addresses |
+//! | [`Groups::share`] | a copy, which later errors of the other don't reach |
+//! | [`Parameter::text`] | the text by which reports and suppressions name a parameter of a call |
+//! | [`laws::groups_grow`], [`laws::kept_by_test`] | nothing: their contracts are laws of the definitions |
+//!
+//! [`Kind`], [`Fault3`], [`Parameter`], [`Note`], [`Event`], [`Group`] and [`LeakKind`] are plain values. Only `add`, `regroup`
+//! and `share` take memory, and nothing else fails.
+//!
+//! # What a caller relies on
+//!
+//! Contracts speak of `groups_of`, the list of the groups that [`Groups`] show. A caller keeps, in its proofs alone, the list of
+//! all errors, with `groups_of` of its groups equal to `grouped` of that list:
+//!
+//! - `new` shows no groups, which is `grouped` of no errors;
+//! - `add` shows `add_event` of the groups and the error, which by [`laws::groups_grow`] is `grouped` of the longer list;
+//! - `regroup` answers `regrouped` of every list of errors whose `grouped` the groups show: the groups, by kind and the first
+//!   `callers` addresses, of the errors whose own group is kept; if groups are kept by a test of kind and trace, then by
+//!   [`laws::kept_by_test`] these are the errors that pass the test.
+//!
+//! Counts stand still at 2^64 - 1.
+//!
+//! # Where the definitions stand
+//!
+//! In `specs/`, in the order to read them:
+//!
+//! - `Groups`: when two errors are of one group (`same_key`), and the groups of a list of errors (`grouped`).
+//! - `Adding`: one more error (`add_event`), and the law that ties it to `grouped`.
+//! - `Regrouping`: which errors are kept (`kept`), and their groups by fewer addresses (`regrouped`).
+//! - `Parameters`: the texts of parameters. `Shown`: what `Groups` show (`groups_of`).
+//! - `Entries` and `Merging` are for this crate's proofs.
+//!
+//! Sources: Valgrind user manual, section 2.4 (how errors are compared and counted) and option `--num-callers`; Memcheck manual,
+//! section 4.2 (the kinds).
+#![tactic(auto)]
+
+mod event;
+mod groups;
+mod kind;
+pub mod laws;
+mod layered_map;
+mod leak_kind;
+mod parameter;
+mod shared_map;
+#[cfg(test)]
+mod tests;
+
+pub use event::{Event, Group, Note};
+pub use groups::Groups;
+pub use kind::{Fault3, Kind};
+pub use leak_kind::LeakKind;
+pub use parameter::Parameter;
