@@ -1,0 +1,69 @@
+//! Suppressions: which errors and leaks a report leaves out.
+//!
+//! A suppression is for a kind of error or of leak, and has frame lines that the names of a trace's frames must fit. It is read
+//! from a text in the form of Valgrind's suppression files, or from the words of a session's command, and can be switched on and
+//! off. What matches is asked with all names of a trace, however few of its addresses a report shows.
+//!
+//! # Public items
+//!
+//! | Call | What it answers |
+//! |---|---|
+//! | [`parse`] | the suppressions of a text, or the least number of a line at fault |
+//! | [`Suppression::from_words`] | the suppression of the words of a session's command `supp add` |
+//! | [`Suppression::matches`] | whether a suppression matches an error or a leak with a trace, whatever its switch |
+//! | [`Suppression::is_on`], [`Suppression::switch`] | its switch |
+//! | [`is_suppressed`] | whether some suppression that is switched on matches |
+//!
+//! [`Target`] is an error's or a leak's kind, [`SuppFault`] a refusal. `matches`, `is_suppressed`, `is_on` and `switch` take no
+//! memory and always answer. A walk over a pattern goes back to its last star alone, and frame lines lead from a set of places to
+//! the next: the time is a pattern's length times a name's, whatever the number of stars.
+//!
+//! # What a caller relies on
+//!
+//! A suppression is seen as a `Rule` (`specs/Rules.antt`): what it is for, its frame lines, its switch.
+//!
+//! - [`parse`]: the suppressions are `rules` of the text, where it has no `faults`; a refusal names the least of these.
+//! - [`Suppression::from_words`]: `added` of the words, if they are a suppression's, and else a refusal.
+//! - [`Suppression::matches`]: the function `matches`, which holds just where the relation `Matches` does: the kind is one that the
+//!   suppression is for, and some frames at the front of the trace fit the frame lines one by one.
+//! - [`is_suppressed`]: the function of that name, by which a report filters; it holds just where `IsSuppressed` does.
+//!
+//! # Where the definitions stand
+//!
+//! In `specs/`, in the order to read them:
+//!
+//! - `Fitting`, `Glob`, `Frames`: when parts fit pieces, a name a pattern, and a trace frame lines.
+//! - `Subjects`, `Rules`: which kinds a suppression is for, and what it matches.
+//! - `Words`, `Added`: the words of a suppression, and those of a session's command.
+//! - `Lines`, `Blocks`, `Texts`: the lines of a text that count, one block, and the whole text with its faults.
+//! - `Parts` and `Places` are for this crate's proofs.
+//!
+//! Each relation stands beside a function that says the same: the relation to be read, the function for filters.
+//!
+//! Sources: Valgrind user manual, section 2.5 (suppressing errors); Memcheck manual, section 4.4 (writing suppression files).
+#![tactic(auto)]
+
+mod adding;
+mod blocks;
+mod fault;
+mod frames;
+mod glob;
+mod leak_kinds;
+mod lines;
+mod parsing;
+mod parts;
+mod places;
+mod subject;
+mod suppression;
+mod target;
+#[cfg(test)]
+mod tests;
+mod text;
+mod words;
+
+pub use fault::SuppFault;
+pub use frames::TRACE_LIMIT;
+pub use lines::TEXT_LIMIT;
+pub use parsing::parse;
+pub use suppression::{Suppression, is_suppressed};
+pub use target::Target;

@@ -1,0 +1,75 @@
+ghost use Rattle.std.specs.Prelude.{◌≡◌, ◌≤◌, ◌↔◌, IsTrue, length, map};
+ghost use Rattle.suppressions.specs.Rules.{IsSuppressed, Matches, is_suppressed, matches};
+ghost use Rattle.suppressions.specs.Added.{Gives, added};
+
+use crate::adding;
+use crate::fault::SuppFault;
+use crate::frames::{Frame, TRACE_LIMIT, matches_trace};
+use crate::subject::Subject;
+use crate::target::Target;
+use std::alloc::Global;
+use std::marker::Model;
+
+/// A suppression. Contracts see what it is for, its frame lines and its switch.
+#[derive(Drop)]
+pub struct Suppression {
+    pub(crate) subject: Subject,
+    pub(crate) frames: Vec<Frame>,
+    pub(crate) on: bool,
+}
+
+impl Model for Suppression {
+    ghost use Rattle.suppressions.specs.Rules.{Rule};
+
+    ghost Value = { Rule };
+
+    ghost view = { λ s. record { subject = s.subject; frames = s.frames.items; on = s.on } };
+}
+
+impl Suppression {
+    /// The suppression, switched on, of the words KIND WORDS.. of a session's command `supp add`: a kind, what Param and Leak take,
+    /// and frame lines, parted by one space each. Other words are refused as line 1, and that before want of memory.
+    pub fn from_words(alloc: Global, words: &[u8]) -> Result<Self, SuppFault>
+        ensures { Gives (added words.now) result }
+    {
+        adding::added(alloc, words)
+    }
+
+    /// Whether it matches an error or a leak with a trace, given by the names of its frames; whatever its switch.
+    pub fn matches(&self, target: &Target, names: &[&[u8]]) -> bool
+        requires { length names.now ≤ TRACE_LIMIT }
+        ensures value { result ≡ matches self.now target.now (map (λ name. name.now) names.now) }
+        ensures meaning { IsTrue result ↔ Matches self.now target.now (map (λ name. name.now) names.now) }
+    {
+        self.subject.is_for(target) && matches_trace(&self.frames, names)
+    }
+
+    /// Whether it is switched on.
+    pub fn is_on(&self) -> bool
+        ensures { result ≡ self.now.on }
+    {
+        self.on
+    }
+
+    /// Switches it on or off.
+    pub fn switch(&mut self, on: bool)
+        ensures { self.new ≡ record self.old { on = on } }
+    {
+        self.on = on;
+    }
+}
+
+/// Whether an error or a leak with a trace, given by the names of its frames, is left out of a report: some suppression that is
+/// switched on matches it.
+pub fn is_suppressed(suppressions: &[Suppression], target: &Target, names: &[&[u8]]) -> bool
+    requires { length names.now ≤ TRACE_LIMIT }
+    ensures value { result ≡ is_suppressed suppressions.now target.now (map (λ name. name.now) names.now) }
+    ensures meaning { IsTrue result ↔ IsSuppressed suppressions.now target.now (map (λ name. name.now) names.now) }
+{
+    for suppression in suppressions {
+        if suppression.is_on() && suppression.matches(target, names) {
+            return true;
+        }
+    }
+    false
+}

@@ -1,0 +1,160 @@
+//! Texts and words with their answers, from outside.
+ghost use Rattle.std.specs.Prelude.{◌≤◌, length};
+
+use super::{SuppFault, Suppression, TEXT_LIMIT, TRACE_LIMIT, Target, is_suppressed, parse};
+use error_events::{Fault3, Kind, LeakKind, Parameter};
+use std::alloc::Global;
+use std::process::Abort;
+
+/// Asserts that a text has so many suppressions.
+fn reads(rt: &impl Abort, alloc: Global, text: &[u8], count: usize)
+    requires { length text.now ≤ TEXT_LIMIT }
+{
+    match parse(alloc, text) {
+        Ok(list) => assert_eq!(rt; list.len(), count),
+        Err(_) => assert!(rt; false),
+    }
+}
+
+/// Asserts that a text is refused at a line.
+fn refused(rt: &impl Abort, alloc: Global, text: &[u8], line: u32)
+    requires { length text.now ≤ TEXT_LIMIT }
+{
+    match parse(alloc, text) {
+        Ok(_) => assert!(rt; false),
+        Err(fault) => assert!(rt; fault == SuppFault::BadSuppression(line)),
+    }
+}
+
+/// Asserts whether the suppression of some words matches.
+fn added(
+    rt: &impl Abort,
+    alloc: Global,
+    words: &[u8],
+    target: Target,
+    names: &[&[u8]],
+    wanted: bool,
+)
+    requires { length names.now ≤ TRACE_LIMIT }
+{
+    match Suppression::from_words(alloc, words) {
+        Ok(suppression) => {
+            assert!(rt; suppression.is_on());
+            assert!(rt; suppression.matches(&target, names) == wanted);
+        }
+        Err(_) => assert!(rt; false),
+    }
+}
+
+/// Asserts that some words are refused.
+fn not_added(rt: &impl Abort, alloc: Global, words: &[u8]) {
+    match Suppression::from_words(alloc, words) {
+        Ok(_) => assert!(rt; false),
+        Err(fault) => assert!(rt; fault == SuppFault::BadSuppression(1)),
+    }
+}
+
+#[test]
+fn refused_texts(rt: HostRuntime) {
+    let alloc = rt.alloc();
+    refused(&rt, alloc, b"{\nn\nMemcheck:Cond\nfun:a\n", 1);
+    refused(&rt, alloc, b"}\n", 1);
+    refused(&rt, alloc, b"{\n}\n", 2);
+    refused(&rt, alloc, b"{\nn\nCond\nfun:a\n}\n", 3);
+    refused(&rt, alloc, b"{\nn\nMemcheck:Cond\nfoo:a\n}\n", 4);
+    refused(
+        &rt,
+        alloc,
+        b"{\nn\nMemcheck:Leak\nmatch-leak-kinds: definite,huge\n}\n",
+        4,
+    );
+    refused(&rt, alloc, b"{\nn\nMemcheck:Cond\nfoo:a\n", 1);
+    refused(&rt, alloc, b"\n# c\n{\nn\nMemcheck:Param\n}\n", 6);
+}
+
+#[test]
+fn texts_that_are_read(rt: HostRuntime) {
+    let alloc = rt.alloc();
+    reads(&rt, alloc, b"{\nn\nHelgrind:Race\nany words\n}\n", 1);
+    reads(&rt, alloc, b"# c\n", 0);
+    reads(&rt, alloc, b"", 0);
+    reads(
+        &rt,
+        alloc,
+        b" {\t\r\nn\n Helgrind,Memcheck:Cond \n# c\n\n  fun:a \n}\n{\nm\nMemcheck:Leak\n}",
+        2,
+    );
+}
+
+#[test]
+fn another_tools_block_matches_nothing(rt: HostRuntime) {
+    let names: [&[u8]; 2] = [b"max", b"main"];
+    match parse(rt.alloc(), b"{\nn\nHelgrind:Jump\nfun:max\n}\n") {
+        Ok(list) => assert!(rt; !is_suppressed(&list, &Target::Error(Kind::Jump), &names)),
+        Err(_) => assert!(rt; false),
+    }
+}
+
+#[test]
+fn added_by_words(rt: HostRuntime) {
+    let alloc = rt.alloc();
+    let cond = Target::Error(Kind::Cond);
+    let names: [&[u8]; 2] = [b"max", b"main"];
+    added(&rt, alloc, b"Cond fun:ma*", cond, &names, true);
+    added(&rt, alloc, b"Cond fun:main", cond, &names, false);
+    added(&rt, alloc, b"Cond ... fun:main", cond, &names, true);
+    added(&rt, alloc, b"Cond ... fun:m?x", cond, &names, true);
+    added(&rt, alloc, b"Cond obj:g*t obj:?????", cond, &names, true);
+    added(&rt, alloc, b"Cond src:a", cond, &names, false);
+    added(&rt, alloc, b"Cond", cond, &names, true);
+    added(&rt, alloc, b"Value4 fun:*", cond, &names, false);
+    let reads = Target::Error(Kind::Param(Parameter::ReadBuffer, Fault3::Uninit));
+    added(&rt, alloc, b"Param read(buf) fun:max", reads, &names, true);
+    added(&rt, alloc, b"Param read(fd)", reads, &names, false);
+    let lost = Target::Leak(LeakKind::Definite);
+    added(
+        &rt,
+        alloc,
+        b"Leak match-leak-kinds:none,all",
+        lost,
+        &names,
+        true,
+    );
+    added(
+        &rt,
+        alloc,
+        b"Leak match-leak-kinds:possible",
+        lost,
+        &names,
+        false,
+    );
+}
+
+#[test]
+fn refused_words(rt: HostRuntime) {
+    let alloc = rt.alloc();
+    not_added(&rt, alloc, b"Foo fun:a");
+    not_added(&rt, alloc, b"Param");
+    not_added(&rt, alloc, b"Cond fun");
+    not_added(&rt, alloc, b"Leak match-leak-kinds:definite,");
+}
+
+#[test]
+fn suppressed_by_those_that_are_on(rt: HostRuntime) {
+    let alloc = rt.alloc();
+    let names: [&[u8]; 2] = [b"max", b"main"];
+    let cond = Target::Error(Kind::Cond);
+    let text: &[u8] = b"{\nn\nMemcheck:Jump\nfun:max\n}\n{\nm\nMemcheck:Cond\nfun:max\n}\n";
+    match parse(alloc, text) {
+        Ok(mut list) => {
+            assert!(rt; is_suppressed(&list, &cond, &names));
+            assert!(rt; !is_suppressed(&list, &Target::Error(Kind::Free), &names));
+            if let Some(last) = list.last_mut() {
+                last.switch(false);
+            }
+            assert!(rt; !is_suppressed(&list, &cond, &names));
+            assert!(rt; is_suppressed(&list, &Target::Error(Kind::Jump), &names));
+        }
+        Err(_) => assert!(rt; false),
+    }
+}
