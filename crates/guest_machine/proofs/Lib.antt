@@ -1,6 +1,4 @@
-pub mod RangeSteps
 pub mod ListSteps
-pub mod GroupSteps
 pub mod Showing
 pub mod LoadSteps
 pub mod Starting

@@ -6,10 +6,10 @@ use Rattle.std.proofs.Math.Path.{fun_ext}
 use Rattle.std.proofs.lemmas.Bool.Decides.{nat_tests}
 use Rattle.guest_elf.specs.Segments.{loaded, loaded_by}
 use Rattle.guest_elf.specs.declared.segment.Segment.{Segment}
-use Rattle.guest_machine.specs.Ranges.{offset, is_in, changed_in, written}
-use Rattle.guest_machine.specs.Shadows.{Shadow, shadow_of, made_so}
+use Rattle.shadow_memory.specs.Ranges.{offset, is_in, changed_in, written}
+use Rattle.shadow_memory.specs.Shadows.{Shadow, shadow_of, made_so}
 use Rattle.guest_machine.specs.Loading.{loaded_bytes, loaded_shadows}
-use Rattle.guest_machine.specs.declared.memory.cells.RangeKind.TheVariants.{Defined}
+use Rattle.shadow_memory.specs.declared.cells.RangeKind.TheVariants.{Defined}
 
 -- is an address among a segment's?
 has : Segment → ℕ → Bool

@@ -2,11 +2,8 @@
 use Rattle.std.proofs.Common.{◌≡◌, ℕ, zero, suc, ◌+◌, ◌-◌, ◌<◌, ◌≤◌, List, [], ◌∷◌, ◌++◌, false, cond, refl, ap, ap₂, sym, ◌∙◌, take, drop, length, Option, Some, None, arith}
 use Rattle.std.specs.Prelude.{slice_get}
 use Rattle.guest_machine.specs.State.{Core, State}
-use Rattle.guest_machine.specs.Exec.{Terms, exec, plan, outcome, uses_at, effect_at, touches, touched_at, has_touched, terms_of, row_at, given_at, taken_from, written_to, counted, fetched, fetch_span, calls_heap, row_uses}
+use Rattle.guest_machine.specs.Exec.{Terms, exec, plan, outcome, uses_at, effect_at, touches, touched_at, has_touched, terms_of, row_at, given_at, taken_from, written_to, counted, fetched, fetch_span, calls_heap}
 use Rattle.guest_machine.specs.Laws.{KeepsInput, KeepsHeap, is_heap_step}
-use Rattle.guest_machine.specs.Instructions.{row_of}
-use Rattle.guest_machine.specs.declared.instruction.Instruction.{Instruction}
-use Rattle.guest_machine.specs.declared.instruction.Instruction.TheVariants.{Call}
 use Rattle.guest_machine.specs.declared.setup.Setup.{Setup}
 
 -- what a step sees of a setup
@@ -55,16 +52,11 @@ keeps-input one other offset s d h =
     let within : s.position + read-under s one ≤ offset = h in
     same-step one other s t (same-part one.input other.input s.position (read-under s one) d.len (λ i k. d.bytes i (λ e. omega arith)))
 
--- whether a row calls the heap is told by the row, and doesn't depend on what is seen of the setup
-row-heap : (core : Core) (row : Option Instruction) (terms : Terms) → (row_uses core row terms).heap_call ≡ calls_heap core row
-unfolding row_uses calls_heap
-row-heap core (Some Call) terms = refl
-row-heap core _ terms = refl
-
+-- whether a step is a heap call is told by its row, and doesn't depend on what is seen of the setup
 plan-heap : (core : Core) (word : Option ℕ) (terms : Terms) → (plan core terms word).heap_call ≡ calls_heap core (row_at word)
 unfolding calls_heap
 plan-heap core None terms = refl
-plan-heap core (Some w) terms = row-heap core (row_of w) terms
+plan-heap core (Some w) terms = refl
 
 heap-same : (one other : Setup) (s : State) → one.input ≡ other.input → is_heap_step s ≡ false → (touches s one ≡ touches s other) × (exec s one ≡ exec s other)
 unfolding seen read-under

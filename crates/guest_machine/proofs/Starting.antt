@@ -6,28 +6,32 @@ use Rattle.definedness.specs.declared.Bits.{Bits}
 use Rattle.guest_elf.specs.declared.image.Image.{Image}
 use Rattle.guest_elf.specs.declared.segment.Segment.{Segment}
 use Rattle.guest_elf.specs.Images.{segments_of, entry_of, loaded_at}
-use Rattle.guest_machine.specs.Ranges.{written}
-use Rattle.guest_machine.specs.Shadows.{shadow_of, made_so}
-use Rattle.guest_machine.specs.Memories.{bytes_in, shadows_in}
+use Rattle.shadow_memory.specs.Ranges.{written}
+use Rattle.shadow_memory.specs.Shadows.{shadow_of, made_so}
+use Rattle.shadow_memory.specs.Memories.{bytes_in, shadows_in}
 use Rattle.guest_machine.specs.Registers.{known}
 use Rattle.guest_machine.specs.Loading.{loaded_bytes, loaded_shadows}
 use Rattle.guest_machine.specs.Run.{start_state, stack_start}
-use Rattle.guest_machine.specs.Groups.{grouped, firsts_after}
-use Rattle.guest_machine.specs.Grouping.{groups_of}
-use Rattle.guest_machine.specs.Shows.{Shows}
-use Rattle.guest_machine.specs.declared.memory.cells.RangeKind.TheVariants.{NoAccess, Defined}
-use Rattle.guest_machine.specs.declared.memory.store.Memory.{Memory}
-use Rattle.guest_machine.specs.declared.errors.groups.Groups.{Groups}
+use Rattle.error_events.specs.Groups.{grouped, firsts_after}
+use Rattle.error_events.specs.Shown.{groups_of}
+use Rattle.call_stacks.specs.declared.stack.Frame.{Frame}
+use Rattle.guest_heap.specs.Blocks.{no_blocks}
+use Rattle.guest_heap.specs.Heaps.{blocks_of}
+use Rattle.guest_heap.specs.declared.heap.Heap.{Heap}
+use Rattle.guest_machine.specs.Shows.{Holds}
+use Rattle.shadow_memory.specs.declared.cells.RangeKind.TheVariants.{NoAccess, Defined}
+use Rattle.shadow_memory.specs.declared.memory.Memory.{Memory}
+use Rattle.error_events.specs.declared.groups.Groups.{Groups}
 use Rattle.guest_machine.specs.declared.status.Status.TheVariants.{Running}
 
-pub shows-start : (image : Image) (fresh loaded memory : Memory) (groups : Groups) (segments : List Segment) (pc : ℕ) (zeros top : Bits)
+pub holds-start : (image : Image) (fresh loaded memory : Memory) (groups : Groups) (frames : List Frame) (heap : Heap) (segments : List Segment) (pc : ℕ) (zeros top : Bits)
     → bytes_in fresh ≡ (λ a. 0) → shadows_in fresh ≡ (λ a. shadow_of NoAccess)
     → bytes_in loaded ≡ loaded_bytes segments (bytes_in fresh) → shadows_in loaded ≡ loaded_shadows segments (shadows_in fresh)
     → bytes_in memory ≡ written (bytes_in loaded) stack_start 16 (slice_index []) → shadows_in memory ≡ made_so (shadows_in loaded) stack_start 16 Defined
-    → segments ≡ segments_of image → pc ≡ entry_of image → zeros ≡ known 0 → top ≡ known stack_start → groups_of groups ≡ []
-    → Shows (record { memory = memory; registers = slice_set (replicate 32 zeros) 2 top; pc = pc; status = Running; counts = record { position = 0; output_len = 0; heap_calls = 0 }; groups = groups }) (start_state image)
+    → segments ≡ segments_of image → pc ≡ entry_of image → zeros ≡ known 0 → top ≡ known stack_start → groups_of groups ≡ [] → frames ≡ [] → blocks_of heap ≡ no_blocks
+    → Holds (record { memory = memory; registers = slice_set (replicate 32 zeros) 2 top; pc = pc; status = Running; frames = frames; heap = heap; counts = record { position = 0; output_len = 0; heap_calls = 0 }; groups = groups }) (start_state image)
 unfolding start_state loaded_bytes loaded_shadows loaded_at grouped firsts_after
-shows-start image fresh loaded memory groups segments pc zeros top b0 s0 b1 s1 b2 s2 same at z t g =
+holds-start image fresh loaded memory groups frames heap segments pc zeros top b0 s0 b1 s1 b2 s2 same at z t g calls none =
     record {
       bytes = b2 ∙ ap₂ (λ f m. written f stack_start 16 m) (b1 ∙ ap₂ loaded_bytes same b0) (fun_ext (λ i. refl));
       core = λ i. record {
@@ -35,6 +39,8 @@ shows-start image fresh loaded memory groups segments pc zeros top b0 s0 b1 s1 b
         registers = slice_set (replicate 32 (z i)) 2 (t i);
         pc = at i;
         status = Running;
+        frames = calls i;
+        blocks = none i;
       };
       position = refl;
       output = refl;

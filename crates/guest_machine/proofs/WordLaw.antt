@@ -2,7 +2,8 @@
 use Rattle.std.proofs.Common.{◌≡◌, ℕ, ◌+◌, ◌<◌, ◌||◌, ◌++◌, Bool, true, false, cond, refl, ap, ap₂, ◌∙◌, Option, Some, None, subst, nat_lt, arith, length}
 use Rattle.std.proofs.Math.Path.{fun_ext}
 use Rattle.std.proofs.lemmas.Bool.Decides.{nat_tests}
-use Rattle.guest_machine.specs.Ranges.{above, offset, is_in, covers, window, written, changed_in, little_word}
+use Rattle.shadow_memory.specs.Ranges.{above, offset, is_in, window, written, changed_in, little_word}
+use Rattle.guest_machine.specs.Spans.{covers}
 use Rattle.guest_machine.specs.State.{Core, State}
 use Rattle.guest_machine.specs.Exec.{exec, plan, outcome, uses_at, effect_at, touches, touched_at, has_touched, terms_of, row_at, given_at, taken_from, written_to, counted, fetched, fetches, fetch_span}
 use Rattle.guest_machine.specs.Laws.{DifferWithin, TouchesNone, InWord, KeepsWords}

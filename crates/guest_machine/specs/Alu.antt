@@ -6,7 +6,7 @@ use Rattle.definedness.specs.declared.Shift.TheVariants.{Left, Right, Arith}
 use Rattle.definedness.specs.Operations as Value
 use Rattle.definedness.specs.Undefined as Undef
 use Rattle.guest_machine.specs.Widths.{width_len}
-use Rattle.guest_machine.specs.declared.memory.cells.Width.{Width}
+use Rattle.guest_machine.specs.declared.width.Width.{Width}
 use Rattle.guest_machine.specs.declared.instruction.Test.{Test}
 use Rattle.guest_machine.specs.declared.instruction.Test.TheVariants.{Equal, NotEqual, Less, GreaterEqual, LessUnsigned, GreaterEqualUnsigned}
 use Rattle.guest_machine.specs.declared.instruction.Operation.{Operation}

@@ -1,47 +1,151 @@
 -- The calls that a program makes of its environment by ECALL (RISC-V Unprivileged ISA 20191213, section 2.8), numbered as in
 -- Linux for RISC-V: the number is in a7 (x17), the arguments in a0 (x10) and on, and the answer goes to a0.
-use Rattle.std.specs.Prelude.{ℕ, ◌-◌, ◌^◌, ◌%◌, ◌==◌, ◌||◌, Bool, false, if◌then◌else◌}
+use Rattle.std.specs.Prelude.{ℕ, ◌+◌, ◌-◌, ◌^◌, ◌%◌, ◌==◌, ◌||◌, ◌&&◌, Bool, true, false, nat_le, min, if◌then◌else◌, List, [], ◌∷◌, ◌++◌, map, slice_index}
+use Rattle.std.specs.List.{range_with_len}
+use Rattle.error_events.specs.declared.event.Event.{Event}
+use Rattle.error_events.specs.declared.parameter.Parameter.{Parameter}
+use Rattle.error_events.specs.declared.parameter.Parameter.TheVariants.{SyscallNumber, ReadFd, ReadBuffer, ReadCount, WriteFd, WriteBuffer, WriteCount, ExitStatus, ExitGroupStatus}
 use Rattle.guest_machine.specs.State.{Core}
 use Rattle.guest_machine.specs.Registers.{known, register, set_register, tested}
-use Rattle.guest_machine.specs.Effects.{Effect, quiet, advanced, exited}
+use Rattle.guest_machine.specs.Errors.{parameter_errors, buffer_errors}
+use Rattle.guest_machine.specs.Effects.{Effect, no_bytes, raising, advanced, exited, stored_core}
+use Rattle.guest_machine.specs.declared.call.Call.{Call}
+use Rattle.guest_machine.specs.declared.call.Call.TheVariants.{Read, Write, Exit, ExitGroup, Unknown}
 
-pub data Call : Type 0 where
-  ExitCall : Call
-  UnknownCall : Call
+-- which call --
 
--- 93 is exit, and 94 exit_group
 abbrev pub call_of : ℕ → Call
-call_of n = if (n == 93) || (n == 94) then ExitCall else UnknownCall
+call_of n =
+    if n == 63 then Read
+    else if n == 64 then Write
+    else if n == 93 then Exit
+    else if n == 94 then ExitGroup
+    else Unknown
+
+-- the value of a register that a call reads
+abbrev pub argument : Core → ℕ → ℕ
+argument core r = (register core r).value
 
 -- the call that the registers ask for
 unfoldable pub call_at : Core → Call
-call_at core = call_of (register core 17).value
+call_at core = call_of (argument core 17)
 
 -- does a call use the heap? (None of these does.)
 abbrev pub is_heap : Call → Bool
-is_heap ExitCall = false
-is_heap UnknownCall = false
+is_heap call = false
 
--- a call's answer
+-- tests --
+
+-- the names of a call's parameters, which are in a0 and on
+unfoldable pub parameters_of : Call → List Parameter
+parameters_of Read = ReadFd ∷ ReadBuffer ∷ ReadCount ∷ []
+parameters_of Write = WriteFd ∷ WriteBuffer ∷ WriteCount ∷ []
+parameters_of Exit = ExitStatus ∷ []
+parameters_of ExitGroup = ExitGroupStatus ∷ []
+parameters_of Unknown = []
+
+-- after the tests of registers from one on
+unfoldable pub tested_from : Core → ℕ → List Parameter → Core
+tested_from core r [] = core
+tested_from core r (parameter ∷ parameters) = tested_from (tested core r) (r + 1) parameters
+
+-- and their errors, each at the register that the tests before have left
+unfoldable pub errors_from : Core → ℕ → List Parameter → List Event
+errors_from core r [] = []
+errors_from core r (parameter ∷ parameters) = parameter_errors core r parameter ++ errors_from (tested core r) (r + 1) parameters
+
+-- the number is tested first, and then the parameters in order
+abbrev pub call_tested : Core → Call → Core
+call_tested core call = tested_from (tested core 17) 10 (parameters_of call)
+
+abbrev pub call_errors : Core → Call → List Event
+call_errors core call = parameter_errors core 17 SyscallNumber ++ errors_from (tested core 17) 10 (parameters_of call)
+
+-- answers --
+
 abbrev pub answered : Core → ℕ → Core
 answered core n = advanced (set_register core 10 (known n))
-
--- a7 and a0 are tested, and the program ends with the low 8 bits of a0
-abbrev pub exit_call : Core → Effect
-exit_call core = let now = tested (tested core 17) 10 in quiet (exited now ((register now 10).value % 256))
 
 -- the answer of a call that fails with an error number, as Linux gives it: the number negated, modulo 2^32
 abbrev pub failure : ℕ → ℕ
 failure errno = 2 ^ 32 - errno
 
--- no such call (errno(3): ENOSYS)
+-- errno(3): a bad descriptor, no space left, no such call
+abbrev pub ebadf : ℕ
+ebadf = 9
+
+abbrev pub enospc : ℕ
+enospc = 28
+
 abbrev pub enosys : ℕ
 enosys = 38
 
--- a7 is tested, and the answer is that there is no such call
-abbrev pub unknown_call : Core → Effect
-unknown_call core = quiet (answered (tested core 17) (failure enosys))
+-- a call that only answers
+abbrev pub answers : Core → Call → ℕ → Effect
+answers core call n = raising (answered (call_tested core call) n) (call_errors core call)
 
-unfoldable pub call_effect : Core → Call → Effect
-call_effect core ExitCall = exit_call core
-call_effect core UnknownCall = unknown_call core
+-- read and write: the descriptor is in a0, the buffer in a1, the count in a2 --
+
+-- the bytes that one call moves: at most 4,096
+unfoldable pub moved_len : Core → ℕ
+moved_len core = min (argument core 12) 4096
+
+-- how many bytes read stores: as many as are asked for and left of the input. Descriptor 0 is the input
+unfoldable pub read_len : Core → ℕ → ℕ
+read_len core left = if argument core 10 == 0 then min (moved_len core) left else 0
+
+-- the buffer is tested as far as the count goes, and the input that is left is stored all the same, with no undefined bits
+unfoldable pub read_call : Core → ℕ → List ℕ → Effect
+read_call core left given =
+    if argument core 10 == 0
+    then
+    (let now = call_tested core Read in
+    let n = read_len core left in
+    record {
+      core = answered (stored_core now (argument core 11) n 0) n;
+      raised = call_errors core Read ++ buffer_errors now ReadBuffer false (argument core 11) (moved_len core);
+      made = slice_index given;
+      output = [];
+    })
+    else answers core Read (failure ebadf)
+
+-- descriptors 1 and 2 are the output, which has room for 65,536 bytes in all
+abbrev pub is_output : ℕ → Bool
+is_output descriptor = (descriptor == 1) || (descriptor == 2)
+
+abbrev pub output_room : ℕ
+output_room = 65536
+
+-- does write append its bytes, where there are so many already?
+unfoldable pub appends : Core → ℕ → Bool
+appends core written = is_output (argument core 10) && nat_le (written + moved_len core) output_room
+
+-- the bytes at the first n offsets
+abbrev pub bytes_taken : (ℕ → ℕ) → ℕ → List ℕ
+bytes_taken taken n = map taken (range_with_len 0 n)
+
+-- the buffer is tested, and its bytes are appended all the same
+unfoldable pub write_call : Core → ℕ → (ℕ → ℕ) → Effect
+write_call core written taken =
+    if is_output (argument core 10)
+    then
+    (if nat_le (written + moved_len core) output_room
+    then
+    (let now = call_tested core Write in
+    let n = moved_len core in
+    record {
+      core = answered now n;
+      raised = call_errors core Write ++ buffer_errors now WriteBuffer true (argument core 11) n;
+      made = no_bytes;
+      output = bytes_taken taken n;
+    })
+    else answers core Write (failure enospc))
+    else answers core Write (failure ebadf)
+
+-- the program ends with the low 8 bits of a0
+abbrev pub exit_call : Core → Call → Effect
+exit_call core call = raising (exited (call_tested core call) (argument core 10 % 256)) (call_errors core call)
+
+-- no such call
+abbrev pub unknown_call : Core → Effect
+unknown_call core = answers core Unknown (failure enosys)

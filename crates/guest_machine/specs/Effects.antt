@@ -1,27 +1,26 @@
 -- What each instruction does, as a function of what decides it, of the input that it reads and of the bytes that it takes
 -- (RISC-V Unprivileged ISA 20191213, chapters 2 and 7; undefined bits as in Memcheck).
-use Rattle.std.specs.Prelude.{ℕ, ◌+◌, ◌*◌, ◌/◌, ◌%◌, ◌^◌, ◌==◌, Bool, true, false, if◌then◌else◌, List, [], ◌∷◌}
+use Rattle.std.specs.Prelude.{ℕ, ◌+◌, ◌*◌, ◌/◌, ◌%◌, ◌^◌, ◌==◌, Bool, true, false, not, if◌then◌else◌, List, [], ◌++◌}
 use Rattle.definedness.specs.declared.Bits.{Bits}
 use Rattle.definedness.specs.Undefined.{undef_branch}
-use Rattle.guest_machine.specs.Ranges.{window, little_word}
-use Rattle.guest_machine.specs.Shadows.{loaded_undef, stored_undef}
-use Rattle.guest_machine.specs.Ranges.{byte_of}
+use Rattle.shadow_memory.specs.Ranges.{window, little_word}
+use Rattle.shadow_memory.specs.Shadows.{loaded_undef, stored_undef}
+use Rattle.shadow_memory.specs.Ranges.{byte_of}
 use Rattle.guest_machine.specs.Widths.{width_len}
 use Rattle.guest_machine.specs.State.{Core}
 use Rattle.guest_machine.specs.Registers.{known, register, set_register, defined, tested}
 use Rattle.guest_machine.specs.Alu.{computed, passes, extended}
-use Rattle.guest_machine.specs.Groups.{trace_of}
-use Rattle.guest_machine.specs.declared.memory.cells.Width.{Width}
+use Rattle.guest_machine.specs.Errors.{here, event_unless, value_errors, access_errors, taken_undef}
+use Rattle.guest_machine.specs.CallStack.{jal_hint, jalr_hint, hinted}
+use Rattle.guest_machine.specs.declared.hint.StackHint.{StackHint}
+use Rattle.guest_machine.specs.declared.width.Width.{Width}
 use Rattle.guest_machine.specs.declared.instruction.Test.{Test}
 use Rattle.guest_machine.specs.declared.instruction.Operation.{Operation}
 use Rattle.guest_machine.specs.declared.status.Status.TheVariants.{Exited, Stopped}
 use Rattle.guest_machine.specs.declared.status.Stop.{Stop}
 use Rattle.guest_machine.specs.declared.status.Stop.TheVariants.{Misaligned}
-use Rattle.guest_machine.specs.declared.errors.event.Event.{Event}
-use Rattle.guest_machine.specs.declared.errors.event.Kind.{Kind}
-use Rattle.guest_machine.specs.declared.errors.event.Kind.TheVariants.{Cond}
-use Rattle.guest_machine.specs.declared.errors.event.Note.{Note}
-use Rattle.guest_machine.specs.declared.errors.event.Note.TheVariants.{Absent}
+use Rattle.error_events.specs.declared.event.Event.{Event}
+use Rattle.error_events.specs.declared.kind.Kind.TheVariants.{Read, Write, Cond}
 
 -- what a step leaves: the new core, the errors that it raises, the byte for each offset of the range that it writes, and the
 -- bytes that it writes out
@@ -41,10 +40,6 @@ quiet core = record { core = core; raised = []; made = no_bytes; output = [] }
 -- an effect on the core, with errors
 abbrev pub raising : Core → List Event → Effect
 raising core events = record { core = core; raised = events; made = no_bytes; output = [] }
-
--- an error at this instruction
-abbrev pub event_at : Core → Kind → Note → Event
-event_at core kind note = record { kind = kind; trace = trace_of core.pc; note = note }
 
 abbrev pub moved_to : Core → ℕ → Core
 moved_to core to = record core { pc = to }
@@ -84,20 +79,23 @@ compute core operation rd rs1 rs2 = results_in core rd (computed operation (regi
 unfoldable pub target : Core → ℕ → ℕ → ℕ
 target core rs1 imm = ((register core rs1).value + imm) % 2 ^ 32
 
--- loads (section 2.6): rs1 is tested; the sign bit and its undefined bit are repeated together
+-- loads (section 2.6): rs1 is tested, and then the bytes; they are taken all the same, and the sign bit and its undefined bit are
+-- repeated together
 abbrev pub load : Core → Width → Bool → ℕ → ℕ → ℕ → (ℕ → ℕ) → Effect
 load core width signed rd rs1 imm taken =
     let now = tested core rs1 in
-    let undef = little_word (window (λ a. loaded_undef (now.shadow a)) (target core rs1 imm) (width_len width)) in
-    results_in now rd (record { value = extended width signed (little_word taken); undef = extended width signed undef })
+    let start = target core rs1 imm in
+    let undef = taken_undef now start (width_len width) in
+    let bits : Bits = record { value = extended width signed (little_word taken); undef = extended width signed undef } in
+    raising (advanced (set_register now rd bits)) (value_errors core rs1 ++ access_errors now (Read (width_len width)) start (width_len width))
 
--- stores (section 2.6): rs1 is tested, and then the low bytes of rs2 are stored with their undefined bits
+-- stores (section 2.6): rs1 is tested, and then the bytes; the low bytes of rs2 are stored all the same, with their undefined bits
 abbrev pub store : Core → Width → ℕ → ℕ → ℕ → Effect
 store core width rs1 rs2 imm =
     let now = tested core rs1 in
     record {
       core = advanced (stored_core now (target core rs1 imm) (width_len width) (register now rs2).undef);
-      raised = [];
+      raised = value_errors core rs1 ++ access_errors now (Write (width_len width)) (target core rs1 imm) (width_len width);
       made = byte_of (register now rs2).value;
       output = [];
     }
@@ -115,8 +113,8 @@ unfoldable pub branch_tested : Core → ℕ → ℕ → Core
 branch_tested core rs1 rs2 = if is_undefined core rs1 rs2 then defined (defined core rs1) rs2 else core
 
 -- the error of a branch
-unfoldable pub branch_errors : Core → ℕ → ℕ → List Event
-branch_errors core rs1 rs2 = if is_undefined core rs1 rs2 then event_at core Cond Absent ∷ [] else []
+abbrev pub branch_errors : Core → ℕ → ℕ → List Event
+branch_errors core rs1 rs2 = event_unless (not (is_undefined core rs1 rs2)) (here core) Cond
 
 -- conditional branches (section 2.5)
 unfoldable pub branched : Bool → Core → ℕ → Core
@@ -129,17 +127,23 @@ branch core test rs1 rs2 imm =
     (branched (passes test (register core rs1).value (register core rs2).value) (branch_tested core rs1 rs2) ((core.pc + imm) % 2 ^ 32))
     (branch_errors core rs1 rs2)
 
--- a jump that leaves the address after it in rd; one to an address that is no multiple of 4 stops the machine, and leaves rd
-unfoldable pub linked_jump : Core → ℕ → ℕ → Core
-linked_jump core rd to =
-    if to % 4 == 0 then moved_to (set_register core rd (known ((core.pc + 4) % 2 ^ 32))) to else stopped core Misaligned
+-- the calls that the machine is in, by what a jump hints
+abbrev pub followed : Core → StackHint → ℕ → Core
+followed core hint to = record core { frames = hinted hint core.pc to core.frames }
 
--- JAL and JALR (section 2.5): JALR's target is computed before rd is written, and its lowest bit is cleared
+-- a jump that leaves the address after it in rd; one to an address that is no multiple of 4 stops the machine, and leaves rd
+-- and the calls
+unfoldable pub linked_jump : Core → StackHint → ℕ → ℕ → Core
+linked_jump core hint rd to =
+    if to % 4 == 0 then moved_to (set_register (followed core hint to) rd (known ((core.pc + 4) % 2 ^ 32))) to else stopped core Misaligned
+
+-- JAL and JALR (section 2.5): JALR's register is tested; its target is computed before rd is written, and its lowest bit is cleared
 abbrev pub jump : Core → ℕ → ℕ → Effect
-jump core rd imm = quiet (linked_jump core rd ((core.pc + imm) % 2 ^ 32))
+jump core rd imm = quiet (linked_jump core (jal_hint rd) rd ((core.pc + imm) % 2 ^ 32))
 
 abbrev pub jump_register : Core → ℕ → ℕ → ℕ → Effect
-jump_register core rd rs1 imm = quiet (linked_jump (tested core rs1) rd (target core rs1 imm / 2 * 2))
+jump_register core rd rs1 imm =
+    raising (linked_jump (tested core rs1) (jalr_hint rd rs1) rd (target core rs1 imm / 2 * 2)) (value_errors core rs1)
 
 -- a step that only stops the machine
 abbrev pub stops : Core → Stop → Effect

@@ -1,15 +1,21 @@
 -- One step, in three parts: the word at pc; what the step uses, by what decides it and the word; and what it leaves, by these,
 -- the input that it reads and the bytes that it takes. No other byte value and no other part of the setup enters.
-use Rattle.std.specs.Prelude.{ℕ, ◌+◌, ◌-◌, ◌%◌, ◌==◌, ◌&&◌, ◌||◌, Bool, true, false, if◌then◌else◌, List, [], ◌∷◌, ◌++◌, take, drop, length, min, Option, Some, None, is_none}
-use Rattle.guest_machine.specs.Ranges.{window, little_word, written, covers}
-use Rattle.guest_machine.specs.Shadows.{first_inaccessible}
+use Rattle.std.specs.Prelude.{◌≡◌, ℕ, ◌+◌, ◌-◌, ◌%◌, ◌==◌, ◌&&◌, ◌||◌, Bool, true, false, if◌then◌else◌, List, [], ◌∷◌, ◌++◌, take, drop, length, min, Option, Some, None, is_none}
+use Rattle.shadow_memory.specs.Ranges.{window, little_word, written}
+use Rattle.guest_machine.specs.Spans.{span_at, covers}
+use Rattle.shadow_memory.specs.Shadows.{first_inaccessible}
 use Rattle.guest_machine.specs.Widths.{width_len}
 use Rattle.guest_machine.specs.State.{Core, State}
 use Rattle.guest_machine.specs.Instructions.{row_of}
-use Rattle.guest_machine.specs.Effects.{Effect, no_bytes, quiet, raising, event_at, advanced, stopped, target, load_upper, add_upper, compute_immediate, compute, load, store, branch, jump, jump_register, stops}
-use Rattle.guest_machine.specs.Calls.{Call, call_at, call_effect, is_heap}
-use Rattle.guest_machine.specs.Groups.{note_at}
-use Rattle.guest_machine.specs.declared.memory.cells.Width.{Width}
+use Rattle.guest_machine.specs.Effects.{Effect, no_bytes, quiet, raising, advanced, stopped, target, load_upper, add_upper, compute_immediate, compute, load, store, branch, jump, jump_register, stops}
+use Rattle.guest_machine.specs.Calls.{argument, call_at, is_heap, moved_len, read_len, appends, read_call, write_call, exit_call, unknown_call}
+use Rattle.guest_machine.specs.Errors.{here, event_about, fetch_undef, fetch_errors}
+use Rattle.guest_machine.specs.StackPointer.{stack_ruled}
+use Rattle.definedness.specs.declared.Bits.{Bits}
+use Rattle.guest_machine.specs.Registers.{register}
+use Rattle.guest_machine.specs.declared.call.Call.{Call}
+use Rattle.guest_machine.specs.declared.call.Call.TheVariants.{Read as ReadCall, Write as WriteCall, Exit as ExitCall, ExitGroup as ExitGroupCall, Unknown as UnknownCall}
+use Rattle.guest_machine.specs.declared.width.Width.{Width}
 use Rattle.guest_machine.specs.declared.span.Span.{Span}
 use Rattle.guest_machine.specs.declared.setup.Setup.{Setup}
 use Rattle.guest_machine.specs.declared.setup.Touched.{Touched}
@@ -18,7 +24,7 @@ use Rattle.guest_machine.specs.declared.instruction.Instruction.TheVariants.{Loa
 use Rattle.guest_machine.specs.declared.status.Status.{Status}
 use Rattle.guest_machine.specs.declared.status.Status.TheVariants.{Running, Exited, Stopped}
 use Rattle.guest_machine.specs.declared.status.Stop.TheVariants.{Jump as JumpStop, Break, Illegal, Misaligned}
-use Rattle.guest_machine.specs.declared.errors.event.Kind.TheVariants.{Jump as JumpError}
+use Rattle.error_events.specs.declared.kind.Kind.TheVariants.{Jump as JumpError}
 
 -- the word at pc --
 
@@ -42,6 +48,12 @@ fetches core = is_running core.status && (is_aligned core.pc && is_none (fetch_f
 unfoldable pub fetched : Core → (ℕ → ℕ) → Option ℕ
 fetched core bytes = if fetches core then Some (little_word (window bytes core.pc 4)) else None
 
+-- this is the word that is taken, with its undefined bits
+pub record IsFetched (core : Core) (bytes : ℕ → ℕ) (word : Bits) : Type 0 where
+  pub taken : fetches core ≡ true
+  pub value : word.value ≡ little_word (window bytes core.pc 4)
+  pub undef : word.undef ≡ fetch_undef core
+
 -- what a step uses --
 
 -- the range of bytes that it takes and the one that it writes, if any; how many bytes of input it reads; whether it is a heap
@@ -63,9 +75,6 @@ pub record Terms : Type 0 where
 abbrev pub nothing : Uses
 nothing = record { reads = None; writes = None; inputs = 0; heap_call = false }
 
-abbrev pub span_at : ℕ → ℕ → Span
-span_at start len = record { start = start; len = len }
-
 -- a range read, and a range written, alone
 abbrev pub reading : Span → Uses
 reading span = record { reads = Some span; writes = None; inputs = 0; heap_call = false }
@@ -77,16 +86,58 @@ writing span = record { reads = None; writes = Some span; inputs = 0; heap_call 
 abbrev pub accessed : Core → ℕ → ℕ → Width → Span
 accessed core rs1 imm width = span_at (target core rs1 imm) (width_len width)
 
-abbrev pub call_uses : Core → Call → Terms → Uses
-call_uses core call terms = record { reads = None; writes = None; inputs = 0; heap_call = is_heap call }
+-- read stores what it takes of the input
+abbrev pub read_uses : Core → ℕ → Uses
+read_uses core left =
+    record {
+      reads = None;
+      writes = if argument core 10 == 0 then Some (span_at (argument core 11) (read_len core left)) else None;
+      inputs = read_len core left;
+      heap_call = false;
+    }
 
+-- write takes what it appends
+abbrev pub write_uses : Core → ℕ → Uses
+write_uses core written =
+    record {
+      reads = if appends core written then Some (span_at (argument core 11) (moved_len core)) else None;
+      writes = None;
+      inputs = 0;
+      heap_call = false;
+    }
+
+-- what a call uses
+unfoldable pub call_uses : Core → Call → Terms → Uses
+call_uses core ReadCall terms = read_uses core terms.left
+call_uses core WriteCall terms = write_uses core terms.written
+call_uses core ExitCall terms = nothing
+call_uses core ExitGroupCall terms = nothing
+call_uses core UnknownCall terms = nothing
+
+-- does a row call the heap?
+unfoldable pub calls_heap : Core → Option Instruction → Bool
+calls_heap core (Some CallRow) = is_heap (call_at core)
+calls_heap core _ = false
+
+-- what an instruction reads, writes and takes of the input
 unfoldable pub row_uses : Core → Option Instruction → Terms → Uses
 row_uses core (Some (Load width signed rd rs1 imm)) terms = reading (accessed core rs1 imm width)
 row_uses core (Some (Store width rs1 rs2 imm)) terms = writing (accessed core rs1 imm width)
 row_uses core (Some CallRow) terms = call_uses core (call_at core) terms
 row_uses core _ terms = nothing
 
+-- and it is a heap call where its row says so
+abbrev pub uses_of : Core → Option Instruction → Terms → Uses
+uses_of core row terms = record (row_uses core row terms) { heap_call = calls_heap core row }
+
 -- what a step leaves --
+
+unfoldable pub call_effect : Core → Call → Terms → List ℕ → (ℕ → ℕ) → Effect
+call_effect core ReadCall terms given taken = read_call core terms.left given
+call_effect core WriteCall terms given taken = write_call core terms.written taken
+call_effect core ExitCall terms given taken = exit_call core ExitCall
+call_effect core ExitGroupCall terms given taken = exit_call core ExitGroupCall
+call_effect core UnknownCall terms given taken = unknown_call core
 
 unfoldable pub row_effect : Core → Option Instruction → Terms → List ℕ → (ℕ → ℕ) → Effect
 row_effect core None terms given taken = stops core Illegal
@@ -100,13 +151,13 @@ row_effect core (Some (Store width rs1 rs2 imm)) terms given taken = store core 
 row_effect core (Some (Immediate operation rd rs1 imm)) terms given taken = compute_immediate core operation rd rs1 imm
 row_effect core (Some (Registers operation rd rs1 rs2)) terms given taken = compute core operation rd rs1 rs2
 row_effect core (Some Fence) terms given taken = quiet (advanced core)
-row_effect core (Some CallRow) terms given taken = call_effect core (call_at core)
+row_effect core (Some CallRow) terms given taken = call_effect core (call_at core) terms given taken
 row_effect core (Some Breakpoint) terms given taken = stops core Break
 
 -- a fetch that meets an inaccessible byte
 abbrev pub jump_fault : Core → Option ℕ → Effect
 jump_fault core None = quiet core
-jump_fault core (Some a) = raising (stopped core JumpStop) (event_at core JumpError (note_at a) ∷ [])
+jump_fault core (Some a) = raising (stopped core JumpStop) (event_about (here core) JumpError (Some a))
 
 -- what a step leaves that takes no word: a stopped or exited machine is its own successor
 unfoldable pub unfetched : Core → Effect
@@ -124,16 +175,21 @@ row_at (Some word) = row_of word
 
 abbrev pub plan : Core → Terms → Option ℕ → Uses
 plan core terms None = nothing
-plan core terms (Some word) = row_uses core (row_of word) terms
+plan core terms (Some word) = uses_of core (row_of word) terms
+
+-- between the test of the word and the stack pointer rule
+abbrev pub rounded : Core → Effect → Effect
+rounded core e =
+    record {
+      core = stack_ruled (register core 2) e.core;
+      raised = fetch_errors core ++ e.raised;
+      made = e.made;
+      output = e.output;
+    }
 
 abbrev pub outcome : Core → Terms → Option ℕ → List ℕ → (ℕ → ℕ) → Effect
 outcome core terms None given taken = unfetched core
-outcome core terms (Some word) given taken = row_effect core (row_of word) terms given taken
-
--- does a row call the heap?
-unfoldable pub calls_heap : Core → Option Instruction → Bool
-calls_heap core (Some CallRow) = is_heap (call_at core)
-calls_heap core _ = false
+outcome core terms (Some word) given taken = rounded core (row_effect core (row_of word) terms given taken)
 
 -- what a step sees of the setup
 abbrev pub terms_of : Core → Option Instruction → ℕ → ℕ → Setup → Terms

@@ -7,7 +7,7 @@ use Rattle.guest_machine.specs.declared.instruction.Instruction.{Instruction}
 use Rattle.guest_machine.specs.declared.instruction.Instruction.TheVariants.{LoadUpper, AddUpper, Jump, JumpRegister, Branch, Load, Store, Immediate, Registers, Fence, Call, Breakpoint}
 use Rattle.guest_machine.specs.declared.instruction.Test.TheVariants as Test
 use Rattle.guest_machine.specs.declared.instruction.Operation.TheVariants as Operation
-use Rattle.guest_machine.specs.declared.memory.cells.Width.TheVariants.{Byte, Half, Word}
+use Rattle.guest_machine.specs.declared.width.Width.TheVariants.{Byte, Half, Word}
 
 abbrev pub instruction_by : Op → ℕ → ℕ → ℕ → ℕ → Instruction
 instruction_by Op.Lui rd rs1 rs2 imm = LoadUpper rd imm

@@ -2,8 +2,8 @@
 use Rattle.std.specs.Prelude.{ℕ, List, unwrap_or, is_some, if◌then◌else◌}
 use Rattle.guest_elf.specs.Segments.{loaded}
 use Rattle.guest_elf.specs.declared.segment.Segment.{Segment}
-use Rattle.guest_machine.specs.Shadows.{Shadow, shadow_of}
-use Rattle.guest_machine.specs.declared.memory.cells.RangeKind.TheVariants.{Defined}
+use Rattle.shadow_memory.specs.Shadows.{Shadow, shadow_of}
+use Rattle.shadow_memory.specs.declared.cells.RangeKind.TheVariants.{Defined}
 
 unfoldable pub loaded_bytes : List Segment → (ℕ → ℕ) → ℕ → ℕ
 loaded_bytes segments f = λ a. unwrap_or (loaded segments a) (f a)

@@ -1,15 +1,16 @@
 -- A run from step zero, with marks between steps.
 use Rattle.std.specs.Prelude.{ℕ, zero, suc, ◌==◌, List, filter, fold, unwrap_or, is_some, if◌then◌else◌, replicate, slice_set, []}
 use Rattle.guest_elf.specs.declared.image.Image.{Image}
+use Rattle.guest_heap.specs.Blocks.{no_blocks}
 use Rattle.guest_elf.specs.Images.{loaded_at, entry_of}
-use Rattle.guest_machine.specs.Ranges.{written, byte_of}
-use Rattle.guest_machine.specs.Shadows.{Shadow, shadow_of, made_so}
+use Rattle.shadow_memory.specs.Ranges.{written, byte_of}
+use Rattle.shadow_memory.specs.Shadows.{Shadow, shadow_of, made_so}
 use Rattle.guest_machine.specs.State.{State}
 use Rattle.guest_machine.specs.Registers.{known}
 use Rattle.guest_machine.specs.Effects.{no_bytes}
 use Rattle.guest_machine.specs.Exec.{exec}
-use Rattle.guest_machine.specs.declared.memory.cells.RangeKind.{RangeKind}
-use Rattle.guest_machine.specs.declared.memory.cells.RangeKind.TheVariants.{NoAccess, Defined}
+use Rattle.shadow_memory.specs.declared.cells.RangeKind.{RangeKind}
+use Rattle.shadow_memory.specs.declared.cells.RangeKind.TheVariants.{NoAccess, Defined}
 use Rattle.guest_machine.specs.declared.setup.Setup.{Setup}
 use Rattle.guest_machine.specs.declared.setup.Mark.{Mark}
 use Rattle.guest_machine.specs.declared.status.Status.TheVariants.{Running}
@@ -36,6 +37,8 @@ start_state image =
         registers = slice_set (replicate 32 (known 0)) 2 (known stack_start);
         pc = entry_of image;
         status = Running;
+        frames = [];
+        blocks = no_blocks;
       };
       position = 0;
       output = [];

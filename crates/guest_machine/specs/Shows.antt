@@ -1,34 +1,43 @@
--- The state that a machine shows: all parts agree, and the machine's groups are those of the state's errors.
-use Rattle.std.specs.Prelude.{◌≡◌, ℕ, ◌+◌, length, Option}
-use Rattle.guest_machine.specs.Memories.{bytes_in, shadows_in}
+-- The state that a machine shows.
+use Rattle.std.specs.Prelude.{◌≡◌, ℕ, ◌+◌, ◌-◌, length, Option}
+use Rattle.shadow_memory.specs.Memories.{bytes_in, shadows_in}
+use Rattle.guest_heap.specs.Heaps.{blocks_of}
 use Rattle.guest_machine.specs.State.{Core, State}
 use Rattle.guest_machine.specs.Effects.{Effect}
-use Rattle.guest_machine.specs.Exec.{Uses, Terms, counted, written_to, row_uses, row_effect, terms_of, given_at, taken_from, uses_at, effect_at, touched_at}
-use Rattle.guest_machine.specs.Groups.{grouped}
-use Rattle.guest_machine.specs.Grouping.{groups_of, add_events}
+use Rattle.guest_machine.specs.Calls.{read_call, write_call}
+use Rattle.guest_machine.specs.Exec.{Uses, Terms, counted, written_to, uses_of, row_effect, rounded, read_uses, write_uses, terms_of, given_at, taken_from, uses_at, effect_at, touched_at}
+use Rattle.error_events.specs.Groups.{grouped}
+use Rattle.error_events.specs.Adding.{add_events}
+use Rattle.error_events.specs.Shown.{groups_of}
 use Rattle.guest_machine.specs.declared.instruction.Instruction.{Instruction}
+use Rattle.guest_machine.specs.declared.machine.Guest.{Guest}
 use Rattle.guest_machine.specs.declared.machine.Machine.{Machine}
 use Rattle.guest_machine.specs.declared.setup.Setup.{Setup}
 use Rattle.guest_machine.specs.declared.setup.Touched.{Touched}
 
 -- what decides a step, beside the byte values
-abbrev pub core_of : Machine → Core
-core_of m = record { shadow = shadows_in m.memory; registers = m.registers; pc = m.pc; status = m.status }
+abbrev pub core_of : Guest → Core
+core_of g = record { shadow = shadows_in g.memory; registers = g.registers; pc = g.pc; status = g.status; frames = g.frames; blocks = blocks_of g.heap }
 
 -- the byte values
-abbrev pub bytes_of : Machine → ℕ → ℕ
-bytes_of m = bytes_in m.memory
+abbrev pub bytes_of : Guest → ℕ → ℕ
+bytes_of g = bytes_in g.memory
 
-pub record Shows (m : Machine) (s : State) : Type 0 where
-  pub bytes : bytes_of m ≡ s.bytes
-  pub core : core_of m ≡ s.core
-  pub position : m.counts.position ≡ s.position
-  pub output : m.counts.output_len ≡ length s.output
-  pub heap_calls : m.counts.heap_calls ≡ s.heap_calls
-  pub groups : groups_of m.groups ≡ grouped s.events
+-- all parts agree, and the groups are those of the state's errors
+pub record Holds (g : Guest) (s : State) : Type 0 where
+  pub bytes : bytes_of g ≡ s.bytes
+  pub core : core_of g ≡ s.core
+  pub position : g.counts.position ≡ s.position
+  pub output : g.counts.output_len ≡ length s.output
+  pub heap_calls : g.counts.heap_calls ≡ s.heap_calls
+  pub groups : groups_of g.groups ≡ grouped s.events
 
--- for the machine's own parts: new is old after this effect, with these uses
-pub record Does (old new : Machine) (effect : Effect) (uses : Uses) : Type 0 where
+-- the machine shows the state
+unfoldable pub Shows : Machine → State → Type 0
+Shows m s = Holds m.guest.value s
+
+-- new is old after this effect, with these uses
+pub record Does (old new : Guest) (effect : Effect) (uses : Uses) : Type 0 where
   pub core : core_of new ≡ effect.core
   pub bytes : bytes_of new ≡ written_to (bytes_of old) uses.writes effect.made
   pub position : new.counts.position ≡ old.counts.position + uses.inputs
@@ -37,25 +46,48 @@ pub record Does (old new : Machine) (effect : Effect) (uses : Uses) : Type 0 whe
   pub groups : groups_of new.groups ≡ add_events (groups_of old.groups) effect.raised
 
 -- an instruction carried out by a machine: what it sees of the setup, what it uses, and that new is old after it
-abbrev pub row_terms : Machine → Option Instruction → Setup → Terms
+abbrev pub row_terms : Guest → Option Instruction → Setup → Terms
 row_terms m row setup = terms_of (core_of m) row m.counts.position m.counts.output_len setup
 
-abbrev pub uses_by : Machine → Option Instruction → Setup → Uses
-uses_by m row setup = row_uses (core_of m) row (row_terms m row setup)
+abbrev pub uses_by : Guest → Option Instruction → Setup → Uses
+uses_by m row setup = uses_of (core_of m) row (row_terms m row setup)
 
-abbrev pub DoesRow : Machine → Machine → Option Instruction → Setup → Type 0
+abbrev pub DoesRow : Guest → Guest → Option Instruction → Setup → Type 0
 DoesRow old new row setup =
     let uses = uses_by old row setup in
     let given = given_at old.counts.position uses.inputs setup in
     Does old new (row_effect (core_of old) row (row_terms old row setup) given (taken_from (bytes_of old) uses.reads)) uses
 
+-- the same between the test of its word and the stack pointer rule
+abbrev pub DoesRound : Guest → Guest → Option Instruction → Setup → Type 0
+DoesRound old new row setup =
+    let uses = uses_by old row setup in
+    let given = given_at old.counts.position uses.inputs setup in
+    let effect = row_effect (core_of old) row (row_terms old row setup) given (taken_from (bytes_of old) uses.reads) in
+    Does old new (rounded (core_of old) effect) uses
+
 -- a whole step made by a machine, and what it touches
-abbrev pub DoesStep : Machine → Machine → Setup → Type 0
+abbrev pub DoesStep : Guest → Guest → Setup → Type 0
 DoesStep old new setup =
     let counts = old.counts in
     Does old new
     (effect_at (core_of old) (bytes_of old) counts.position counts.output_len setup)
     (uses_at (core_of old) (bytes_of old) counts.position counts.output_len setup)
 
-abbrev pub touched_by : Machine → Setup → Touched
+abbrev pub touched_by : Guest → Setup → Touched
 touched_by m setup = touched_at (core_of m) (bytes_of m) m.counts.position m.counts.output_len setup
+
+-- how much input is left
+abbrev pub input_left : Guest → Setup → ℕ
+input_left g setup = length setup.input - g.counts.position
+
+-- read and write carried out
+abbrev pub DoesRead : Guest → Guest → Setup → Type 0
+DoesRead old new setup =
+    let uses = read_uses (core_of old) (input_left old setup) in
+    Does old new (read_call (core_of old) (input_left old setup) (given_at old.counts.position uses.inputs setup)) uses
+
+abbrev pub DoesWrite : Guest → Guest → Type 0
+DoesWrite old new =
+    let uses = write_uses (core_of old) old.counts.output_len in
+    Does old new (write_call (core_of old) old.counts.output_len (taken_from (bytes_of old) uses.reads)) uses

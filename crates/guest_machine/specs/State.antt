@@ -1,17 +1,22 @@
 -- What a run is at a moment: the byte values, what decides a step beside them, and what only adds up.
 use Rattle.std.specs.Prelude.{ℕ, List}
 use Rattle.definedness.specs.declared.Bits.{Bits}
-use Rattle.guest_machine.specs.Shadows.{Shadow}
+use Rattle.shadow_memory.specs.Shadows.{Shadow}
 use Rattle.guest_machine.specs.declared.status.Status.{Status}
-use Rattle.guest_machine.specs.declared.errors.event.Event.{Event}
+use Rattle.call_stacks.specs.declared.stack.Frame.{Frame}
+use Rattle.guest_heap.specs.Blocks.{Blocks}
+use Rattle.error_events.specs.declared.event.Event.{Event}
 
 -- what decides a step, beside the byte values: of each address whether it may be accessed and its undefined bits, the 32
--- registers with their undefined bits, pc, and whether the machine runs
+-- registers with their undefined bits, pc, whether the machine runs, the calls that it is in, newest first, and
+-- the blocks of the heap
 pub record Core : Type 0 where
   pub shadow : ℕ → Shadow
   pub registers : List Bits
   pub pc : ℕ
   pub status : Status
+  pub frames : List Frame
+  pub blocks : Blocks
 
 -- a state: beside the core, the byte at each address, how many bytes of input were read, the bytes that were written out,
 -- how many heap calls were made, and all errors so far

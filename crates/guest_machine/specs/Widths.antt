@@ -1,7 +1,7 @@
 -- How many bytes an access has, and what its numbers are below.
 use Rattle.std.specs.Prelude.{ℕ, ◌*◌, ◌^◌}
-use Rattle.guest_machine.specs.declared.memory.cells.Width.{Width}
-use Rattle.guest_machine.specs.declared.memory.cells.Width.TheVariants.{Byte, Half, Word}
+use Rattle.guest_machine.specs.declared.width.Width.{Width}
+use Rattle.guest_machine.specs.declared.width.Width.TheVariants.{Byte, Half, Word}
 
 abbrev pub width_len : Width → ℕ
 width_len Byte = 1

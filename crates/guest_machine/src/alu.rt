@@ -5,7 +5,7 @@ ghost use Rattle.definedness.specs.Operations.{less_signed, shift_of, upper_word
 ghost use Rattle.guest_machine.specs.Alu.{number_of, value_of, undef_of, computed, passes, extended};
 
 use crate::instruction::{Operation, Test};
-use crate::memory::cells::Width;
+use crate::width::Width;
 use definedness::signed::arithmetic_shift;
 use definedness::{
     Bits, Shift, undef_add, undef_and, undef_less, undef_mul, undef_or, undef_shift, undef_sub,

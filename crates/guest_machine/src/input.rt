@@ -31,6 +31,12 @@ impl Input {
         self.bytes.len()
     }
 
+    pub(crate) fn as_slice(&self) -> &[u8]
+        ensures { result.now ≡ self.now }
+    {
+        &self.bytes
+    }
+
     /// Its bytes.
     pub fn into_vec(self) -> Vec<u8>
         ensures { result.items ≡ self }

@@ -2,8 +2,8 @@
 ghost use Rattle.std.specs.Prelude.{◌≡◌, ◌<◌};
 ghost use Rattle.guest_machine.specs.Instructions.{instruction_of, row_of};
 
-use crate::memory::cells::Width;
 use crate::register::Register;
+use crate::width::Width;
 use rv_decode::{Insn, Op, decode};
 
 /// What a branch compares (RISC-V Unprivileged ISA 20191213, section 2.5).

@@ -66,12 +66,12 @@
 #![tactic(auto)]
 
 mod alu;
-mod errors;
+mod call;
+mod hint;
 mod input;
 mod instruction;
 pub mod laws;
 mod machine;
-mod memory;
 mod meter;
 mod register;
 mod setup;
@@ -79,12 +79,10 @@ mod span;
 mod status;
 #[cfg(test)]
 mod tests;
+mod width;
 
-pub use errors::event::{Event, Group, Kind, Note};
-pub use errors::trace::Trace;
 pub use input::Input;
 pub use machine::Machine;
-pub use memory::cells::RangeKind;
 pub use meter::Meter;
 pub use register::Register;
 pub use setup::{Mark, Setup, Touched};

@@ -5,12 +5,15 @@ mod checks;
 mod fields;
 mod observers;
 mod rows;
+mod stack;
 mod step;
 
-use crate::errors::groups::Groups;
-use crate::memory::store::Memory;
 use crate::status::Status;
+use call_stacks::CallStack;
 use definedness::Bits;
+use error_events::Groups;
+use guest_heap::Heap;
+use shadow_memory::Memory;
 
 /// What only adds up: bytes of input read, bytes of output, heap calls made.
 #[derive(Clone, Copy)]
@@ -20,13 +23,21 @@ pub(crate) struct Counts {
     heap_calls: u64,
 }
 
-/// A guest machine between two steps: memory, registers, pc, status, counts and the groups of its errors.
+/// A guest machine between two steps. What it holds stands on the heap, so that a step moves one pointer.
 #[derive(Drop)]
 pub struct Machine {
+    guest: Box<Guest>,
+}
+
+/// What a machine holds: memory, registers, pc, status, calls, heap, counts and the groups of its errors.
+#[derive(Drop)]
+pub(crate) struct Guest {
     memory: Memory,
     registers: [Bits; 32],
     pc: u32,
     status: Status,
+    frames: CallStack,
+    heap: Heap,
     counts: Counts,
     groups: Groups,
 }

@@ -1,6 +1,6 @@
 use crate::input::Input;
-use crate::memory::cells::RangeKind;
 use crate::span::Span;
+use shadow_memory::RangeKind;
 
 /// What a run is given: its input, and the options of its heap.
 #[derive(Drop)]

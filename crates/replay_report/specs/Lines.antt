@@ -1,5 +1,5 @@
 -- The lines of a report, each with its newline. Numbers are decimal.
-use Rattle.std.specs.Prelude.{ℕ, List, [], ◌∷◌, ◌++◌, codes, take, sum_by, min}
+use Rattle.std.specs.Prelude.{ℕ, List, [], ◌∷◌, ◌++◌, codes, take, sum_by, min, length, Option, Some, None, unwrap_or}
 use Rattle.std.specs.List.{flat_map}
 use Rattle.std.specs.Fmt.{decimal}
 use Rattle.guest_elf.specs.declared.image.Image.{Image}
@@ -8,11 +8,19 @@ use Rattle.guest_machine.specs.declared.status.Status.{Status}
 use Rattle.guest_machine.specs.declared.status.Status.TheVariants.{Running, Exited, Stopped}
 use Rattle.guest_machine.specs.declared.status.Stop.{Stop}
 use Rattle.guest_machine.specs.declared.status.Stop.TheVariants.{Jump as JumpStop, Break, Illegal, Misaligned}
-use Rattle.guest_machine.specs.declared.errors.event.Kind.{Kind}
-use Rattle.guest_machine.specs.declared.errors.event.Kind.TheVariants.{Cond, Jump}
-use Rattle.guest_machine.specs.declared.errors.event.Note.{Note}
-use Rattle.guest_machine.specs.declared.errors.event.Note.TheVariants.{Absent, Stack, Elsewhere}
-use Rattle.guest_machine.specs.declared.errors.event.Group.{Group}
+use Rattle.call_stacks.specs.declared.block.Block.{Block}
+use Rattle.call_stacks.specs.declared.block.Near.{Near as NearBlock}
+use Rattle.call_stacks.specs.declared.block.Place.{Place}
+use Rattle.call_stacks.specs.declared.block.Place.TheVariants.{Before, Inside, After}
+use Rattle.error_events.specs.Parameters.{parameter_text}
+use Rattle.error_events.specs.declared.parameter.Parameter.{Parameter}
+use Rattle.error_events.specs.declared.kind.Kind.{Kind}
+use Rattle.error_events.specs.declared.kind.Kind.TheVariants.{Read, Write, Value, Cond, Param, Free, Jump}
+use Rattle.error_events.specs.declared.kind.Fault3.{Fault3}
+use Rattle.error_events.specs.declared.kind.Fault3.TheVariants.{Contains, Uninit, Unaddressable}
+use Rattle.error_events.specs.declared.event.Note.{Note}
+use Rattle.error_events.specs.declared.event.Note.TheVariants.{Absent, Near, Stack, Elsewhere}
+use Rattle.error_events.specs.declared.event.Group.{Group}
 use Rattle.replay_report.specs.Text.{address_text, shown_name, newline}
 
 -- `step N`
@@ -40,9 +48,23 @@ input_line position len = codes "input " ++ decimal position ++ codes " of " ++ 
 unfoldable pub output_line : ℕ → List ℕ
 output_line n = codes "output " ++ decimal n ++ newline
 
+-- what is wrong with a parameter
+abbrev pub fault_text : Fault3 → List ℕ
+fault_text Contains = codes " contains uninitialised byte(s)"
+fault_text Uninit = codes " points to uninitialised byte(s)"
+fault_text Unaddressable = codes " points to unaddressable byte(s)"
+
+unfoldable pub param_text : Parameter → Fault3 → List ℕ
+param_text parameter fault = codes "Syscall param " ++ parameter_text parameter ++ fault_text fault
+
 -- what an error is called (Memcheck manual, section 4.2)
-abbrev pub kind_text : Kind → List ℕ
+unfoldable pub kind_text : Kind → List ℕ
+kind_text (Read n) = codes "Invalid read of size " ++ decimal n
+kind_text (Write n) = codes "Invalid write of size " ++ decimal n
+kind_text Value = codes "Use of uninitialised value of size 4"
 kind_text Cond = codes "Conditional jump or move depends on uninitialised value(s)"
+kind_text (Param parameter fault) = param_text parameter fault
+kind_text Free = codes "Invalid free() / realloc()"
 kind_text Jump = codes "Jump to the invalid address stated on the next line"
 
 -- `error COUNT: TEXT`
@@ -58,15 +80,41 @@ unfoldable pub trace_lines : Image → List ℕ → List ℕ
 trace_lines image [] = []
 trace_lines image (a ∷ callers) = frame_line (codes "at") image a ++ flat_map (frame_line (codes "by") image) callers
 
--- the line of a note, if it has one
-unfoldable pub note_line : Note → List ℕ
-note_line Absent = []
-note_line (Stack a) = codes " Address " ++ address_text a ++ codes " is in the stack region" ++ newline
-note_line (Elsewhere a) = codes " Address " ++ address_text a ++ codes " is not stack'd, malloc'd or (recently) free'd" ++ newline
+-- on which side of a block an address lies
+abbrev pub place_text : Place → List ℕ
+place_text Before = codes " bytes before"
+place_text Inside = codes " bytes inside"
+place_text After = codes " bytes after"
 
--- the lines of a group of errors: its trace is cut to so many addresses
+-- whether a block is live, and where it was allocated, or else where it was freed
+abbrev pub state_text : Option (List ℕ) → List ℕ
+state_text None = codes " alloc'd"
+state_text (Some trace) = codes " free'd"
+
+abbrev pub last_trace : Block → List ℕ
+last_trace block = unwrap_or block.freed block.trace
+
+-- ` Address A is I bytes inside` and ` a block of size S alloc'd`
+unfoldable pub near_front : ℕ → NearBlock → List ℕ
+near_front a near = codes " Address " ++ address_text a ++ codes " is " ++ decimal near.distance ++ place_text near.place
+
+unfoldable pub near_back : Block → List ℕ
+near_back block = codes " a block of size " ++ decimal block.size ++ state_text block.freed ++ newline
+
+abbrev pub near_line : ℕ → NearBlock → List ℕ
+near_line a near = near_front a near ++ near_back near.block
+
+-- the lines of a note, if it has any; a block's trace is cut to so many addresses
+unfoldable pub note_lines : Image → ℕ → Note → List ℕ
+note_lines image callers Absent = []
+note_lines image callers (Near a near) = near_line a near ++ trace_lines image (take callers (last_trace near.block))
+note_lines image callers (Stack a) = codes " Address " ++ address_text a ++ codes " is in the stack region" ++ newline
+note_lines image callers (Elsewhere a) = codes " Address " ++ address_text a ++ codes " is not stack'd, malloc'd or (recently) free'd" ++ newline
+
+-- the lines of a group of errors: traces are cut to so many addresses
 unfoldable pub group_lines : Image → ℕ → Group → List ℕ
-group_lines image callers group = error_line group.count group.kind ++ trace_lines image (take callers group.trace) ++ note_line group.note
+group_lines image callers group =
+    error_line group.count group.kind ++ trace_lines image (take callers group.trace) ++ note_lines image callers group.note
 
 -- `NAME: N bytes in B blocks`
 unfoldable pub blocks_line : List ℕ → ℕ → ℕ → List ℕ
@@ -76,6 +124,12 @@ blocks_line name bytes blocks = name ++ codes ": " ++ decimal bytes ++ codes " b
 abbrev pub error_total : List Group → ℕ
 error_total groups = min (sum_by (λ g. g.count) groups) 18446744073709551615
 
--- `ERROR SUMMARY: E errors from C contexts (suppressed: 0 from 0)`
-unfoldable pub summary_line : ℕ → ℕ → List ℕ
-summary_line errors contexts = codes "ERROR SUMMARY: " ++ decimal errors ++ codes " errors from " ++ decimal contexts ++ codes " contexts (suppressed: 0 from 0)" ++ newline
+-- `ERROR SUMMARY: E errors from C contexts (suppressed: E2 from C2)`
+unfoldable pub shown_summary : List Group → List ℕ
+shown_summary groups = codes "ERROR SUMMARY: " ++ decimal (error_total groups) ++ codes " errors from " ++ decimal (length groups) ++ codes " contexts"
+
+unfoldable pub hidden_summary : List Group → List ℕ
+hidden_summary groups = codes " (suppressed: " ++ decimal (error_total groups) ++ codes " from " ++ decimal (length groups) ++ codes ")" ++ newline
+
+abbrev pub summary_line : List Group → List Group → List ℕ
+summary_line shown hidden = shown_summary shown ++ hidden_summary hidden

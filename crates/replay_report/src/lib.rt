@@ -42,6 +42,7 @@
 //! Source: Memcheck manual (Valgrind 3), sections 2.5 and 4.2: how errors, traces, notes and the summary are worded.
 #![tactic(auto)]
 
+mod filtering;
 mod lines;
 mod options;
 mod rendering;

@@ -1,12 +1,14 @@
 //! The lines of a report.
-ghost use Rattle.std.specs.Prelude.{◌≡◌, ◌++◌, ◌≤◌, ◌<◌, OnOk, codes, take, min, sum_by, length};
+ghost use Rattle.std.specs.Prelude.{◌≡◌, ◌++◌, ◌≤◌, ◌<◌, OnOk, codes, take};
 ghost use Rattle.std.specs.List.{flat_map};
-ghost use Rattle.replay_report.specs.Lines.{step_line, state_line, stop_word, input_line, output_line, kind_text, error_line, frame_line, trace_lines, note_line, group_lines, blocks_line, error_total, summary_line};
+ghost use Rattle.replay_report.specs.Lines.{step_line, state_line, stop_word, input_line, output_line, fault_text, param_text, kind_text, error_line, frame_line, trace_lines, place_text, state_text, last_trace, near_front, near_back, note_lines, group_lines, blocks_line, error_total, shown_summary, hidden_summary, summary_line};
 ghost use Rattle.replay_report.specs.Report.{leak_lines};
 
 use crate::text::{push_address, push_name, push_number, push_text};
+use call_stacks::{Block, Near, Place, Trace};
+use error_events::{Fault3, Group, Kind, Note, Parameter};
 use guest_elf::Image;
-use guest_machine::{Group, Kind, Note, Status, Stop};
+use guest_machine::{Status, Stop};
 use std::alloc::{AllocError, Global};
 
 /// `step N`
@@ -90,13 +92,50 @@ pub(crate) fn push_output(alloc: Global, out: &mut Vec<u8>, n: u64) -> Result<()
     push_text(out, b"\n")
 }
 
+/// What is wrong with a parameter.
+fn fault_text(fault: Fault3) -> &'static [u8]
+    ensures { result.now ≡ fault_text fault }
+{
+    match fault {
+        Fault3::Contains => b" contains uninitialised byte(s)",
+        Fault3::Uninit => b" points to uninitialised byte(s)",
+        Fault3::Unaddressable => b" points to unaddressable byte(s)",
+    }
+}
+
+/// What an error of a parameter is called.
+#[tactic(auto, unfolding(crate::specs::Lines::param_text), using(std::proofs::Common::append_assoc))]
+fn push_param(out: &mut Vec<u8>, parameter: Parameter, fault: Fault3) -> Result<(), AllocError>
+    ensures { OnOk result (out.new.items ≡ out.old.items ++ param_text parameter fault) }
+{
+    push_text(out, b"Syscall param ")?;
+    push_text(out, parameter.text())?;
+    push_text(out, fault_text(fault))?;
+    Ok(())
+}
+
 /// What an error is called.
-fn kind_text(kind: Kind) -> &'static [u8]
-    ensures { result.now ≡ kind_text kind }
+#[tactic(auto, unfolding(crate::specs::Lines::kind_text), using(std::proofs::Common::append_assoc))]
+fn push_kind(alloc: Global, out: &mut Vec<u8>, kind: Kind) -> Result<(), AllocError>
+    ensures { OnOk result (out.new.items ≡ out.old.items ++ kind_text kind) }
 {
     match kind {
-        Kind::Cond => b"Conditional jump or move depends on uninitialised value(s)",
-        Kind::Jump => b"Jump to the invalid address stated on the next line",
+        Kind::Read(n) => {
+            push_text(out, b"Invalid read of size ")?;
+            push_number(alloc, out, u64::from(n))
+        }
+        Kind::Write(n) => {
+            push_text(out, b"Invalid write of size ")?;
+            push_number(alloc, out, u64::from(n))
+        }
+        Kind::Value => push_text(out, b"Use of uninitialised value of size 4"),
+        Kind::Cond => push_text(
+            out,
+            b"Conditional jump or move depends on uninitialised value(s)",
+        ),
+        Kind::Param(parameter, fault) => push_param(out, parameter, fault),
+        Kind::Free => push_text(out, b"Invalid free() / realloc()"),
+        Kind::Jump => push_text(out, b"Jump to the invalid address stated on the next line"),
     }
 }
 
@@ -108,7 +147,7 @@ fn push_error(alloc: Global, out: &mut Vec<u8>, count: u64, kind: Kind) -> Resul
     push_text(out, b"error ")?;
     push_number(alloc, out, count)?;
     push_text(out, b": ")?;
-    push_text(out, kind_text(kind))?;
+    push_kind(alloc, out, kind)?;
     push_text(out, b"\n")
 }
 
@@ -150,36 +189,105 @@ fn push_trace(out: &mut Vec<u8>, image: &Image, addresses: &[u32]) -> Result<(),
     }
 }
 
-/// What an error says of an address, if it says anything.
-#[tactic(auto, unfolding(crate::specs::Lines::note_line), using(std::proofs::Common::append_assoc))]
-fn push_note(out: &mut Vec<u8>, note: Note) -> Result<(), AllocError>
-    ensures { OnOk result (out.new.items ≡ out.old.items ++ note_line note) }
-{
-    match note {
-        Note::Absent => Ok(()),
-        Note::Stack(addr) => {
-            push_text(out, b" Address ")?;
-            push_address(out, addr)?;
-            push_text(out, b" is in the stack region")?;
-            push_text(out, b"\n")?;
-            Ok(())
-        }
-        Note::Elsewhere(addr) => {
-            push_text(out, b" Address ")?;
-            push_address(out, addr)?;
-            push_text(out, b" is not stack'd, malloc'd or (recently) free'd")?;
-            push_text(out, b"\n")?;
-            Ok(())
-        }
-    }
-}
-
 /// So many elements, or all.
 fn front(addresses: &[u32], n: u32) -> &[u32]
     ensures { result.now ≡ take n addresses.now }
 {
     let n = (n as usize).min(addresses.len());
     &addresses[..n]
+}
+
+/// On which side of a block an address lies.
+fn place_text(place: Place) -> &'static [u8]
+    ensures { result.now ≡ place_text place }
+{
+    match place {
+        Place::Before => b" bytes before",
+        Place::Inside => b" bytes inside",
+        Place::After => b" bytes after",
+    }
+}
+
+/// Whether a block is live.
+fn state_text(freed: Option<Trace>) -> &'static [u8]
+    ensures { result.now ≡ state_text freed }
+{
+    match freed {
+        None => b" alloc'd",
+        Some(_) => b" free'd",
+    }
+}
+
+/// Where a block was allocated or, if it is freed, where that was.
+fn last_trace(block: &Block) -> Trace
+    ensures { result ≡ last_trace block.now }
+{
+    block.freed.unwrap_or(block.trace)
+}
+
+/// ` Address A is I bytes inside`
+#[tactic(auto, unfolding(crate::specs::Lines::near_front), using(std::proofs::Common::append_assoc))]
+fn push_near_front(
+    alloc: Global,
+    out: &mut Vec<u8>,
+    addr: u32,
+    near: &Near,
+) -> Result<(), AllocError>
+    ensures { OnOk result (out.new.items ≡ out.old.items ++ near_front addr near.now) }
+{
+    push_text(out, b" Address ")?;
+    push_address(out, addr)?;
+    push_text(out, b" is ")?;
+    push_number(alloc, out, u64::from(near.distance))?;
+    push_text(out, place_text(near.place))
+}
+
+/// ` a block of size S alloc'd`
+#[tactic(auto, unfolding(crate::specs::Lines::near_back), using(std::proofs::Common::append_assoc))]
+fn push_near_back(alloc: Global, out: &mut Vec<u8>, block: &Block) -> Result<(), AllocError>
+    ensures { OnOk result (out.new.items ≡ out.old.items ++ near_back block.now) }
+{
+    push_text(out, b" a block of size ")?;
+    push_number(alloc, out, u64::from(block.size))?;
+    push_text(out, state_text(block.freed))?;
+    push_text(out, b"\n")?;
+    Ok(())
+}
+
+/// What an error says of an address, if it says anything.
+#[tactic(auto, unfolding(crate::specs::Lines::note_lines), using(std::proofs::Common::append_assoc))]
+fn push_note(
+    alloc: Global,
+    out: &mut Vec<u8>,
+    image: &Image,
+    callers: u32,
+    note: &Note,
+) -> Result<(), AllocError>
+    ensures { OnOk result (out.new.items ≡ out.old.items ++ note_lines image.now callers note.now) }
+{
+    match note {
+        Note::Absent => Ok(()),
+        Note::Near(addr, near) => {
+            push_near_front(alloc, out, *addr, near)?;
+            push_near_back(alloc, out, &near.block)?;
+            let trace = last_trace(&near.block);
+            push_trace(out, image, front(trace.addresses(), callers))
+        }
+        Note::Stack(addr) => {
+            push_text(out, b" Address ")?;
+            push_address(out, *addr)?;
+            push_text(out, b" is in the stack region")?;
+            push_text(out, b"\n")?;
+            Ok(())
+        }
+        Note::Elsewhere(addr) => {
+            push_text(out, b" Address ")?;
+            push_address(out, *addr)?;
+            push_text(out, b" is not stack'd, malloc'd or (recently) free'd")?;
+            push_text(out, b"\n")?;
+            Ok(())
+        }
+    }
 }
 
 /// A group of errors, with at most `callers` addresses of its trace.
@@ -195,7 +303,7 @@ fn push_group(
 {
     push_error(alloc, out, group.count, group.kind)?;
     push_trace(out, image, front(group.trace.addresses(), callers))?;
-    push_note(out, group.note)
+    push_note(alloc, out, image, callers, &group.note)
 }
 
 /// The groups of errors, in their order.
@@ -258,20 +366,42 @@ fn error_total(groups: &[Group]) -> u64
     total
 }
 
-/// How many errors there are, and in how many groups. None is suppressed yet.
-#[tactic(auto, unfolding(crate::specs::Lines::summary_line), using(std::proofs::Common::append_assoc))]
-pub(crate) fn push_summary(
-    alloc: Global,
-    out: &mut Vec<u8>,
-    groups: &[Group],
-) -> Result<(), AllocError>
-    ensures { OnOk result (out.new.items ≡ out.old.items ++ summary_line (error_total groups.now) (length groups.now)) }
+/// `ERROR SUMMARY: E errors from C contexts`
+#[tactic(auto, unfolding(crate::specs::Lines::shown_summary), using(std::proofs::Common::append_assoc))]
+fn push_shown_summary(alloc: Global, out: &mut Vec<u8>, groups: &[Group]) -> Result<(), AllocError>
+    ensures { OnOk result (out.new.items ≡ out.old.items ++ shown_summary groups.now) }
 {
     push_text(out, b"ERROR SUMMARY: ")?;
     push_number(alloc, out, error_total(groups))?;
     push_text(out, b" errors from ")?;
     push_number(alloc, out, groups.len() as u64)?;
-    push_text(out, b" contexts (suppressed: 0 from 0)")?;
-    push_text(out, b"\n")?;
+    push_text(out, b" contexts")?;
     Ok(())
+}
+
+/// ` (suppressed: E2 from C2)`
+#[tactic(auto, unfolding(crate::specs::Lines::hidden_summary), using(std::proofs::Common::append_assoc))]
+fn push_hidden_summary(alloc: Global, out: &mut Vec<u8>, groups: &[Group]) -> Result<(), AllocError>
+    ensures { OnOk result (out.new.items ≡ out.old.items ++ hidden_summary groups.now) }
+{
+    push_text(out, b" (suppressed: ")?;
+    push_number(alloc, out, error_total(groups))?;
+    push_text(out, b" from ")?;
+    push_number(alloc, out, groups.len() as u64)?;
+    push_text(out, b")")?;
+    push_text(out, b"\n")
+}
+
+/// How many errors are shown and how many suppressed, each with the number of their groups.
+#[tactic(auto, using(std::proofs::Common::append_assoc))]
+pub(crate) fn push_summary(
+    alloc: Global,
+    out: &mut Vec<u8>,
+    shown: &[Group],
+    hidden: &[Group],
+) -> Result<(), AllocError>
+    ensures { OnOk result (out.new.items ≡ out.old.items ++ summary_line shown.now hidden.now) }
+{
+    push_shown_summary(alloc, out, shown)?;
+    push_hidden_summary(alloc, out, hidden)
 }

@@ -1,9 +1,10 @@
 //! The report of a machine.
-ghost use Rattle.std.specs.Prelude.{◌≡◌, ◌++◌, ◌≤◌, OnOk, OnErr, length};
+ghost use Rattle.std.specs.Prelude.{◌≡◌, ◌++◌, ◌<◌, ◌≤◌, OnOk, OnErr, length};
 ghost use Rattle.guest_machine.specs.State.{State};
 ghost use Rattle.guest_machine.specs.Shows.{Shows};
 ghost use Rattle.replay_report.specs.Report.{report};
 
+use crate::filtering::split_groups;
 use crate::lines::{
     push_groups, push_input, push_leaks, push_output, push_state, push_step, push_summary,
 };
@@ -11,6 +12,7 @@ use crate::options::Options;
 use guest_elf::Image;
 use guest_machine::Machine;
 use std::alloc::{AllocError, Global};
+use suppressions::Suppression;
 
 /// The lines of a report.
 #[tactic(auto, unfolding(crate::specs::Report::report), using(std::proofs::Common::append_assoc))]
@@ -19,30 +21,33 @@ fn push_report(
     out: &mut Vec<u8>,
     machine: &Machine,
     image: &Image,
+    suppressions: &[Suppression],
     options: &Options,
     step: u32,
     input_len: u64,
 ) -> Result<(), AllocError>
-    ensures { OnOk result ((s : State) → Shows machine.now s → out.new.items ≡ out.old.items ++ report s image.now options.now step input_len) }
+    requires { 0 < options.now.callers }
+    ensures { OnOk result ((s : State) → Shows machine.now s → out.new.items ≡ out.old.items ++ report s image.now suppressions.now options.now step input_len) }
 {
     push_step(alloc, out, step)?;
     push_state(alloc, out, machine.status(), machine.pc())?;
     push_input(alloc, out, machine.position(), input_len)?;
     push_output(alloc, out, machine.output_len())?;
-    let groups = machine.error_groups();
-    push_groups(alloc, out, image, options.callers, groups)?;
+    let (shown, hidden) = split_groups(alloc, machine, image, suppressions, options.callers)?;
+    push_groups(alloc, out, image, options.callers, &shown)?;
     push_leaks(alloc, out)?;
-    push_summary(alloc, out, groups)
+    push_summary(alloc, out, &shown, &hidden)
 }
 
 /// Appends the report of a machine at a step, for an input of `input_len` bytes, with names from the image. `callers` of the
-/// options is from 1 to 24.
+/// options is from 1 to 24. Errors that a suppression matches are only counted.
 ///
 /// An error means that memory failed; the vector is then as it was before the call.
 pub fn render(
     alloc: Global,
     machine: &Machine,
     image: &Image,
+    suppressions: &[Suppression],
     options: &Options,
     step: u32,
     input_len: u64,
@@ -50,11 +55,20 @@ pub fn render(
 ) -> Result<(), AllocError>
     requires some { 1 ≤ options.now.callers }
     requires few { options.now.callers ≤ 24 }
-    ensures ok { OnOk result ((s : State) → Shows machine.now s → out.new.items ≡ out.old.items ++ report s image.now options.now step input_len) }
+    ensures ok { OnOk result ((s : State) → Shows machine.now s → out.new.items ≡ out.old.items ++ report s image.now suppressions.now options.now step input_len) }
     ensures err { OnErr result (out.new.items ≡ out.old.items) }
 {
     let mut lines = Vec::new(alloc);
-    push_report(alloc, &mut lines, machine, image, options, step, input_len)?;
+    push_report(
+        alloc,
+        &mut lines,
+        machine,
+        image,
+        suppressions,
+        options,
+        step,
+        input_len,
+    )?;
     out.extend_from_slice(&lines)?;
     Ok(())
 }

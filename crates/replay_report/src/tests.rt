@@ -1,7 +1,8 @@
 //! Reports of programs by hand, against texts written down from the format of a report.
 use crate::{Options, render};
 use guest_elf::read;
-use guest_machine::{Input, Machine, Mark, Meter, RangeKind, Setup};
+use guest_machine::{Input, Machine, Mark, Meter, Setup};
+use shadow_memory::RangeKind;
 use guest_programs::program;
 use std::alloc::{AllocError, Global};
 use std::test::Fail;
@@ -48,6 +49,7 @@ fn report_for(alloc: Global, words: &[u32], steps: u32, input_len: u64) -> Resul
         alloc,
         &machine,
         &image,
+        &[],
         &Options::default(),
         steps,
         input_len,
@@ -224,6 +226,7 @@ fn a_report_is_appended(rt: HostRuntime) -> Result<(), Fail> {
         rt.alloc(),
         &machine,
         &image,
+        &[],
         &Options::default(),
         0,
         0,

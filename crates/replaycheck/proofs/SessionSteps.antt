@@ -7,7 +7,8 @@ use Rattle.guest_machine.specs.declared.setup.Setup.{Setup}
 use Rattle.guest_elf.specs.declared.image.Image.{Image}
 use Rattle.replay_report.specs.declared.options.Options.{Options}
 use Rattle.replaycheck.specs.Once.{report_once}
-use Rattle.replaycheck.specs.Setups.{plain_setup}
+use Rattle.replaycheck.specs.Setups.{setup_with}
+use Rattle.suppressions.specs.Rules.{Rule}
 use Rattle.guest_machine.specs.declared.setup.Mark.{Mark}
 use Rattle.replay_report.specs.Report.{report}
 use Rattle.replaycheck.specs.Scenario.{Scenario, begun, first_state, chosen_state, report_of, most_lines, counted, changed, bytes_for, accepted, accepted_with, after, apply, reply, replied, report_bytes}
@@ -23,12 +24,12 @@ pub lines-counted : (now n : ℕ) → now ≡ n → now < most_lines → now + 1
 lines-counted now n e h = grind (arith, nat_tests)
 
 -- the report of what the session keeps is that of its scenario
-pub report-has : (session : Session) (sc : Scenario) (marks : List Mark) (len : ℕ) → HasScenario session sc → marks ≡ session.marks.items → len ≡ length session.setup.input → (old : List ℕ)
-    → old ++ report (post (first_state sc) session.setup marks session.step) session.image session.options session.step len ≡ old ++ report_of sc
+pub report-has : (session : Session) (sc : Scenario) (marks : List Mark) (rules : List Rule) (len : ℕ) → HasScenario session sc → marks ≡ session.marks.items → rules ≡ session.suppressions.items → len ≡ length session.setup.input → (old : List ℕ)
+    → old ++ report (post (first_state sc) session.setup marks session.step) session.image rules session.options session.step len ≡ old ++ report_of sc
 unfolding report_of chosen_state
-report-has session sc marks len h same e old =
-    (λ i. old ++ report (post (first_state sc) session.setup (same i) session.step) session.image session.options session.step (e i))
-    ∙ (λ i. old ++ report (post (first_state sc) (h.setup i) (h.marks i) (h.step i)) (h.image i) (h.options i) (h.step i) (length (h.setup i).input))
+report-has session sc marks rules len h same kept e old =
+    (λ i. old ++ report (post (first_state sc) session.setup (same i) session.step) session.image (kept i) session.options session.step (e i))
+    ∙ (λ i. old ++ report (post (first_state sc) (h.setup i) (h.marks i) (h.step i)) (h.image i) (h.rules i) (h.options i) (h.step i) (length (h.setup i).input))
 
 -- what a command does commutes with counting its line
 changed-counted : (sc : Scenario) (command : Command) → changed (counted sc) command ≡ counted (changed sc command)
@@ -77,8 +78,9 @@ meets-refused new sc line fault result out is told h = inl (record {
 })
 
 -- the report of a run that nothing was done to
-pub report-once : (image : Image) (setup : Setup) (options : Options) (step : ℕ) → setup ≡ plain_setup → options.callers ≡ 12 → options.show ≡ true ∷ false ∷ true ∷ false ∷ []
-    → report (post (start_state image) setup [] step) image options step 0 ≡ report_once image step
+pub report-once : (image : Image) (input : List ℕ) (rules : List Rule) (setup : Setup) (options : Options) (step len : ℕ) → setup ≡ setup_with input → options.callers ≡ 12 → options.show ≡ true ∷ false ∷ true ∷ false ∷ []
+    → len ≡ length setup.input → report (post (start_state image) setup [] step) image rules options step len ≡ report_once image input rules step
 unfolding report_once report_of chosen_state first_state begun
-report-once image setup options step plain callers show =
-    λ i. report (post (start_state image) (plain i) [] step) image (record { callers = callers i; show = show i }) step 0
+report-once image input rules setup options step len plain callers show all =
+    (λ i. report (post (start_state image) (plain i) [] step) image rules (record { callers = callers i; show = show i }) step (all i))
+    ∙ (λ i. report (post (start_state image) (setup_with input) [] step) image rules (record { callers = 12; show = true ∷ false ∷ true ∷ false ∷ [] }) step (length (plain i).input))

@@ -4,8 +4,8 @@ use Rattle.std.specs.Char.{digit_value}
 use Rattle.std.specs.List.{list_all, starts_with}
 use Rattle.std.specs.Str.{bytes_eq}
 use Rattle.std.specs.Str.Parse.{digits_value}
-use Rattle.guest_machine.specs.declared.memory.cells.RangeKind.{RangeKind}
-use Rattle.guest_machine.specs.declared.memory.cells.RangeKind.TheVariants.{NoAccess, Undefined, Defined}
+use Rattle.shadow_memory.specs.declared.cells.RangeKind.{RangeKind}
+use Rattle.shadow_memory.specs.declared.cells.RangeKind.TheVariants.{NoAccess, Undefined, Defined}
 use Rattle.replaycheck.specs.declared.session.command.Command.{Command}
 use Rattle.replaycheck.specs.declared.session.command.Command.TheVariants.{Goto, Report, Mark, Unmark}
 

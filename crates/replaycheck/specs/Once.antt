@@ -4,13 +4,15 @@ use Rattle.std.specs.Io.KnownBytes.{Appends}
 use Rattle.guest_elf.specs.declared.image.Image.{Image}
 use Rattle.replaycheck.specs.Scenario.{begun, at_step, report_of}
 use Rattle.replaycheck.specs.declared.run_once.RunFault.{RunFault}
-use Rattle.replaycheck.specs.declared.run_once.RunFault.TheVariants.{NoMemory, WriteFailed}
+use Rattle.replaycheck.specs.declared.run_once.RunFault.TheVariants.{InputTooLarge, NoMemory, WriteFailed}
+use Rattle.suppressions.specs.Rules.{Rule}
 
--- the report at a step of a program with no marks, no input and default options
-unfoldable pub report_once : Image → ℕ → List ℕ
-report_once image step = report_of (at_step (begun image) step)
+-- the report at a step of a program with an input and suppressions, no marks and default options
+unfoldable pub report_once : Image → List ℕ → List Rule → ℕ → List ℕ
+report_once image input rules step = report_of (at_step (begun image input rules) step)
 
--- want of memory wrote nothing; a failed write stopped after so many bytes of the report
-abbrev pub StopsBy : RunFault → Image → ℕ → Option (List ℕ) → Option (List ℕ) → Type 0
-StopsBy NoMemory image step old new = Appends old new []
-StopsBy (WriteFailed sent) image step old new = (sent ≤ length (report_once image step)) × Appends old new (take sent (report_once image step))
+-- a refused input and want of memory wrote nothing; a failed write stopped after so many bytes of the report
+abbrev pub StopsBy : RunFault → List ℕ → Option (List ℕ) → Option (List ℕ) → Type 0
+StopsBy InputTooLarge text old new = Appends old new []
+StopsBy NoMemory text old new = Appends old new []
+StopsBy (WriteFailed sent) text old new = (sent ≤ length text) × Appends old new (take sent text)

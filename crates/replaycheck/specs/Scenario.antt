@@ -8,7 +8,8 @@ use Rattle.guest_machine.specs.declared.setup.Mark.{Mark as MarkAt}
 use Rattle.replay_report.specs.Report.{report}
 use Rattle.replay_report.specs.declared.options.Options.{Options}
 use Rattle.replaycheck.specs.Commands.{parsed}
-use Rattle.replaycheck.specs.Setups.{plain_setup}
+use Rattle.replaycheck.specs.Setups.{setup_with}
+use Rattle.suppressions.specs.Rules.{Rule}
 use Rattle.replaycheck.specs.declared.session.command.Command.{Command}
 use Rattle.replaycheck.specs.declared.session.command.Command.TheVariants.{Goto, Report, Mark, Unmark}
 use Rattle.replaycheck.specs.declared.session.fault.Fault.{Fault}
@@ -16,13 +17,14 @@ use Rattle.replaycheck.specs.declared.session.fault.Fault.TheVariants.{BadComman
 use Rattle.replaycheck.specs.declared.session.reply.Reply.{Reply}
 use Rattle.replaycheck.specs.declared.session.reply.Reply.TheVariants.{Done, Report as Reported}
 
--- a program with its patched byte values, its input and heap settings, the marks, the options of the report, the chosen step,
+-- a program with its patched byte values, its input and heap settings, the marks, the suppressions, the options of the report, the chosen step,
 -- and how many lines were given
 pub record Scenario : Type 0 where
   pub image : Image
   pub bytes : ℕ → ℕ
   pub setup : Setup
   pub marks : List MarkAt
+  pub rules : List Rule
   pub options : Options
   pub step : ℕ
   pub lines : ℕ
@@ -53,7 +55,7 @@ chosen_state sc = post (first_state sc) sc.setup sc.marks sc.step
 
 -- the report at the chosen step of one run from step zero
 unfoldable pub report_of : Scenario → List ℕ
-report_of sc = report (chosen_state sc) sc.image sc.options sc.step (length sc.setup.input)
+report_of sc = report (chosen_state sc) sc.image sc.rules sc.options sc.step (length sc.setup.input)
 
 -- why a mark is refused where there are so many, in order: its step, its range, too many marks
 unfoldable pub mark_refusal : ℕ → MarkAt → Option Fault
@@ -133,14 +135,15 @@ bytes_for sc (Err fault) = []
 unfoldable pub report_bytes : Scenario → List ℕ → List ℕ
 report_bytes sc line = bytes_for sc (accepted sc line)
 
--- the scenario that a session begins with: nothing patched, no marks, step 0
-unfoldable pub begun : Image → Scenario
-begun image =
+-- the scenario that a session of a program, an input and suppressions begins with: nothing patched, no marks, step 0
+unfoldable pub begun : Image → List ℕ → List Rule → Scenario
+begun image input rules =
     record {
       image = image;
       bytes = (start_state image).bytes;
-      setup = plain_setup;
+      setup = setup_with input;
       marks = [];
+      rules = rules;
       options = record { callers = 12; show = true ∷ false ∷ true ∷ false ∷ [] };
       step = 0;
       lines = 0;

@@ -15,6 +15,7 @@ pub record HasScenario (session : Session) (sc : Scenario) : Type 0 where
   pub start : Shows session.start (first_state sc)
   pub setup : session.setup ≡ sc.setup
   pub marks : session.marks.items ≡ sc.marks
+  pub rules : session.suppressions.items ≡ sc.rules
   pub options : session.options ≡ sc.options
   pub step : session.step ≡ sc.step
   pub lines : session.lines ≡ sc.lines

@@ -6,6 +6,8 @@ use std::alloc::{AllocError, Global};
 #[derive(Clone, Copy, Debug, PartialEq, Eq)]
 pub(crate) struct Order<'a> {
     pub(crate) file: &'a str,
+    pub(crate) input: Option<&'a str>,
+    pub(crate) suppressions: Option<&'a str>,
     pub(crate) step: u32,
 }
 
@@ -23,9 +25,18 @@ fn make_command<'a>(alloc: Global) -> Result<Command<'a>, AllocError> {
         .value_parser(value_parser!(u32).range(0..=1_048_576))
         .default_value("1048576")
         .help("The step to report at, from 0 to 1048576");
+    let input = Arg::new(alloc, "input").long("input").value_name("F").help(
+        "A file with the bytes that the program can read; none without it",
+    );
+    let supp = Arg::new(alloc, "supp")
+        .long("supp")
+        .value_name("F")
+        .help("A file of suppressions, in Valgrind's form");
     let run = Command::new(alloc, "run")
         .about("Prints the report of a program at a step")
         .arg(file)?
+        .arg(input)?
+        .arg(supp)?
         .arg(step)?;
     Command::new(alloc, "replaycheck")
         .version("0.1.0")
@@ -47,5 +58,10 @@ fn order_of<'a>(matches: &ArgMatches<'a>) -> Option<Order<'a>> {
     let (_name, run) = matches.subcommand()?;
     let file = run.get_str("FILE")?;
     let step = run.get_one::<u32>("step")?;
-    Some(Order { file, step })
+    Some(Order {
+        file,
+        input: run.get_str("input"),
+        suppressions: run.get_str("supp"),
+        step,
+    })
 }

@@ -4,6 +4,7 @@ ghost use Rattle.replaycheck.specs.Ends.{status_of};
 
 use guest_elf::ElfFault;
 use std::io::Write;
+use suppressions::SuppFault;
 
 /// How the program ends. `Done` stands for help too, and `Usage` for a fault of the command line, whose text the command-line
 /// parser has written.
@@ -15,6 +16,11 @@ pub enum End<'a> {
     CannotWrite,
     Usage,
     Image(ElfFault),
+    Suppressions(SuppFault),
+    /// A text of more than 1,048,576 bytes.
+    SuppressionsTooLong,
+    /// An input of more than 1,048,576 bytes.
+    InputTooLarge,
     NoMemory,
 }
 
@@ -27,8 +33,11 @@ pub fn tell<W: Write>(end: &End, writer: &mut W) -> u8
         End::Done => 0,
         End::CannotRead(_) | End::CannotWrite => 1,
         End::Usage => 2,
-        End::Image(ElfFault::Memory) | End::NoMemory => 4,
-        End::Image(_) => 3,
+        End::Image(ElfFault::Memory) | End::Suppressions(SuppFault::Memory) | End::NoMemory => 4,
+        End::Image(_)
+        | End::Suppressions(SuppFault::BadSuppression(_))
+        | End::SuppressionsTooLong
+        | End::InputTooLarge => 3,
     }
 }
 
@@ -37,12 +46,20 @@ fn write_line<W: Write>(end: &End, writer: &mut W) -> std::io::Result<()> {
         End::Done | End::Usage => Ok(()),
         End::CannotRead(path) => writeln!(writer, "replaycheck: cannot read {path}"),
         End::CannotWrite => writeln!(writer, "replaycheck: cannot write"),
-        End::Image(ElfFault::Memory) | End::NoMemory => {
+        End::Image(ElfFault::Memory) | End::Suppressions(SuppFault::Memory) | End::NoMemory => {
             writeln!(writer, "replaycheck: out of memory")
         }
         End::Image(fault) => {
             let number = fault.number();
             writeln!(writer, "replaycheck: image refused {number}")
         }
+        End::Suppressions(SuppFault::BadSuppression(line)) => {
+            writeln!(
+                writer,
+                "replaycheck: suppressions refused 13 at line {line}"
+            )
+        }
+        End::SuppressionsTooLong => writeln!(writer, "replaycheck: suppressions refused 15"),
+        End::InputTooLarge => writeln!(writer, "replaycheck: input refused 14"),
     }
 }

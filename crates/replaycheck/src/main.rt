@@ -12,10 +12,15 @@ mod tests;
 use crate::arguments::{Order, read_order};
 use crate::ends::{End, tell};
 use crate::run_once::{RunFault, run_once};
+use crate::session::keeper::LONGEST_INPUT;
 use guest_elf::read;
 use std::process::ExitCode;
 use std::rt::Env;
 use std::{env, fs, io};
+use suppressions::{Suppression, parse};
+
+/// How many bytes a text of suppressions may have.
+const LONGEST_TEXT: usize = 1_048_576;
 
 /// The words of the command line.
 fn words_of<R: Env + AllocGlobal>(rt: &R) -> io::Result<Vec<String>> {
@@ -26,21 +31,74 @@ fn words_of<R: Env + AllocGlobal>(rt: &R) -> io::Result<Vec<String>> {
     Ok(words)
 }
 
-/// Prints the report that is asked for.
-fn run<'a>(rt: &HostRuntime, order: Order<'a>) -> End<'a> {
-    let file = match fs::read(rt, order.file) {
-        Ok(file) => file,
-        Err(error) if error.kind() == io::ErrorKind::OutOfMemory => return End::NoMemory,
-        Err(_) => return End::CannotRead(order.file),
+/// The bytes of a file.
+fn read_file<'a>(rt: &HostRuntime, path: &'a str) -> Result<Vec<u8>, End<'a>> {
+    match fs::read(rt, path) {
+        Ok(bytes) => Ok(bytes),
+        Err(error) if error.kind() == io::ErrorKind::OutOfMemory => Err(End::NoMemory),
+        Err(_) => Err(End::CannotRead(path)),
+    }
+}
+
+/// The suppressions of a file, if one is named.
+fn read_suppressions<'a>(
+    rt: &HostRuntime,
+    path: Option<&'a str>,
+) -> Result<Vec<Suppression>, End<'a>> {
+    let Some(path) = path else {
+        return Ok(Vec::new(rt.alloc()));
     };
+    let text = read_file(rt, path)?;
+    if text.len() > LONGEST_TEXT {
+        return Err(End::SuppressionsTooLong);
+    }
+    match parse(rt.alloc(), &text) {
+        Ok(suppressions) => Ok(suppressions),
+        Err(fault) => Err(End::Suppressions(fault)),
+    }
+}
+
+/// The bytes of the input, if a file is named.
+fn read_input<'a>(rt: &HostRuntime, path: Option<&'a str>) -> Result<Vec<u8>, End<'a>> {
+    let Some(path) = path else {
+        return Ok(Vec::new(rt.alloc()));
+    };
+    let input = read_file(rt, path)?;
+    if input.len() > LONGEST_INPUT {
+        return Err(End::InputTooLarge);
+    }
+    Ok(input)
+}
+
+/// Prints the report that is asked for: the program is read, then the suppressions, then the input, each checked before the next.
+fn print_report<'a>(rt: &HostRuntime, order: Order<'a>) -> Result<(), End<'a>> {
+    let file = read_file(rt, order.file)?;
     let image = match read(rt.alloc(), &file) {
         Ok(image) => image,
-        Err(fault) => return End::Image(fault),
+        Err(fault) => return Err(End::Image(fault)),
     };
-    match run_once(rt.alloc(), &image, order.step, &mut rt.stdout()) {
+    let suppressions = read_suppressions(rt, order.suppressions)?;
+    let input = read_input(rt, order.input)?;
+    let mut out = rt.stdout();
+    match run_once(
+        rt.alloc(),
+        &image,
+        input,
+        &suppressions,
+        order.step,
+        &mut out,
+    ) {
+        Ok(()) => Ok(()),
+        Err(RunFault::InputTooLarge) => Err(End::InputTooLarge),
+        Err(RunFault::NoMemory) => Err(End::NoMemory),
+        Err(RunFault::WriteFailed { .. }) => Err(End::CannotWrite),
+    }
+}
+
+fn run<'a>(rt: &HostRuntime, order: Order<'a>) -> End<'a> {
+    match print_report(rt, order) {
         Ok(()) => End::Done,
-        Err(RunFault::NoMemory) => End::NoMemory,
-        Err(RunFault::WriteFailed { .. }) => End::CannotWrite,
+        Err(end) => end,
     }
 }
 

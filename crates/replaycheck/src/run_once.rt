@@ -1,21 +1,26 @@
 //! One program, one report.
-ghost use Rattle.std.specs.Prelude.{◌≡◌, IfOk, OnOk, IfErr};
+ghost use Rattle.std.specs.Prelude.{◌≡◌, ◌<◌, ◌↔◌, Err, IfOk, OnOk, IfErr, length};
+ghost use Rattle.replaycheck.specs.Setups.{longest_input};
 ghost use Rattle.replaycheck.specs.Once.{report_once, StopsBy};
 ghost use Rattle.std.specs.Io.KnownBytes.{Appends};
 
 use crate::sending::send;
-use crate::session::keeper::default_setup;
+use crate::session::keeper::{LONGEST_INPUT, setup_with};
 use crate::session::replay::run_to;
 use guest_elf::Image;
 use guest_machine::{Machine, Meter};
 use replay_report::{Options, render};
 use std::alloc::{AllocError, Global};
 use std::io::Write;
+use suppressions::Suppression;
 use thiserror::Error;
 
 /// Why no whole report was written.
 #[derive(Clone, Copy, Debug, PartialEq, Eq, Error)]
 pub enum RunFault {
+    /// The input has more than 1,048,576 bytes; nothing was written.
+    #[error("the input is too large")]
+    InputTooLarge,
     /// Nothing was written.
     #[error("no memory")]
     NoMemory,
@@ -24,38 +29,52 @@ pub enum RunFault {
     WriteFailed { bytes: u64 },
 }
 
-/// The report of a program at a step, with no marks and default options.
-fn report_once(alloc: Global, image: &Image, step: u32) -> Result<Vec<u8>, AllocError>
-    ensures { IfOk result (λ text. text.items ≡ report_once image.now step) }
+/// The report of a program with an input and suppressions at a step, with no marks and default options.
+fn report_once(
+    alloc: Global,
+    image: &Image,
+    input: Vec<u8>,
+    suppressions: &[Suppression],
+    step: u32,
+) -> Result<Vec<u8>, AllocError>
+    ensures { IfOk result (λ text. text.items ≡ report_once image.now input.items suppressions.now step) }
 {
     let start = Machine::start(alloc, image)?;
-    let setup = default_setup(alloc);
+    let setup = setup_with(input);
     let mut meter = Meter::new();
     let machine = run_to(start, &setup, &[], step, &mut meter)?;
+    let input_len = setup.input.len() as u64;
     let mut text = Vec::new(alloc);
     render(
         alloc,
         &machine,
         image,
+        suppressions,
         &Options::default(),
         step,
-        0,
+        input_len,
         &mut text,
     )?;
     Ok(text)
 }
 
-/// Writes the report of a program at a step, with no marks, no input and default options.
+/// Writes the report of a program with an input and suppressions at a step, with no marks and default options.
 pub fn run_once<W: Write>(
     alloc: Global,
     image: &Image,
+    input: Vec<u8>,
+    suppressions: &[Suppression],
     step: u32,
     writer: &mut W,
 ) -> Result<(), RunFault>
-    ensures ok { OnOk result (Appends (W.contents writer.old) (W.contents writer.new) (report_once image.now step)) }
-    ensures fault { IfErr result (λ fault. StopsBy fault image.now step (W.contents writer.old) (W.contents writer.new)) }
+    ensures ok { OnOk result (Appends (W.contents writer.old) (W.contents writer.new) (report_once image.now input.items suppressions.now step)) }
+    ensures large { (result ≡ Err RunFault.InputTooLarge) ↔ (longest_input < length input.items) }
+    ensures fault { IfErr result (λ fault. StopsBy fault (report_once image.now input.items suppressions.now step) (W.contents writer.old) (W.contents writer.new)) }
 {
-    let Ok(text) = report_once(alloc, image, step) else {
+    if input.len() > LONGEST_INPUT {
+        return Err(RunFault::InputTooLarge);
+    }
+    let Ok(text) = report_once(alloc, image, input, suppressions, step) else {
         return Err(RunFault::NoMemory);
     };
     let (bytes, all) = send(writer, &text);

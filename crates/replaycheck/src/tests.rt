@@ -6,6 +6,7 @@ use guest_programs::program;
 use std::io;
 use std::io::Write;
 use std::test::Fail;
+use suppressions::SuppFault;
 
 /// A writer over memory that takes so many bytes, and then fails.
 #[derive(Drop)]
@@ -39,7 +40,10 @@ fn one_report(rt: HostRuntime) -> Result<(), Fail> {
         room: 1000,
         taken: Vec::new(alloc),
     };
-    assert_eq!(rt; run_once(alloc, &image, 3, &mut all), Ok(()));
+    assert_eq!(rt;
+        run_once(alloc, &image, Vec::new(alloc), &[], 3, &mut all),
+        Ok(())
+    );
     assert_eq!(rt; all.taken.len(), 285);
     assert!(rt;
         all.taken
@@ -49,7 +53,7 @@ fn one_report(rt: HostRuntime) -> Result<(), Fail> {
         room: 100,
         taken: Vec::new(alloc),
     };
-    let stopped = run_once(alloc, &image, 3, &mut some);
+    let stopped = run_once(alloc, &image, Vec::new(alloc), &[], 3, &mut some);
     assert_eq!(rt; stopped, Err(RunFault::WriteFailed { bytes: 100 }));
     assert!(rt; all.taken.starts_with(some.taken.as_slice()));
     Ok(())
@@ -77,6 +81,22 @@ fn ends(rt: HostRuntime) -> Result<(), Fail> {
             4,
             "replaycheck: out of memory\n",
         ),
+        (
+            End::Suppressions(SuppFault::BadSuppression(7)),
+            3,
+            "replaycheck: suppressions refused 13 at line 7\n",
+        ),
+        (
+            End::Suppressions(SuppFault::Memory),
+            4,
+            "replaycheck: out of memory\n",
+        ),
+        (
+            End::SuppressionsTooLong,
+            3,
+            "replaycheck: suppressions refused 15\n",
+        ),
+        (End::InputTooLarge, 3, "replaycheck: input refused 14\n"),
         (End::NoMemory, 4, "replaycheck: out of memory\n"),
     ];
     for (end, status, line) in cases {

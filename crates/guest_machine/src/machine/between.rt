@@ -1,18 +1,20 @@
 //! What is done to a machine between steps.
 ghost use Rattle.std.specs.Prelude.{◌≡◌, IfOk, OnOk, []};
-ghost use Rattle.guest_machine.specs.Memories.{bytes_in, shadows_in};
+ghost use Rattle.shadow_memory.specs.Memories.{bytes_in, shadows_in};
 ghost use Rattle.guest_machine.specs.Loading.{loaded_bytes, loaded_shadows};
 ghost use Rattle.guest_machine.specs.State.{State};
 ghost use Rattle.guest_machine.specs.Run.{start_state, marked, poked};
-ghost use Rattle.guest_machine.specs.Shows.{Shows};
+ghost use Rattle.guest_machine.specs.Shows.{Holds, Shows};
 
-use crate::errors::groups::Groups;
 use crate::machine::fields::known;
-use crate::machine::{Counts, Machine};
-use crate::memory::store::Memory;
+use crate::machine::{Counts, Guest, Machine};
 use crate::setup::Mark;
 use crate::status::Status;
+use call_stacks::CallStack;
+use error_events::Groups;
 use guest_elf::{Image, Segment};
+use guest_heap::Heap;
+use shadow_memory::Memory;
 use std::alloc::{AllocError, Global};
 
 // Where the stack pointer points at the start, at sixteen bytes that may be used.
@@ -20,22 +22,22 @@ const STACK_START: u32 = 0x7FFF_FFF0;
 
 const STACK_ROOM: u32 = 16;
 
-impl Machine {
-    /// The machine before step 0: the image's bytes are loaded, accessible and defined, as are sixteen zero bytes at the top of
-    /// the stack, to which x2 points; pc is the entry, the other registers are 0, and all registers are defined.
-    pub fn start(alloc: Global, image: &Image) -> Result<Machine, AllocError>
-        ensures { IfOk result (λ machine. Shows machine (start_state image.now)) }
+impl Guest {
+    fn start(alloc: Global, image: &Image) -> Result<Guest, AllocError>
+        ensures { IfOk result (λ guest. Holds guest (start_state image.now)) }
     {
         let mut memory = Memory::new(alloc);
         load_segments(&mut memory, image.segments())?;
         memory.fill(STACK_START, STACK_ROOM, &[])?;
         let mut registers = [known(0); 32];
         registers[2] = known(STACK_START);
-        Ok(Machine {
+        Ok(Guest {
             memory,
             registers,
             pc: image.entry(),
             status: Status::Running,
+            frames: CallStack::new(alloc)?,
+            heap: Heap::new(alloc)?,
             counts: Counts {
                 position: 0,
                 output_len: 0,
@@ -45,12 +47,55 @@ impl Machine {
         })
     }
 
+    fn mark(&mut self, mark: &Mark) -> Result<(), AllocError>
+        ensures { OnOk result ((s : State) → Holds self.old s → Holds self.new (marked s mark.now)) }
+    {
+        self.memory.set_range(mark.addr, mark.len, mark.kind)?;
+        Ok(())
+    }
+
+    fn poke_word(&mut self, addr: u32, word: u32) -> Result<(), AllocError>
+        ensures { OnOk result ((s : State) → Holds self.old s → Holds self.new (poked s addr word)) }
+    {
+        self.memory.poke_word(addr, word)?;
+        Ok(())
+    }
+
+    fn share(&self) -> Result<Guest, AllocError>
+        ensures { IfOk result (λ copy. (s : State) → Holds self.now s → Holds copy s) }
+    {
+        Ok(Guest {
+            memory: self.memory.share()?,
+            registers: self.registers,
+            pc: self.pc,
+            status: self.status,
+            frames: self.frames.share()?,
+            heap: self.heap.share()?,
+            counts: self.counts,
+            groups: self.groups.share()?,
+        })
+    }
+}
+
+#[tactic(auto, unfolding(crate::specs::Shows::Shows))]
+impl Machine {
+    /// The machine before step 0: the image's bytes are loaded, accessible and defined, as are sixteen zero bytes at the top of
+    /// the stack, to which x2 points; pc is the entry, the other registers are 0, and all registers are defined.
+    pub fn start(alloc: Global, image: &Image) -> Result<Machine, AllocError>
+        ensures { IfOk result (λ machine. Shows machine (start_state image.now)) }
+    {
+        let guest = Guest::start(alloc, image)?;
+        Ok(Machine {
+            guest: Box::new(alloc, guest)?,
+        })
+    }
+
     /// The machine with a range made inaccessible, undefined or defined; byte values stay. One for which memory fails is dropped.
     pub fn mark(self, mark: &Mark) -> Result<Machine, AllocError>
         ensures { IfOk result (λ r. (s : State) → Shows self s → Shows r (marked s mark.now)) }
     {
         let mut machine = self;
-        machine.memory.set_range(mark.addr, mark.len, mark.kind)?;
+        machine.guest.mark(mark)?;
         Ok(machine)
     }
 
@@ -60,7 +105,7 @@ impl Machine {
         ensures { IfOk result (λ r. (s : State) → Shows self s → Shows r (poked s addr word)) }
     {
         let mut machine = self;
-        machine.memory.poke_word(addr, word)?;
+        machine.guest.poke_word(addr, word)?;
         Ok(machine)
     }
 
@@ -68,13 +113,9 @@ impl Machine {
     pub fn share(&self) -> Result<Machine, AllocError>
         ensures { IfOk result (λ copy. (s : State) → Shows self.now s → Shows copy s) }
     {
+        let guest = self.guest.share()?;
         Ok(Machine {
-            memory: self.memory.share()?,
-            registers: self.registers,
-            pc: self.pc,
-            status: self.status,
-            counts: self.counts,
-            groups: self.groups.share()?,
+            guest: Box::new(*Box::allocator(&self.guest), guest)?,
         })
     }
 }

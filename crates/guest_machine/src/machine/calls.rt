@@ -1,51 +1,279 @@
 //! The calls that a program makes of its environment.
-ghost use Rattle.std.specs.Prelude.{◌≡◌, ◌<◌};
-ghost use Rattle.guest_machine.specs.Registers.{register};
-ghost use Rattle.guest_machine.specs.Calls.{call_at, call_effect, exit_call, unknown_call};
-ghost use Rattle.guest_machine.specs.Exec.{nothing};
-ghost use Rattle.guest_machine.specs.Shows.{core_of, Does};
+ghost use Rattle.std.specs.Prelude.{◌≡◌, ◌+◌, ◌-◌, ◌^◌, ◌<◌, ◌≤◌, ◌∷◌, [], length, min, nat_le, slice_index, Some, IfOk, OnOk};
+ghost use Rattle.error_events.specs.Adding.{add_events};
+ghost use Rattle.error_events.specs.Shown.{groups_of};
+ghost use Rattle.guest_machine.specs.Calls.{argument, answers, call_tested, call_errors, tested_from, errors_from, moved_len, exit_call, output_room};
+ghost use Rattle.guest_machine.specs.Errors.{fault_of, buffer_errors};
+ghost use Rattle.shadow_memory.specs.Ranges.{written};
+ghost use Rattle.guest_machine.specs.Effects.{stored_core};
+ghost use Rattle.guest_machine.specs.Exec.{nothing, given_at, read_uses, write_uses};
+ghost use Rattle.guest_machine.specs.Shows.{core_of, bytes_of, input_left, uses_by, Does, DoesRow, DoesRead, DoesWrite};
 
-use crate::machine::Machine;
+use crate::call::Call;
+use crate::instruction::Instruction;
+use crate::machine::Guest;
+use crate::machine::checks::note_at;
+use crate::machine::step::{NOTHING, Used};
 use crate::register::Register;
+use crate::setup::Setup;
+use crate::span::Span;
+use error_events::{Fault3, Kind, Parameter};
+use shadow_memory::Bad;
+use std::alloc::AllocError;
 
-// What a call that is not known answers: -38, which is ENOSYS negated.
+// The registers of a call's arguments and of its number.
+const A0: u8 = 10;
+
+const A1: u8 = 11;
+
+const A2: u8 = 12;
+
+const A7: u8 = 17;
+
+// The most bytes that one call moves, and the bytes of output that there is room for.
+const MOST_MOVED: u32 = 4096;
+
+const OUTPUT_ROOM: u64 = 65_536;
+
+// What a call that fails answers: EBADF, ENOSPC and ENOSYS negated, modulo 2^32.
+const BAD_DESCRIPTOR: u32 = u32::MAX - 8;
+
+const NO_SPACE: u32 = u32::MAX - 27;
+
 const NO_SUCH_CALL: u32 = u32::MAX - 37;
 
-impl Machine {
+impl Guest {
     /// The value of a register that a call reads.
     fn argument(&self, r: u8) -> u32
         requires { r < 32 }
-        ensures { result ≡ (register (core_of self.now) r).value }
+        ensures { result ≡ argument (core_of self.now) r }
     {
         self.read_register(Register::new(r)).value
     }
 
-    #[tactic(auto, unfolding(crate::specs::Grouping::add_events))]
-    fn exit_call(&mut self)
-        ensures { Does self.old self.new (exit_call (core_of self.old)) nothing }
+    /// How many bytes a call moves at most.
+    #[tactic(auto, unfolding(crate::specs::Calls::moved_len))]
+    fn moved_len(&self) -> u32
+        ensures value { result ≡ moved_len (core_of self.now) }
+        ensures few { result ≤ 4096 }
     {
-        self.test(Register::new(17));
-        self.test(Register::new(10));
-        let code = (self.argument(10) % 256) as u8;
-        self.exit(code);
+        self.argument(A2).min(MOST_MOVED)
     }
 
-    #[tactic(auto, unfolding(crate::specs::Grouping::add_events))]
-    fn unknown_call(&mut self)
-        ensures { Does self.old self.new (unknown_call (core_of self.old)) nothing }
+    /// Tests one parameter after the call's number.
+    #[tactic(auto, unfolding(crate::specs::Calls::tested_from, crate::specs::Calls::errors_from, error_events::specs::Adding::add_events), using(crate::proofs::Showing::add_events_append))]
+    fn test_one(&mut self, first: Parameter) -> Result<(), AllocError>
+        ensures core { OnOk result (core_of self.new ≡ tested_from (core_of self.old) 10 (first ∷ [])) }
+        ensures memory { self.new.memory ≡ self.old.memory }
+        ensures counts { self.new.counts ≡ self.old.counts }
+        ensures groups { OnOk result (groups_of self.new.groups ≡ add_events (groups_of self.old.groups) (errors_from (core_of self.old) 10 (first ∷ []))) }
     {
-        self.test(Register::new(17));
-        self.answer(NO_SUCH_CALL);
+        self.test_parameter(Register::new(A0), first)
     }
 
-    /// Carries ECALL out.
-    #[tactic(auto, unfolding(crate::specs::Calls::call_at, crate::specs::Calls::call_effect))]
-    pub(super) fn call(&mut self)
-        ensures { Does self.old self.new (call_effect (core_of self.old) (call_at (core_of self.old))) nothing }
+    /// Tests three parameters after the call's number.
+    #[tactic(auto, unfolding(crate::specs::Calls::tested_from, crate::specs::Calls::errors_from, error_events::specs::Adding::add_events), using(crate::proofs::Showing::add_events_append))]
+    fn test_three(
+        &mut self,
+        first: Parameter,
+        second: Parameter,
+        third: Parameter,
+    ) -> Result<(), AllocError>
+        ensures core { OnOk result (core_of self.new ≡ tested_from (core_of self.old) 10 (first ∷ second ∷ third ∷ [])) }
+        ensures memory { self.new.memory ≡ self.old.memory }
+        ensures counts { self.new.counts ≡ self.old.counts }
+        ensures groups { OnOk result (groups_of self.new.groups ≡ add_events (groups_of self.old.groups) (errors_from (core_of self.old) 10 (first ∷ second ∷ third ∷ []))) }
     {
-        match self.argument(17) {
-            93 | 94 => self.exit_call(),
-            _ => self.unknown_call(),
+        self.test_parameter(Register::new(A0), first)?;
+        self.test_parameter(Register::new(A1), second)?;
+        self.test_parameter(Register::new(A2), third)
+    }
+
+    /// Tests a call's number, and then its parameters in order.
+    #[tactic(auto, unfolding(crate::specs::Calls::parameters_of, crate::specs::Calls::tested_from, crate::specs::Calls::errors_from, error_events::specs::Adding::add_events), using(crate::proofs::Showing::add_events_append))]
+    fn test_call(&mut self, call: Call) -> Result<(), AllocError>
+        ensures core { OnOk result (core_of self.new ≡ call_tested (core_of self.old) call) }
+        ensures memory { self.new.memory ≡ self.old.memory }
+        ensures counts { self.new.counts ≡ self.old.counts }
+        ensures groups { OnOk result (groups_of self.new.groups ≡ add_events (groups_of self.old.groups) (call_errors (core_of self.old) call)) }
+    {
+        self.test_parameter(Register::new(A7), Parameter::SyscallNumber)?;
+        match call {
+            Call::Read => self.test_three(
+                Parameter::ReadFd,
+                Parameter::ReadBuffer,
+                Parameter::ReadCount,
+            ),
+            Call::Write => self.test_three(
+                Parameter::WriteFd,
+                Parameter::WriteBuffer,
+                Parameter::WriteCount,
+            ),
+            Call::Exit => self.test_one(Parameter::ExitStatus),
+            Call::ExitGroup => self.test_one(Parameter::ExitGroupStatus),
+            Call::Unknown => Ok(()),
         }
     }
+
+    /// A call that only answers.
+    #[tactic(auto, unfolding(error_events::specs::Adding::add_events))]
+    fn test_and_answer(&mut self, call: Call, n: u32) -> Result<(), AllocError>
+        ensures { OnOk result (Does self.old self.new (answers (core_of self.old) call n) nothing) }
+    {
+        self.test_call(call)?;
+        self.answer(n);
+        Ok(())
+    }
+
+    /// Stores input at an address.
+    fn store_input(&mut self, start: u32, given: &[u8]) -> Result<(), AllocError>
+        requires { length given.now ≤ 4096 }
+        ensures core { OnOk result (core_of self.new ≡ stored_core (core_of self.old) start (length given.now) 0) }
+        ensures bytes { OnOk result (bytes_of self.new ≡ written (bytes_of self.old) start (length given.now) (slice_index given.now)) }
+        ensures counts { self.new.counts ≡ self.old.counts }
+        ensures groups { self.new.groups ≡ self.old.groups }
+    {
+        self.memory.store_bytes(start, given)?;
+        Ok(())
+    }
+
+    /// Notes the first of n bytes that may not be accessed or, where its value is asked for, has an undefined bit.
+    #[tactic(auto, unfolding(crate::specs::Errors::buffer_event, error_events::specs::Adding::add_events))]
+    fn test_buffer(
+        &mut self,
+        parameter: Parameter,
+        need_defined: bool,
+        start: u32,
+        n: u32,
+    ) -> Result<(), AllocError>
+        ensures core { core_of self.new ≡ core_of self.old }
+        ensures memory { self.new.memory ≡ self.old.memory }
+        ensures counts { self.new.counts ≡ self.old.counts }
+        ensures groups { OnOk result (groups_of self.new.groups ≡ add_events (groups_of self.old.groups) (buffer_errors (core_of self.old) parameter need_defined start n)) }
+    {
+        if let Some(bad) = self.memory.first_bad(start, n, need_defined) {
+            let kind = Kind::Param(parameter, fault_of(bad));
+            self.raise(kind, note_at(bad.addr))?;
+        }
+        Ok(())
+    }
+
+    fn exit_call(&mut self, call: Call) -> Result<(), AllocError>
+        ensures { OnOk result (Does self.old self.new (exit_call (core_of self.old) call) nothing) }
+    {
+        let code = (self.argument(A0) % 256) as u8;
+        self.test_call(call)?;
+        self.exit(code);
+        Ok(())
+    }
+
+    #[tactic(auto, unfolding(crate::specs::Calls::read_call, crate::specs::Calls::read_len, error_events::specs::Adding::add_events), using(crate::proofs::Showing::add_events_append))]
+    fn read_call(&mut self, setup: &Setup) -> Result<Option<Span>, AllocError>
+        ensures does { OnOk result (DoesRead self.old self.new setup.now) }
+        ensures writes { IfOk result (λ written. written ≡ (read_uses (core_of self.old) (input_left self.old setup.now)).writes) }
+    {
+        if self.argument(A0) != 0 {
+            self.test_and_answer(Call::Read, BAD_DESCRIPTOR)?;
+            return Ok(None);
+        }
+        let start = self.argument(A1);
+        let asked = self.moved_len();
+        let given = given(setup, self.counts.position, asked);
+        let n = given.len() as u32;
+        self.test_call(Call::Read)?;
+        self.test_buffer(Parameter::ReadBuffer, false, start, asked)?;
+        self.store_input(start, given)?;
+        self.counts.position += u64::from(n);
+        self.answer(n);
+        Ok(Some(Span { start, len: n }))
+    }
+
+    #[tactic(auto, unfolding(crate::specs::Calls::write_call, crate::specs::Calls::appends, error_events::specs::Adding::add_events), using(crate::proofs::Showing::add_events_append, crate::proofs::Showing::length_taken))]
+    fn write_call(&mut self) -> Result<Option<Span>, AllocError>
+        ensures does { OnOk result (DoesWrite self.old self.new) }
+        ensures reads { IfOk result (λ taken. taken ≡ (write_uses (core_of self.old) self.old.counts.output_len).reads) }
+    {
+        let descriptor = self.argument(A0);
+        if descriptor != 1 && descriptor != 2 {
+            self.test_and_answer(Call::Write, BAD_DESCRIPTOR)?;
+            return Ok(None);
+        }
+        let start = self.argument(A1);
+        let len = self.moved_len();
+        if !self.has_room(len) {
+            self.test_and_answer(Call::Write, NO_SPACE)?;
+            return Ok(None);
+        }
+        self.test_call(Call::Write)?;
+        self.test_buffer(Parameter::WriteBuffer, true, start, len)?;
+        self.counts.output_len += u64::from(len);
+        self.answer(len);
+        Ok(Some(Span { start, len }))
+    }
+
+    /// Is there room for so many more bytes of output?
+    fn has_room(&self, len: u32) -> bool
+        requires { len ≤ 4096 }
+        ensures { result ≡ nat_le (self.now.counts.output_len + len) output_room }
+    {
+        let written = self.counts.output_len;
+        written <= OUTPUT_ROOM && written + u64::from(len) <= OUTPUT_ROOM
+    }
+
+    /// Carries ECALL out, and says which bytes it took and which it wrote.
+    #[tactic(auto, unfolding(crate::specs::Calls::call_at, crate::specs::Exec::call_effect, crate::specs::Exec::call_uses, crate::specs::Exec::calls_heap, crate::specs::Exec::row_uses, crate::specs::Exec::row_effect))]
+    pub(super) fn call(&mut self, setup: &Setup) -> Result<Used, AllocError>
+        ensures does { OnOk result (DoesRow self.old self.new (Some Instruction.Call) setup.now) }
+        ensures reads { IfOk result (λ used. used.reads ≡ (uses_by self.old (Some Instruction.Call) setup.now).reads) }
+        ensures writes { IfOk result (λ used. used.writes ≡ (uses_by self.old (Some Instruction.Call) setup.now).writes) }
+    {
+        let call = Call::of(self.argument(A7));
+        match call {
+            Call::Read => {
+                let writes = self.read_call(setup)?;
+                Ok(Used {
+                    reads: None,
+                    writes,
+                })
+            }
+            Call::Write => {
+                let reads = self.write_call()?;
+                Ok(Used {
+                    reads,
+                    writes: None,
+                })
+            }
+            Call::Exit | Call::ExitGroup => {
+                self.exit_call(call)?;
+                Ok(NOTHING)
+            }
+            Call::Unknown => {
+                self.test_and_answer(Call::Unknown, NO_SUCH_CALL)?;
+                Ok(NOTHING)
+            }
+        }
+    }
+}
+
+/// What is wrong with a byte of a buffer.
+fn fault_of(bad: Bad) -> Fault3
+    ensures { result ≡ fault_of bad }
+{
+    if bad.accessible {
+        Fault3::Uninit
+    } else {
+        Fault3::Unaddressable
+    }
+}
+
+/// The input from a position on, as much of it as is asked for and left.
+fn given<'a>(setup: &'a Setup, position: u64, asked: u32) -> &'a [u8]
+    ensures value { result.now ≡ given_at position (min asked (length setup.now.input - position)) setup.now }
+    ensures len { length result.now ≡ min asked (length setup.now.input - position) }
+    ensures fits { position + length result.now < 2 ^ 64 }
+{
+    let bytes = setup.input.as_slice();
+    let from = bytes.len().min(position as usize);
+    let left = &bytes[from..];
+    &left[..left.len().min(asked as usize)]
 }

@@ -1,34 +1,112 @@
-//! The tests of a step that record errors.
-ghost use Rattle.std.specs.Prelude.{◌≡◌, ◌∷◌, [], OnOk};
-ghost use Rattle.guest_machine.specs.Effects.{event_at, branch_tested, branch_errors};
-ghost use Rattle.guest_machine.specs.Grouping.{groups_of, add_events};
+//! The tests of a step, and the errors that they record.
+ghost use Rattle.std.specs.Prelude.{◌≡◌, ◌∷◌, ◌<◌, [], OnOk};
+ghost use Rattle.error_events.specs.Adding.{add_events};
+ghost use Rattle.error_events.specs.Shown.{groups_of};
+ghost use Rattle.guest_machine.specs.Registers.{tested};
+ghost use Rattle.guest_machine.specs.Effects.{branch_tested, branch_errors};
+ghost use Rattle.guest_machine.specs.Errors.{here, event_of, event_unless, event_about, note_at, register_errors, value_errors, parameter_errors};
 ghost use Rattle.guest_machine.specs.Shows.{core_of};
 
-use crate::errors::event::{Event, Kind, Note};
-use crate::errors::trace::Trace;
-use crate::machine::Machine;
+use crate::machine::Guest;
 use crate::register::Register;
 use definedness::undef_branch;
+use error_events::{Event, Fault3, Kind, Note, Parameter};
 use std::alloc::AllocError;
 
-impl Machine {
+/// What is said of an address.
+#[tactic(auto, unfolding(crate::specs::Errors::note_at))]
+pub(super) fn note_at(addr: u32) -> Note
+    ensures { result ≡ note_at addr }
+{
+    if 0x7F00_0000 <= addr && addr < 0x8000_0000 {
+        Note::Stack(addr)
+    } else {
+        Note::Elsewhere(addr)
+    }
+}
+
+impl Guest {
     /// Records an error at this instruction.
-    #[tactic(auto, unfolding(crate::specs::Grouping::add_events))]
+    #[tactic(auto, unfolding(error_events::specs::Adding::add_events))]
     pub(super) fn raise(&mut self, kind: Kind, note: Note) -> Result<(), AllocError>
         ensures core { core_of self.new ≡ core_of self.old }
         ensures memory { self.new.memory ≡ self.old.memory }
         ensures counts { self.new.counts ≡ self.old.counts }
-        ensures groups { OnOk result (groups_of self.new.groups ≡ add_events (groups_of self.old.groups) (event_at (core_of self.old) kind note ∷ [])) }
+        ensures groups { OnOk result (groups_of self.new.groups ≡ add_events (groups_of self.old.groups) (event_of (here (core_of self.old)) kind note ∷ [])) }
     {
-        self.groups.add(Event {
-            kind,
-            trace: Trace::new(self.pc),
-            note,
-        })
+        let trace = self.frames.trace(self.pc);
+        self.groups.add(Event { kind, trace, note })
+    }
+
+    /// Records an error that is about no address, unless all is fine.
+    #[tactic(auto, unfolding(crate::specs::Errors::event_unless, error_events::specs::Adding::add_events))]
+    pub(super) fn raise_unless(&mut self, fine: bool, kind: Kind) -> Result<(), AllocError>
+        ensures core { core_of self.new ≡ core_of self.old }
+        ensures memory { self.new.memory ≡ self.old.memory }
+        ensures counts { self.new.counts ≡ self.old.counts }
+        ensures groups { OnOk result (groups_of self.new.groups ≡ add_events (groups_of self.old.groups) (event_unless fine (here (core_of self.old)) kind)) }
+    {
+        if !fine {
+            self.raise(kind, Note::Absent)?;
+        }
+        Ok(())
+    }
+
+    /// Records the error of an address at fault, if there is one.
+    #[tactic(auto, unfolding(crate::specs::Errors::event_about, error_events::specs::Adding::add_events))]
+    pub(super) fn raise_about(&mut self, kind: Kind, fault: Option<u32>) -> Result<(), AllocError>
+        ensures core { core_of self.new ≡ core_of self.old }
+        ensures memory { self.new.memory ≡ self.old.memory }
+        ensures counts { self.new.counts ≡ self.old.counts }
+        ensures groups { OnOk result (groups_of self.new.groups ≡ add_events (groups_of self.old.groups) (event_about (here (core_of self.old)) kind fault)) }
+    {
+        if let Some(addr) = fault {
+            self.raise(kind, note_at(addr))?;
+        }
+        Ok(())
+    }
+
+    /// Tests that a register is defined, and makes it so.
+    #[tactic(auto, unfolding(crate::specs::Registers::tested, crate::specs::Errors::event_unless, error_events::specs::Adding::add_events))]
+    fn test(&mut self, r: Register, kind: Kind) -> Result<(), AllocError>
+        ensures core { OnOk result (core_of self.new ≡ tested (core_of self.old) r) }
+        ensures memory { self.new.memory ≡ self.old.memory }
+        ensures counts { self.new.counts ≡ self.old.counts }
+        ensures groups { OnOk result (groups_of self.new.groups ≡ add_events (groups_of self.old.groups) (register_errors (core_of self.old) r kind)) }
+    {
+        if self.read_register(r).undef != 0 {
+            self.raise(kind, Note::Absent)?;
+            self.define(r);
+        }
+        Ok(())
+    }
+
+    /// Tests a register from which an address or a jump's target is computed.
+    pub(super) fn test_value(&mut self, r: Register) -> Result<(), AllocError>
+        ensures core { OnOk result (core_of self.new ≡ tested (core_of self.old) r) }
+        ensures memory { self.new.memory ≡ self.old.memory }
+        ensures counts { self.new.counts ≡ self.old.counts }
+        ensures groups { OnOk result (groups_of self.new.groups ≡ add_events (groups_of self.old.groups) (value_errors (core_of self.old) r)) }
+    {
+        self.test(r, Kind::Value)
+    }
+
+    /// Tests a register that has a parameter of a call.
+    pub(super) fn test_parameter(
+        &mut self,
+        r: Register,
+        parameter: Parameter,
+    ) -> Result<(), AllocError>
+        ensures core { OnOk result (core_of self.new ≡ tested (core_of self.old) r) }
+        ensures memory { self.new.memory ≡ self.old.memory }
+        ensures counts { self.new.counts ≡ self.old.counts }
+        ensures groups { OnOk result (groups_of self.new.groups ≡ add_events (groups_of self.old.groups) (parameter_errors (core_of self.old) r parameter)) }
+    {
+        self.test(r, Kind::Param(parameter, Fault3::Contains))
     }
 
     /// Tests that a branch doesn't depend on undefined bits, and makes its registers defined.
-    #[tactic(auto, unfolding(crate::specs::Effects::branch_tested, crate::specs::Effects::branch_errors, crate::specs::Grouping::add_events))]
+    #[tactic(auto, unfolding(crate::specs::Effects::branch_tested, crate::specs::Errors::event_unless, error_events::specs::Adding::add_events))]
     pub(super) fn test_branch(&mut self, rs1: Register, rs2: Register) -> Result<(), AllocError>
         ensures core { OnOk result (core_of self.new ≡ branch_tested (core_of self.old) rs1 rs2) }
         ensures memory { self.new.memory ≡ self.old.memory }

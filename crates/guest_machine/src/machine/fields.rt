@@ -1,11 +1,12 @@
 //! The changes to what decides a step: registers, pc and status.
 ghost use Rattle.std.specs.Prelude.{◌≡◌, ◌%◌};
-ghost use Rattle.guest_machine.specs.Registers.{known, register, set_register, defined, tested};
-ghost use Rattle.guest_machine.specs.Effects.{target, moved_to, advanced, stopped, exited, jumped, linked_jump};
+ghost use Rattle.guest_machine.specs.Registers.{known, register, set_register, defined};
+ghost use Rattle.guest_machine.specs.Effects.{target, moved_to, advanced, stopped, exited, jumped, followed, linked_jump};
 ghost use Rattle.guest_machine.specs.Calls.{answered};
 ghost use Rattle.guest_machine.specs.Shows.{core_of};
 
-use crate::machine::Machine;
+use crate::hint::StackHint;
+use crate::machine::Guest;
 use crate::register::Register;
 use crate::status::{Status, Stop};
 use definedness::Bits;
@@ -17,7 +18,7 @@ pub(crate) fn known(value: u32) -> Bits
     Bits { value, undef: 0 }
 }
 
-impl Machine {
+impl Guest {
     #[tactic(auto, unfolding(crate::specs::Registers::register))]
     pub(super) fn read_register(&self, r: Register) -> Bits
         ensures { result ≡ register (core_of self.now) r }
@@ -48,19 +49,6 @@ impl Machine {
     {
         let value = self.read_register(r).value;
         self.set_register(r, known(value));
-    }
-
-    /// Tests that a register is defined, and makes it so. Its error is not reported yet.
-    #[tactic(auto, unfolding(crate::specs::Registers::tested))]
-    pub(super) fn test(&mut self, r: Register)
-        ensures core { core_of self.new ≡ tested (core_of self.old) r }
-        ensures memory { self.new.memory ≡ self.old.memory }
-        ensures counts { self.new.counts ≡ self.old.counts }
-        ensures groups { self.new.groups ≡ self.old.groups }
-    {
-        if self.read_register(r).undef != 0 {
-            self.define(r);
-        }
     }
 
     /// Where a load, a store or JALR goes.
@@ -122,16 +110,37 @@ impl Machine {
         }
     }
 
+    /// Calls and returns, by the hint of a jump to an address.
+    #[tactic(auto, unfolding(crate::specs::CallStack::hinted))]
+    fn follow(&mut self, hint: StackHint, to: u32)
+        ensures core { core_of self.new ≡ followed (core_of self.old) hint to }
+        ensures memory { self.new.memory ≡ self.old.memory }
+        ensures counts { self.new.counts ≡ self.old.counts }
+        ensures groups { self.new.groups ≡ self.old.groups }
+    {
+        let after = self.pc.wrapping_add(4);
+        match hint {
+            StackHint::NoHint => {}
+            StackHint::Pop => self.frames.back_to(to),
+            StackHint::Push => self.frames.call(self.pc, after),
+            StackHint::PopPush => {
+                self.frames.back_to(to);
+                self.frames.call(self.pc, after);
+            }
+        }
+    }
+
     /// Goes to an address, and leaves the address after this instruction in rd.
     #[tactic(auto, unfolding(crate::specs::Effects::linked_jump))]
-    pub(super) fn linked_jump(&mut self, rd: Register, to: u32)
-        ensures core { core_of self.new ≡ linked_jump (core_of self.old) rd to }
+    pub(super) fn linked_jump(&mut self, hint: StackHint, rd: Register, to: u32)
+        ensures core { core_of self.new ≡ linked_jump (core_of self.old) hint rd to }
         ensures memory { self.new.memory ≡ self.old.memory }
         ensures counts { self.new.counts ≡ self.old.counts }
         ensures groups { self.new.groups ≡ self.old.groups }
     {
         if to % 4 == 0 {
             let link = self.pc.wrapping_add(4);
+            self.follow(hint, to);
             self.set_register(rd, known(link));
             self.move_to(to);
         } else {

@@ -2,62 +2,83 @@
 ghost use Rattle.std.specs.Prelude.{◌≡◌, length};
 ghost use Rattle.guest_machine.specs.State.{State};
 ghost use Rattle.guest_machine.specs.Registers.{register as register_of};
-ghost use Rattle.guest_machine.specs.Groups.{grouped};
+ghost use Rattle.shadow_memory.specs.Memories.{bytes_in, shadows_in};
+ghost use Rattle.guest_heap.specs.Heaps.{blocks_of};
+ghost use Rattle.error_events.specs.Groups.{grouped};
+ghost use Rattle.error_events.specs.Shown.{groups_of};
 ghost use Rattle.guest_machine.specs.Shows.{Shows};
 
-use crate::errors::event::Group;
 use crate::machine::Machine;
 use crate::register::Register;
 use crate::status::Status;
 use definedness::Bits;
+use error_events::Groups;
+use guest_heap::Heap;
+use shadow_memory::Memory;
 
+#[tactic(auto, unfolding(crate::specs::Shows::Shows))]
 impl Machine {
     /// Whether the machine runs.
     pub fn status(&self) -> Status
         ensures { (s : State) → Shows self.now s → result ≡ s.core.status }
     {
-        self.status
+        self.guest.status
     }
 
     /// The address of the next instruction; of a stopped or exited machine, of its last one.
     pub fn pc(&self) -> u32
         ensures { (s : State) → Shows self.now s → result ≡ s.core.pc }
     {
-        self.pc
+        self.guest.pc
     }
 
     /// How many bytes of input were read.
     pub fn position(&self) -> u64
         ensures { (s : State) → Shows self.now s → result ≡ s.position }
     {
-        self.counts.position
+        self.guest.counts.position
     }
 
     /// How many bytes were written out.
     pub fn output_len(&self) -> u64
         ensures { (s : State) → Shows self.now s → result ≡ length s.output }
     {
-        self.counts.output_len
+        self.guest.counts.output_len
     }
 
     /// How many heap calls were made.
     pub fn heap_calls(&self) -> u64
         ensures { (s : State) → Shows self.now s → result ≡ s.heap_calls }
     {
-        self.counts.heap_calls
+        self.guest.counts.heap_calls
     }
 
     /// A register's value and undefined bits; x0 is 0.
     pub fn register(&self, register: Register) -> Bits
         ensures { (s : State) → Shows self.now s → result ≡ register_of s.core register }
     {
-        self.read_register(register)
+        self.guest.read_register(register)
+    }
+
+    /// The memory: each byte, and what is known of it.
+    pub fn memory(&self) -> &Memory
+        ensures bytes { (s : State) → Shows self.now s → bytes_in result.now ≡ s.bytes }
+        ensures shadows { (s : State) → Shows self.now s → shadows_in result.now ≡ s.core.shadow }
+    {
+        &self.guest.memory
+    }
+
+    /// The heap: its live blocks, and those freed that are not forgotten yet.
+    pub fn heap(&self) -> &Heap
+        ensures { (s : State) → Shows self.now s → blocks_of result.now ≡ s.core.blocks }
+    {
+        &self.guest.heap
     }
 
     /// The errors so far, counted by kind and trace, in order of first occurrence.
-    pub fn error_groups(&self) -> &[Group]
-        ensures { (s : State) → Shows self.now s → result.now ≡ grouped s.events }
+    pub fn groups(&self) -> &Groups
+        ensures { (s : State) → Shows self.now s → groups_of result.now ≡ grouped s.events }
     {
-        self.groups.as_slice()
+        &self.guest.groups
     }
 }

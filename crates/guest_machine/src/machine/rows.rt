@@ -1,23 +1,31 @@
 //! The instructions.
-ghost use Rattle.std.specs.Prelude.{◌≡◌, Some, OnOk, IfOk};
-ghost use Rattle.guest_machine.specs.Ranges.{byte_of, written};
-ghost use Rattle.guest_machine.specs.Widths.{width_len};
+ghost use Rattle.std.specs.Prelude.{◌≡◌, ◌<◌, Some, OnOk, IfOk};
+ghost use Rattle.shadow_memory.specs.Ranges.{byte_of, written};
+ghost use Rattle.shadow_memory.specs.Shadows.{first_inaccessible};
+ghost use Rattle.error_events.specs.Adding.{add_events};
+ghost use Rattle.error_events.specs.Shown.{groups_of};
+ghost use Rattle.error_events.specs.declared.kind.Kind.TheVariants.{Read as ReadError};
+ghost use Rattle.shadow_memory.specs.Ranges.{little_word, window};
+ghost use Rattle.guest_machine.specs.Errors.{access_errors, taken_undef};
+ghost use Rattle.guest_machine.specs.Widths.{width_len, width_limit};
 ghost use Rattle.guest_machine.specs.Effects.{results_in, load, store, branch, jump, jump_register, branched, stored_core};
 ghost use Rattle.guest_machine.specs.Exec.{nothing, accessed, writing, taken_from};
 ghost use Rattle.guest_machine.specs.Shows.{core_of, bytes_of, Does};
 
 use crate::alu::{extended, passes};
+use crate::hint::StackHint;
 use crate::instruction::Test;
-use crate::machine::Machine;
-use crate::memory::cells::Width;
+use crate::machine::Guest;
 use crate::register::Register;
 use crate::span::Span;
+use crate::width::Width;
 use definedness::Bits;
+use error_events::Kind;
 use std::alloc::AllocError;
 
-impl Machine {
+impl Guest {
     /// Writes rd and goes on.
-    #[tactic(auto, unfolding(crate::specs::Grouping::add_events))]
+    #[tactic(auto, unfolding(error_events::specs::Adding::add_events))]
     pub(super) fn result_in(&mut self, rd: Register, bits: Bits)
         ensures { Does self.old self.new (results_in (core_of self.old) rd bits) nothing }
     {
@@ -25,7 +33,26 @@ impl Machine {
         self.advance();
     }
 
-    #[tactic(auto, unfolding(crate::specs::Grouping::add_events))]
+    /// The low bytes at an address and their undefined bits; the first inaccessible one is noted.
+    fn take(&mut self, start: u32, width: Width) -> Result<Bits, AllocError>
+        ensures core { core_of self.new ≡ core_of self.old }
+        ensures memory { self.new.memory ≡ self.old.memory }
+        ensures counts { self.new.counts ≡ self.old.counts }
+        ensures groups { OnOk result (groups_of self.new.groups ≡ add_events (groups_of self.old.groups) (access_errors (core_of self.old) (ReadError (width_len width)) start (width_len width))) }
+        ensures value { IfOk result (λ bits. bits.value ≡ little_word (window (bytes_of self.old) start (width_len width))) }
+        ensures undef { IfOk result (λ bits. bits.undef ≡ taken_undef (core_of self.old) start (width_len width)) }
+        ensures small { IfOk result (λ bits. bits.value < width_limit width) }
+        ensures small_undef { IfOk result (λ bits. bits.undef < width_limit width) }
+    {
+        let loaded = self.memory.load(start, width.len());
+        self.raise_about(Kind::Read(width.byte_len()), loaded.bad)?;
+        Ok(Bits {
+            value: loaded.value,
+            undef: loaded.undef,
+        })
+    }
+
+    #[tactic(auto, unfolding(error_events::specs::Adding::add_events), using(crate::proofs::Showing::add_events_append))]
     pub(super) fn load(
         &mut self,
         width: Width,
@@ -33,23 +60,23 @@ impl Machine {
         rd: Register,
         rs1: Register,
         imm: u32,
-    ) -> Span
-        ensures does { Does self.old self.new (load (core_of self.old) width signed rd rs1 imm (taken_from (bytes_of self.old) (Some result))) nothing }
-        ensures reads { result ≡ accessed (core_of self.old) rs1 imm width }
+    ) -> Result<Span, AllocError>
+        ensures does { IfOk result (λ span. Does self.old self.new (load (core_of self.old) width signed rd rs1 imm (taken_from (bytes_of self.old) (Some span))) nothing) }
+        ensures reads { IfOk result (λ span. span ≡ accessed (core_of self.old) rs1 imm width) }
     {
         let start = self.target(rs1, imm);
-        self.test(rs1);
-        let loaded = self.memory.load(start, width);
+        self.test_value(rs1)?;
+        let loaded = self.take(start, width)?;
         let value = extended(width, signed, loaded.value);
         let undef = extended(width, signed, loaded.undef);
         self.result_in(rd, Bits { value, undef });
-        Span {
+        Ok(Span {
             start,
             len: width.len(),
-        }
+        })
     }
 
-    #[tactic(auto, unfolding(crate::specs::Grouping::add_events))]
+    #[tactic(auto, unfolding(error_events::specs::Adding::add_events), using(crate::proofs::Showing::add_events_append))]
     pub(super) fn store(
         &mut self,
         width: Width,
@@ -61,9 +88,10 @@ impl Machine {
         ensures writes { IfOk result (λ span. span ≡ accessed (core_of self.old) rs1 imm width) }
     {
         let to = self.target(rs1, imm);
-        self.test(rs1);
+        self.test_value(rs1)?;
         let stored = self.read_register(rs2);
-        self.put(to, width, stored)?;
+        let fault = self.put(to, width, stored)?;
+        self.raise_about(Kind::Write(width.byte_len()), fault)?;
         self.advance();
         Ok(Span {
             start: to,
@@ -71,14 +99,16 @@ impl Machine {
         })
     }
 
-    /// Stores the low bytes of a number.
-    fn put(&mut self, start: u32, width: Width, bits: Bits) -> Result<(), AllocError>
+    /// Stores the low bytes of a number, and answers the first inaccessible address.
+    fn put(&mut self, start: u32, width: Width, bits: Bits) -> Result<Option<u32>, AllocError>
+        ensures fault { IfOk result (λ fault. fault ≡ first_inaccessible (core_of self.old).shadow start (width_len width)) }
         ensures core { OnOk result (core_of self.new ≡ stored_core (core_of self.old) start (width_len width) bits.undef) }
         ensures bytes { OnOk result (bytes_of self.new ≡ written (bytes_of self.old) start (width_len width) (byte_of bits.value)) }
         ensures counts { self.new.counts ≡ self.old.counts }
         ensures groups { self.new.groups ≡ self.old.groups }
     {
-        self.memory.store(start, width, bits)
+        let fault = self.memory.store(start, width.len(), bits)?;
+        Ok(fault)
     }
 
     #[tactic(auto, unfolding(crate::specs::Effects::branched))]
@@ -106,19 +136,25 @@ impl Machine {
         Ok(())
     }
 
-    #[tactic(auto, unfolding(crate::specs::Grouping::add_events))]
+    #[tactic(auto, unfolding(error_events::specs::Adding::add_events))]
     pub(super) fn jump_and_link(&mut self, rd: Register, imm: u32)
         ensures { Does self.old self.new (jump (core_of self.old) rd imm) nothing }
     {
-        self.linked_jump(rd, self.pc.wrapping_add(imm));
+        self.linked_jump(StackHint::of_jal(rd), rd, self.pc.wrapping_add(imm));
     }
 
-    #[tactic(auto, unfolding(crate::specs::Grouping::add_events))]
-    pub(super) fn jump_register(&mut self, rd: Register, rs1: Register, imm: u32)
-        ensures { Does self.old self.new (jump_register (core_of self.old) rd rs1 imm) nothing }
+    #[tactic(auto, unfolding(error_events::specs::Adding::add_events))]
+    pub(super) fn jump_register(
+        &mut self,
+        rd: Register,
+        rs1: Register,
+        imm: u32,
+    ) -> Result<(), AllocError>
+        ensures { OnOk result (Does self.old self.new (jump_register (core_of self.old) rd rs1 imm) nothing) }
     {
         let to = self.target(rs1, imm) / 2 * 2;
-        self.test(rs1);
-        self.linked_jump(rd, to);
+        self.test_value(rs1)?;
+        self.linked_jump(StackHint::of_jalr(rd, rs1), rd, to);
+        Ok(())
     }
 }

@@ -1,36 +1,40 @@
 //! One step.
-ghost use Rattle.std.specs.Prelude.{◌≡◌, ◌+◌, min, Option, Some, None, IfOk, OnErr, OnOk};
+ghost use Rattle.std.specs.Prelude.{◌≡◌, ◌+◌, min, false, Option, Some, None, IfOk, IfSome, IfNone, OnErr, OnOk};
 ghost use Rattle.guest_machine.specs.State.{State};
-ghost use Rattle.guest_machine.specs.Exec.{nothing, fetches, fetched, unfetched, jump_fault, exec, touches, has_touched};
-ghost use Rattle.guest_machine.specs.Shows.{core_of, bytes_of, uses_by, touched_by, Shows, Does, DoesRow, DoesStep};
+ghost use Rattle.guest_machine.specs.Errors.{fetch_undef};
+ghost use Rattle.guest_machine.specs.Instructions.{row_of};
+ghost use Rattle.guest_machine.specs.Exec.{nothing, fetches, unfetched, jump_fault, exec, touches, has_touched, IsFetched};
+ghost use Rattle.guest_machine.specs.Shows.{core_of, bytes_of, uses_by, touched_by, Holds, Shows, Does, DoesRow, DoesRound, DoesStep};
 
 use crate::alu::computed;
-use crate::errors::event::{Kind, Note};
 use crate::instruction::{Instruction, row_of};
-use crate::machine::Machine;
 use crate::machine::fields::known;
-use crate::memory::cells::Width;
+use crate::machine::{Guest, Machine};
 use crate::meter::Meter;
+use crate::register::Register;
 use crate::setup::{Setup, Touched};
 use crate::span::Span;
 use crate::status::{Status, Stop};
+use definedness::Bits;
+use error_events::Kind;
+use error_events::laws::groups_grow;
 use std::alloc::AllocError;
 
 /// The ranges whose bytes an instruction took and wrote.
 #[derive(Clone, Copy)]
-struct Used {
-    reads: Option<Span>,
-    writes: Option<Span>,
+pub(super) struct Used {
+    pub(super) reads: Option<Span>,
+    pub(super) writes: Option<Span>,
 }
 
-const NOTHING: Used = Used {
+pub(super) const NOTHING: Used = Used {
     reads: None,
     writes: None,
 };
 
-impl Machine {
+impl Guest {
     /// Carries an instruction out, and says which bytes it took and which it wrote.
-    #[tactic(auto, unfolding(crate::specs::Exec::row_effect, crate::specs::Exec::row_uses, crate::specs::Grouping::add_events))]
+    #[tactic(auto, unfolding(crate::specs::Exec::row_effect, crate::specs::Exec::row_uses, crate::specs::Exec::calls_heap, error_events::specs::Adding::add_events))]
     fn carry_out(&mut self, setup: &Setup, row: Option<Instruction>) -> Result<Used, AllocError>
         ensures does { OnOk result (DoesRow self.old self.new row setup.now) }
         ensures reads { IfOk result (λ used. used.reads ≡ (uses_by self.old row setup.now).reads) }
@@ -55,7 +59,7 @@ impl Machine {
                 Ok(NOTHING)
             }
             Instruction::JumpRegister { rd, rs1, imm } => {
-                self.jump_register(rd, rs1, imm);
+                self.jump_register(rd, rs1, imm)?;
                 Ok(NOTHING)
             }
             Instruction::Branch {
@@ -74,7 +78,7 @@ impl Machine {
                 rs1,
                 imm,
             } => {
-                let reads = self.load(width, signed, rd, rs1, imm);
+                let reads = self.load(width, signed, rd, rs1, imm)?;
                 Ok(Used {
                     reads: Some(reads),
                     writes: None,
@@ -116,10 +120,7 @@ impl Machine {
                 self.advance();
                 Ok(NOTHING)
             }
-            Instruction::Call => {
-                self.call();
-                Ok(NOTHING)
-            }
+            Instruction::Call => self.call(setup),
             Instruction::Breakpoint => {
                 self.stop(Stop::Break);
                 Ok(NOTHING)
@@ -128,41 +129,45 @@ impl Machine {
     }
 
     /// A fetch that meets an inaccessible byte.
-    #[tactic(auto, unfolding(crate::specs::Grouping::add_events))]
+    #[tactic(auto, unfolding(crate::specs::Errors::event_about, error_events::specs::Adding::add_events))]
     fn jump_fault(&mut self, fault: Option<u32>) -> Result<(), AllocError>
         ensures { OnOk result (Does self.old self.new (jump_fault (core_of self.old) fault) nothing) }
     {
-        if let Some(addr) = fault {
-            self.raise(Kind::Jump, Note::at(addr))?;
+        if fault.is_some() {
+            self.raise_about(Kind::Jump, fault)?;
             self.stop(Stop::Jump);
         }
         Ok(())
     }
 
-    /// The word at pc, where it is taken.
-    #[tactic(auto, unfolding(crate::specs::Exec::fetched, crate::specs::Exec::fetches))]
-    fn fetch(&self) -> Option<u32>
-        ensures { result ≡ fetched (core_of self.now) (bytes_of self.now) }
+    /// The word at pc with its undefined bits, where it is taken.
+    #[tactic(auto, unfolding(crate::specs::Exec::fetches))]
+    fn fetch(&self) -> Option<Bits>
+        ensures none { IfNone result (fetches (core_of self.now) ≡ false) }
+        ensures some { IfSome result (λ word. IsFetched (core_of self.now) (bytes_of self.now) word) }
     {
         let runs = matches!(self.status, Status::Running);
         if !runs || self.pc % 4 != 0 {
             return None;
         }
-        let word = self.memory.load(self.pc, Width::Word);
+        let word = self.memory.load(self.pc, 4);
         match word.bad {
-            None => Some(word.value),
+            None => Some(Bits {
+                value: word.value,
+                undef: word.undef,
+            }),
             Some(_) => None,
         }
     }
 
     /// A step that takes no word.
-    #[tactic(auto, unfolding(crate::specs::Exec::unfetched, crate::specs::Grouping::add_events))]
+    #[tactic(auto, unfolding(crate::specs::Exec::unfetched, error_events::specs::Adding::add_events))]
     fn halt(&mut self) -> Result<(), AllocError>
         ensures { OnOk result (Does self.old self.new (unfetched (core_of self.old)) nothing) }
     {
         if let Status::Running = self.status {
             if self.pc % 4 == 0 {
-                let fault = self.memory.load(self.pc, Width::Word).bad;
+                let fault = self.memory.load(self.pc, 4).bad;
                 self.jump_fault(fault)?;
             } else {
                 self.stop(Stop::Misaligned);
@@ -171,8 +176,23 @@ impl Machine {
         Ok(())
     }
 
+    /// Carries a word out, between the test of the word and the stack pointer rule.
+    #[tactic(auto, using(crate::proofs::Showing::add_events_append))]
+    fn round(&mut self, setup: &Setup, word: Bits) -> Result<Used, AllocError>
+        requires { word.undef ≡ fetch_undef (core_of self.old) }
+        ensures does { OnOk result (DoesRound self.old self.new (row_of word.value) setup.now) }
+        ensures reads { IfOk result (λ used. used.reads ≡ (uses_by self.old (row_of word.value) setup.now).reads) }
+        ensures writes { IfOk result (λ used. used.writes ≡ (uses_by self.old (row_of word.value) setup.now).writes) }
+    {
+        let stack_pointer = self.read_register(Register::new(2));
+        self.raise_unless(word.undef == 0, Kind::Value)?;
+        let used = self.carry_out(setup, row_of(word.value))?;
+        self.stack_rule(stack_pointer)?;
+        Ok(used)
+    }
+
     /// One step, and the bytes that it took or wrote.
-    #[tactic(auto, unfolding(crate::specs::Exec::uses_at, crate::specs::Exec::effect_at, crate::specs::Exec::touched_at))]
+    #[tactic(auto, unfolding(crate::specs::Exec::fetched, crate::specs::Exec::uses_at, crate::specs::Exec::effect_at, crate::specs::Exec::touched_at))]
     fn act(&mut self, setup: &Setup) -> Result<Touched, AllocError>
         ensures does { OnOk result (DoesStep self.old self.new setup.now) }
         ensures touched { IfOk result (λ t. t ≡ touched_by self.old setup.now) }
@@ -188,7 +208,7 @@ impl Machine {
                 })
             }
             Some(word) => {
-                let used = self.carry_out(setup, row_of(word))?;
+                let used = self.round(setup, word)?;
                 Ok(Touched {
                     fetch: Some(Span { start: pc, len: 4 }),
                     reads: used.reads,
@@ -198,9 +218,21 @@ impl Machine {
         }
     }
 
+    /// One step, and the bytes that it took or wrote.
+    #[tactic(auto, using(crate::proofs::Showing::holds_exec, crate::proofs::Showing::touched_exec))]
+    fn step(&mut self, setup: &Setup) -> Result<Touched, AllocError>
+        ensures holds { OnOk result ((s : State) → Holds self.old s → Holds self.new (exec s setup.now)) }
+        ensures touched { IfOk result (λ t. (s : State) → Holds self.old s → has_touched t ≡ touches s setup.now) }
+    {
+        groups_grow();
+        self.act(setup)
+    }
+}
+
+impl Machine {
     /// One step, and the addresses whose bytes it took or wrote. The meter rises by one. A machine for which memory fails is
     /// dropped, and the meter stays.
-    #[tactic(auto, using(crate::proofs::Showing::shows_exec, crate::proofs::Showing::touched_exec))]
+    #[tactic(auto, unfolding(crate::specs::Shows::Shows))]
     pub fn step(self, setup: &Setup, meter: &mut Meter) -> Result<(Machine, Touched), AllocError>
         ensures shows { IfOk result (λ r. (s : State) → Shows self s → Shows r.0 (exec s setup.now)) }
         ensures touched { IfOk result (λ r. (s : State) → Shows self s → has_touched r.1 ≡ touches s setup.now) }
@@ -208,7 +240,7 @@ impl Machine {
         ensures unmoved { OnErr result (meter.new ≡ meter.old) }
     {
         let mut machine = self;
-        let touched = machine.act(setup)?;
+        let touched = machine.guest.step(setup)?;
         meter.rise();
         Ok((machine, touched))
     }

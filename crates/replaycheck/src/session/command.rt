@@ -3,7 +3,8 @@ ghost use Rattle.std.specs.Prelude.{◌≡◌, ◌==◌, ◌≤◌, ◌∷◌, [
 ghost use Rattle.replaycheck.specs.Commands.{fields, number_in, number, kind_of, alone, with_one, with_four, command_of, parsed};
 ghost use Rattle.std.specs.Char.{digit_value};
 
-use guest_machine::{Mark, RangeKind};
+use guest_machine::Mark;
+use shadow_memory::RangeKind;
 
 const REPORT: &[u8] = b"report";
 

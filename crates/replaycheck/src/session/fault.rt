@@ -41,3 +41,13 @@ impl Fault {
         }
     }
 }
+
+/// Why no session begins.
+#[derive(Clone, Copy, Debug, PartialEq, Eq, Error)]
+pub(crate) enum BeginFault {
+    #[error("no memory")]
+    Memory,
+    /// An input of more than 1,048,576 bytes.
+    #[error("the input is too large")]
+    InputTooLarge,
+}

@@ -1,16 +1,19 @@
 //! A session, and one line of it.
 ghost use Rattle.std.specs.Prelude.{◌≡◌, ◌≤◌};
-ghost use Rattle.replaycheck.specs.Setups.{plain_setup};
+ghost use Rattle.replaycheck.specs.Setups.{setup_with, longest_input};
 
 use crate::session::command::{Command, parse};
-use crate::session::fault::Fault;
+use crate::session::fault::{BeginFault, Fault};
 use crate::session::replay::run_to;
 use crate::session::reply::Reply;
 use guest_elf::Image;
 use guest_machine::{Input, Machine, Mark, Meter, Setup};
 use replay_report::{Options, render};
 use std::alloc::{AllocError, Global};
+use suppressions::Suppression;
 
+/// How many bytes an input may have.
+pub(crate) const LONGEST_INPUT: usize = 1_048_576;
 /// The greatest step that may be chosen or marked.
 pub(crate) const MOST_STEPS: u32 = 1_048_576;
 /// How many marks there may be at one time.
@@ -22,12 +25,12 @@ const MOST_LINES: u32 = 100_000;
 /// How many bytes a line may have.
 const LONGEST_LINE: usize = 4096;
 
-/// The heap's settings of Memcheck: a red zone of 16 bytes, and 20,000,000 bytes of freed blocks.
-pub(crate) fn default_setup(alloc: Global) -> Setup
-    ensures { result ≡ plain_setup }
+/// An input, and the heap's settings of Memcheck: a red zone of 16 bytes, and 20,000,000 bytes of freed blocks.
+pub(crate) fn setup_with(input: Vec<u8>) -> Setup
+    ensures { result ≡ setup_with input.items }
 {
     Setup {
-        input: Input::new(Vec::new(alloc)),
+        input: Input::new(input),
         redzone: 16,
         volume: 20_000_000,
     }
@@ -41,6 +44,7 @@ pub(crate) struct Session<'a> {
     start: Machine,
     setup: Setup,
     marks: Vec<Mark>,
+    suppressions: Vec<Suppression>,
     options: Options,
     ghost some_callers: { 1 ≤ options.callers },
     ghost few_callers: { options.callers ≤ 24 },
@@ -50,26 +54,38 @@ pub(crate) struct Session<'a> {
 }
 
 impl<'a> Session<'a> {
-    ghost use Rattle.std.specs.Prelude.{◌≡◌, ◌⊎◌, IfOk, OnOk, OnErr, IfNone, length, [], ◌++◌, vec_len};
+    ghost use Rattle.std.specs.Prelude.{◌≡◌, ◌<◌, ◌↔◌, ◌⊎◌, IfOk, OnOk, OnErr, IfNone, length, [], ◌++◌, vec_len};
     ghost use Rattle.replaycheck.specs.Scenario.{Scenario, accepted_with, command_refusal, mark_refusal, counted, changed, report_of, begun};
     ghost use Rattle.replaycheck.specs.Session.{HasScenario, Meets, Carried, IsWithin};
 
-    /// The session of a program, with nothing edited and step 0 chosen.
-    pub(crate) fn begin(alloc: Global, image: Image<'a>) -> Result<Self, AllocError>
-        ensures { IfOk result (λ session. HasScenario session (begun image.entry)) }
+    /// The session of a program with an input and suppressions, with nothing edited and step 0 chosen.
+    pub(crate) fn begin(
+        alloc: Global,
+        image: Image<'a>,
+        input: Vec<u8>,
+        suppressions: Vec<Suppression>,
+    ) -> Result<Self, BeginFault>
+        ensures ok { IfOk result (λ session. HasScenario session (begun image.entry input.items suppressions.items)) }
+        ensures large { (result ≡ Err BeginFault.InputTooLarge) ↔ (longest_input < length input.items) }
     {
-        let start = Machine::start(alloc, &image)?;
-        Ok(Session {
-            alloc,
-            image,
-            start,
-            setup: default_setup(alloc),
-            marks: Vec::new(alloc),
-            options: Options::default(),
-            step: 0,
-            lines: 0,
-            meter: Meter::new(),
-        })
+        if input.len() > LONGEST_INPUT {
+            return Err(BeginFault::InputTooLarge);
+        }
+        match Machine::start(alloc, &image) {
+            Err(_) => Err(BeginFault::Memory),
+            Ok(start) => Ok(Session {
+                alloc,
+                image,
+                start,
+                setup: setup_with(input),
+                marks: Vec::new(alloc),
+                suppressions,
+                options: Options::default(),
+                step: 0,
+                lines: 0,
+                meter: Meter::new(),
+            }),
+        }
     }
 
     /// Why a mark is refused.
@@ -158,6 +174,7 @@ impl<'a> Session<'a> {
             self.alloc,
             &machine,
             &self.image,
+            &self.suppressions,
             &self.options,
             self.step,
             input_len,

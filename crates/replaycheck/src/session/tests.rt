@@ -8,9 +8,20 @@ use std::test::Fail;
 
 /// What the lines are answered, as a session prints it.
 fn transcript(alloc: Global, words: &[u32], lines: &[&str]) -> Result<String, Fail> {
+    transcript_of(alloc, words, b"", lines)
+}
+
+/// The same for a program with an input.
+fn transcript_of(
+    alloc: Global,
+    words: &[u32],
+    input: &[u8],
+    lines: &[&str],
+) -> Result<String, Fail> {
     let file = program(alloc, words)?;
     let image = read(alloc, &file).map_err(|_| Fail::from("the image is refused"))?;
-    let mut session = Session::begin(alloc, image)?;
+    let input = input.to_vec(alloc)?;
+    let mut session = Session::begin(alloc, image, input, Vec::new(alloc))?;
     let mut out = Vec::new(alloc);
     for line in lines {
         match session.command(line.as_bytes(), &mut out) {
@@ -180,13 +191,106 @@ fn masked_bits(rt: HostRuntime) -> Result<(), Fail> {
     Ok(())
 }
 
+/// `addi x2, x2, -16; lw a0, 0(x2); beq a0, x0, 8`: a word of a new stack frame is undefined until it is marked.
+const NEW_FRAME: [u32; 3] = [0xFF01_0113, 0x0001_2503, 0x0005_0463];
+
+/// `write(1, x2, 4)` of a new stack frame.
+const WRITES: [u32; 6] = [
+    0x0400_0893,
+    0x0010_0513,
+    0xFF01_0113,
+    0x0001_0593,
+    0x0040_0613,
+    0x0000_0073,
+];
+
+/// `read(0, x2, 4)`, and an exit with the second byte.
+const READS: [u32; 10] = [
+    0x03F0_0893,
+    0x0000_0513,
+    0xFF01_0113,
+    0x0001_0593,
+    0x0040_0613,
+    0x0000_0073,
+    0x0011_4683,
+    0x05D0_0893,
+    0x0006_8513,
+    0x0000_0073,
+];
+
+/// The lines of a report from its state on, up to the blocks.
+#[test]
+fn errors_are_told(rt: HostRuntime) -> Result<(), Fail> {
+    let alloc = rt.alloc();
+    let cases = [
+        (
+            NEW_FRAME.as_slice(),
+            ["mark 2 0x7FFFFFE0 4 defined", "goto 4", "report"],
+            "state stopped jump 0x00010010\ninput 0 of 0\noutput 0\n\
+error 1: Conditional jump or move depends on uninitialised value(s)\n   at 0x00010008: ???\n\
+error 1: Jump to the invalid address stated on the next line\n   at 0x00010010: ???\n \
+Address 0x00010010 is not stack'd, malloc'd or (recently) free'd\ndefinitely lost: ",
+        ),
+        (
+            NEW_FRAME.as_slice(),
+            ["mark 1 0x7FFFFFE0 4 defined", "goto 3", "report"],
+            "state running 0x00010010\ninput 0 of 0\noutput 0\ndefinitely lost: ",
+        ),
+        (
+            WRITES.as_slice(),
+            ["mark 5 0x20000 1 defined", "goto 6", "report"],
+            "state running 0x00010018\ninput 0 of 0\noutput 4\n\
+error 1: Syscall param write(buf) points to uninitialised byte(s)\n   at 0x00010014: ???\n \
+Address 0x7fffffe0 is in the stack region\ndefinitely lost: ",
+        ),
+        (
+            WRITES.as_slice(),
+            ["mark 5 0x7fffffe0 2 noaccess", "goto 6", "report"],
+            "state running 0x00010018\ninput 0 of 0\noutput 4\n\
+error 1: Syscall param write(buf) points to unaddressable byte(s)\n   at 0x00010014: ???\n \
+Address 0x7fffffe0 is in the stack region\ndefinitely lost: ",
+        ),
+    ];
+    for (words, lines, want) in cases {
+        let text = transcript(alloc, words, &lines)?;
+        assert!(rt; text.as_str().contains(want), "{text}");
+    }
+    Ok(())
+}
+
+#[test]
+fn input_is_read(rt: HostRuntime) -> Result<(), Fail> {
+    let alloc = rt.alloc();
+    for (input, goto, want) in [
+        (
+            b"ab",
+            "goto 10",
+            "state exited 98\ninput 2 of 2\noutput 0\ndefinitely lost: ",
+        ),
+        (
+            b"a\x07",
+            "goto 10",
+            "state exited 7\ninput 2 of 2\noutput 0\ndefinitely lost: ",
+        ),
+        (
+            b"ab",
+            "goto 5",
+            "state running 0x00010014\ninput 0 of 2\noutput 0\ndefinitely lost: ",
+        ),
+    ] {
+        let text = transcript_of(alloc, &READS, input, &[goto, "report"])?;
+        assert!(rt; text.as_str().contains(want), "{text}");
+    }
+    Ok(())
+}
+
 /// The 100,001st line and all after it are refused, and change nothing.
 #[test]
 fn too_many_lines(rt: HostRuntime) -> Result<(), Fail> {
     let alloc = rt.alloc();
     let file = program(alloc, &EXITS)?;
     let image = read(alloc, &file).map_err(|_| Fail::from("the image is refused"))?;
-    let mut session = Session::begin(alloc, image)?;
+    let mut session = Session::begin(alloc, image, Vec::new(alloc), Vec::new(alloc))?;
     let mut out = Vec::new(alloc);
     for _ in 0..100_000 {
         assert_eq!(rt; session.command(b"goto 0", &mut out), Ok(Reply::Done));

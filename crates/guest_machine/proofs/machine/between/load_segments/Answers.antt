@@ -1,5 +1,5 @@
 use Rattle.std.proofs.Common.{◌<◌, ◌∙◌, arith}
-use Rattle.guest_machine.specs.Memories.{bytes_in, shadows_in}
+use Rattle.shadow_memory.specs.Memories.{bytes_in, shadows_in}
 use Rattle.guest_machine.proofs.LoadSteps.{bytes-step, shadows-step, bytes-none, shadows-none}
 use Rattle.guest_machine.proofs.machine.between.load_segments.Goals as goal
 

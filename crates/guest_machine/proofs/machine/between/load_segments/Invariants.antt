@@ -1,5 +1,5 @@
 use Rattle.std.proofs.Common.{◌≡◌, ◌≤◌, length, drop}
-use Rattle.guest_machine.specs.Memories.{bytes_in, shadows_in}
+use Rattle.shadow_memory.specs.Memories.{bytes_in, shadows_in}
 use Rattle.guest_machine.specs.Loading.{loaded_bytes, loaded_shadows}
 use Rattle.guest_machine.proofs.machine.between.load_segments.Given as goal
 

@@ -2,14 +2,15 @@ use Rattle.std.proofs.Common.{refl}
 use Rattle.replaycheck.specs.Scenario.{begun, first_state}
 use Rattle.replaycheck.proofs.session.keeper.Session.begin.Goals as goal
 
-pub returns : goal.returns
+pub returns-clause-ok : goal.returns-clause-ok
 unfolding begun first_state
-returns c =
+returns-clause-ok c =
     record {
       image = refl;
-      start = c.in_ok-start.ensures;
-      setup = c.default_setup.ensures;
+      start = c.in-Ok.ensures;
+      setup = c.setup_with.ensures;
       marks = c.new.ensures.items;
+      rules = refl;
       options = λ i. record { callers = c.default.ensures.callers i; show = c.default.ensures.show i };
       step = refl;
       lines = refl;

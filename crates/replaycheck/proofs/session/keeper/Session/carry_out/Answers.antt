@@ -8,7 +8,7 @@ returns-in-Goto c sc h =
     rw c.in-Goto.is (inl (record {
       replies = refl;
       appends = sym (append-nil c.args.out.now.items);
-      has = record { image = h.image; start = h.start; setup = h.setup; marks = h.marks; options = h.options; step = refl; lines = h.lines };
+      has = record { image = h.image; start = h.start; setup = h.setup; marks = h.marks; rules = h.rules; options = h.options; step = refl; lines = h.lines };
     }))
 
 pub returns-in-Ok-push : goal.returns-in-Ok-push
@@ -17,7 +17,7 @@ returns-in-Ok-push c sc h =
     rw c.in-Mark.is (inl (record {
       replies = refl;
       appends = sym (append-nil c.args.out.now.items);
-      has = record { image = h.image; start = h.start; setup = h.setup; marks = c.in-Ok-push.ensures.items ∙ ap (λ ms. ms ++ c.in-Mark.mark ∷ []) h.marks; options = h.options; step = h.step; lines = h.lines };
+      has = record { image = h.image; start = h.start; setup = h.setup; marks = c.in-Ok-push.ensures.items ∙ ap (λ ms. ms ++ c.in-Mark.mark ∷ []) h.marks; rules = h.rules; options = h.options; step = h.step; lines = h.lines };
     }))
 
 pub returns-in-Unmark : goal.returns-in-Unmark
@@ -26,5 +26,5 @@ returns-in-Unmark c sc h =
     rw c.in-Unmark.is (inl (record {
       replies = refl;
       appends = sym (append-nil c.args.out.now.items);
-      has = record { image = h.image; start = h.start; setup = h.setup; marks = c.remove-mark.ensures.items ∙ ap (λ ms. remove ms c.in-Unmark.index) h.marks; options = h.options; step = h.step; lines = h.lines };
+      has = record { image = h.image; start = h.start; setup = h.setup; marks = c.remove-mark.ensures.items ∙ ap (λ ms. remove ms c.in-Unmark.index) h.marks; rules = h.rules; options = h.options; step = h.step; lines = h.lines };
     }))

@@ -1,8 +1,0 @@
-use Rattle.guest_machine.proofs.Starting.{shows-start}
-use Rattle.guest_machine.proofs.machine.Machine.start.Goals as goal
-
-pub returns : goal.returns
-returns c =
-    shows-start c.args.image.now c.new-memory.result c.load_segments.new.memory c.fill.new.self c.new.result c.segments.result.now c.entry.result c.known-registers.result c.known.result
-    c.new-memory.ensures.bytes c.new-memory.ensures.shadows c.in_ok-load_segments.ensures.bytes c.in_ok-load_segments.ensures.shadows c.in_ok-fill.ensures.bytes c.in_ok-fill.ensures.shadows
-    c.segments.ensures.list c.entry.ensures c.known-registers.ensures c.known.ensures c.new.ensures

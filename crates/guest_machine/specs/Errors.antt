@@ -1,0 +1,83 @@
+-- The errors that a step raises (Valgrind user manual, section 4.2). Each has the trace of the instruction: its address, and the
+-- sites of the calls that led to it.
+use Rattle.std.specs.Prelude.{ℕ, ◌==◌, ◌&&◌, Bool, nat_le, nat_lt, if◌then◌else◌, List, [], ◌∷◌, Option, Some, None}
+use Rattle.shadow_memory.specs.Ranges.{little_word, window}
+use Rattle.shadow_memory.specs.Shadows.{first_bad, first_inaccessible, loaded_undef}
+use Rattle.shadow_memory.specs.declared.cells.Bad.{Bad}
+use Rattle.call_stacks.specs.Frames.{trace_at}
+use Rattle.error_events.specs.declared.event.Event.{Event}
+use Rattle.error_events.specs.declared.event.Note.{Note}
+use Rattle.error_events.specs.declared.event.Note.TheVariants.{Absent, Stack, Elsewhere}
+use Rattle.error_events.specs.declared.kind.Kind.{Kind}
+use Rattle.error_events.specs.declared.kind.Kind.TheVariants.{Value, Param}
+use Rattle.error_events.specs.declared.kind.Fault3.{Fault3}
+use Rattle.error_events.specs.declared.kind.Fault3.TheVariants.{Contains, Uninit, Unaddressable}
+use Rattle.error_events.specs.declared.parameter.Parameter.{Parameter}
+use Rattle.guest_machine.specs.State.{Core}
+use Rattle.guest_machine.specs.Registers.{register}
+
+-- where the instruction at pc is
+abbrev pub here : Core → List ℕ
+here core = trace_at core.pc core.frames
+
+-- an error of a kind, at a trace
+abbrev pub event_of : List ℕ → Kind → Note → Event
+event_of trace kind note = record { kind = kind; trace = trace; note = note }
+
+-- is an address in the stack region, from 0x7F000000 up to, not with, 0x80000000?
+abbrev pub in_stack_region : ℕ → Bool
+in_stack_region a = nat_le 0x7F000000 a && nat_lt a 0x80000000
+
+-- what is said of an address
+unfoldable pub note_at : ℕ → Note
+note_at a = if in_stack_region a then Stack a else Elsewhere a
+
+-- an error that is about no address, unless all is fine
+unfoldable pub event_unless : Bool → List ℕ → Kind → List Event
+event_unless fine trace kind = if fine then [] else event_of trace kind Absent ∷ []
+
+-- the error of an address at fault, if there is one
+unfoldable pub event_about : List ℕ → Kind → Option ℕ → List Event
+event_about trace kind None = []
+event_about trace kind (Some a) = event_of trace kind (note_at a) ∷ []
+
+-- an error of a kind at a register with an undefined bit
+abbrev pub register_errors : Core → ℕ → Kind → List Event
+register_errors core r kind = event_unless ((register core r).undef == 0) (here core) kind
+
+-- an address or a jump's target is computed from a register with an undefined bit (section 4.2.2)
+abbrev pub value_errors : Core → ℕ → List Event
+value_errors core r = register_errors core r Value
+
+-- a parameter of a call has an undefined bit (section 4.2.3)
+abbrev pub parameter_errors : Core → ℕ → Parameter → List Event
+parameter_errors core r parameter = register_errors core r (Param parameter Contains)
+
+-- of n bytes that are accessed, the first that may not be (section 4.2.1)
+abbrev pub access_errors : Core → Kind → ℕ → ℕ → List Event
+access_errors core kind start n = event_about (here core) kind (first_inaccessible core.shadow start n)
+
+-- what is wrong with a byte of a buffer
+abbrev pub fault_of : Bad → Fault3
+fault_of bad = if bad.accessible then Uninit else Unaddressable
+
+unfoldable pub buffer_event : List ℕ → Parameter → Option Bad → List Event
+buffer_event trace parameter None = []
+buffer_event trace parameter (Some bad) = event_of trace (Param parameter (fault_of bad)) (note_at bad.addr) ∷ []
+
+-- of the n bytes of a buffer, the first that may not be accessed or, where its value is asked for, has an undefined bit
+abbrev pub buffer_errors : Core → Parameter → Bool → ℕ → ℕ → List Event
+buffer_errors core parameter need_defined start n =
+    buffer_event (here core) parameter (first_bad core.shadow start n need_defined)
+
+-- the undefined bits of n bytes that are taken as a number
+abbrev pub taken_undef : Core → ℕ → ℕ → ℕ
+taken_undef core start n = little_word (window (λ a. loaded_undef (core.shadow a)) start n)
+
+-- and of the word at pc
+abbrev pub fetch_undef : Core → ℕ
+fetch_undef core = taken_undef core core.pc 4
+
+-- the word at pc has an undefined bit
+abbrev pub fetch_errors : Core → List Event
+fetch_errors core = event_unless (fetch_undef core == 0) (here core) Value

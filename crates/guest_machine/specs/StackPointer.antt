@@ -1,0 +1,42 @@
+-- The stack pointer rule: bytes that the stack pointer passes become part of the stack, or leave it (Valgrind user manual, section
+-- 4.5.2; `--main-stacksize` and `--max-stackframe` of section 2.6 tell a new stack frame from a switch of stacks).
+use Rattle.std.specs.Prelude.{ℕ, ◌-◌, ◌==◌, ◌&&◌, Bool, nat_le, nat_lt, if◌then◌else◌}
+use Rattle.definedness.specs.declared.Bits.{Bits}
+use Rattle.shadow_memory.specs.Shadows.{made_so}
+use Rattle.shadow_memory.specs.declared.cells.RangeKind.{RangeKind}
+use Rattle.shadow_memory.specs.declared.cells.RangeKind.TheVariants.{NoAccess, Undefined}
+use Rattle.guest_machine.specs.State.{Core}
+use Rattle.guest_machine.specs.Registers.{register}
+
+-- does a stack pointer lie in the stack region? Both of its ends count.
+abbrev pub is_in_stack : ℕ → Bool
+is_in_stack a = nat_le 0x7F000000 a && nat_le a 0x80000000
+
+-- a defined stack pointer in the region
+abbrev pub is_stack_pointer : Bits → Bool
+is_stack_pointer bits = (bits.undef == 0) && is_in_stack bits.value
+
+-- the most bytes that a frame may have: Memcheck's default for `--max-stackframe`
+abbrev pub largest_frame : ℕ
+largest_frame = 2000000
+
+-- a range made so
+abbrev pub ranged : Core → ℕ → ℕ → RangeKind → Core
+ranged core start n kind = record core { shadow = made_so core.shadow start n kind }
+
+-- the bytes from one address up to, not with, a higher one made so, if they are no more than a frame may have
+unfoldable pub framed : Core → ℕ → ℕ → RangeKind → Core
+framed core low high kind = if nat_le (high - low) largest_frame then ranged core low (high - low) kind else core
+
+-- the stack pointer moved: where it fell, the bytes are of the stack and undefined; where it rose, they are inaccessible
+unfoldable pub stack_moved : Core → ℕ → ℕ → Core
+stack_moved core old new =
+    if nat_lt new old then framed core new old Undefined
+    else if nat_lt old new then framed core old new NoAccess
+    else core
+
+-- after an instruction that found x2 so
+unfoldable pub stack_ruled : Bits → Core → Core
+stack_ruled old core =
+    let new = register core 2 in
+    if is_stack_pointer old && is_stack_pointer new then stack_moved core old.value new.value else core

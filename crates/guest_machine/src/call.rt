@@ -1,0 +1,28 @@
+//! The calls of the environment, by their numbers.
+ghost use Rattle.std.specs.Prelude.{◌≡◌};
+ghost use Rattle.guest_machine.specs.Calls.{call_of};
+
+/// What a program asks of its environment by ECALL.
+#[derive(Clone, Copy, Debug, PartialEq, Eq)]
+pub(crate) enum Call {
+    Read,
+    Write,
+    Exit,
+    ExitGroup,
+    Unknown,
+}
+
+impl Call {
+    /// The call of a number, as Linux for RISC-V numbers them.
+    pub(crate) fn of(number: u32) -> Call
+        ensures { result ≡ call_of number }
+    {
+        match number {
+            63 => Call::Read,
+            64 => Call::Write,
+            93 => Call::Exit,
+            94 => Call::ExitGroup,
+            _ => Call::Unknown,
+        }
+    }
+}

@@ -1,4 +1,0 @@
-//! Errors, where they were met, and their groups.
-pub(crate) mod event;
-pub(crate) mod groups;
-pub(crate) mod trace;

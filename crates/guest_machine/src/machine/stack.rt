@@ -1,0 +1,66 @@
+//! The stack pointer rule.
+ghost use Rattle.std.specs.Prelude.{◌≡◌, ◌≤◌, OnOk};
+ghost use Rattle.guest_machine.specs.StackPointer.{is_stack_pointer, ranged, framed, stack_moved, stack_ruled};
+ghost use Rattle.guest_machine.specs.Shows.{core_of, bytes_of};
+
+use crate::machine::Guest;
+use crate::register::Register;
+use definedness::Bits;
+use shadow_memory::RangeKind;
+use std::alloc::AllocError;
+
+// The most bytes that a stack frame may have.
+const LARGEST_FRAME: u32 = 2_000_000;
+
+/// Is it a defined address in the stack region, its end included?
+fn is_stack_pointer(bits: Bits) -> bool
+    ensures { result ≡ is_stack_pointer bits }
+{
+    bits.undef == 0 && 0x7F00_0000 <= bits.value && bits.value <= 0x8000_0000
+}
+
+impl Guest {
+    /// Makes a range accessible or inaccessible; byte values stay.
+    pub(super) fn make(&mut self, start: u32, len: u32, kind: RangeKind) -> Result<(), AllocError>
+        ensures core { OnOk result (core_of self.new ≡ ranged (core_of self.old) start len kind) }
+        ensures bytes { OnOk result (bytes_of self.new ≡ bytes_of self.old) }
+        ensures counts { self.new.counts ≡ self.old.counts }
+        ensures groups { self.new.groups ≡ self.old.groups }
+    {
+        self.memory.set_range(start, len, kind)?;
+        Ok(())
+    }
+
+    #[tactic(auto, unfolding(crate::specs::StackPointer::framed))]
+    fn frame(&mut self, low: u32, high: u32, kind: RangeKind) -> Result<(), AllocError>
+        requires { low ≤ high }
+        ensures core { OnOk result (core_of self.new ≡ framed (core_of self.old) low high kind) }
+        ensures bytes { OnOk result (bytes_of self.new ≡ bytes_of self.old) }
+        ensures counts { self.new.counts ≡ self.old.counts }
+        ensures groups { self.new.groups ≡ self.old.groups }
+    {
+        if high - low <= LARGEST_FRAME {
+            self.make(low, high - low, kind)?;
+        }
+        Ok(())
+    }
+
+    /// The rule, after an instruction that found x2 so.
+    #[tactic(auto, unfolding(crate::specs::StackPointer::stack_ruled, crate::specs::StackPointer::stack_moved))]
+    pub(super) fn stack_rule(&mut self, old: Bits) -> Result<(), AllocError>
+        ensures core { OnOk result (core_of self.new ≡ stack_ruled old (core_of self.old)) }
+        ensures bytes { OnOk result (bytes_of self.new ≡ bytes_of self.old) }
+        ensures counts { self.new.counts ≡ self.old.counts }
+        ensures groups { self.new.groups ≡ self.old.groups }
+    {
+        let new = self.read_register(Register::new(2));
+        if is_stack_pointer(old) && is_stack_pointer(new) {
+            if new.value < old.value {
+                self.frame(new.value, old.value, RangeKind::Undefined)?;
+            } else if old.value < new.value {
+                self.frame(old.value, new.value, RangeKind::NoAccess)?;
+            }
+        }
+        Ok(())
+    }
+}

@@ -1,0 +1,89 @@
+//! Which errors are shown, and their groups.
+ghost use Rattle.std.specs.Prelude.{◌≡◌, ◌<◌, ◌≤◌, IfOk, Some, length, map, not};
+ghost use Rattle.error_events.specs.declared.event.Group.{Group};
+ghost use Rattle.error_events.specs.Shown.{groups_of};
+ghost use Rattle.guest_machine.specs.State.{State};
+ghost use Rattle.guest_machine.specs.Shows.{Shows};
+ghost use Rattle.replay_report.specs.Filtering.{names_of, hides, shown_groups, hidden_groups};
+
+use error_events::laws::kept_by_test;
+use error_events::{Group, Groups};
+use guest_elf::Image;
+use guest_machine::Machine;
+use std::alloc::{AllocError, Global};
+use suppressions::{Suppression, Target, is_suppressed};
+
+/// The names of a trace's addresses.
+fn names_of<'a>(alloc: Global, image: &'a Image, trace: &[u32]) -> Result<Vec<&'a [u8]>, AllocError>
+    ensures { IfOk result (λ names. map (λ name. name.now) names.items ≡ names_of image.now trace.now) }
+{
+    let mut names = Vec::new(alloc);
+    for addr in trace {
+        names.push(image.name_of(*addr))?;
+    }
+    Ok(names)
+}
+
+/// Is a group of errors suppressed, if it is there?
+fn hides(
+    alloc: Global,
+    suppressions: &[Suppression],
+    image: &Image,
+    group: Option<Group>,
+) -> Result<bool, AllocError>
+    ensures { IfOk result (λ hidden. (g : Group) → group ≡ Some g → hidden ≡ hides suppressions.now image.now g.kind g.trace) }
+{
+    match group {
+        Some(group) => {
+            let names = names_of(alloc, image, group.trace.addresses())?;
+            Ok(is_suppressed(suppressions, &Target::Error(group.kind), &names))
+        }
+        None => Ok(false),
+    }
+}
+
+/// Of each group whether it is suppressed.
+fn hidden_of(
+    alloc: Global,
+    groups: &Groups,
+    suppressions: &[Suppression],
+    image: &Image,
+) -> Result<Vec<bool>, AllocError>
+    ensures { IfOk result (λ hidden. hidden.items ≡ map (λ g. hides suppressions.now image.now g.kind g.trace) (groups_of groups.now)) }
+{
+    let mut hidden = Vec::new(alloc);
+    for i in 0..groups.len() {
+        let hides = hides(alloc, suppressions, image, groups.get(i))?;
+        hidden.push(hides)?;
+    }
+    Ok(hidden)
+}
+
+/// Each test turned.
+fn turned(alloc: Global, tests: &[bool]) -> Result<Vec<bool>, AllocError>
+    ensures { IfOk result (λ turned. turned.items ≡ map not tests.now) }
+{
+    tests.iter().map(|test| !*test).collect(alloc)
+}
+
+/// The groups of the errors that are shown, and of those that are only counted.
+pub(crate) fn split_groups(
+    alloc: Global,
+    machine: &Machine,
+    image: &Image,
+    suppressions: &[Suppression],
+    callers: u32,
+) -> Result<(Vec<Group>, Vec<Group>), AllocError>
+    requires { 0 < callers }
+    ensures shown { IfOk result (λ r. (s : State) → Shows machine.now s → r.0.items ≡ shown_groups suppressions.now image.now callers s.events) }
+    ensures hidden { IfOk result (λ r. (s : State) → Shows machine.now s → r.1.items ≡ hidden_groups suppressions.now image.now callers s.events) }
+{
+    let groups = machine.groups();
+    let hidden = hidden_of(alloc, groups, suppressions, image)?;
+    let shown = turned(alloc, &hidden)?;
+    kept_by_test();
+    Ok((
+        groups.regroup(callers, &shown)?,
+        groups.regroup(callers, &hidden)?,
+    ))
+}
