@@ -1,2 +1,6 @@
+pub mod Counted
 pub mod Loading
+pub mod Meeting
+pub mod Nearest
 pub mod Steps
+pub mod Strings

@@ -5,7 +5,8 @@ use Rattle.std.proofs.lemmas.List.{get_or_past}
 use Rattle.std.specs.Option.{option_or}
 use Rattle.std.specs.Prelude.{◌^◌, ◌==◌, is_some}
 use Rattle.std.specs.List.{list_any}
-use Rattle.guest_elf.specs.File.{byte_at, first_loaded, is_bad_segment, loaded_from}
+use Rattle.guest_elf.specs.Fields.{byte_at}
+use Rattle.guest_elf.specs.File.{first_loaded, is_bad_segment, loaded_from}
 use Rattle.guest_elf.specs.Segments.{loaded, loaded_by}
 use Rattle.guest_elf.specs.declared.program.ProgramHeader.{ProgramHeader}
 use Rattle.guest_elf.specs.declared.segment.Segment.{Segment}

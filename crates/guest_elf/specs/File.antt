@@ -1,26 +1,16 @@
 -- An ELF32 file as a list of bytes: its fields, the reasons to refuse it, and what it loads.
 -- Sources: System V ABI, edition 4.1, chapters 4 and 5 (ELF-32 object file format); RISC-V ELF psABI 1.0 (e_machine).
-use Rattle.std.specs.Prelude.{◌≡◌, ℕ, ◌+◌, ◌-◌, ◌*◌, ◌^◌, ◌<◌, ◌≤◌, min, max, Bool, false, not, ◌&&◌, ◌||◌, ◌==◌, nat_eq, nat_lt, if◌then◌else◌, List, [], ◌∷◌, length, drop, map, filter, sum_by, slice_index, Option, Some, None}
+use Rattle.std.specs.Prelude.{◌≡◌, ℕ, ◌+◌, ◌-◌, ◌*◌, ◌^◌, ◌<◌, ◌≤◌, min, max, Bool, false, not, ◌&&◌, ◌||◌, ◌==◌, nat_eq, nat_lt, if◌then◌else◌, List, [], ◌∷◌, length, map, filter, sum_by, Option, Some, None}
 use Rattle.std.specs.List.{list_any, range_with_len, starts_with}
 use Rattle.std.specs.Option.{option_or}
-use Rattle.byteorder.specs.Endian.{little_number}
 use Rattle.guest_elf.specs.declared.fault.ElfFault.{ElfFault}
-use Rattle.guest_elf.specs.declared.fault.ElfFault.TheVariants.{NotElf, NotClass32, NotLittleEndian, BadVersion, NotExecutable, NotRiscV, BadTable, Interpreter, BadSegment, Overlap, TooLarge}
+use Rattle.guest_elf.specs.declared.fault.ElfFault.TheVariants.{NotElf, NotClass32, NotLittleEndian, BadVersion, NotExecutable, NotRiscV, BadTable, Interpreter, BadSegment, Overlap, TooLarge, BadSymbols}
 use Rattle.guest_elf.specs.declared.image.Image.{Image}
 use Rattle.guest_elf.specs.declared.program.ProgramHeader.{ProgramHeader}
-use Rattle.guest_elf.specs.Images.{loaded_at, entry_of}
-
--- one byte (unsigned char, "Data Representation")
-unfoldable pub byte_at : List ℕ → ℕ → ℕ
-byte_at file offset = slice_index file offset
-
--- two bytes, the lowest first (Elf32_Half under ELFDATA2LSB)
-unfoldable pub half_at : List ℕ → ℕ → ℕ
-half_at file offset = little_number 2 (drop offset file)
-
--- four bytes, the lowest first (Elf32_Word, Elf32_Addr and Elf32_Off under ELFDATA2LSB)
-unfoldable pub word_at : List ℕ → ℕ → ℕ
-word_at file offset = little_number 4 (drop offset file)
+use Rattle.guest_elf.specs.Fields.{byte_at, half_at, word_at}
+use Rattle.guest_elf.specs.Images.{loaded_at, entry_of, name_at}
+use Rattle.guest_elf.specs.Names.{name_by, nearest}
+use Rattle.guest_elf.specs.Sections.{has_bad_section_table, is_bad_table, naming_in, strings_of, symbol_table}
 
 -- e_entry: the address of the first instruction
 abbrev pub entry_in : List ℕ → ℕ
@@ -92,13 +82,17 @@ is_not_executable file = not (half_at file 16 == 2)
 unfoldable pub is_not_risc_v : List ℕ → Bool
 is_not_risc_v file = not (half_at file 18 == 243)
 
--- 26: e_phnum is PN_XNUM; or there are program headers whose size is not 32, or whose table ends past the file
-unfoldable pub has_bad_table : List ℕ → Bool
-has_bad_table file =
+-- e_phnum is PN_XNUM; or there are program headers whose size is not 32, or whose table ends past the file
+unfoldable pub has_bad_program_table : List ℕ → Bool
+has_bad_program_table file =
     header_count file == 65535
     || (not (header_count file == 0)
     && (not (header_size file == 32)
     || nat_lt (length file) (table_offset file + 32 * header_count file)))
+
+-- 26: the table of program headers is bad, or that of section headers
+unfoldable pub has_bad_table : List ℕ → Bool
+has_bad_table file = has_bad_program_table file || has_bad_section_table file
 
 -- 27: a program header of type PT_INTERP
 unfoldable pub has_interpreter : List ℕ → Bool
@@ -111,10 +105,9 @@ is_bad_segment file_length header =
     || (not (header.filesz == 0) && nat_lt file_length (header.offset + header.filesz))
     || nat_lt (2 ^ 32) (header.vaddr + header.memsz)
 
--- 28: a loaded segment is bad, or there is more than one
+-- 28: a loaded segment is bad
 unfoldable pub has_bad_segment : List ℕ → Bool
-has_bad_segment file =
-    list_any (is_bad_segment (length file)) (loads_of file) || nat_lt 1 (length (loads_of file))
+has_bad_segment file = list_any (is_bad_segment (length file)) (loads_of file)
 
 -- whether the addresses from a start up to an end, not with it, and those of another such range have one in common
 abbrev pub ranges_meet : ℕ → ℕ → ℕ → ℕ → Bool
@@ -145,9 +138,13 @@ unfoldable pub is_too_large : List ℕ → Bool
 is_too_large file =
     nat_lt 16777216 (length file) || nat_lt 16777216 (sum_by (λ header. header.memsz) (loads_of file))
 
--- why a file is refused: the first of the conditions that holds
-unfoldable pub refusal : List ℕ → Option ElfFault
-refusal file =
+-- 31: the symbol table is damaged, or a function's name has no end
+unfoldable pub has_bad_symbols : List ℕ → Bool
+has_bad_symbols file = is_bad_table file (symbol_table file)
+
+-- of the conditions 20 to 28, which are tested before any memory is taken, the first that holds
+unfoldable pub early_refusal : List ℕ → Option ElfFault
+early_refusal file =
     if is_not_elf file then Some NotElf
     else if is_not_class_32 file then Some NotClass32
     else if is_not_little_endian file then Some NotLittleEndian
@@ -157,9 +154,19 @@ refusal file =
     else if has_bad_table file then Some BadTable
     else if has_interpreter file then Some Interpreter
     else if has_bad_segment file then Some BadSegment
-    else if has_overlap file then Some Overlap
-    else if is_too_large file then Some TooLarge
     else None
+
+-- of the conditions 29 to 31, the first that holds
+unfoldable pub late_refusal : List ℕ → Option ElfFault
+late_refusal file =
+    if has_overlap file then Some Overlap
+    else if is_too_large file then Some TooLarge
+    else if has_bad_symbols file then Some BadSymbols
+    else None
+
+-- why a file is refused: the first of the conditions 20 to 31 that holds
+unfoldable pub refusal : List ℕ → Option ElfFault
+refusal file = option_or (early_refusal file) (late_refusal file)
 
 -- the byte that a program header loads at an address: the file's up to p_filesz, 0 from there up to p_memsz
 unfoldable pub loaded_from : List ℕ → ProgramHeader → ℕ → Option ℕ
@@ -192,8 +199,15 @@ pub record HasTable (file : List ℕ) : Type 0 where
 pub record HasSegments (file : List ℕ) : Type 0 where
   pub good : list_any (is_bad_segment (length file)) (loads_of file) ≡ false
 
--- the image is the file's: it is not refused, and the image loads what the file does and begins where it does
+-- the name of the function at an address, by the naming symbols of the file in the order of their table
+unfoldable pub name_in : List ℕ → ℕ → List ℕ
+name_in file address =
+    name_by (strings_of file (symbol_table file)) address (nearest (naming_in file (symbol_table file)) address)
+
+-- the image is the file's: it is not refused, and the image loads what the file does, begins where it does and
+-- names what it does
 pub record IsImageOf (file : List ℕ) (image : Image) : Type 0 where
   pub accepted : refusal file ≡ None
   pub loads : (address : ℕ) → loaded_at image address ≡ loaded_in file address
   pub entry : entry_of image ≡ entry_in file
+  pub names : (address : ℕ) → name_at image address ≡ name_in file address

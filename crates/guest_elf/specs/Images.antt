@@ -1,5 +1,6 @@
 -- What callers see of an image.
-use Rattle.std.specs.Prelude.{ℕ, List, Option, codes}
+use Rattle.std.specs.Prelude.{ℕ, List, Option}
+use Rattle.guest_elf.specs.Names.{named_by}
 use Rattle.guest_elf.specs.Segments.{loaded}
 use Rattle.guest_elf.specs.declared.image.Image.{Image}
 use Rattle.guest_elf.specs.declared.segment.Segment.{Segment}
@@ -16,6 +17,6 @@ entry_of image = image.entry
 unfoldable pub loaded_at : Image → ℕ → Option ℕ
 loaded_at image address = loaded (segments_of image) address
 
--- the name of the function at an address: none is known
+-- the name of the function at an address, by the image's symbols
 unfoldable pub name_at : Image → ℕ → List ℕ
-name_at image address = codes "???"
+name_at image address = named_by image.names address

@@ -1,4 +1,7 @@
 pub mod Faults
+pub mod Fields
 pub mod File
 pub mod Images
+pub mod Names
+pub mod Sections
 pub mod Segments

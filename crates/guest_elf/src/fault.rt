@@ -9,7 +9,7 @@ use thiserror::Error;
 /// Why a file gives no image. But for `Memory`, the first that holds in the order of the numbers.
 #[derive(Clone, Copy, Debug, PartialEq, Eq, Error)]
 pub enum ElfFault {
-    /// A growth of the list of segments was refused.
+    /// A growth of a list was refused.
     #[error("no memory")]
     Memory,
     /// Fewer than 52 bytes, or another beginning than `7F 45 4C 46`.
@@ -30,14 +30,14 @@ pub enum ElfFault {
     /// e_machine is not EM_RISCV.
     #[error("not a RISC-V file")]
     NotRiscV,
-    /// e_phnum is PN_XNUM, or e_phentsize is not 32, or the program header table ends past the file.
+    /// e_phnum is PN_XNUM; or there are program headers and e_phentsize is not 32 or their table ends past
+    /// the file; or there are sections and e_shentsize is not 40 or their table ends past the file.
     #[error("bad program header table")]
     BadTable,
     /// A program header of type PT_INTERP.
     #[error("the file asks for an interpreter")]
     Interpreter,
-    /// A PT_LOAD with p_filesz above p_memsz, or bytes past the end of the file, or an end above 2^32;
-    /// or more than one PT_LOAD.
+    /// A PT_LOAD with p_filesz above p_memsz, or bytes past the end of the file, or an end above 2^32.
     #[error("bad segment")]
     BadSegment,
     /// A segment has an address of another, of the heap (from 0x40000000 up to 0x60000000) or of the
@@ -47,7 +47,9 @@ pub enum ElfFault {
     /// The file or the sum of p_memsz has more than 16,777,216 bytes.
     #[error("the file is too large")]
     TooLarge,
-    /// The symbol table or its string table is damaged. Does not come as long as sections aren't read.
+    /// A symbol table with sh_entsize other than 16, a size that is no multiple of 16, or an end past the
+    /// file; its sh_link is not below e_shnum; its string table ends past the file; or a function (STT_FUNC
+    /// with st_shndx not 0) has a name without a zero byte before the string table's end.
     #[error("bad symbol table")]
     BadSymbols,
 }

@@ -1,7 +1,7 @@
 //! Numbers in a file. A header's fields are named by their offsets (System V ABI, edition 4.1, figures
 //! 4-3, 4-4 and 5-1).
 ghost use Rattle.std.specs.Prelude.{◌≡◌, ◌+◌, ◌<◌, ◌≤◌, length};
-ghost use Rattle.guest_elf.specs.File.{byte_at, half_at, word_at};
+ghost use Rattle.guest_elf.specs.Fields.{byte_at, half_at, word_at};
 
 use byteorder::{ByteOrder, LittleEndian};
 
@@ -23,13 +23,19 @@ pub(crate) const E_VERSION: usize = 20;
 pub(crate) const E_ENTRY: usize = 24;
 /// Four bytes: where the program header table begins.
 pub(crate) const E_PHOFF: usize = 28;
+/// Four bytes: where the section header table begins, or 0 if there is none.
+pub(crate) const E_SHOFF: usize = 32;
 /// Two bytes: the size of a program header.
 pub(crate) const E_PHENTSIZE: usize = 42;
 /// Two bytes: the number of program headers.
 pub(crate) const E_PHNUM: usize = 44;
+/// Two bytes: the size of a section header.
+pub(crate) const E_SHENTSIZE: usize = 46;
+/// Two bytes: the number of section headers.
+pub(crate) const E_SHNUM: usize = 48;
 
 /// The byte at an offset.
-#[tactic(auto, unfolding(crate::specs::File::byte_at))]
+#[tactic(auto, unfolding(crate::specs::Fields::byte_at))]
 pub(crate) fn byte_at(file: &[u8], offset: usize) -> u8
     requires { offset < length file.now }
     ensures { result ≡ byte_at file.now offset }
@@ -38,7 +44,7 @@ pub(crate) fn byte_at(file: &[u8], offset: usize) -> u8
 }
 
 /// The two bytes at an offset as a number.
-#[tactic(auto, unfolding(crate::specs::File::half_at))]
+#[tactic(auto, unfolding(crate::specs::Fields::half_at))]
 pub(crate) fn half_at(file: &[u8], offset: usize) -> u16
     requires { offset + 2 ≤ length file.now }
     ensures { result ≡ half_at file.now offset }
@@ -47,7 +53,7 @@ pub(crate) fn half_at(file: &[u8], offset: usize) -> u16
 }
 
 /// The four bytes at an offset as a number.
-#[tactic(auto, unfolding(crate::specs::File::word_at))]
+#[tactic(auto, unfolding(crate::specs::Fields::word_at))]
 pub(crate) fn word_at(file: &[u8], offset: usize) -> u32
     requires { offset + 4 ≤ length file.now }
     ensures { result ≡ word_at file.now offset }

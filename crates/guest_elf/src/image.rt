@@ -1,13 +1,13 @@
 //! What a file loads.
 ghost use Rattle.std.specs.Prelude.{◌≡◌, ℕ, ◌+◌, ◌%◌, ◌^◌, ◌<◌, ◌↔◌, All, IsSome, IsTrue, is_some};
 ghost use Rattle.guest_elf.specs.Images.{segments_of, entry_of, loaded_at, name_at};
+ghost use Rattle.guest_elf.specs.Names.{named_by};
 ghost use Rattle.guest_elf.specs.Segments.{loaded_by, Fits};
 ghost use Rattle.std.specs.List.{list_any};
 
+use crate::names::FunctionNames;
 use crate::segment::Segment;
 
-/// The text in place of a name that is not known.
-const UNKNOWN: &[u8] = b"???";
 /// The number of bytes in a word.
 const WORD_SIZE: u32 = 4;
 
@@ -16,16 +16,22 @@ const WORD_SIZE: u32 = 4;
 pub struct Image<'a> {
     segments: Vec<Segment<'a>>,
     entry: u32,
+    names: FunctionNames<'a>,
 }
 
 impl<'a> Image<'a> {
-    /// The image of these segments, which begins at `entry`.
-    #[tactic(auto, unfolding(crate::specs::Images::segments_of, crate::specs::Images::entry_of))]
-    pub(crate) fn new(segments: Vec<Segment<'a>>, entry: u32) -> Self
+    /// The image of these segments, which begins at `entry`, with these names.
+    #[tactic(auto, unfolding(crate::specs::Images::segments_of, crate::specs::Images::entry_of, crate::specs::Images::name_at))]
+    pub(crate) fn new(segments: Vec<Segment<'a>>, entry: u32, names: FunctionNames<'a>) -> Self
         ensures segments { segments_of result ≡ segments.entry.items }
         ensures entry { entry_of result ≡ entry }
+        ensures names { (address : ℕ) → name_at result address ≡ named_by names.entry address }
     {
-        Image { segments, entry }
+        Image {
+            segments,
+            entry,
+            names,
+        }
     }
 
     /// The loaded segments, in the order of the file's program headers.
@@ -45,12 +51,13 @@ impl<'a> Image<'a> {
         self.entry
     }
 
-    /// The name of the function at an address: `???`, since no symbols are read.
+    /// The name of the function at an address, a slice of the file; `???` where no symbol names one. Takes
+    /// no memory.
     #[tactic(auto, unfolding(crate::specs::Images::name_at))]
     pub fn name_of(&self, addr: u32) -> &[u8]
         ensures { result.now ≡ name_at self.now addr }
     {
-        UNKNOWN
+        self.names.name_of(addr)
     }
 
     /// Whether each byte of the word at an address is loaded. Addresses wrap at 2^32.

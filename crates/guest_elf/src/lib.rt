@@ -1,10 +1,11 @@
 //! Reads a static ELF32 executable for RV32 from bytes in memory: the layer between a program's file and
 //! the machine that runs it.
 //!
-//! [`read`] answers an [`Image`], whose segments borrow their bytes from the file, or the first of the
-//! reasons to refuse the file, in the order of their numbers. It returns on every file, and grows one
-//! list, that of the segments, after every test of the file has passed: where that growth is refused it
-//! answers `Memory`.
+//! [`read`] answers an [`Image`], whose segments and names are slices of the file, or the first of the
+//! reasons to refuse the file, in the order of their numbers. It returns on every file. The conditions 20
+//! to 28 are tested before any memory is taken; then lists grow, of the loaded program headers, of the
+//! segments and of the symbols that name: where one can't grow, it answers `Memory`. The other calls take
+//! no memory.
 //!
 //! | Call | What it answers |
 //! |---|---|
@@ -15,21 +16,32 @@
 //! | [`Image::name_of`] | the name of the function at an address |
 //! | [`ElfFault::number`] | the number of a refusal: 1, or from 20 to 31 |
 //!
-//! What is taken: a file with at most one PT_LOAD that is not empty; one with p_memsz and p_filesz 0 is
-//! ignored. Further ones are refused as bad segments. Sections are not looked at, so that no symbols are
-//! read: each name is `???`, and `BadSymbols` doesn't come. e_flags, e_ehsize, p_paddr, p_flags and
-//! p_align are ignored, as are program headers of other types than PT_LOAD and PT_INTERP.
+//! What is taken: a file with any number of PT_LOADs that share no address; one with p_memsz and p_filesz
+//! 0 is ignored. A file has sections where neither e_shoff nor e_shnum is 0. Its names are those of the
+//! first section of type SHT_SYMTAB, if it has one: the symbol of type STT_FUNC with st_shndx not 0, a name
+//! that is not empty and the greatest st_value not above the address, among equals the first in the table,
+//! names the address if st_size is 0 or the address is below st_value + st_size. Elsewhere the name is
+//! `???`. e_flags, e_ehsize, e_shstrndx, p_paddr, p_flags and p_align are ignored, as are program headers of
+//! other types than PT_LOAD and PT_INTERP.
+//!
+//! Files of any content are answered fast: whether segments share an address is found on their headers in
+//! the order of their addresses, whether each name has an end by the last zero byte of the string table,
+//! and a name by two binary searches among symbols that `read` sorted once.
 //!
 //! The layer above uses one contract, that of [`read`]: an image is the file's (`IsImageOf`), which says
-//! that the file is not refused, that at each address the image loads what the file does, and that it
-//! begins at e_entry; an error but `Memory` is the file's refusal. What callers see of an image are the
-//! words `segments_of`, `entry_of`, `loaded_at` and `name_at`.
+//! that the file is not refused, that at each address the image loads what the file does and has the
+//! file's name, and that it begins at e_entry; an error but `Memory` is the file's refusal, and a refusal
+//! from 20 to 28 is answered whatever memory there is. What callers see of an image are the words
+//! `segments_of`, `entry_of`, `loaded_at` and `name_at`.
 //!
 //! Where the definitions stand, in `specs/`:
 //!
-//! - `File`: the file as a list of bytes, each reason to refuse it (`is_not_elf` to `is_too_large`), the
-//!   first of them (`refusal`), and what the file loads (`loaded_in`, `entry_in`).
-//! - `Images` and `Segments`: what an image loads, and a list of segments (`loaded`).
+//! - `Fields`: a number in the file, which is a list of bytes.
+//! - `File`: each reason to refuse it (`is_not_elf` to `has_bad_symbols`), the first of them (`refusal`), and
+//!   what the file loads and names (`loaded_in`, `entry_in`, `name_in`).
+//! - `Sections`: the section headers, the symbol table, its symbols and their names.
+//! - `Names`: the symbol that is nearest to an address, and the name by it (`nearest`, `name_by`).
+//! - `Images` and `Segments`: what an image loads and names, and a list of segments (`loaded`).
 //! - `Faults`: the numbers of the refusals.
 //!
 //! Sources: System V ABI, edition 4.1, chapters 4 and 5 (the ELF-32 object file format); RISC-V ELF
@@ -39,11 +51,16 @@
 mod fault;
 mod fields;
 mod image;
+mod lookups;
+mod names;
+mod overlaps;
 mod program;
 mod reading;
 mod refusals;
+mod sections;
 mod segment;
 mod segments;
+mod symbols;
 #[cfg(test)]
 mod tests;
 

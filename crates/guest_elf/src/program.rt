@@ -20,7 +20,7 @@ const STACK_END: u64 = 0x8000_0000;
 const STACK_START: u64 = 0x7F00_0000;
 
 /// The fields of a program header that matter here (Elf32_Phdr, figure 5-1).
-#[derive(Clone, Copy)]
+#[derive(Clone, Copy, Debug)]
 pub(crate) struct ProgramHeader {
     /// p_type.
     pub(crate) kind: u32,
@@ -78,7 +78,7 @@ impl ProgramHeader {
     }
 
     /// The address after its last byte, as a whole number.
-    fn end(self) -> u64
+    pub(crate) fn end(self) -> u64
         ensures { result ≡ self.vaddr + self.memsz }
     {
         u64::from(self.vaddr) + u64::from(self.memsz)

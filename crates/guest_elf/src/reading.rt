@@ -1,27 +1,33 @@
 //! From a file's bytes to an image.
 ghost use Rattle.std.specs.Prelude.{◌≡◌, ℕ, ◌+◌, ◌<◌, ◌⊎◌, false, length, slice_index, IfOk, IfErr, IfNone};
-ghost use Rattle.guest_elf.specs.File.{byte_at, refusal, is_bad_segment, first_loaded, loads_of, loaded_from, HasHeader, HasTable, HasSegments, IsImageOf};
+ghost use Rattle.guest_elf.specs.Fields.{byte_at};
+ghost use Rattle.guest_elf.specs.File.{early_refusal, late_refusal, refusal, is_bad_segment, first_loaded, loads_of, loaded_from, HasHeader, HasTable, HasSegments, IsImageOf};
+ghost use Rattle.guest_elf.specs.Sections.{symbol_table, HasNames, HasSections};
 ghost use Rattle.guest_elf.specs.Segments.{loaded, loaded_by};
 ghost use Rattle.guest_elf.specs.declared.fault.ElfFault.{ElfFault};
 
 use crate::fault::ElfFault;
 use crate::fields::{E_ENTRY, word_at};
 use crate::image::Image;
+use crate::names::FunctionNames;
+use crate::overlaps::has_overlap;
 use crate::program::{ProgramHeader, header_at, header_count};
 use crate::refusals::{
     has_bad_table, has_bad_version, is_not_class_32, is_not_elf, is_not_executable,
     is_not_little_endian, is_not_risc_v,
 };
 use crate::segment::Segment;
-use crate::segments::{has_bad_segment, has_interpreter, has_overlap, is_too_large};
+use crate::segments::{has_bad_segment, has_interpreter, is_too_large};
+use crate::symbols::has_bad_symbols;
 use std::alloc::{AllocError, Global};
 
-/// Why a file is refused: the first of the conditions that holds.
-#[tactic(auto, unfolding(crate::specs::File::refusal))]
-fn refusal(file: &[u8]) -> Option<ElfFault>
-    ensures value { result ≡ refusal file.now }
+/// Of the conditions that are tested without memory, the first that holds.
+#[tactic(auto, unfolding(crate::specs::File::early_refusal))]
+fn early_refusal(file: &[u8]) -> Option<ElfFault>
+    ensures value { result ≡ early_refusal file.now }
     ensures header { IfNone result (HasHeader file.now) }
     ensures table { IfNone result (HasTable file.now) }
+    ensures sections { IfNone result (HasSections file.now) }
     ensures segments { IfNone result (HasSegments file.now) }
 {
     if is_not_elf(file) {
@@ -42,13 +48,31 @@ fn refusal(file: &[u8]) -> Option<ElfFault>
         Some(ElfFault::Interpreter)
     } else if has_bad_segment(file) {
         Some(ElfFault::BadSegment)
-    } else if has_overlap(file) {
-        Some(ElfFault::Overlap)
-    } else if is_too_large(file) {
-        Some(ElfFault::TooLarge)
     } else {
         None
     }
+}
+
+/// Of the other conditions the first that holds.
+#[tactic(auto, unfolding(crate::specs::File::late_refusal))]
+fn late_refusal(alloc: Global, file: &[u8]) -> Result<Option<ElfFault>, AllocError>
+    requires header { HasHeader file.now }
+    requires table { HasTable file.now }
+    requires sections { HasSections file.now }
+    requires good { HasSegments file.now }
+    ensures value { IfOk result (λ fault. fault ≡ late_refusal file.now) }
+    ensures names { IfOk result (λ fault. IfNone fault (HasNames file.now (symbol_table file.now))) }
+{
+    if has_overlap(alloc, file)? {
+        return Ok(Some(ElfFault::Overlap));
+    }
+    if is_too_large(file) {
+        return Ok(Some(ElfFault::TooLarge));
+    }
+    if has_bad_symbols(file) {
+        return Ok(Some(ElfFault::BadSymbols));
+    }
+    Ok(None)
 }
 
 /// The bytes in the file of a program header that is not bad. Without any, p_offset may be anywhere.
@@ -95,22 +119,26 @@ fn segments_of<'a>(alloc: Global, file: &'a [u8]) -> Result<Vec<Segment<'a>>, Al
 }
 
 /// Reads a static executable for RV32 from the bytes of an ELF32 file, which the image borrows.
-/// Files with at most one PT_LOAD that is not empty are taken. Sections are not looked at.
 ///
 /// # Errors
 ///
-/// The first condition that holds, in the order of `ElfFault::number`; or `Memory`, where the list of
-/// segments could not grow.
+/// The first condition that holds, in the order of `ElfFault::number`; or `Memory`, where a list could not
+/// grow: the first list grows once the conditions 20 to 28 are tested.
+#[tactic(auto, unfolding(crate::specs::File::refusal))]
 pub fn read<'a>(alloc: Global, file: &'a [u8]) -> Result<Image<'a>, ElfFault>
     ensures image { IfOk result (IsImageOf file.entry.now) }
     ensures refused { IfErr result (λ fault.
         (fault ≡ ElfFault.Memory) ⊎ (refusal file.entry.now ≡ Some fault)) }
-    // Want of memory hides no refusal.
-    ensures least { (fault : ElfFault) → refusal file.entry.now ≡ Some fault → result ≡ Err fault }
+    // Want of memory hides no refusal that is found before the first growth.
+    ensures least { (fault : ElfFault) → early_refusal file.entry.now ≡ Some fault → result ≡ Err fault }
 {
-    if let Some(fault) = refusal(file) {
+    if let Some(fault) = early_refusal(file) {
+        return Err(fault);
+    }
+    if let Some(fault) = late_refusal(alloc, file)? {
         return Err(fault);
     }
     let segments = segments_of(alloc, file)?;
-    Ok(Image::new(segments, word_at(file, E_ENTRY)))
+    let names = FunctionNames::read(alloc, file)?;
+    Ok(Image::new(segments, word_at(file, E_ENTRY), names))
 }

@@ -1,6 +1,7 @@
 //! The conditions under which a file is refused, each with the name of its definition.
 ghost use Rattle.std.specs.Prelude.{◌≡◌};
-ghost use Rattle.guest_elf.specs.File.{is_not_elf, is_not_class_32, is_not_little_endian, has_bad_version, is_not_executable, is_not_risc_v, has_bad_table, HasHeader, HasTable};
+ghost use Rattle.guest_elf.specs.File.{is_not_elf, is_not_class_32, is_not_little_endian, has_bad_version, is_not_executable, is_not_risc_v, has_bad_program_table, has_bad_table, HasHeader, HasTable};
+ghost use Rattle.guest_elf.specs.Sections.{HasSections};
 ghost use Rattle.std.specs.Bool.{OnFalse};
 
 use crate::fault::ElfFault;
@@ -9,6 +10,7 @@ use crate::fields::{
     byte_at, half_at, word_at,
 };
 use crate::program::{PROGRAM_HEADER_SIZE, header_count};
+use crate::sections::has_bad_section_table;
 
 /// The first bytes of an ELF file.
 const MAGIC: [u8; 4] = *b"\x7FELF";
@@ -81,10 +83,10 @@ pub(crate) fn is_not_risc_v(file: &[u8]) -> bool
 }
 
 /// e_phnum is PN_XNUM; or there are program headers of another size, or that end past the file.
-#[tactic(auto, unfolding(crate::specs::File::has_bad_table))]
-pub(crate) fn has_bad_table(file: &[u8]) -> bool
+#[tactic(auto, unfolding(crate::specs::File::has_bad_program_table))]
+pub(crate) fn has_bad_program_table(file: &[u8]) -> bool
     requires { HasHeader file.now }
-    ensures value { result ≡ has_bad_table file.now }
+    ensures value { result ≡ has_bad_program_table file.now }
     ensures inside { OnFalse result (HasTable file.now) }
 {
     let count = header_count(file);
@@ -93,4 +95,15 @@ pub(crate) fn has_bad_table(file: &[u8]) -> bool
     }
     let table_end = word_at(file, E_PHOFF) as usize + PROGRAM_HEADER_SIZE * count as usize;
     half_at(file, E_PHENTSIZE) as usize != PROGRAM_HEADER_SIZE || table_end > file.len()
+}
+
+/// The table of program headers is bad, or that of section headers.
+#[tactic(auto, unfolding(crate::specs::File::has_bad_table))]
+pub(crate) fn has_bad_table(file: &[u8]) -> bool
+    requires { HasHeader file.now }
+    ensures value { result ≡ has_bad_table file.now }
+    ensures inside { OnFalse result (HasTable file.now) }
+    ensures sections { OnFalse result (HasSections file.now) }
+{
+    has_bad_program_table(file) || has_bad_section_table(file)
 }

@@ -1,8 +1,8 @@
 //! The conditions on the program headers under which a file is refused.
-ghost use Rattle.std.specs.Prelude.{◌≡◌, ◌≤◌, length, sum_by};
+ghost use Rattle.std.specs.Prelude.{◌≡◌, length, sum_by};
 ghost use Rattle.std.specs.Bool.{OnFalse};
 ghost use Rattle.std.specs.List.{list_any};
-ghost use Rattle.guest_elf.specs.File.{has_interpreter, has_bad_segment, has_overlap, is_too_large, is_bad_segment, loads_of, meets_region, HasTable, HasSegments};
+ghost use Rattle.guest_elf.specs.File.{has_interpreter, has_bad_segment, is_too_large, is_bad_segment, loads_of, meets_region, HasTable, HasSegments};
 
 use crate::program::{header_at, header_count};
 
@@ -24,6 +24,16 @@ pub(crate) fn has_interpreter(file: &[u8]) -> bool
 }
 
 /// A loaded segment is bad.
+#[tactic(auto, unfolding(crate::specs::File::has_bad_segment))]
+pub(crate) fn has_bad_segment(file: &[u8]) -> bool
+    requires { HasTable file.now }
+    ensures value { result ≡ has_bad_segment file.now }
+    ensures good { OnFalse result (HasSegments file.now) }
+{
+    has_bad_load(file)
+}
+
+/// A loaded segment is bad: the loop over the program headers.
 fn has_bad_load(file: &[u8]) -> bool
     requires { HasTable file.now }
     ensures { result ≡ list_any (is_bad_segment (length file.now)) (loads_of file.now) }
@@ -38,7 +48,7 @@ fn has_bad_load(file: &[u8]) -> bool
 }
 
 /// A loaded segment meets the heap's region or the stack's.
-fn has_load_in_region(file: &[u8]) -> bool
+pub(crate) fn has_load_in_region(file: &[u8]) -> bool
     requires { HasTable file.now }
     ensures { result ≡ list_any meets_region (loads_of file.now) }
 {
@@ -49,20 +59,6 @@ fn has_load_in_region(file: &[u8]) -> bool
         }
     }
     false
-}
-
-/// The number of loaded segments.
-fn load_count(file: &[u8]) -> usize
-    requires { HasTable file.now }
-    ensures { result ≡ length (loads_of file.now) }
-{
-    let mut count = 0;
-    for index in 0..header_count(file) {
-        if header_at(file, index).is_load() {
-            count += 1;
-        }
-    }
-    count
 }
 
 /// The number of bytes that the loaded segments take in memory.
@@ -78,27 +74,6 @@ fn memory_size(file: &[u8]) -> u64
         }
     }
     size
-}
-
-/// A loaded segment is bad, or there is more than one.
-#[tactic(auto, unfolding(crate::specs::File::has_bad_segment))]
-pub(crate) fn has_bad_segment(file: &[u8]) -> bool
-    requires { HasTable file.now }
-    ensures value { result ≡ has_bad_segment file.now }
-    ensures good { OnFalse result (HasSegments file.now) }
-    ensures single { OnFalse result (length (loads_of file.now) ≤ 1) }
-{
-    has_bad_load(file) || load_count(file) > 1
-}
-
-/// A loaded segment meets another, or the heap's region or the stack's.
-#[tactic(auto, unfolding(crate::specs::File::has_overlap))]
-pub(crate) fn has_overlap(file: &[u8]) -> bool
-    requires table { HasTable file.now }
-    requires single { length (loads_of file.now) ≤ 1 }
-    ensures { result ≡ has_overlap file.now }
-{
-    has_load_in_region(file)
 }
 
 /// The file or what its segments take in memory has more than 16 MiB.

@@ -14,6 +14,29 @@ const PROGRAM: [u8; 96] = [
     0x04, 0x00, 0x00, 0x00, 0x93, 0x08, 0xD0, 0x05, 0x13, 0x05, 0x00, 0x00, 0x73, 0x00, 0x00, 0x00,
 ];
 
+/// Eight words at 0x10000, with two functions: `main` from 0x10000, 24 bytes, and `max` from 0x10018, 8 bytes.
+const NAMED: [u8; 296] = [
+    0x7F, 0x45, 0x4C, 0x46, 0x01, 0x01, 0x01, 0x00, 0x00, 0x00, 0x00, 0x00, 0x00, 0x00, 0x00, 0x00,
+    0x02, 0x00, 0xF3, 0x00, 0x01, 0x00, 0x00, 0x00, 0x00, 0x00, 0x01, 0x00, 0x34, 0x00, 0x00, 0x00,
+    0xB0, 0x00, 0x00, 0x00, 0x00, 0x00, 0x00, 0x00, 0x34, 0x00, 0x20, 0x00, 0x01, 0x00, 0x28, 0x00,
+    0x03, 0x00, 0x00, 0x00, 0x01, 0x00, 0x00, 0x00, 0x54, 0x00, 0x00, 0x00, 0x00, 0x00, 0x01, 0x00,
+    0x00, 0x00, 0x01, 0x00, 0x20, 0x00, 0x00, 0x00, 0x20, 0x00, 0x00, 0x00, 0x05, 0x00, 0x00, 0x00,
+    0x04, 0x00, 0x00, 0x00, 0x13, 0x01, 0x01, 0xFF, 0x03, 0x25, 0x01, 0x00, 0xEF, 0x00, 0x00, 0x01,
+    0x03, 0x25, 0x01, 0x00, 0xEF, 0x00, 0x80, 0x00, 0x73, 0x00, 0x10, 0x00, 0x63, 0x02, 0x05, 0x00,
+    0x67, 0x80, 0x00, 0x00, 0x00, 0x00, 0x00, 0x00, 0x00, 0x00, 0x00, 0x00, 0x00, 0x00, 0x00, 0x00,
+    0x00, 0x00, 0x00, 0x00, 0x01, 0x00, 0x00, 0x00, 0x00, 0x00, 0x01, 0x00, 0x18, 0x00, 0x00, 0x00,
+    0x12, 0x00, 0xF1, 0xFF, 0x06, 0x00, 0x00, 0x00, 0x18, 0x00, 0x01, 0x00, 0x08, 0x00, 0x00, 0x00,
+    0x12, 0x00, 0xF1, 0xFF, 0x00, 0x6D, 0x61, 0x69, 0x6E, 0x00, 0x6D, 0x61, 0x78, 0x00, 0x00, 0x00,
+    0x00, 0x00, 0x00, 0x00, 0x00, 0x00, 0x00, 0x00, 0x00, 0x00, 0x00, 0x00, 0x00, 0x00, 0x00, 0x00,
+    0x00, 0x00, 0x00, 0x00, 0x00, 0x00, 0x00, 0x00, 0x00, 0x00, 0x00, 0x00, 0x00, 0x00, 0x00, 0x00,
+    0x00, 0x00, 0x00, 0x00, 0x00, 0x00, 0x00, 0x00, 0x00, 0x00, 0x00, 0x00, 0x02, 0x00, 0x00, 0x00,
+    0x00, 0x00, 0x00, 0x00, 0x00, 0x00, 0x00, 0x00, 0x74, 0x00, 0x00, 0x00, 0x30, 0x00, 0x00, 0x00,
+    0x02, 0x00, 0x00, 0x00, 0x00, 0x00, 0x00, 0x00, 0x00, 0x00, 0x00, 0x00, 0x10, 0x00, 0x00, 0x00,
+    0x00, 0x00, 0x00, 0x00, 0x03, 0x00, 0x00, 0x00, 0x00, 0x00, 0x00, 0x00, 0x00, 0x00, 0x00, 0x00,
+    0xA4, 0x00, 0x00, 0x00, 0x0A, 0x00, 0x00, 0x00, 0x00, 0x00, 0x00, 0x00, 0x00, 0x00, 0x00, 0x00,
+    0x00, 0x00, 0x00, 0x00, 0x00, 0x00, 0x00, 0x00,
+];
+
 /// The offsets in the file of the fields that the tests change.
 const ENTRY_SIZE: usize = 42;
 
@@ -153,6 +176,9 @@ fn a_changed_byte_is_refused(rt: HostRuntime) {
         (ENTRY_SIZE, 31, 26),
         (ENTRY_COUNT, 2, 26),
         (ENTRY_COUNT, 0, 0),
+        // e_shoff and e_shnum: no sections as long as one of them is 0.
+        (33, 1, 0),
+        (48, 1, 0),
         (KIND, 3, 27),
         (KIND, 2, 0),
         (FILESZ, 13, 28),
@@ -204,16 +230,120 @@ fn the_least_refusal_is_answered(rt: HostRuntime) {
 }
 
 #[test]
-fn a_second_segment_is_refused_unless_it_is_empty(rt: HostRuntime) {
-    let mut file = [0; 128];
-    file[..84].copy_from_slice(&PROGRAM[..84]);
-    file[84..116].copy_from_slice(&PROGRAM[52..84]);
-    set_word(&mut file, ENTRY_COUNT, 2);
-    set_word(&mut file, VADDR + 32, 0x20000);
-    assert_eq!(rt; answer(rt.alloc(), &file), 28);
-    set_word(&mut file, FILESZ + 32, 0);
-    set_word(&mut file, MEMSZ + 32, 0);
-    assert_eq!(rt; answer(rt.alloc(), &file), 0);
+fn segments_share_no_address(rt: HostRuntime) {
+    // The second program header begins at 84: p_vaddr is at 92, p_filesz at 100 and p_memsz at 104.
+    for (vaddr, memsz, want) in [
+        (0x20000, 12u32, 0),
+        (0xFFF4, 12, 0),
+        (0x1000C, 12, 0),
+        (0xFFF5, 12, 29),
+        (0x1000B, 12, 29),
+        (0x8000, 0x0001_0000, 29),
+        (0x10000, 0, 0),
+        (0x5FFF_FFFF, 12, 29),
+        (0x20000, 0x00FF_FFF5, 30),
+    ] {
+        let mut file = [0; 128];
+        file[..84].copy_from_slice(&PROGRAM[..84]);
+        file[84..116].copy_from_slice(&PROGRAM[52..84]);
+        set_byte(&mut file, ENTRY_COUNT, 2);
+        set_word(&mut file, VADDR + 32, vaddr);
+        set_word(&mut file, FILESZ + 32, 0);
+        set_word(&mut file, MEMSZ + 32, memsz);
+        assert_eq!(rt;
+            answer(rt.alloc(), &file),
+            want,
+            "at {vaddr}, {memsz} bytes"
+        );
+    }
+}
+
+#[test]
+fn the_functions_of_a_file_have_names(rt: HostRuntime) -> Result<(), Fail> {
+    let image = read(rt.alloc(), &NAMED)?;
+    let main: &[u8] = b"main";
+    let max: &[u8] = b"max";
+    let unknown: &[u8] = b"???";
+    assert_eq!(rt; image.name_of(0xFFFF), unknown);
+    assert_eq!(rt; image.name_of(0x10000), main);
+    assert_eq!(rt; image.name_of(0x10017), main);
+    assert_eq!(rt; image.name_of(0x10018), max);
+    assert_eq!(rt; image.name_of(0x1001F), max);
+    assert_eq!(rt; image.name_of(0x10020), unknown);
+    Ok(())
+}
+
+#[test]
+fn a_cut_file_with_names_is_refused(rt: HostRuntime) {
+    for len in 0..296usize {
+        let want = if len < 52 { 20 } else { 26 };
+        assert_eq!(rt; answer(rt.alloc(), &NAMED[..len]), want, "at {len}");
+    }
+}
+
+#[test]
+fn a_changed_word_of_the_sections_is_refused(rt: HostRuntime) {
+    for (offset, word, want) in [
+        // e_shentsize (with e_phnum), and e_shnum.
+        (44usize, 0x0027_0001u32, 26),
+        (48, 4, 26),
+        (48, 0, 0),
+        // e_shoff: none, and one byte further.
+        (32, 0, 0),
+        (32, 177, 26),
+        // Of section 1 sh_type, sh_offset, sh_size, sh_link and sh_entsize.
+        (220, 11, 0),
+        (232, 249, 31),
+        (236, 47, 31),
+        (236, 192, 31),
+        (236, 16, 0),
+        (240, 3, 31),
+        (252, 24, 31),
+        // Of section 2 sh_offset and sh_size: `max` has no end without the last byte.
+        (272, 287, 31),
+        (276, 9, 31),
+        // Of symbol 2 st_name: the last byte, the end and far past it; then st_info: not a function.
+        (148, 9, 0),
+        (148, 10, 31),
+        (148, 0xFFFF_FFFF, 31),
+        // Of symbol 2 st_value: nothing asks where a function lies.
+        (152, 0xFFFF_FFFF, 0),
+    ] {
+        let mut file = NAMED;
+        set_word(&mut file, offset, word);
+        assert_eq!(rt; answer(rt.alloc(), &file), want, "{offset} set to {word}");
+    }
+}
+
+#[test]
+fn the_nearest_function_names_an_address(rt: HostRuntime) -> Result<(), Fail> {
+    let main: &[u8] = b"main";
+    let max: &[u8] = b"max";
+    let unknown: &[u8] = b"???";
+    // Two words changed each: their offsets and values, and the name of 0x10018 then.
+    for (first, one, second, two, want) in [
+        // Both functions at one address: the one with the lower index, whatever its size.
+        (136usize, 0x10018u32, 136usize, 0x10018u32, main),
+        (136, 0x10018, 140, 0, main),
+        // A size of 0 is unknown, one that is too small does not reach the address.
+        (156, 0, 156, 0, max),
+        (152, 0x10010, 156, 8, unknown),
+        (152, 0x10010, 156, 9, max),
+        // No function, then one that is undefined.
+        (160, 0xFFF1_0011, 140, 0, main),
+        (160, 0x0000_0012, 140, 0, main),
+        // An empty name.
+        (148, 0, 140, 0, main),
+        // Below the first function there is none.
+        (136, 0x10019, 152, 0x10019, unknown),
+    ] {
+        let mut file = NAMED;
+        set_word(&mut file, first, one);
+        set_word(&mut file, second, two);
+        let image = read(rt.alloc(), &file)?;
+        assert_eq!(rt; image.name_of(0x10018), want, "{first} set to {one}");
+    }
+    Ok(())
 }
 
 #[test]

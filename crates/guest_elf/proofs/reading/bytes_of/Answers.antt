@@ -1,6 +1,6 @@
 use Rattle.std.proofs.Common.{◌+◌, ◌≤◌, ◌∙◌, arith, rules, length, drop}
 use Rattle.std.proofs.lemmas.List.{get_or-drop, get_or-take}
-use Rattle.guest_elf.specs.File.{byte_at}
+use Rattle.guest_elf.specs.Fields.{byte_at}
 use Rattle.guest_elf.proofs.Loading.{good_from_test}
 use Rattle.guest_elf.proofs.reading.bytes_of.Goals as goal
 

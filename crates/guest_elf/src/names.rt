@@ -1,0 +1,58 @@
+//! The names of functions, by their addresses.
+ghost use Rattle.std.specs.Prelude.{◌≡◌, ℕ, IfOk};
+ghost use Rattle.std.specs.List.Sorted.{IsNonDecreasingBy};
+ghost use Rattle.guest_elf.specs.declared.symbols.Symbol.{Symbol};
+
+use crate::lookups::{name_from, nearest};
+use crate::sections::symbol_table;
+use crate::symbols::{Symbol, naming_symbols, strings_in};
+use std::alloc::{AllocError, Global};
+
+/// The text in place of a name that is not known.
+const UNKNOWN: &[u8] = b"???";
+
+/// The naming symbols of a file in the order of their addresses, those of one address in the order of the
+/// symbol table, and the bytes of its string table.
+#[derive(Debug, Drop)]
+pub(crate) struct FunctionNames<'a> {
+    symbols: Vec<Symbol>,
+    strings: &'a [u8],
+    ghost ascending: { IsNonDecreasingBy (λ (symbol : Symbol). symbol.value) symbols.items },
+}
+
+impl<'a> FunctionNames<'a> {
+    ghost use Rattle.guest_elf.specs.File.{HasHeader, name_in};
+    ghost use Rattle.guest_elf.specs.Names.{named_by};
+    ghost use Rattle.guest_elf.specs.Sections.{symbol_table, HasNames, HasSections};
+
+    /// The names that a file gives.
+    pub(crate) fn read(alloc: Global, file: &'a [u8]) -> Result<Self, AllocError>
+        requires header { HasHeader file.now }
+        requires sections { HasSections file.now }
+        requires inside { HasNames file.now (symbol_table file.now) }
+        ensures { IfOk result (λ names. (address : ℕ) →
+            named_by names address ≡ name_in file.now address) }
+    {
+        let Some(table) = symbol_table(file) else {
+            return Ok(FunctionNames {
+                symbols: Vec::new(alloc),
+                strings: &[],
+            });
+        };
+        let mut symbols = naming_symbols(alloc, file, table)?;
+        symbols.sort_by_key(|symbol| symbol.value)?;
+        let strings = strings_in(file, table);
+        Ok(FunctionNames { symbols, strings })
+    }
+
+    /// The name of the function at an address.
+    #[tactic(auto, unfolding(crate::specs::Names::named_by, crate::specs::Names::name_by))]
+    pub(crate) fn name_of(&self, addr: u32) -> &[u8]
+        ensures { result.now ≡ named_by self.now addr }
+    {
+        match nearest(&self.symbols, addr) {
+            Some(symbol) if symbol.has(addr) => name_from(self.strings, symbol.name),
+            _ => UNKNOWN,
+        }
+    }
+}

@@ -1,0 +1,178 @@
+//! The symbol table and its string table.
+ghost use Rattle.std.specs.Prelude.{◌≡◌, ℕ, ◌/◌, ◌<◌, ◌&&◌, ◌||◌, ◌==◌, ◌+◌, drop, nat_le, nat_lt, filter, IfOk};
+ghost use Rattle.std.specs.Bool.{OnFalse};
+ghost use Rattle.std.specs.List.{list_any};
+ghost use Rattle.guest_elf.specs.File.{HasHeader, has_bad_symbols};
+ghost use Rattle.guest_elf.specs.Sections.{has_bad_name, is_damaged, is_function, is_naming, is_zero, section_at, section_count, strings_in, symbol_at, symbol_table, symbols_in, HasNames, HasSections, HasSymbols};
+
+use crate::fields::{byte_at, half_at, word_at};
+use crate::sections::{SectionHeader, section_at, section_count, symbol_table};
+use std::alloc::{AllocError, Global};
+
+/// The size of a symbol, in bytes.
+const SYMBOL_SIZE: u32 = 16;
+/// STT_FUNC: a function.
+const FUNCTION: u8 = 2;
+/// SHN_UNDEF: a symbol that is defined elsewhere.
+const UNDEFINED: u16 = 0;
+
+/// The fields of a symbol that matter here (Elf32_Sym, figure 4-15).
+#[derive(Clone, Copy, Debug)]
+pub(crate) struct Symbol {
+    /// st_name: where its name begins in the string table.
+    pub(crate) name: u32,
+    /// st_value: its address.
+    pub(crate) value: u32,
+    /// st_size: the number of its bytes, or 0 if that is unknown.
+    pub(crate) size: u32,
+    /// st_info: the low four bits are the type.
+    pub(crate) info: u8,
+    /// st_shndx: the section in which it is defined.
+    pub(crate) section: u16,
+}
+
+impl Symbol {
+    /// Whether it is an STT_FUNC of a section.
+    #[tactic(auto, unfolding(crate::specs::Sections::is_function))]
+    fn is_function(self) -> bool
+        ensures { result ≡ is_function self }
+    {
+        self.info % 16 == FUNCTION && self.section != UNDEFINED
+    }
+
+    /// Whether it is a function whose name begins at `end` or past it.
+    fn is_function_from(self, end: usize) -> bool
+        ensures { result ≡ (is_function self && nat_le end self.name) }
+    {
+        self.is_function() && self.name as usize >= end
+    }
+
+    /// Whether its size is unknown, or it ends above an address.
+    pub(crate) fn has(self, addr: u32) -> bool
+        ensures { result ≡ (self.size == 0 || nat_lt addr (self.value + self.size)) }
+    {
+        self.size == 0 || u64::from(addr) < u64::from(self.value) + u64::from(self.size)
+    }
+
+    /// Whether it is a function with a name that is not empty.
+    #[tactic(auto, unfolding(crate::specs::Sections::is_naming))]
+    fn is_naming(self, strings: &[u8]) -> bool
+        ensures { result ≡ is_naming strings.now self }
+    {
+        let start = self.name as usize;
+        self.is_function() && start < strings.len() && strings[start] != 0
+    }
+}
+
+/// The symbol at an index of a table.
+#[tactic(auto, unfolding(crate::specs::Sections::symbol_from))]
+fn symbol_at(file: &[u8], table: SectionHeader, index: u32) -> Symbol
+    requires inside { HasSymbols file.now table }
+    requires listed { index < table.size / 16 }
+    ensures { result ≡ symbol_at file.now table index }
+{
+    let start = table.offset as usize + SYMBOL_SIZE as usize * index as usize;
+    Symbol {
+        name: word_at(file, start),
+        value: word_at(file, start + 4),
+        size: word_at(file, start + 8),
+        info: byte_at(file, start + 12),
+        section: half_at(file, start + 14),
+    }
+}
+
+/// The bytes of a symbol table's string table.
+#[tactic(auto, unfolding(crate::specs::Sections::strings_in))]
+pub(crate) fn strings_in(file: &[u8], table: SectionHeader) -> &[u8]
+    requires sections { HasSections file.now }
+    requires inside { HasSymbols file.now table }
+    ensures { result.now ≡ strings_in file.now table }
+{
+    let section = section_at(file, table.link);
+    let start = section.offset as usize;
+    &file[start..start + section.size as usize]
+}
+
+/// How many bytes of a string table there are up to its last zero byte, with that: a name has an end just
+/// if it begins before that many.
+fn names_end(strings: &[u8]) -> usize
+    ensures { (start : ℕ) → list_any is_zero (drop start strings.now) ≡ nat_lt start result }
+{
+    let mut end = 0;
+    for (index, byte) in strings.iter().enumerate() {
+        if *byte == 0 {
+            end = index + 1;
+        }
+    }
+    end
+}
+
+/// sh_entsize is not 16, or the size no multiple of it, or the table or its string table isn't in the file.
+#[tactic(auto, unfolding(crate::specs::Sections::is_damaged))]
+fn is_damaged(file: &[u8], table: SectionHeader) -> bool
+    requires header { HasHeader file.now }
+    requires sections { HasSections file.now }
+    ensures value { result ≡ is_damaged file.now table }
+    ensures inside { OnFalse result (HasSymbols file.now table) }
+{
+    if table.entry_size != SYMBOL_SIZE
+        || table.size % SYMBOL_SIZE != 0
+        || table.offset as usize + table.size as usize > file.len()
+        || table.link >= u32::from(section_count(file))
+    {
+        return true;
+    }
+    let strings = section_at(file, table.link);
+    strings.offset as usize + strings.size as usize > file.len()
+}
+
+/// A function's name has no end in the string table.
+fn has_endless_name(file: &[u8], table: SectionHeader) -> bool
+    requires sections { HasSections file.now }
+    requires inside { HasSymbols file.now table }
+    ensures { result ≡ list_any (has_bad_name (strings_in file.now table)) (symbols_in file.now table) }
+{
+    let end = names_end(strings_in(file, table));
+    for index in 0..table.size / SYMBOL_SIZE {
+        if symbol_at(file, table, index).is_function_from(end) {
+            return true;
+        }
+    }
+    false
+}
+
+/// The symbol table is damaged, or a function's name has no end.
+#[tactic(auto, unfolding(crate::specs::File::has_bad_symbols, crate::specs::Sections::is_bad_table))]
+pub(crate) fn has_bad_symbols(file: &[u8]) -> bool
+    requires header { HasHeader file.now }
+    requires sections { HasSections file.now }
+    ensures value { result ≡ has_bad_symbols file.now }
+    ensures names { OnFalse result (HasNames file.now (symbol_table file.now)) }
+{
+    match symbol_table(file) {
+        None => false,
+        Some(table) => is_damaged(file, table) || has_endless_name(file, table),
+    }
+}
+
+/// The naming symbols of a table, in its order.
+pub(crate) fn naming_symbols(
+    alloc: Global,
+    file: &[u8],
+    table: SectionHeader,
+) -> Result<Vec<Symbol>, AllocError>
+    requires sections { HasSections file.now }
+    requires inside { HasSymbols file.now table }
+    ensures { IfOk result (λ symbols.
+        symbols.items ≡ filter (is_naming (strings_in file.now table)) (symbols_in file.now table)) }
+{
+    let strings = strings_in(file, table);
+    let mut symbols = Vec::new(alloc);
+    for index in 0..table.size / SYMBOL_SIZE {
+        let symbol = symbol_at(file, table, index);
+        if symbol.is_naming(strings) {
+            symbols.push(symbol)?;
+        }
+    }
+    Ok(symbols)
+}
