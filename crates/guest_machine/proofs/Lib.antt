@@ -4,3 +4,4 @@ pub mod LoadSteps
 pub mod Starting
 pub mod WordLaw
 pub mod SetupLaw
+pub mod HeapSteps

@@ -14,6 +14,7 @@ use Rattle.guest_machine.specs.Loading.{loaded_bytes, loaded_shadows}
 use Rattle.guest_machine.specs.Run.{start_state, stack_start}
 use Rattle.error_events.specs.Groups.{grouped, firsts_after}
 use Rattle.error_events.specs.Shown.{groups_of}
+use Rattle.std.specs.declared.alloc.Global.{Global}
 use Rattle.call_stacks.specs.declared.stack.Frame.{Frame}
 use Rattle.guest_heap.specs.Blocks.{no_blocks}
 use Rattle.guest_heap.specs.Heaps.{blocks_of}
@@ -24,14 +25,14 @@ use Rattle.shadow_memory.specs.declared.memory.Memory.{Memory}
 use Rattle.error_events.specs.declared.groups.Groups.{Groups}
 use Rattle.guest_machine.specs.declared.status.Status.TheVariants.{Running}
 
-pub holds-start : (image : Image) (fresh loaded memory : Memory) (groups : Groups) (frames : List Frame) (heap : Heap) (segments : List Segment) (pc : ℕ) (zeros top : Bits)
+pub holds-start : (alloc : Global) (image : Image) (fresh loaded memory : Memory) (groups : Groups) (frames : List Frame) (heap : Heap) (segments : List Segment) (pc : ℕ) (zeros top : Bits)
     → bytes_in fresh ≡ (λ a. 0) → shadows_in fresh ≡ (λ a. shadow_of NoAccess)
     → bytes_in loaded ≡ loaded_bytes segments (bytes_in fresh) → shadows_in loaded ≡ loaded_shadows segments (shadows_in fresh)
     → bytes_in memory ≡ written (bytes_in loaded) stack_start 16 (slice_index []) → shadows_in memory ≡ made_so (shadows_in loaded) stack_start 16 Defined
     → segments ≡ segments_of image → pc ≡ entry_of image → zeros ≡ known 0 → top ≡ known stack_start → groups_of groups ≡ [] → frames ≡ [] → blocks_of heap ≡ no_blocks
-    → Holds (record { memory = memory; registers = slice_set (replicate 32 zeros) 2 top; pc = pc; status = Running; frames = frames; heap = heap; counts = record { position = 0; output_len = 0; heap_calls = 0 }; groups = groups }) (start_state image)
+    → Holds (record { alloc = alloc; memory = memory; registers = slice_set (replicate 32 zeros) 2 top; pc = pc; status = Running; frames = frames; heap = heap; counts = record { position = 0; output_len = 0; heap_calls = 0 }; groups = groups }) (start_state image)
 unfolding start_state loaded_bytes loaded_shadows loaded_at grouped firsts_after
-holds-start image fresh loaded memory groups frames heap segments pc zeros top b0 s0 b1 s1 b2 s2 same at z t g calls none =
+holds-start alloc image fresh loaded memory groups frames heap segments pc zeros top b0 s0 b1 s1 b2 s2 same at z t g calls none =
     record {
       bytes = b2 ∙ ap₂ (λ f m. written f stack_start 16 m) (b1 ∙ ap₂ loaded_bytes same b0) (fun_ext (λ i. refl));
       core = λ i. record {

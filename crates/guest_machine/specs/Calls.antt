@@ -1,16 +1,16 @@
 -- The calls that a program makes of its environment by ECALL (RISC-V Unprivileged ISA 20191213, section 2.8), numbered as in
--- Linux for RISC-V: the number is in a7 (x17), the arguments in a0 (x10) and on, and the answer goes to a0.
+-- Linux for RISC-V, and from 2001 on the heap's: the number is in a7 (x17), the arguments in a0 (x10) and on, and the answer goes to a0.
 use Rattle.std.specs.Prelude.{ℕ, ◌+◌, ◌-◌, ◌^◌, ◌%◌, ◌==◌, ◌||◌, ◌&&◌, Bool, true, false, nat_le, min, if◌then◌else◌, List, [], ◌∷◌, ◌++◌, map, slice_index}
 use Rattle.std.specs.List.{range_with_len}
 use Rattle.error_events.specs.declared.event.Event.{Event}
 use Rattle.error_events.specs.declared.parameter.Parameter.{Parameter}
-use Rattle.error_events.specs.declared.parameter.Parameter.TheVariants.{SyscallNumber, ReadFd, ReadBuffer, ReadCount, WriteFd, WriteBuffer, WriteCount, ExitStatus, ExitGroupStatus}
+use Rattle.error_events.specs.declared.parameter.Parameter.TheVariants.{SyscallNumber, ReadFd, ReadBuffer, ReadCount, WriteFd, WriteBuffer, WriteCount, ExitStatus, ExitGroupStatus, MallocSize, FreePointer, CallocMembers, CallocSize, ReallocPointer, ReallocSize}
 use Rattle.guest_machine.specs.State.{Core}
 use Rattle.guest_machine.specs.Registers.{known, register, set_register, tested}
 use Rattle.guest_machine.specs.Errors.{parameter_errors, buffer_errors}
 use Rattle.guest_machine.specs.Effects.{Effect, no_bytes, raising, advanced, exited, stored_core}
 use Rattle.guest_machine.specs.declared.call.Call.{Call}
-use Rattle.guest_machine.specs.declared.call.Call.TheVariants.{Read, Write, Exit, ExitGroup, Unknown}
+use Rattle.guest_machine.specs.declared.call.Call.TheVariants.{Read, Write, Exit, ExitGroup, Malloc, Free, Calloc, Realloc, Unknown}
 
 -- which call --
 
@@ -20,6 +20,10 @@ call_of n =
     else if n == 64 then Write
     else if n == 93 then Exit
     else if n == 94 then ExitGroup
+    else if n == 2001 then Malloc
+    else if n == 2002 then Free
+    else if n == 2003 then Calloc
+    else if n == 2004 then Realloc
     else Unknown
 
 -- the value of a register that a call reads
@@ -30,9 +34,13 @@ argument core r = (register core r).value
 unfoldable pub call_at : Core → Call
 call_at core = call_of (argument core 17)
 
--- does a call use the heap? (None of these does.)
+-- does a call use the heap?
 abbrev pub is_heap : Call → Bool
-is_heap call = false
+is_heap Malloc = true
+is_heap Free = true
+is_heap Calloc = true
+is_heap Realloc = true
+is_heap _ = false
 
 -- tests --
 
@@ -42,6 +50,10 @@ parameters_of Read = ReadFd ∷ ReadBuffer ∷ ReadCount ∷ []
 parameters_of Write = WriteFd ∷ WriteBuffer ∷ WriteCount ∷ []
 parameters_of Exit = ExitStatus ∷ []
 parameters_of ExitGroup = ExitGroupStatus ∷ []
+parameters_of Malloc = MallocSize ∷ []
+parameters_of Free = FreePointer ∷ []
+parameters_of Calloc = CallocMembers ∷ CallocSize ∷ []
+parameters_of Realloc = ReallocPointer ∷ ReallocSize ∷ []
 parameters_of Unknown = []
 
 -- after the tests of registers from one on

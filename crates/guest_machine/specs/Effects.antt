@@ -3,8 +3,8 @@
 use Rattle.std.specs.Prelude.{ℕ, ◌+◌, ◌*◌, ◌/◌, ◌%◌, ◌^◌, ◌==◌, Bool, true, false, not, if◌then◌else◌, List, [], ◌++◌}
 use Rattle.definedness.specs.declared.Bits.{Bits}
 use Rattle.definedness.specs.Undefined.{undef_branch}
-use Rattle.shadow_memory.specs.Ranges.{window, little_word}
-use Rattle.shadow_memory.specs.Shadows.{loaded_undef, stored_undef}
+use Rattle.shadow_memory.specs.Ranges.{little_word}
+use Rattle.shadow_memory.specs.Shadows.{stored_undef}
 use Rattle.shadow_memory.specs.Ranges.{byte_of}
 use Rattle.guest_machine.specs.Widths.{width_len}
 use Rattle.guest_machine.specs.State.{Core}

@@ -7,7 +7,10 @@ use Rattle.shadow_memory.specs.declared.cells.Bad.{Bad}
 use Rattle.call_stacks.specs.Frames.{trace_at}
 use Rattle.error_events.specs.declared.event.Event.{Event}
 use Rattle.error_events.specs.declared.event.Note.{Note}
-use Rattle.error_events.specs.declared.event.Note.TheVariants.{Absent, Stack, Elsewhere}
+use Rattle.error_events.specs.declared.event.Note.TheVariants.{Absent, Near, Stack, Elsewhere}
+use Rattle.call_stacks.specs.declared.block.Near.{Near as NearBlock}
+use Rattle.guest_heap.specs.Blocks.{Blocks}
+use Rattle.guest_heap.specs.Steps.{near}
 use Rattle.error_events.specs.declared.kind.Kind.{Kind}
 use Rattle.error_events.specs.declared.kind.Kind.TheVariants.{Value, Param}
 use Rattle.error_events.specs.declared.kind.Fault3.{Fault3}
@@ -28,18 +31,26 @@ event_of trace kind note = record { kind = kind; trace = trace; note = note }
 abbrev pub in_stack_region : ℕ → Bool
 in_stack_region a = nat_le 0x7F000000 a && nat_lt a 0x80000000
 
--- what is said of an address
-unfoldable pub note_at : ℕ → Note
-note_at a = if in_stack_region a then Stack a else Elsewhere a
+-- what is said of an address that is near no block
+abbrev pub region_note : ℕ → Note
+region_note a = if in_stack_region a then Stack a else Elsewhere a
+
+abbrev pub note_by : ℕ → Option NearBlock → Note
+note_by a None = region_note a
+note_by a (Some found) = Near a found
+
+-- what is said of an address: the kept block whose interval holds it, or else its region
+unfoldable pub note_at : Blocks → ℕ → Note
+note_at blocks a = note_by a (near blocks a)
 
 -- an error that is about no address, unless all is fine
 unfoldable pub event_unless : Bool → List ℕ → Kind → List Event
 event_unless fine trace kind = if fine then [] else event_of trace kind Absent ∷ []
 
 -- the error of an address at fault, if there is one
-unfoldable pub event_about : List ℕ → Kind → Option ℕ → List Event
-event_about trace kind None = []
-event_about trace kind (Some a) = event_of trace kind (note_at a) ∷ []
+unfoldable pub event_about : Blocks → List ℕ → Kind → Option ℕ → List Event
+event_about blocks trace kind None = []
+event_about blocks trace kind (Some a) = event_of trace kind (note_at blocks a) ∷ []
 
 -- an error of a kind at a register with an undefined bit
 abbrev pub register_errors : Core → ℕ → Kind → List Event
@@ -55,20 +66,20 @@ parameter_errors core r parameter = register_errors core r (Param parameter Cont
 
 -- of n bytes that are accessed, the first that may not be (section 4.2.1)
 abbrev pub access_errors : Core → Kind → ℕ → ℕ → List Event
-access_errors core kind start n = event_about (here core) kind (first_inaccessible core.shadow start n)
+access_errors core kind start n = event_about core.blocks (here core) kind (first_inaccessible core.shadow start n)
 
 -- what is wrong with a byte of a buffer
 abbrev pub fault_of : Bad → Fault3
 fault_of bad = if bad.accessible then Uninit else Unaddressable
 
-unfoldable pub buffer_event : List ℕ → Parameter → Option Bad → List Event
-buffer_event trace parameter None = []
-buffer_event trace parameter (Some bad) = event_of trace (Param parameter (fault_of bad)) (note_at bad.addr) ∷ []
+unfoldable pub buffer_event : Blocks → List ℕ → Parameter → Option Bad → List Event
+buffer_event blocks trace parameter None = []
+buffer_event blocks trace parameter (Some bad) = event_of trace (Param parameter (fault_of bad)) (note_at blocks bad.addr) ∷ []
 
 -- of the n bytes of a buffer, the first that may not be accessed or, where its value is asked for, has an undefined bit
 abbrev pub buffer_errors : Core → Parameter → Bool → ℕ → ℕ → List Event
 buffer_errors core parameter need_defined start n =
-    buffer_event (here core) parameter (first_bad core.shadow start n need_defined)
+    buffer_event core.blocks (here core) parameter (first_bad core.shadow start n need_defined)
 
 -- the undefined bits of n bytes that are taken as a number
 abbrev pub taken_undef : Core → ℕ → ℕ → ℕ

@@ -1,6 +1,6 @@
 -- One step, in three parts: the word at pc; what the step uses, by what decides it and the word; and what it leaves, by these,
 -- the input that it reads and the bytes that it takes. No other byte value and no other part of the setup enters.
-use Rattle.std.specs.Prelude.{◌≡◌, ℕ, ◌+◌, ◌-◌, ◌%◌, ◌==◌, ◌&&◌, ◌||◌, Bool, true, false, if◌then◌else◌, List, [], ◌∷◌, ◌++◌, take, drop, length, min, Option, Some, None, is_none}
+use Rattle.std.specs.Prelude.{◌≡◌, ℕ, ◌+◌, ◌-◌, ◌%◌, ◌==◌, ◌&&◌, ◌||◌, Bool, true, false, if◌then◌else◌, List, ◌++◌, take, drop, length, min, Option, Some, None, is_none}
 use Rattle.shadow_memory.specs.Ranges.{window, little_word, written}
 use Rattle.guest_machine.specs.Spans.{span_at, covers}
 use Rattle.shadow_memory.specs.Shadows.{first_inaccessible}
@@ -14,7 +14,10 @@ use Rattle.guest_machine.specs.StackPointer.{stack_ruled}
 use Rattle.definedness.specs.declared.Bits.{Bits}
 use Rattle.guest_machine.specs.Registers.{register}
 use Rattle.guest_machine.specs.declared.call.Call.{Call}
-use Rattle.guest_machine.specs.declared.call.Call.TheVariants.{Read as ReadCall, Write as WriteCall, Exit as ExitCall, ExitGroup as ExitGroupCall, Unknown as UnknownCall}
+use Rattle.guest_machine.specs.declared.call.Call.TheVariants.{Read as ReadCall, Write as WriteCall, Exit as ExitCall, ExitGroup as ExitGroupCall, Malloc as MallocCall, Free as FreeCall, Calloc as CallocCall, Realloc as ReallocCall, Unknown as UnknownCall}
+use Rattle.std.specs.Option.{option_map}
+use Rattle.guest_heap.specs.Steps.{place}
+use Rattle.guest_machine.specs.HeapCalls.{Resizing, Moves, resizing, moved_size, calloc_size, malloc_call, free_call, calloc_call, realloc_call}
 use Rattle.guest_machine.specs.declared.width.Width.{Width}
 use Rattle.guest_machine.specs.declared.span.Span.{Span}
 use Rattle.guest_machine.specs.declared.setup.Setup.{Setup}
@@ -75,6 +78,14 @@ pub record Terms : Type 0 where
 abbrev pub nothing : Uses
 nothing = record { reads = None; writes = None; inputs = 0; heap_call = false }
 
+-- of a heap call
+abbrev pub calling_heap : Uses → Uses
+calling_heap uses = record uses { heap_call = true }
+
+-- that reads and writes no bytes
+abbrev pub heap_uses : Uses
+heap_uses = calling_heap nothing
+
 -- a range read, and a range written, alone
 abbrev pub reading : Span → Uses
 reading span = record { reads = Some span; writes = None; inputs = 0; heap_call = false }
@@ -106,12 +117,38 @@ write_uses core written =
       heap_call = false;
     }
 
+-- calloc writes its zeros
+abbrev pub calloc_uses : Core → ℕ → Uses
+calloc_uses core redzone =
+    let size = calloc_size core in
+    record { reads = None; writes = option_map (λ p. span_at p size) (place core.blocks size redzone); inputs = 0; heap_call = false }
+
+-- realloc takes the bytes that go along, and writes them at their new place
+abbrev pub moved_from : Resizing → ℕ → ℕ → Option Span
+moved_from (Moves b q) p size = Some (span_at p (moved_size b size))
+moved_from _ p size = None
+
+abbrev pub moved_into : Resizing → ℕ → Option Span
+moved_into (Moves b q) size = Some (span_at q (moved_size b size))
+moved_into _ size = None
+
+abbrev pub realloc_uses : Core → ℕ → Uses
+realloc_uses core redzone =
+    let p = argument core 10 in
+    let size = argument core 11 in
+    let what = resizing core.blocks p size redzone in
+    record { reads = moved_from what p size; writes = moved_into what size; inputs = 0; heap_call = false }
+
 -- what a call uses
 unfoldable pub call_uses : Core → Call → Terms → Uses
 call_uses core ReadCall terms = read_uses core terms.left
 call_uses core WriteCall terms = write_uses core terms.written
 call_uses core ExitCall terms = nothing
 call_uses core ExitGroupCall terms = nothing
+call_uses core MallocCall terms = nothing
+call_uses core FreeCall terms = nothing
+call_uses core CallocCall terms = calloc_uses core terms.red_zone
+call_uses core ReallocCall terms = realloc_uses core terms.red_zone
 call_uses core UnknownCall terms = nothing
 
 -- does a row call the heap?
@@ -137,6 +174,10 @@ call_effect core ReadCall terms given taken = read_call core terms.left given
 call_effect core WriteCall terms given taken = write_call core terms.written taken
 call_effect core ExitCall terms given taken = exit_call core ExitCall
 call_effect core ExitGroupCall terms given taken = exit_call core ExitGroupCall
+call_effect core MallocCall terms given taken = malloc_call core terms.red_zone
+call_effect core FreeCall terms given taken = free_call core terms.volume
+call_effect core CallocCall terms given taken = calloc_call core terms.red_zone
+call_effect core ReallocCall terms given taken = realloc_call core terms.red_zone terms.volume taken
 call_effect core UnknownCall terms given taken = unknown_call core
 
 unfoldable pub row_effect : Core → Option Instruction → Terms → List ℕ → (ℕ → ℕ) → Effect
@@ -157,7 +198,7 @@ row_effect core (Some Breakpoint) terms given taken = stops core Break
 -- a fetch that meets an inaccessible byte
 abbrev pub jump_fault : Core → Option ℕ → Effect
 jump_fault core None = quiet core
-jump_fault core (Some a) = raising (stopped core JumpStop) (event_about (here core) JumpError (Some a))
+jump_fault core (Some a) = raising (stopped core JumpStop) (event_about core.blocks (here core) JumpError (Some a))
 
 -- what a step leaves that takes no word: a stopped or exited machine is its own successor
 unfoldable pub unfetched : Core → Effect

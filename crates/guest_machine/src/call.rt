@@ -9,11 +9,15 @@ pub(crate) enum Call {
     Write,
     Exit,
     ExitGroup,
+    Malloc,
+    Free,
+    Calloc,
+    Realloc,
     Unknown,
 }
 
 impl Call {
-    /// The call of a number, as Linux for RISC-V numbers them.
+    /// The call of a number: as Linux for RISC-V numbers them, and from 2001 on those of the heap.
     pub(crate) fn of(number: u32) -> Call
         ensures { result ≡ call_of number }
     {
@@ -22,6 +26,10 @@ impl Call {
             64 => Call::Write,
             93 => Call::Exit,
             94 => Call::ExitGroup,
+            2001 => Call::Malloc,
+            2002 => Call::Free,
+            2003 => Call::Calloc,
+            2004 => Call::Realloc,
             _ => Call::Unknown,
         }
     }

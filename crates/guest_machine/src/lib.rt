@@ -2,9 +2,10 @@
 //! and the runs of it.
 //!
 //! A [`Machine`] holds, of each of the 2^32 addresses, a byte, whether it may be accessed, and which of its bits are undefined;
-//! the 32 registers with their undefined bits; pc; whether it runs; how much of the input was read, of the output written, and
-//! how many heap calls were made; and the errors so far, counted by kind and trace. It is moved by [`Machine::step`] alone, one
-//! instruction at a time, ECALL included; between steps a range can be marked and a word poked.
+//! the 32 registers with their undefined bits; pc; whether it runs; the frames of the calls that it is in; the blocks of the
+//! heap; how much of the input was read, of the output written, and how many heap calls were made; and the errors so far,
+//! counted by kind and trace. It is moved by [`Machine::step`] alone, one instruction at a time, ECALL included; between steps
+//! a range can be marked and a word poked.
 //!
 //! # Public items
 //!
@@ -17,13 +18,14 @@
 //! | [`Machine::share`] | a copy, which later changes of the other don't reach |
 //! | [`Machine::status`], [`Machine::pc`], [`Machine::register`] | whether it runs, and its registers |
 //! | [`Machine::position`], [`Machine::output_len`], [`Machine::heap_calls`] | what was read, written and called so far |
-//! | [`Machine::error_groups`] | the errors so far, in order of first occurrence |
+//! | [`Machine::memory`], [`Machine::heap`] | the bytes with what is known of them, and the blocks of the heap |
+//! | [`Machine::groups`] | the errors so far, in order of first occurrence |
 //! | [`Meter::new`], [`Meter::read`] | a count of steps, raised by `step` alone |
 //! | [`laws::keeps_words`], [`laws::keeps_input`], [`laws::keeps_heap`] | nothing: their contracts are laws of one step |
 //!
-//! [`Setup`], [`Input`], [`Mark`], [`Touched`], [`Span`], [`RangeKind`], [`Register`], [`Status`], [`Stop`], [`Event`], [`Group`],
-//! [`Kind`], [`Note`] and [`Trace`] are the values that these take and answer. What consumes a machine and finds no memory
-//! drops it and answers `AllocError`; nothing else fails.
+//! [`Setup`], [`Input`], [`Mark`], [`Touched`], [`Span`], [`Register`], [`Status`] and [`Stop`] are the values that these take and
+//! answer; those of memory, traces, blocks and errors are of the crates `shadow_memory`, `call_stacks`, `guest_heap` and
+//! `error_events`. What consumes a machine and finds no memory drops it and answers `AllocError`; nothing else fails.
 //!
 //! # What a caller relies on
 //!
@@ -48,21 +50,17 @@
 //! - `Exec`: one step (`exec`) and what it touches (`touches`), in three parts: the word at pc, what the step uses, and what
 //!   it leaves. No other byte and no other part of the setup enters; the laws follow from this form.
 //! - `Effects` and `Calls`: what each class of instruction and each call of the environment leaves; `Alu`: what instructions
-//!   compute; `Instructions`: the class of each row of the instruction table.
-//! - `State`, `Registers`, `Shadows`, `Ranges`: what a state is, and how registers and ranges of addresses change.
-//! - `Groups`: the groups of a list of errors. `Laws`: the laws of one step.
-//! - `Shows`: that a machine shows a state. `Memories`, `Grouping`, `Loading`, `Cells`, `Widths` are for this crate's proofs.
+//!   compute; `Instructions`: the class of each row of the instruction table; `Widths`: of accesses.
+//! - `HeapCalls`: `malloc`, `calloc`, `free` and `realloc` over the blocks of the crate `guest_heap`.
+//! - `Errors`: what each test notes, with its note; `CallStack`: the frames by the hints of JAL and JALR; `StackPointer`: what a
+//!   move of the stack pointer makes inaccessible or undefined.
+//! - `State`, `Registers`, `Spans`: what a state is, and how registers and ranges of addresses change.
+//! - `Laws`: the laws of one step.
+//! - `Shows`: that a machine shows a state. `Loading` is for this crate's proofs.
 //!
 //! Sources: RISC-V Unprivileged ISA 20191213, chapters 1, 2 and 7; the Memcheck manual, chapter 4; Seward and Nethercote,
 //! "Using Valgrind to detect undefined value errors with bit-precision" (USENIX 2005). The undefined bits of a result are those
 //! of the crate `definedness`, the instruction table that of `rv_decode`, the image that of `guest_elf`.
-//!
-//! # What is left out
-//!
-//! Of the calls of the environment only `exit` and `exit_group` are known; each other one answers -38 (ENOSYS), so that no
-//! input is read, no output written and no heap call made. A move of the stack pointer makes no bytes accessible or
-//! inaccessible, and callers' addresses are not kept. Errors are recorded for branches on undefined bits and for jumps to
-//! inaccessible bytes; the other tests are made, and make their registers defined, in silence.
 #![tactic(auto)]
 
 mod alu;

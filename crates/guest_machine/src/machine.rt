@@ -3,6 +3,7 @@ mod between;
 mod calls;
 mod checks;
 mod fields;
+mod heap_calls;
 mod observers;
 mod rows;
 mod stack;
@@ -14,6 +15,7 @@ use definedness::Bits;
 use error_events::Groups;
 use guest_heap::Heap;
 use shadow_memory::Memory;
+use std::alloc::Global;
 
 /// What only adds up: bytes of input read, bytes of output, heap calls made.
 #[derive(Clone, Copy)]
@@ -32,6 +34,7 @@ pub struct Machine {
 /// What a machine holds: memory, registers, pc, status, calls, heap, counts and the groups of its errors.
 #[derive(Drop)]
 pub(crate) struct Guest {
+    alloc: Global,
     memory: Memory,
     registers: [Bits; 32],
     pc: u32,

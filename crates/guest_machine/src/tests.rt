@@ -17,7 +17,7 @@ fn started(alloc: Global, words: &[u32]) -> Result<Machine, Fail> {
     Ok(Machine::start(alloc, &image)?)
 }
 
-/// No input, and a heap that these programs don't use.
+/// No input, and a heap with Memcheck's red zone and volume of freed blocks.
 fn setup(alloc: Global) -> Setup {
     Setup {
         input: Input::new(Vec::new(alloc)),
@@ -268,6 +268,76 @@ fn accesses_are_tested(rt: HostRuntime) -> Result<(), Fail> {
     ] {
         let machine = run(rt.alloc(), &words, 4)?;
         assert_eq!(rt; machine.groups().len(), errors);
+    }
+    Ok(())
+}
+
+/// `addi a7, x0, N` for `malloc`, `free`, `calloc` and `realloc`, and ECALL.
+const MALLOC: u32 = 0x7D10_0893;
+
+const FREE: u32 = 0x7D20_0893;
+
+const CALLOC: u32 = 0x7D30_0893;
+
+const REALLOC: u32 = 0x7D40_0893;
+
+const ECALL: u32 = 0x0000_0073;
+
+/// `addi a0, x0, 8`
+const EIGHT: u32 = 0x0080_0513;
+
+/// `addi a1, x0, 16`
+const TO_SIXTEEN: u32 = 0x0100_0593;
+
+/// `sw x0, 0(a0)`
+const CLEAR: u32 = 0x0005_2023;
+
+/// `lw a0, 0(a0)`, `lw a0, 4(a0)`, `lw a0, 8(a0)` and `lw a0, 124(a0)`
+const LOAD: u32 = 0x0005_2503;
+
+const LOAD_4: u32 = 0x0045_2503;
+
+const LOAD_8: u32 = 0x0085_2503;
+
+const LOAD_124: u32 = 0x07C5_2503;
+
+// The last value of a0 with its undefined bits, how many errors there are, and how many calls of the heap. A first block is at
+// 0x40000010, and one that is freed isn't used again yet.
+#[test]
+fn the_heap_is_called(rt: HostRuntime) -> Result<(), Fail> {
+    let malloc = &[MALLOC, EIGHT, ECALL];
+    let past = &[MALLOC, EIGHT, ECALL, LOAD_8];
+    let inside = &[MALLOC, EIGHT, ECALL, LOAD_4];
+    let again = &[MALLOC, EIGHT, ECALL, FREE, ECALL, MALLOC, EIGHT, ECALL];
+    let nowhere = &[EIGHT, FREE, ECALL];
+    // `lui a0, 0x10; lui a1, 0x10`: 2^32 bytes
+    let too_many = &[CALLOC, 0x0001_0537, 0x0001_05B7, ECALL];
+    let zeros = &[CALLOC, EIGHT, TO_SIXTEEN, ECALL, LOAD_124];
+    let moved = &[MALLOC, EIGHT, ECALL, CLEAR, TO_SIXTEEN, REALLOC, ECALL];
+    let moved_0 = &[
+        MALLOC, EIGHT, ECALL, CLEAR, TO_SIXTEEN, REALLOC, ECALL, LOAD,
+    ];
+    let moved_4 = &[
+        MALLOC, EIGHT, ECALL, CLEAR, TO_SIXTEEN, REALLOC, ECALL, LOAD_4,
+    ];
+    let resized_nowhere = &[EIGHT, TO_SIXTEEN, REALLOC, ECALL];
+    for (words, value, undef, errors, calls) in [
+        (malloc.as_slice(), 0x4000_0010, 0, 0, 1),
+        (inside.as_slice(), 0, u32::MAX, 0, 1),
+        (past.as_slice(), 0, 0, 1, 1),
+        (again.as_slice(), 0x4000_0040, 0, 0, 3),
+        (nowhere.as_slice(), 0, 0, 1, 1),
+        (too_many.as_slice(), 0, 0, 0, 1),
+        (zeros.as_slice(), 0, 0, 0, 1),
+        (moved.as_slice(), 0x4000_0040, 0, 0, 2),
+        (moved_0.as_slice(), 0, 0, 0, 2),
+        (moved_4.as_slice(), 0, u32::MAX, 0, 2),
+        (resized_nowhere.as_slice(), 0, 0, 1, 1),
+    ] {
+        let machine = run(rt.alloc(), words, words.len() as u32)?;
+        assert_eq!(rt; bits_of(&machine, 10), Bits { value, undef });
+        assert_eq!(rt; machine.groups().len(), errors);
+        assert_eq!(rt; machine.heap_calls(), calls);
     }
     Ok(())
 }

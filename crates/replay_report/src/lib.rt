@@ -27,8 +27,8 @@
 //! ```
 //!
 //! Numbers are decimal; an address is `0x` and eight hexadecimal digits in lower case. In a name each byte outside 0x21 to 0x7E
-//! is shown as `?`, so that no name can make up a line. No blocks are tracked and no errors suppressed yet: those numbers are 0,
-//! and of the options `callers` alone counts.
+//! is shown as `?`, so that no name can make up a line. Errors that a suppression matches are only counted, in the summary. Lost
+//! blocks aren't searched for yet: the numbers of those five lines are 0, and of the options `callers` alone counts.
 //!
 //! The layer above uses one contract, that of [`render`]: for each state that the machine shows (`Shows`), what is appended is
 //! `report` of that state, the image, the options, the step and the length of the input.
@@ -36,6 +36,7 @@
 //! Where the definitions stand, in `specs/`:
 //!
 //! - `Report`: the whole report (`report`), and the lines on leaked blocks.
+//! - `Filtering`: which groups are shown, and which only counted.
 //! - `Lines`: each line, from `step_line` to `summary_line`.
 //! - `Text`: an address, a byte of a name, and the end of a line. Decimal numbers are std's `decimal`.
 //!

@@ -2,8 +2,8 @@
 use crate::{Options, render};
 use guest_elf::read;
 use guest_machine::{Input, Machine, Mark, Meter, Setup};
-use shadow_memory::RangeKind;
 use guest_programs::program;
+use shadow_memory::RangeKind;
 use std::alloc::{AllocError, Global};
 use std::test::Fail;
 

@@ -32,6 +32,7 @@ impl Guest {
         let mut registers = [known(0); 32];
         registers[2] = known(STACK_START);
         Ok(Guest {
+            alloc,
             memory,
             registers,
             pc: image.entry(),
@@ -65,6 +66,7 @@ impl Guest {
         ensures { IfOk result (λ copy. (s : State) → Holds self.now s → Holds copy s) }
     {
         Ok(Guest {
+            alloc: self.alloc,
             memory: self.memory.share()?,
             registers: self.registers,
             pc: self.pc,
@@ -115,7 +117,7 @@ impl Machine {
     {
         let guest = self.guest.share()?;
         Ok(Machine {
-            guest: Box::new(*Box::allocator(&self.guest), guest)?,
+            guest: Box::new(self.guest.alloc, guest)?,
         })
     }
 }

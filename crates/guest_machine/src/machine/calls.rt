@@ -12,7 +12,6 @@ ghost use Rattle.guest_machine.specs.Shows.{core_of, bytes_of, input_left, uses_
 use crate::call::Call;
 use crate::instruction::Instruction;
 use crate::machine::Guest;
-use crate::machine::checks::note_at;
 use crate::machine::step::{NOTHING, Used};
 use crate::register::Register;
 use crate::setup::Setup;
@@ -22,9 +21,9 @@ use shadow_memory::Bad;
 use std::alloc::AllocError;
 
 // The registers of a call's arguments and of its number.
-const A0: u8 = 10;
+pub(super) const A0: u8 = 10;
 
-const A1: u8 = 11;
+pub(super) const A1: u8 = 11;
 
 const A2: u8 = 12;
 
@@ -44,7 +43,7 @@ const NO_SUCH_CALL: u32 = u32::MAX - 37;
 
 impl Guest {
     /// The value of a register that a call reads.
-    fn argument(&self, r: u8) -> u32
+    pub(super) fn argument(&self, r: u8) -> u32
         requires { r < 32 }
         ensures { result ≡ argument (core_of self.now) r }
     {
@@ -66,9 +65,23 @@ impl Guest {
         ensures core { OnOk result (core_of self.new ≡ tested_from (core_of self.old) 10 (first ∷ [])) }
         ensures memory { self.new.memory ≡ self.old.memory }
         ensures counts { self.new.counts ≡ self.old.counts }
+        ensures heap { self.new.heap ≡ self.old.heap }
         ensures groups { OnOk result (groups_of self.new.groups ≡ add_events (groups_of self.old.groups) (errors_from (core_of self.old) 10 (first ∷ []))) }
     {
         self.test_parameter(Register::new(A0), first)
+    }
+
+    /// Tests two parameters after the call's number.
+    #[tactic(auto, unfolding(crate::specs::Calls::tested_from, crate::specs::Calls::errors_from, error_events::specs::Adding::add_events), using(crate::proofs::Showing::add_events_append))]
+    fn test_two(&mut self, first: Parameter, second: Parameter) -> Result<(), AllocError>
+        ensures core { OnOk result (core_of self.new ≡ tested_from (core_of self.old) 10 (first ∷ second ∷ [])) }
+        ensures memory { self.new.memory ≡ self.old.memory }
+        ensures counts { self.new.counts ≡ self.old.counts }
+        ensures heap { self.new.heap ≡ self.old.heap }
+        ensures groups { OnOk result (groups_of self.new.groups ≡ add_events (groups_of self.old.groups) (errors_from (core_of self.old) 10 (first ∷ second ∷ []))) }
+    {
+        self.test_parameter(Register::new(A0), first)?;
+        self.test_parameter(Register::new(A1), second)
     }
 
     /// Tests three parameters after the call's number.
@@ -82,6 +95,7 @@ impl Guest {
         ensures core { OnOk result (core_of self.new ≡ tested_from (core_of self.old) 10 (first ∷ second ∷ third ∷ [])) }
         ensures memory { self.new.memory ≡ self.old.memory }
         ensures counts { self.new.counts ≡ self.old.counts }
+        ensures heap { self.new.heap ≡ self.old.heap }
         ensures groups { OnOk result (groups_of self.new.groups ≡ add_events (groups_of self.old.groups) (errors_from (core_of self.old) 10 (first ∷ second ∷ third ∷ []))) }
     {
         self.test_parameter(Register::new(A0), first)?;
@@ -91,10 +105,11 @@ impl Guest {
 
     /// Tests a call's number, and then its parameters in order.
     #[tactic(auto, unfolding(crate::specs::Calls::parameters_of, crate::specs::Calls::tested_from, crate::specs::Calls::errors_from, error_events::specs::Adding::add_events), using(crate::proofs::Showing::add_events_append))]
-    fn test_call(&mut self, call: Call) -> Result<(), AllocError>
+    pub(super) fn test_call(&mut self, call: Call) -> Result<(), AllocError>
         ensures core { OnOk result (core_of self.new ≡ call_tested (core_of self.old) call) }
         ensures memory { self.new.memory ≡ self.old.memory }
         ensures counts { self.new.counts ≡ self.old.counts }
+        ensures heap { self.new.heap ≡ self.old.heap }
         ensures groups { OnOk result (groups_of self.new.groups ≡ add_events (groups_of self.old.groups) (call_errors (core_of self.old) call)) }
     {
         self.test_parameter(Register::new(A7), Parameter::SyscallNumber)?;
@@ -111,6 +126,10 @@ impl Guest {
             ),
             Call::Exit => self.test_one(Parameter::ExitStatus),
             Call::ExitGroup => self.test_one(Parameter::ExitGroupStatus),
+            Call::Malloc => self.test_one(Parameter::MallocSize),
+            Call::Free => self.test_one(Parameter::FreePointer),
+            Call::Calloc => self.test_two(Parameter::CallocMembers, Parameter::CallocSize),
+            Call::Realloc => self.test_two(Parameter::ReallocPointer, Parameter::ReallocSize),
             Call::Unknown => Ok(()),
         }
     }
@@ -153,7 +172,8 @@ impl Guest {
     {
         if let Some(bad) = self.memory.first_bad(start, n, need_defined) {
             let kind = Kind::Param(parameter, fault_of(bad));
-            self.raise(kind, note_at(bad.addr))?;
+            let note = self.note_at(bad.addr);
+            self.raise(kind, note)?;
         }
         Ok(())
     }
@@ -247,6 +267,22 @@ impl Guest {
                 self.exit_call(call)?;
                 Ok(NOTHING)
             }
+            Call::Malloc => {
+                self.malloc_call(setup.redzone)?;
+                Ok(NOTHING)
+            }
+            Call::Free => {
+                self.free_call(setup.volume)?;
+                Ok(NOTHING)
+            }
+            Call::Calloc => {
+                let writes = self.calloc_call(setup.redzone)?;
+                Ok(Used {
+                    reads: None,
+                    writes,
+                })
+            }
+            Call::Realloc => self.realloc_call(setup.redzone, setup.volume),
             Call::Unknown => {
                 self.test_and_answer(Call::Unknown, NO_SUCH_CALL)?;
                 Ok(NOTHING)

@@ -4,7 +4,7 @@ ghost use Rattle.error_events.specs.Adding.{add_events};
 ghost use Rattle.error_events.specs.Shown.{groups_of};
 ghost use Rattle.guest_machine.specs.Registers.{tested};
 ghost use Rattle.guest_machine.specs.Effects.{branch_tested, branch_errors};
-ghost use Rattle.guest_machine.specs.Errors.{here, event_of, event_unless, event_about, note_at, register_errors, value_errors, parameter_errors};
+ghost use Rattle.guest_machine.specs.Errors.{here, event_of, event_unless, event_about, note_at, region_note, register_errors, value_errors, parameter_errors};
 ghost use Rattle.guest_machine.specs.Shows.{core_of};
 
 use crate::machine::Guest;
@@ -13,10 +13,9 @@ use definedness::undef_branch;
 use error_events::{Event, Fault3, Kind, Note, Parameter};
 use std::alloc::AllocError;
 
-/// What is said of an address.
-#[tactic(auto, unfolding(crate::specs::Errors::note_at))]
-pub(super) fn note_at(addr: u32) -> Note
-    ensures { result ≡ note_at addr }
+/// What is said of an address that is near no block.
+fn region_note(addr: u32) -> Note
+    ensures { result ≡ region_note addr }
 {
     if 0x7F00_0000 <= addr && addr < 0x8000_0000 {
         Note::Stack(addr)
@@ -26,12 +25,24 @@ pub(super) fn note_at(addr: u32) -> Note
 }
 
 impl Guest {
+    /// What is said of an address.
+    #[tactic(auto, unfolding(crate::specs::Errors::note_at))]
+    pub(super) fn note_at(&self, addr: u32) -> Note
+        ensures { result ≡ note_at (core_of self.now).blocks addr }
+    {
+        match self.heap.block_near(addr) {
+            Some(near) => Note::Near(addr, near),
+            None => region_note(addr),
+        }
+    }
+
     /// Records an error at this instruction.
     #[tactic(auto, unfolding(error_events::specs::Adding::add_events))]
     pub(super) fn raise(&mut self, kind: Kind, note: Note) -> Result<(), AllocError>
         ensures core { core_of self.new ≡ core_of self.old }
         ensures memory { self.new.memory ≡ self.old.memory }
         ensures counts { self.new.counts ≡ self.old.counts }
+        ensures heap { self.new.heap ≡ self.old.heap }
         ensures groups { OnOk result (groups_of self.new.groups ≡ add_events (groups_of self.old.groups) (event_of (here (core_of self.old)) kind note ∷ [])) }
     {
         let trace = self.frames.trace(self.pc);
@@ -58,10 +69,11 @@ impl Guest {
         ensures core { core_of self.new ≡ core_of self.old }
         ensures memory { self.new.memory ≡ self.old.memory }
         ensures counts { self.new.counts ≡ self.old.counts }
-        ensures groups { OnOk result (groups_of self.new.groups ≡ add_events (groups_of self.old.groups) (event_about (here (core_of self.old)) kind fault)) }
+        ensures groups { OnOk result (groups_of self.new.groups ≡ add_events (groups_of self.old.groups) (event_about (core_of self.old).blocks (here (core_of self.old)) kind fault)) }
     {
         if let Some(addr) = fault {
-            self.raise(kind, note_at(addr))?;
+            let note = self.note_at(addr);
+            self.raise(kind, note)?;
         }
         Ok(())
     }
@@ -72,6 +84,7 @@ impl Guest {
         ensures core { OnOk result (core_of self.new ≡ tested (core_of self.old) r) }
         ensures memory { self.new.memory ≡ self.old.memory }
         ensures counts { self.new.counts ≡ self.old.counts }
+        ensures heap { self.new.heap ≡ self.old.heap }
         ensures groups { OnOk result (groups_of self.new.groups ≡ add_events (groups_of self.old.groups) (register_errors (core_of self.old) r kind)) }
     {
         if self.read_register(r).undef != 0 {
@@ -100,6 +113,7 @@ impl Guest {
         ensures core { OnOk result (core_of self.new ≡ tested (core_of self.old) r) }
         ensures memory { self.new.memory ≡ self.old.memory }
         ensures counts { self.new.counts ≡ self.old.counts }
+        ensures heap { self.new.heap ≡ self.old.heap }
         ensures groups { OnOk result (groups_of self.new.groups ≡ add_events (groups_of self.old.groups) (parameter_errors (core_of self.old) r parameter)) }
     {
         self.test(r, Kind::Param(parameter, Fault3::Contains))

@@ -32,6 +32,7 @@ impl Guest {
         ensures core { core_of self.new ≡ set_register (core_of self.old) r bits }
         ensures memory { self.new.memory ≡ self.old.memory }
         ensures counts { self.new.counts ≡ self.old.counts }
+        ensures heap { self.new.heap ≡ self.old.heap }
         ensures groups { self.new.groups ≡ self.old.groups }
     {
         let i = r.number();
@@ -45,6 +46,7 @@ impl Guest {
         ensures core { core_of self.new ≡ defined (core_of self.old) r }
         ensures memory { self.new.memory ≡ self.old.memory }
         ensures counts { self.new.counts ≡ self.old.counts }
+        ensures heap { self.new.heap ≡ self.old.heap }
         ensures groups { self.new.groups ≡ self.old.groups }
     {
         let value = self.read_register(r).value;

@@ -218,6 +218,19 @@ const READS: [u32; 10] = [
     0x0000_0073,
 ];
 
+/// A block of eight bytes is freed twice, and then read.
+const FREES_TWICE: [u32; 9] = [
+    0x7D10_0893,
+    0x0080_0513,
+    0x0000_0073,
+    0x0005_0413,
+    0x7D20_0893,
+    0x0000_0073,
+    0x0004_0513,
+    0x0000_0073,
+    0x0004_2583,
+];
+
 /// The lines of a report from its state on, up to the blocks.
 #[test]
 fn errors_are_told(rt: HostRuntime) -> Result<(), Fail> {
@@ -242,6 +255,15 @@ Address 0x00010010 is not stack'd, malloc'd or (recently) free'd\ndefinitely los
             "state running 0x00010018\ninput 0 of 0\noutput 4\n\
 error 1: Syscall param write(buf) points to uninitialised byte(s)\n   at 0x00010014: ???\n \
 Address 0x7fffffe0 is in the stack region\ndefinitely lost: ",
+        ),
+        (
+            FREES_TWICE.as_slice(),
+            ["mark 5 0x20000 1 defined", "goto 9", "report"],
+            "state running 0x00010024\ninput 0 of 0\noutput 0\n\
+error 1: Invalid free() / realloc()\n   at 0x0001001c: ???\n \
+Address 0x40000010 is 0 bytes inside a block of size 8 free'd\n   at 0x00010014: ???\n\
+error 1: Invalid read of size 4\n   at 0x00010020: ???\n \
+Address 0x40000010 is 0 bytes inside a block of size 8 free'd\n   at 0x00010014: ???\ndefinitely lost: ",
         ),
         (
             WRITES.as_slice(),

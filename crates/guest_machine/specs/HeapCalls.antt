@@ -1,0 +1,149 @@
+-- The calls of the heap: malloc, free, calloc and realloc as the C standard (ISO/IEC 9899, 7.22.3) has them, over blocks that are kept
+-- as Memcheck's replacement of malloc keeps them (Memcheck manual, section 4.1): red zones round each, freed ones in a queue.
+use Rattle.std.specs.Prelude.{ℕ, ◌+◌, ◌-◌, ◌*◌, ◌==◌, min, max, if◌then◌else◌, List, [], ◌++◌, Option, Some, None, Bool, true, false}
+use Rattle.shadow_memory.specs.Shadows.{copied_undef}
+use Rattle.shadow_memory.specs.declared.cells.RangeKind.{RangeKind}
+use Rattle.shadow_memory.specs.declared.cells.RangeKind.TheVariants.{NoAccess, Undefined, Defined}
+use Rattle.call_stacks.specs.declared.block.Block.{Block}
+use Rattle.error_events.specs.declared.event.Event.{Event}
+use Rattle.error_events.specs.declared.kind.Kind.TheVariants.{Free as FreeError}
+use Rattle.guest_heap.specs.Blocks.{Blocks, IsKept, Meets, allocated, released_at}
+use Rattle.guest_heap.specs.Steps.{place, after_release}
+use Rattle.guest_heap.specs.declared.released.Released.{Released}
+use Rattle.guest_heap.specs.declared.released.Released.TheVariants.{Done, Nothing, Invalid}
+use Rattle.guest_machine.specs.State.{Core}
+use Rattle.guest_machine.specs.Errors.{here, event_about}
+use Rattle.guest_machine.specs.Effects.{Effect, raising}
+use Rattle.guest_machine.specs.StackPointer.{ranged}
+use Rattle.guest_machine.specs.Calls.{argument, answered, call_tested, call_errors}
+use Rattle.guest_machine.specs.declared.call.Call.TheVariants.{Malloc, Free, Calloc, Realloc}
+
+-- allocating --
+
+-- one more block at a place, if there is one, allocated here
+abbrev pub placed : Core → Option ℕ → ℕ → ℕ → Core
+placed core found size redzone = record core { blocks = allocated core.blocks found size (here core) redzone }
+
+-- a new block's interval meets no kept block's
+abbrev pub IsClearOf : Blocks → ℕ → ℕ → ℕ → Type 0
+IsClearOf blocks size redzone p = (b : Block) → IsKept blocks b → ¬ (Meets (p - redzone) (p + max size 1 + redzone) b)
+
+-- the interval of a block made inaccessible, and then its bytes made so
+abbrev pub closed : Core → ℕ → ℕ → ℕ → Core
+closed core p size redzone = ranged core (p - redzone) (redzone + max size 1 + redzone) NoAccess
+
+abbrev pub carved : Core → ℕ → ℕ → ℕ → RangeKind → Core
+carved core p size redzone kind = ranged (closed core p size redzone) p size kind
+
+-- a block of a size, if there is a place for it; its address is the answer, or 0
+unfoldable pub given_block : Core → Option ℕ → ℕ → ℕ → RangeKind → Core
+given_block core None size redzone kind = answered core 0
+given_block core (Some p) size redzone kind = answered (carved (placed core (Some p) size redzone) p size redzone kind) p
+
+-- malloc: its bytes are undefined
+abbrev pub malloc_call : Core → ℕ → Effect
+malloc_call core redzone =
+    let size = argument core 10 in
+    let now = call_tested core Malloc in
+    raising (given_block now (place core.blocks size redzone) size redzone Undefined) (call_errors core Malloc)
+
+-- calloc: a block for so many members of a size, their product taken as a whole number; its bytes are zeros, and defined
+abbrev pub calloc_size : Core → ℕ
+calloc_size core = argument core 10 * argument core 11
+
+abbrev pub calloc_call : Core → ℕ → Effect
+calloc_call core redzone =
+    let size = calloc_size core in
+    let now = call_tested core Calloc in
+    raising (given_block now (place core.blocks size redzone) size redzone Defined) (call_errors core Calloc)
+
+-- freeing --
+
+-- a block that was live is inaccessible, and goes to the queue; else nothing changes
+unfoldable pub freed : Core → Released → ℕ → Core
+freed core (Done b) volume = record (ranged core b.start b.size NoAccess) { blocks = after_release (Done b) volume core.blocks }
+freed core Nothing volume = core
+freed core Invalid volume = core
+
+-- what is freed at an address here
+abbrev pub released_here : Core → ℕ → Released
+released_here core p = released_at core.blocks p (here core)
+
+-- the error of an address at which no live block begins (Memcheck manual, section 4.2.4)
+abbrev pub is_invalid : Released → Bool
+is_invalid (Done b) = false
+is_invalid Nothing = false
+is_invalid Invalid = true
+
+unfoldable pub free_errors : Core → Released → ℕ → List Event
+free_errors core (Done b) p = []
+free_errors core Nothing p = []
+free_errors core Invalid p = event_about core.blocks (here core) FreeError (Some p)
+
+abbrev pub free_call : Core → ℕ → Effect
+free_call core volume =
+    let p = argument core 10 in
+    let now = call_tested core Free in
+    let released = released_here now p in
+    raising (answered (freed now released volume) 0) (call_errors core Free ++ free_errors now released p)
+
+-- resizing --
+
+-- what realloc comes to: an allocation; an error; a release; nothing, for want of a place; or a move of a block to a place
+pub data Resizing : Type 0 where
+  Allocates : Resizing
+  Refuses : Resizing
+  Frees : Resizing
+  Keeps : Resizing
+  Moves : Block → ℕ → Resizing
+
+abbrev pub moving : Block → Option ℕ → Resizing
+moving b None = Keeps
+moving b (Some q) = Moves b q
+
+abbrev pub resizing_block : Option Block → ℕ → Option ℕ → Resizing
+resizing_block None size found = Refuses
+resizing_block (Some b) size found = if size == 0 then Frees else moving b found
+
+-- of the block at an address, to a size
+unfoldable pub resizing : Blocks → ℕ → ℕ → ℕ → Resizing
+resizing blocks p size redzone = if p == 0 then Allocates else resizing_block (blocks.live p) size (place blocks size redzone)
+
+-- how many bytes go along
+abbrev pub moved_size : Block → ℕ → ℕ
+moved_size b size = min b.size size
+
+-- the undefined bits of the bytes go along too
+abbrev pub copied : Core → ℕ → ℕ → ℕ → Core
+copied core from to n = record core { shadow = copied_undef core.shadow from to n }
+
+-- the new block is allocated, the bytes are copied, and then the old block is freed
+abbrev pub moved_block : Core → ℕ → Block → ℕ → ℕ → ℕ → ℕ → Core
+moved_block core p b q size redzone volume =
+    let both = carved (placed core (Some q) size redzone) q size redzone Undefined in
+    let full = copied both p q (moved_size b size) in
+    freed full (released_here full p) volume
+
+unfoldable pub resized : Core → Option ℕ → ℕ → ℕ → ℕ → ℕ → Resizing → Core
+resized core found p size redzone volume Allocates = given_block core found size redzone Undefined
+resized core found p size redzone volume Refuses = answered core 0
+resized core found p size redzone volume Frees = answered (freed core (released_here core p) volume) 0
+resized core found p size redzone volume Keeps = answered core 0
+resized core found p size redzone volume (Moves b q) = answered (moved_block core p b q size redzone volume) q
+
+unfoldable pub resize_errors : Core → ℕ → Resizing → List Event
+resize_errors core p Refuses = event_about core.blocks (here core) FreeError (Some p)
+resize_errors core p _ = []
+
+abbrev pub realloc_call : Core → ℕ → ℕ → (ℕ → ℕ) → Effect
+realloc_call core redzone volume taken =
+    let p = argument core 10 in
+    let size = argument core 11 in
+    let now = call_tested core Realloc in
+    let what = resizing core.blocks p size redzone in
+    record {
+      core = resized now (place core.blocks size redzone) p size redzone volume what;
+      raised = call_errors core Realloc ++ resize_errors now p what;
+      made = taken;
+      output = [];
+    }

@@ -1,0 +1,314 @@
+//! The calls of the heap.
+ghost use Rattle.std.specs.Prelude.{◌≡◌, ◌+◌, ◌*◌, ◌≤◌, ◌<◌, max, min, None, Some, IfSome, IfOk, OnOk};
+ghost use Rattle.std.specs.Option.{option_map};
+ghost use Rattle.shadow_memory.specs.Ranges.{written, window};
+ghost use Rattle.shadow_memory.specs.Changes.{AreApart};
+ghost use Rattle.error_events.specs.Adding.{add_events};
+ghost use Rattle.error_events.specs.Shown.{groups_of};
+ghost use Rattle.guest_heap.specs.Steps.{place};
+ghost use Rattle.guest_machine.specs.StackPointer.{ranged};
+ghost use Rattle.guest_machine.specs.HeapCalls.{placed, closed, carved, copied, IsClearOf, given_block, malloc_call, calloc_call, calloc_size, freed, released_here, is_invalid, free_call, moving, resizing, resized, resize_errors, moved_size, realloc_call};
+ghost use Rattle.guest_machine.specs.Effects.{no_bytes};
+ghost use Rattle.guest_machine.specs.Exec.{heap_uses, calling_heap, calloc_uses, realloc_uses, moved_from, moved_into, taken_from, written_to};
+ghost use Rattle.guest_machine.specs.Spans.{span_at};
+ghost use Rattle.guest_machine.specs.Shows.{core_of, bytes_of, Does};
+
+use crate::call::Call;
+use crate::machine::Guest;
+use crate::machine::calls::{A0, A1};
+use crate::machine::step::{NOTHING, Used};
+use crate::span::Span;
+use call_stacks::{Block, Trace};
+use error_events::Kind;
+use guest_heap::Released;
+use guest_heap::laws::place_is_least;
+use shadow_memory::RangeKind;
+use std::alloc::AllocError;
+
+impl Guest {
+    /// Finds a place for a block, and allocates it there.
+    fn take_place(&mut self, size: u32, redzone: u32) -> Result<Option<u32>, AllocError>
+        ensures place { IfOk result (λ found. found ≡ place (core_of self.old).blocks size redzone) }
+        ensures core { IfOk result (λ found. core_of self.new ≡ placed (core_of self.old) found size redzone) }
+        ensures within { IfOk result (λ found. IfSome found (λ p. (redzone ≤ p) × (p + max size 1 + redzone ≤ 0x60000000))) }
+        ensures apart { IfOk result (λ found. IfSome found (IsClearOf (core_of self.old).blocks size redzone)) }
+        ensures memory { self.new.memory ≡ self.old.memory }
+        ensures counts { self.new.counts ≡ self.old.counts }
+        ensures groups { self.new.groups ≡ self.old.groups }
+    {
+        let trace = self.frames.trace(self.pc);
+        let found = self.heap.allocate(self.alloc, size, trace, redzone)?;
+        Ok(found)
+    }
+
+    /// Makes a block's interval inaccessible.
+    fn close(&mut self, p: u32, size: u32, redzone: u32) -> Result<(), AllocError>
+        requires low { redzone ≤ p }
+        requires high { p + max size 1 + redzone ≤ 0x60000000 }
+        ensures core { OnOk result (core_of self.new ≡ closed (core_of self.old) p size redzone) }
+        ensures bytes { OnOk result (bytes_of self.new ≡ bytes_of self.old) }
+        ensures counts { self.new.counts ≡ self.old.counts }
+        ensures groups { self.new.groups ≡ self.old.groups }
+    {
+        let len = redzone + size.max(1) + redzone;
+        self.make(p - redzone, len, RangeKind::NoAccess)
+    }
+
+    /// Makes a block's interval inaccessible, and then its bytes accessible and undefined.
+    fn carve(&mut self, p: u32, size: u32, redzone: u32) -> Result<(), AllocError>
+        requires low { redzone ≤ p }
+        requires high { p + max size 1 + redzone ≤ 0x60000000 }
+        ensures core { OnOk result (core_of self.new ≡ carved (core_of self.old) p size redzone RangeKind.Undefined) }
+        ensures bytes { OnOk result (bytes_of self.new ≡ bytes_of self.old) }
+        ensures counts { self.new.counts ≡ self.old.counts }
+        ensures groups { self.new.groups ≡ self.old.groups }
+    {
+        self.close(p, size, redzone)?;
+        self.make(p, size, RangeKind::Undefined)
+    }
+
+    /// Writes zeros, which are accessible and defined.
+    #[tactic(auto, using(crate::proofs::HeapSteps::zeros_written))]
+    fn write_zeros(&mut self, start: u32, len: u32) -> Result<(), AllocError>
+        ensures core { OnOk result (core_of self.new ≡ ranged (core_of self.old) start len RangeKind.Defined) }
+        ensures bytes { OnOk result (bytes_of self.new ≡ written (bytes_of self.old) start len no_bytes) }
+        ensures counts { self.new.counts ≡ self.old.counts }
+        ensures groups { self.new.groups ≡ self.old.groups }
+    {
+        self.memory.fill(start, len, &[])?;
+        Ok(())
+    }
+
+    /// A block of a size, if there is a place for it, whose address is answered; 0 is answered where there is none.
+    #[tactic(auto, unfolding(crate::specs::HeapCalls::given_block))]
+    fn give_block(&mut self, size: u32, redzone: u32) -> Result<(), AllocError>
+        ensures core { OnOk result (core_of self.new ≡ given_block (core_of self.old) (place (core_of self.old).blocks size redzone) size redzone RangeKind.Undefined) }
+        ensures bytes { OnOk result (bytes_of self.new ≡ bytes_of self.old) }
+        ensures counts { self.new.counts ≡ self.old.counts }
+        ensures groups { self.new.groups ≡ self.old.groups }
+    {
+        match self.take_place(size, redzone)? {
+            None => self.answer(0),
+            Some(p) => {
+                self.carve(p, size, redzone)?;
+                self.answer(p);
+            }
+        }
+        Ok(())
+    }
+
+    /// The same with zeros in it; where they are is told.
+    #[tactic(auto, unfolding(crate::specs::HeapCalls::given_block))]
+    fn give_zeros(&mut self, size: u32, redzone: u32) -> Result<Option<Span>, AllocError>
+        ensures core { OnOk result (core_of self.new ≡ given_block (core_of self.old) (place (core_of self.old).blocks size redzone) size redzone RangeKind.Defined) }
+        ensures span { IfOk result (λ span. span ≡ option_map (λ p. span_at p size) (place (core_of self.old).blocks size redzone)) }
+        ensures bytes { IfOk result (λ span. bytes_of self.new ≡ written_to (bytes_of self.old) span no_bytes) }
+        ensures counts { self.new.counts ≡ self.old.counts }
+        ensures groups { self.new.groups ≡ self.old.groups }
+    {
+        match self.take_place(size, redzone)? {
+            None => {
+                self.answer(0);
+                Ok(None)
+            }
+            Some(p) => {
+                self.close(p, size, redzone)?;
+                self.write_zeros(p, size)?;
+                self.answer(p);
+                Ok(Some(Span {
+                    start: p,
+                    len: size,
+                }))
+            }
+        }
+    }
+
+    /// Nothing: there is no place for a block of 2^32 bytes or more.
+    #[tactic(auto, using(crate::proofs::HeapSteps::no_place))]
+    fn has_no_place(&self, size: u64, redzone: u32)
+        requires { 0xFFFFFFFF < size }
+        ensures { place (core_of self.now).blocks size redzone ≡ None }
+    {
+        let _size = (size, redzone);
+        self.heap.in_region();
+        place_is_least();
+    }
+
+    fn count_heap_call(&mut self)
+        ensures core { core_of self.new ≡ core_of self.old }
+        ensures memory { self.new.memory ≡ self.old.memory }
+        ensures position { self.new.counts.position ≡ self.old.counts.position }
+        ensures output { self.new.counts.output_len ≡ self.old.counts.output_len }
+        ensures counted { self.new.counts.heap_calls ≡ min (self.old.counts.heap_calls + 1) u64.MAX }
+        ensures heap { self.new.heap ≡ self.old.heap }
+        ensures groups { self.new.groups ≡ self.old.groups }
+    {
+        self.counts.heap_calls = self.counts.heap_calls.saturating_add(1);
+    }
+
+    #[tactic(auto, unfolding(error_events::specs::Adding::add_events))]
+    pub(super) fn malloc_call(&mut self, redzone: u32) -> Result<(), AllocError>
+        ensures { OnOk result (Does self.old self.new (malloc_call (core_of self.old) redzone) heap_uses) }
+    {
+        let size = self.argument(A0);
+        self.count_heap_call();
+        self.test_call(Call::Malloc)?;
+        self.give_block(size, redzone)
+    }
+
+    #[tactic(auto, unfolding(crate::specs::HeapCalls::given_block, error_events::specs::Adding::add_events))]
+    pub(super) fn calloc_call(&mut self, redzone: u32) -> Result<Option<Span>, AllocError>
+        ensures does { OnOk result (Does self.old self.new (calloc_call (core_of self.old) redzone) (calling_heap (calloc_uses (core_of self.old) redzone))) }
+        ensures writes { IfOk result (λ writes. writes ≡ (calloc_uses (core_of self.old) redzone).writes) }
+    {
+        let size = u64::from(self.argument(A0)) * u64::from(self.argument(A1));
+        self.count_heap_call();
+        self.test_call(Call::Calloc)?;
+        match u32::try_from(size) {
+            Ok(size) => self.give_zeros(size, redzone),
+            Err(_) => {
+                self.has_no_place(size, redzone);
+                self.answer(0);
+                Ok(None)
+            }
+        }
+    }
+
+    /// Frees a live block; at another address nothing. Answers whether the address is neither a live block's nor 0.
+    #[tactic(auto, unfolding(crate::specs::HeapCalls::freed))]
+    fn release(&mut self, p: u32, volume: u32) -> Result<bool, AllocError>
+        ensures core { OnOk result (core_of self.new ≡ freed (core_of self.old) (released_here (core_of self.old) p) volume) }
+        ensures invalid { IfOk result (λ invalid. invalid ≡ is_invalid (released_here (core_of self.old) p)) }
+        ensures bytes { OnOk result (bytes_of self.new ≡ bytes_of self.old) }
+        ensures counts { self.new.counts ≡ self.old.counts }
+        ensures groups { self.new.groups ≡ self.old.groups }
+    {
+        let trace = self.frames.trace(self.pc);
+        match self.heap.release(self.alloc, p, trace, volume)? {
+            Released::Done(block) => {
+                let _freed: Option<Trace> = block.freed;
+                self.make(block.start, block.size, RangeKind::NoAccess)?;
+                Ok(false)
+            }
+            Released::Nothing => Ok(false),
+            Released::Invalid => Ok(true),
+        }
+    }
+
+    #[tactic(auto, unfolding(crate::specs::HeapCalls::freed, crate::specs::HeapCalls::free_errors, error_events::specs::Adding::add_events), using(crate::proofs::Showing::add_events_append))]
+    pub(super) fn free_call(&mut self, volume: u32) -> Result<(), AllocError>
+        ensures { OnOk result (Does self.old self.new (free_call (core_of self.old) volume) heap_uses) }
+    {
+        let p = self.argument(A0);
+        self.count_heap_call();
+        self.test_call(Call::Free)?;
+        if self.release(p, volume)? {
+            self.raise_about(Kind::Free, Some(p))?;
+        }
+        self.answer(0);
+        Ok(())
+    }
+
+    /// The live block that begins at an address.
+    #[tactic(auto, using(crate::proofs::HeapSteps::live_there, crate::proofs::HeapSteps::live_none))]
+    fn live_block(&self, p: u32) -> Option<Block>
+        ensures live { result ≡ (core_of self.now).blocks.live p }
+        ensures start { IfSome result (λ b. b.start ≡ p) }
+    {
+        match self.heap.live(p) {
+            Some(block) if block.start == p => Some(block),
+            _ => None,
+        }
+    }
+
+    /// Copies bytes with their undefined bits.
+    #[tactic(auto, using(crate::proofs::HeapSteps::copied_written))]
+    fn copy(&mut self, from: u32, to: u32, n: u32) -> Result<(), AllocError>
+        requires { AreApart from to n }
+        ensures core { OnOk result (core_of self.new ≡ copied (core_of self.old) from to n) }
+        ensures bytes { OnOk result (bytes_of self.new ≡ written (bytes_of self.old) to n (window (bytes_of self.old) from n)) }
+        ensures counts { self.new.counts ≡ self.old.counts }
+        ensures groups { self.new.groups ≡ self.old.groups }
+    {
+        self.memory.copy_with_shadow(from, to, n)?;
+        Ok(())
+    }
+
+    /// Moves a live block to a place for another size, which is answered; where there is none, it stays and 0 is answered.
+    #[tactic(auto, unfolding(crate::specs::HeapCalls::resized), using(crate::proofs::HeapSteps::moved_apart))]
+    fn move_block(
+        &mut self,
+        block: Block,
+        size: u32,
+        redzone: u32,
+        volume: u32,
+    ) -> Result<Used, AllocError>
+        requires live { (core_of self.old).blocks.live block.start ≡ Some block }
+        ensures core { OnOk result (core_of self.new ≡ resized (core_of self.old) (place (core_of self.old).blocks size redzone) block.start size redzone volume (moving block (place (core_of self.old).blocks size redzone))) }
+        ensures reads { IfOk result (λ used. used.reads ≡ moved_from (moving block (place (core_of self.old).blocks size redzone)) block.start size) }
+        ensures writes { IfOk result (λ used. used.writes ≡ moved_into (moving block (place (core_of self.old).blocks size redzone)) size) }
+        ensures bytes { IfOk result (λ used. bytes_of self.new ≡ written_to (bytes_of self.old) used.writes (taken_from (bytes_of self.old) used.reads)) }
+        ensures counts { self.new.counts ≡ self.old.counts }
+        ensures groups { self.new.groups ≡ self.old.groups }
+    {
+        self.heap.in_region();
+        let from = block.start;
+        let len = block.size.min(size);
+        match self.take_place(size, redzone)? {
+            None => {
+                self.answer(0);
+                Ok(NOTHING)
+            }
+            Some(to) => {
+                self.carve(to, size, redzone)?;
+                self.copy(from, to, len)?;
+                self.release(from, volume)?;
+                self.answer(to);
+                Ok(Used {
+                    reads: Some(Span { start: from, len }),
+                    writes: Some(Span { start: to, len }),
+                })
+            }
+        }
+    }
+
+    /// Gives what is at an address another size.
+    #[tactic(auto, unfolding(crate::specs::HeapCalls::resizing, crate::specs::HeapCalls::resized, crate::specs::HeapCalls::resize_errors, error_events::specs::Adding::add_events))]
+    fn resize(&mut self, p: u32, size: u32, redzone: u32, volume: u32) -> Result<Used, AllocError>
+        ensures core { OnOk result (core_of self.new ≡ resized (core_of self.old) (place (core_of self.old).blocks size redzone) p size redzone volume (resizing (core_of self.old).blocks p size redzone)) }
+        ensures reads { IfOk result (λ used. used.reads ≡ moved_from (resizing (core_of self.old).blocks p size redzone) p size) }
+        ensures writes { IfOk result (λ used. used.writes ≡ moved_into (resizing (core_of self.old).blocks p size redzone) size) }
+        ensures bytes { IfOk result (λ used. bytes_of self.new ≡ written_to (bytes_of self.old) used.writes (taken_from (bytes_of self.old) used.reads)) }
+        ensures counts { self.new.counts ≡ self.old.counts }
+        ensures groups { OnOk result (groups_of self.new.groups ≡ add_events (groups_of self.old.groups) (resize_errors (core_of self.old) p (resizing (core_of self.old).blocks p size redzone))) }
+    {
+        if p == 0 {
+            self.give_block(size, redzone)?;
+            return Ok(NOTHING);
+        }
+        let Some(block) = self.live_block(p) else {
+            self.raise_about(Kind::Free, Some(p))?;
+            self.answer(0);
+            return Ok(NOTHING);
+        };
+        if size == 0 {
+            self.release(p, volume)?;
+            self.answer(0);
+            return Ok(NOTHING);
+        }
+        self.move_block(block, size, redzone, volume)
+    }
+
+    #[tactic(auto, using(crate::proofs::Showing::add_events_append))]
+    pub(super) fn realloc_call(&mut self, redzone: u32, volume: u32) -> Result<Used, AllocError>
+        ensures does { IfOk result (λ used. Does self.old self.new (realloc_call (core_of self.old) redzone volume (taken_from (bytes_of self.old) used.reads)) (calling_heap (realloc_uses (core_of self.old) redzone))) }
+        ensures reads { IfOk result (λ used. used.reads ≡ (realloc_uses (core_of self.old) redzone).reads) }
+        ensures writes { IfOk result (λ used. used.writes ≡ (realloc_uses (core_of self.old) redzone).writes) }
+    {
+        let p = self.argument(A0);
+        let size = self.argument(A1);
+        self.count_heap_call();
+        self.test_call(Call::Realloc)?;
+        self.resize(p, size, redzone, volume)
+    }
+}
