@@ -19,7 +19,7 @@ use std::alloc::AllocError;
 impl Memory {
     /// The low n bytes at an address, their undefined bits, and the first inaccessible address among them; n is 1, 2 or 4.
     /// What is above the n bytes is 0.
-    #[inline]
+    #[inline(always)]
     #[tactic(auto, unfolding(crate::specs::Loads::loaded_at, crate::specs::Ranges::window, crate::specs::Shadows::first_inaccessible, crate::specs::Memories::bytes_in, crate::specs::Memories::shadows_in))]
     pub fn load(&self, addr: u32, n: u32) -> Loaded
         requires { IsWidth n }
@@ -33,7 +33,7 @@ impl Memory {
     }
 
     // The same, of cells: by one look-up, where they lie in one page.
-    #[inline]
+    #[inline(always)]
     fn load_at(&self, addr: u32, n: u32) -> Loaded
         requires { IsWidth n }
         ensures value { result ≡ loaded_at (λ i. cells_of self.now (above addr i)) addr n }

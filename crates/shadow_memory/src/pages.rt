@@ -53,6 +53,7 @@ impl Page {
     }
 
     // The number of n bytes from a place on.
+    #[inline(always)]
     fn number(&self, at: usize, n: u32) -> u32
         requires width { IsWidth n }
         requires within { at + n ≤ 4096 }
@@ -68,7 +69,7 @@ impl Page {
     }
 
     /// What a load takes of n bytes from a place on, which lie from an address on.
-    #[inline]
+    #[inline(always)]
     pub(crate) fn load(&self, at: usize, addr: u32, n: u32) -> Loaded
         requires width { IsWidth n }
         requires within { at + n ≤ 4096 }

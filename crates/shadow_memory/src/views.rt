@@ -35,7 +35,7 @@ impl View<'_> {
     }
 
     /// What a load takes of n bytes from a place on, which lie from an address on.
-    #[inline]
+    #[inline(always)]
     pub(crate) fn load(self, at: usize, addr: u32, n: u32) -> Loaded
         requires width { IsWidth n }
         requires within { at + n ≤ 4096 }

@@ -54,6 +54,9 @@ impl Guest {
         ensures groups { self.new.groups ≡ self.old.groups }
     {
         let new = self.read_register(Register::new(2));
+        if new.value == old.value {
+            return Ok(());
+        }
         if is_stack_pointer(old) && is_stack_pointer(new) {
             if new.value < old.value {
                 self.frame(new.value, old.value, RangeKind::Undefined)?;
