@@ -1,0 +1,124 @@
+//! Small graphs, with the kinds that follow from the definition.
+ghost use Rattle.std.specs.Prelude.{IsTrue};
+ghost use Rattle.leak_graph.specs.Graphs.{GoWithin, AllGoWithin};
+
+use crate::{Pointer, leak_kinds};
+use error_events::LeakKind;
+use error_events::LeakKind::{Definite, Indirect, Possible, Reachable};
+use std::alloc::{AllocError, Global};
+use std::test::Fail;
+
+// The roots' pointers and those of the blocks, by the block that has each, the block that it goes to, and whether to its start; and
+// the kinds of the blocks.
+type Case = (
+    &'static [(usize, bool)],
+    &'static [(usize, usize, bool)],
+    &'static [LeakKind],
+);
+
+const CASES: [Case; 6] = [
+    // A chain of start-pointers, and one that a pointer to an inside parts.
+    (
+        &[(0, true)],
+        &[(0, 1, true), (1, 2, true)],
+        &[Reachable, Reachable, Reachable],
+    ),
+    (
+        &[(0, true)],
+        &[(0, 1, false), (1, 2, true)],
+        &[Reachable, Possible, Possible],
+    ),
+    // A lost block that points to itself.
+    (&[], &[(0, 0, true)], &[Definite]),
+    // A ring, and one that a later block leads to.
+    (&[], &[(0, 1, true), (1, 0, false)], &[Definite, Indirect]),
+    (
+        &[],
+        &[(0, 1, true), (1, 0, true), (2, 1, true)],
+        &[Indirect, Indirect, Definite],
+    ),
+    // A lost block that points to a found one.
+    (&[(1, true)], &[(0, 1, true)], &[Definite, Reachable]),
+];
+
+/// The pointers of each of so many blocks.
+fn rows(
+    alloc: Global,
+    count: usize,
+    pointers: &[(usize, usize, bool)],
+) -> Result<Vec<Vec<Pointer>>, AllocError> {
+    let mut rows = Vec::new(alloc);
+    for from in 0..count {
+        rows.push(row(alloc, from, pointers)?)?;
+    }
+    Ok(rows)
+}
+
+fn row(
+    alloc: Global,
+    from: usize,
+    pointers: &[(usize, usize, bool)],
+) -> Result<Vec<Pointer>, AllocError> {
+    let mut row = Vec::new(alloc);
+    for (holder, block, is_start) in pointers {
+        if *holder == from {
+            row.push(Pointer {
+                block: *block,
+                is_start: *is_start,
+            })?;
+        }
+    }
+    Ok(row)
+}
+
+/// Whether each pointer goes to one of so many blocks.
+fn all_go_within(edges: &[Vec<Pointer>], count: usize) -> bool
+    ensures { IsTrue result → AllGoWithin edges.now count }
+{
+    for row in edges {
+        if !go_within(row, count) {
+            return false;
+        }
+    }
+    true
+}
+
+fn go_within(row: &[Pointer], count: usize) -> bool
+    ensures { IsTrue result → GoWithin row.now count }
+{
+    row.iter().all(|p| p.block < count)
+}
+
+/// The kinds of blocks; none where a pointer goes to no block.
+fn kinds_of(
+    alloc: Global,
+    roots: &[Pointer],
+    edges: &[Vec<Pointer>],
+) -> Result<Vec<LeakKind>, AllocError> {
+    if !go_within(roots, edges.len()) {
+        return Ok(Vec::new(alloc));
+    }
+    if !all_go_within(edges, edges.len()) {
+        return Ok(Vec::new(alloc));
+    }
+    leak_kinds(alloc, roots, edges)
+}
+
+#[test]
+fn paths_decide_the_kind(rt: HostRuntime) -> Result<(), Fail> {
+    for (roots, pointers, kinds) in CASES {
+        let mut pointers_of_roots = Vec::new(rt.alloc());
+        for (block, is_start) in roots {
+            pointers_of_roots.push(Pointer {
+                block: *block,
+                is_start: *is_start,
+            })?;
+        }
+        let edges = rows(rt.alloc(), kinds.len(), pointers)?;
+        assert_eq!(rt;
+            kinds_of(rt.alloc(), &pointers_of_roots, &edges)?.as_slice(),
+            kinds
+        );
+    }
+    Ok(())
+}

@@ -1,0 +1,84 @@
+ghost use Rattle.std.specs.Prelude.{◌≡◌, ℕ, ◌<◌, ◌≤◌, ◌%◌, IfNone, IfSome, Some, slice_get, length, nat_le, true, false, Bool};
+ghost use Rattle.std.specs.List.Sorted.{IsPartitionPoint, IsPartitionedBy};
+ghost use Rattle.call_stacks.specs.declared.block.Block.{Block};
+ghost use Rattle.leak_search.specs.Pointing.{PointsTo};
+ghost use Rattle.leak_search.specs.Gathering.{AreOrdered, IsLastAt, Finds, IsOwner};
+
+use call_stacks::Block;
+use leak_graph::Pointer;
+
+/// Whose a word is: it lies in no block, wholly in one, or half in one.
+pub(crate) enum Owner {
+    Outside,
+    Inside(usize),
+    Across,
+}
+
+// How many of the blocks start at an address or below.
+fn up_to(blocks: &[Block], addr: u32) -> usize
+    requires { IsPartitionedBy (λ b. nat_le b.start addr) blocks.now }
+    ensures bound { result ≤ length blocks.now }
+    ensures point { IsPartitionPoint (λ b. nat_le b.start addr ≡ true) (λ b. nat_le b.start addr ≡ false) blocks.now result }
+{
+    blocks.partition_point(|b| b.start <= addr)
+}
+
+// The last block that starts at an address or below.
+#[tactic(auto, using(crate::proofs::FindSteps::partitioned, crate::proofs::FindSteps::last_none, crate::proofs::FindSteps::last_some))]
+fn last_at(blocks: &[Block], addr: u32) -> Option<usize>
+    requires { AreOrdered blocks.now }
+    ensures none { IfNone result ((k : ℕ) (b : Block) → slice_get blocks.now k ≡ Some b → addr < b.start) }
+    ensures some { IfSome result (λ k. IsLastAt blocks.now addr k) }
+{
+    let count = up_to(blocks, addr);
+    if count == 0 { None } else { Some(count - 1) }
+}
+
+// What a value points to.
+pub(crate) fn pointer_to(blocks: &[Block], value: u32) -> Option<Pointer>
+    requires { AreOrdered blocks.now }
+    ensures none { IfNone result ((starts : Bool) (b : ℕ) → PointsTo starts blocks.now value b → ⊥) }
+    ensures some { IfSome result (λ pointer. Finds blocks.now value pointer) }
+{
+    match last_at(blocks, value) {
+        None => None,
+        Some(block) => {
+            let offset = value - blocks[block].start;
+            if offset == 0 {
+                Some(Pointer {
+                    block,
+                    is_start: true,
+                })
+            } else if offset < blocks[block].size {
+                Some(Pointer {
+                    block,
+                    is_start: false,
+                })
+            } else {
+                None
+            }
+        }
+    }
+}
+
+// Whose the word at an address is.
+pub(crate) fn owner_of(blocks: &[Block], word: u32) -> Owner
+    requires ordered { AreOrdered blocks.now }
+    requires aligned { word % 4 ≡ 0 }
+    ensures { IsOwner blocks.now word result }
+{
+    match last_at(blocks, word) {
+        None => Owner::Outside,
+        Some(block) => {
+            let found = &blocks[block];
+            let offset = word - found.start;
+            if found.size <= offset {
+                Owner::Outside
+            } else if found.size - offset < 4 {
+                Owner::Across
+            } else {
+                Owner::Inside(block)
+            }
+        }
+    }
+}

@@ -1,0 +1,46 @@
+//! The leak search: of each live block of a machine's heap, whether a pointer leads to it. It lies between the machine and the report.
+//!
+//! The roots are the values of x1 to x31, where they are defined, and the words outside live blocks. A word is the four bytes at a
+//! multiple of 4, all accessible and defined. A value is a start-pointer to a block where it is its address, and an interior-pointer
+//! where it is that of a later byte of it. From these follow the four kinds of the Memcheck manual (section 4.2, "Memory leak
+//! detection").
+//!
+//! # Public items
+//!
+//! | Call | What it answers |
+//! |---|---|
+//! | [`search`] | a [`LeakRecord`] for each live block, in order of address |
+//! | [`laws::records_are_one`] | nothing: its contract says that a search has one answer |
+//!
+//! `search` takes memory, and answers `AllocError` where there is none; nothing else fails.
+//!
+//! # What a caller relies on
+//!
+//! The contract of [`search`]: for each state that the machine shows, the records are `AreRecordsOf` the state. That is a relation, by
+//! paths of pointers; by the law no two lists of records are one state's.
+//!
+//! # Where the definitions stand
+//!
+//! In `specs/`: `Words` (the words of a state), `Pointing` (what a value points to, and whose a word is), `Search` (roots, links and
+//! records), `Records` (those of a state), `Laws`. The kind of a block by its links is `HasKind` of the crate `leak_graph`. `Gathering`
+//! is for this crate's proofs.
+//!
+//! # Costs
+//!
+//! Each word is looked at once, and a block is found by binary search; so the time grows with the words and the live blocks, times the
+//! logarithm of the number of live blocks. Nothing recurses.
+#![tactic(auto)]
+
+mod blocks;
+mod finding;
+mod gathering;
+pub mod laws;
+mod record;
+mod searching;
+mod words;
+
+pub use record::LeakRecord;
+pub use searching::search;
+
+#[cfg(test)]
+mod tests;
