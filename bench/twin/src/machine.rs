@@ -1,0 +1,410 @@
+//! A machine of RV32IM (RISC-V Unprivileged ISA 20191213, chapters 2 and 7), each of whose registers and bytes has undefined bits
+//! (Seward and Nethercote, "Using Valgrind to detect undefined value errors with bit-precision", USENIX 2005, section 2.4).
+
+use crate::memory::{Memory, RangeKind};
+use std::collections::HashMap;
+
+/// A word, and which of its bits are undefined.
+#[derive(Clone, Copy)]
+pub struct Bits {
+    pub value: u32,
+    pub undef: u32,
+}
+
+/// A word with no undefined bit.
+fn known(value: u32) -> Bits {
+    Bits { value, undef: 0 }
+}
+
+/// Whether the machine runs.
+#[derive(Clone, Copy, PartialEq, Eq)]
+pub enum Status {
+    Running,
+    Exited(u8),
+    Jump,
+    Break,
+    Illegal,
+    Misaligned,
+}
+
+/// What an error is.
+#[derive(Clone, Copy, PartialEq, Eq, Hash)]
+pub enum Kind {
+    Read(u8),
+    Write(u8),
+    Value,
+    Cond,
+    Parameter(u8),
+    Jump,
+}
+
+pub struct Machine {
+    pub memory: Memory,
+    pub registers: [Bits; 32],
+    pub pc: u32,
+    pub status: Status,
+    /// How many errors there are of each kind at each instruction.
+    pub errors: HashMap<(Kind, u32), u64>,
+}
+
+/// Where the stack pointer points at the start, at sixteen bytes that may be used.
+const STACK_START: u32 = 0x7FFF_FFF0;
+const STACK_ROOM: u32 = 16;
+/// The most bytes of a stack frame: Memcheck's default for `--max-stackframe`.
+const LARGEST_FRAME: u32 = 2_000_000;
+
+const STACK_POINTER: usize = 2;
+const A0: usize = 10;
+const A7: usize = 17;
+
+const EXIT: u32 = 93;
+const EXIT_GROUP: u32 = 94;
+/// What a call answers that is not known: ENOSYS negated.
+const NO_SUCH_CALL: u32 = u32::MAX - 37;
+
+/// The bits `high` down to `low` of a word.
+fn field(word: u32, high: u32, low: u32) -> u32 {
+    (word >> low) & (u32::MAX >> (31 - high + low))
+}
+
+/// The upper bits of a word, from `low` on, with its sign repeated.
+fn signed_field(word: u32, low: u32) -> u32 {
+    (word.cast_signed() >> low).cast_unsigned()
+}
+
+fn imm_i(word: u32) -> u32 {
+    signed_field(word, 20)
+}
+
+fn imm_s(word: u32) -> u32 {
+    (signed_field(word, 25) << 5) | field(word, 11, 7)
+}
+
+fn imm_b(word: u32) -> u32 {
+    (signed_field(word, 31) << 12) | (field(word, 7, 7) << 11) | (field(word, 30, 25) << 5) | (field(word, 11, 8) << 1)
+}
+
+fn imm_j(word: u32) -> u32 {
+    (signed_field(word, 31) << 20) | (field(word, 19, 12) << 12) | (field(word, 20, 20) << 11) | (field(word, 30, 21) << 1)
+}
+
+/// A sum, a difference or a lower product: an undefined bit reaches itself and those above.
+fn carried(value: u32, x: Bits, y: Bits) -> Bits {
+    let lowest = x.undef | y.undef;
+    Bits { value, undef: lowest | lowest.wrapping_neg() }
+}
+
+fn xor(x: Bits, y: Bits) -> Bits {
+    Bits { value: x.value ^ y.value, undef: x.undef | y.undef }
+}
+
+/// A defined 1 makes a bit defined.
+fn or(x: Bits, y: Bits) -> Bits {
+    let undef = (x.undef | y.undef) & (!x.value | x.undef) & (!y.value | y.undef);
+    Bits { value: x.value | y.value, undef }
+}
+
+/// A defined 0 makes a bit defined.
+fn and(x: Bits, y: Bits) -> Bits {
+    let undef = (x.undef | y.undef) & (x.value | x.undef) & (y.value | y.undef);
+    Bits { value: x.value & y.value, undef }
+}
+
+fn less(holds: bool, x: Bits, y: Bits) -> Bits {
+    Bits { value: u32::from(holds), undef: u32::from(x.undef | y.undef != 0) }
+}
+
+/// A shift of the word and of its undefined bits, by an amount whose low five bits count.
+fn shift(x: Bits, y: Bits, shifted: impl Fn(u32, u32) -> u32) -> Bits {
+    let value = shifted(x.value, y.value % 32);
+    let undef = if y.undef % 32 == 0 { shifted(x.undef, y.value % 32) } else { u32::MAX };
+    Bits { value, undef }
+}
+
+fn arithmetic(word: u32, by: u32) -> u32 {
+    (word.cast_signed() >> by).cast_unsigned()
+}
+
+/// MULH, MULHSU, MULHU, DIV, DIVU, REM and REMU, by funct3: each bit of the result depends on all bits.
+fn wide(funct3: u32, x: Bits, y: Bits) -> Bits {
+    let (sx, sy) = (x.value.cast_signed(), y.value.cast_signed());
+    let value = match funct3 {
+        1 => ((i64::from(sx) * i64::from(sy)) >> 32) as u32,
+        2 => ((i64::from(sx) * i64::from(y.value)) >> 32) as u32,
+        3 => ((u64::from(x.value) * u64::from(y.value)) >> 32) as u32,
+        4 if sy == 0 => u32::MAX,
+        4 => sx.wrapping_div(sy).cast_unsigned(),
+        5 => x.value.checked_div(y.value).unwrap_or(u32::MAX),
+        6 if sy == 0 => x.value,
+        6 => sx.wrapping_rem(sy).cast_unsigned(),
+        _ => x.value.checked_rem(y.value).unwrap_or(x.value),
+    };
+    Bits { value, undef: if x.undef | y.undef == 0 { 0 } else { u32::MAX } }
+}
+
+/// A defined address in the stack region, its end included.
+fn is_stack_pointer(bits: Bits) -> bool {
+    bits.undef == 0 && (0x7F00_0000..=0x8000_0000).contains(&bits.value)
+}
+
+impl Machine {
+    /// The machine before its first step: words at an address, and zeros after them, `memsz` bytes in all.
+    pub fn start(at: u32, words: &[u32], memsz: u32) -> Machine {
+        let mut memory = Memory::new();
+        memory.set_range(at, memsz, RangeKind::Defined);
+        for (i, word) in (0u32..).zip(words) {
+            memory.store::<4>(at.wrapping_add(4 * i), *word, 0);
+        }
+        memory.set_range(STACK_START, STACK_ROOM, RangeKind::Defined);
+        let mut registers = [known(0); 32];
+        registers[STACK_POINTER] = known(STACK_START);
+        Machine { memory, registers, pc: at, status: Status::Running, errors: HashMap::new() }
+    }
+
+    #[cold]
+    #[inline(never)]
+    fn raise(&mut self, kind: Kind) {
+        let count = self.errors.entry((kind, self.pc)).or_insert(0);
+        *count = count.saturating_add(1);
+    }
+
+    fn register(&self, r: u32) -> Bits {
+        self.registers[r as usize % 32]
+    }
+
+    fn set(&mut self, r: u32, bits: Bits) {
+        if r != 0 {
+            self.registers[r as usize % 32] = bits;
+        }
+    }
+
+    /// Tests that a register is defined, and makes it so.
+    #[inline(always)]
+    fn test(&mut self, r: u32, kind: Kind) {
+        if self.register(r).undef != 0 {
+            self.raise(kind);
+            self.set(r, known(self.register(r).value));
+        }
+    }
+
+    /// The stack pointer rule: what a stack that grows passes is undefined, and what one that shrinks leaves inaccessible.
+    #[cold]
+    #[inline(never)]
+    fn stack_rule(&mut self, old: Bits) {
+        let new = self.registers[STACK_POINTER];
+        if is_stack_pointer(old) && is_stack_pointer(new) && new.value.abs_diff(old.value) <= LARGEST_FRAME {
+            let len = new.value.abs_diff(old.value);
+            if new.value < old.value {
+                self.memory.set_range(new.value, len, RangeKind::Undefined);
+            } else {
+                self.memory.set_range(old.value, len, RangeKind::NoAccess);
+            }
+        }
+    }
+
+    /// Goes to an address, or stops where it is no multiple of 4.
+    #[inline(always)]
+    fn jump(&mut self, to: u32) -> bool {
+        if to % 4 != 0 {
+            self.status = Status::Misaligned;
+            return false;
+        }
+        self.pc = to;
+        true
+    }
+
+    #[inline(always)]
+    fn load<const N: usize>(&mut self, word: u32, signed: bool) {
+        let rs1 = field(word, 19, 15);
+        let start = self.register(rs1).value.wrapping_add(imm_i(word));
+        self.test(rs1, Kind::Value);
+        let loaded = self.memory.load::<N>(start);
+        if loaded.bad.is_some() {
+            self.raise(Kind::Read(N as u8));
+        }
+        let unused = 32 - 8 * N as u32;
+        let extended = |x: u32| if signed { arithmetic(x << unused, unused) } else { x };
+        let bits = Bits { value: extended(loaded.value), undef: extended(loaded.undef) };
+        self.set(field(word, 11, 7), bits);
+    }
+
+    #[inline(always)]
+    fn store<const N: usize>(&mut self, word: u32) {
+        let rs1 = field(word, 19, 15);
+        let start = self.register(rs1).value.wrapping_add(imm_s(word));
+        self.test(rs1, Kind::Value);
+        let stored = self.register(field(word, 24, 20));
+        if self.memory.store::<N>(start, stored.value, stored.undef).is_some() {
+            self.raise(Kind::Write(N as u8));
+        }
+    }
+
+    /// Whether the next instruction is the one at `pc + 4`.
+    #[inline(always)]
+    fn branch(&mut self, word: u32) -> bool {
+        let (rs1, rs2) = (field(word, 19, 15), field(word, 24, 20));
+        let (x, y) = (self.register(rs1), self.register(rs2));
+        let taken = match field(word, 14, 12) {
+            0 => x.value == y.value,
+            1 => x.value != y.value,
+            4 => x.value.cast_signed() < y.value.cast_signed(),
+            5 => x.value.cast_signed() >= y.value.cast_signed(),
+            6 => x.value < y.value,
+            7 => x.value >= y.value,
+            _ => return self.illegal(),
+        };
+        if x.undef | y.undef != 0 {
+            self.raise(Kind::Cond);
+            self.set(rs1, known(x.value));
+            self.set(rs2, known(y.value));
+        }
+        if taken {
+            self.jump(self.pc.wrapping_add(imm_b(word)));
+        }
+        !taken
+    }
+
+    #[cold]
+    fn illegal(&mut self) -> bool {
+        self.status = Status::Illegal;
+        false
+    }
+
+    /// An operation by funct3 and by whether it is the alternate one of its row (SUB for ADD, SRA for SRL).
+    #[inline(always)]
+    fn operation(funct3: u32, alternate: bool, x: Bits, y: Bits) -> Bits {
+        match funct3 {
+            0 if alternate => carried(x.value.wrapping_sub(y.value), x, y),
+            0 => carried(x.value.wrapping_add(y.value), x, y),
+            1 => shift(x, y, |word, by| word << by),
+            2 => less(x.value.cast_signed() < y.value.cast_signed(), x, y),
+            3 => less(x.value < y.value, x, y),
+            4 => xor(x, y),
+            5 if alternate => shift(x, y, arithmetic),
+            5 => shift(x, y, |word, by| word >> by),
+            6 => or(x, y),
+            _ => and(x, y),
+        }
+    }
+
+    #[inline(always)]
+    fn immediate(&mut self, word: u32) -> bool {
+        let funct3 = field(word, 14, 12);
+        let is_shift = funct3 == 1 || funct3 == 5;
+        let funct7 = field(word, 31, 25);
+        let alternate = funct3 == 5 && funct7 == 0x20;
+        if is_shift && funct7 != 0 && !alternate {
+            return self.illegal();
+        }
+        let y = known(if is_shift { field(word, 24, 20) } else { imm_i(word) });
+        let result = Self::operation(funct3, alternate, self.register(field(word, 19, 15)), y);
+        self.set(field(word, 11, 7), result);
+        true
+    }
+
+    #[inline(always)]
+    fn registers(&mut self, word: u32) -> bool {
+        let funct3 = field(word, 14, 12);
+        let (x, y) = (self.register(field(word, 19, 15)), self.register(field(word, 24, 20)));
+        let result = match (field(word, 31, 25), funct3) {
+            (0x00, _) => Self::operation(funct3, false, x, y),
+            (0x20, 0 | 5) => Self::operation(funct3, true, x, y),
+            (0x01, 0) => carried(x.value.wrapping_mul(y.value), x, y),
+            (0x01, _) => wide(funct3, x, y),
+            _ => return self.illegal(),
+        };
+        self.set(field(word, 11, 7), result);
+        true
+    }
+
+    /// JAL and JALR, to an address.
+    #[inline(always)]
+    fn linked_jump(&mut self, word: u32, to: u32) -> bool {
+        let link = self.pc.wrapping_add(4);
+        if self.jump(to) {
+            self.set(field(word, 11, 7), known(link));
+        }
+        false
+    }
+
+    /// ECALL: `exit` and `exit_group`; each other call answers that there is none.
+    #[cold]
+    #[inline(never)]
+    fn call(&mut self) -> bool {
+        let number = self.registers[A7].value;
+        self.test(A7 as u32, Kind::Parameter(A7 as u8));
+        if number == EXIT || number == EXIT_GROUP {
+            self.test(A0 as u32, Kind::Parameter(A0 as u8));
+            self.status = Status::Exited(self.registers[A0].value as u8);
+            return false;
+        }
+        self.registers[A0] = known(NO_SUCH_CALL);
+        true
+    }
+
+    /// Carries a word out, and says whether the next instruction is the one at `pc + 4`.
+    #[inline(always)]
+    fn carry_out(&mut self, word: u32) -> bool {
+        match word & 0x7F {
+            0x37 => self.set(field(word, 11, 7), known(word & 0xFFFF_F000)),
+            0x17 => self.set(field(word, 11, 7), known(self.pc.wrapping_add(word & 0xFFFF_F000))),
+            0x6F => return self.linked_jump(word, self.pc.wrapping_add(imm_j(word))),
+            0x67 if field(word, 14, 12) == 0 => {
+                let rs1 = field(word, 19, 15);
+                let to = self.register(rs1).value.wrapping_add(imm_i(word)) & !1;
+                self.test(rs1, Kind::Value);
+                return self.linked_jump(word, to);
+            }
+            0x63 => return self.branch(word),
+            0x03 => match field(word, 14, 12) {
+                0 => self.load::<1>(word, true),
+                1 => self.load::<2>(word, true),
+                2 => self.load::<4>(word, true),
+                4 => self.load::<1>(word, false),
+                5 => self.load::<2>(word, false),
+                _ => return self.illegal(),
+            },
+            0x23 => match field(word, 14, 12) {
+                0 => self.store::<1>(word),
+                1 => self.store::<2>(word),
+                2 => self.store::<4>(word),
+                _ => return self.illegal(),
+            },
+            0x13 => return self.immediate(word),
+            0x33 => return self.registers(word),
+            0x0F if field(word, 14, 12) == 0 => {}
+            0x73 if word == 0x0000_0073 => return self.call(),
+            0x73 if word == 0x0010_0073 => {
+                self.status = Status::Break;
+                return false;
+            }
+            _ => return self.illegal(),
+        }
+        true
+    }
+
+    /// One step of a machine that runs.
+    #[inline(always)]
+    pub fn step(&mut self) {
+        if self.pc % 4 != 0 {
+            self.status = Status::Misaligned;
+            return;
+        }
+        let word = self.memory.load::<4>(self.pc);
+        if word.bad.is_some() {
+            self.raise(Kind::Jump);
+            self.status = Status::Jump;
+            return;
+        }
+        let stack_pointer = self.registers[STACK_POINTER];
+        if word.undef != 0 {
+            self.raise(Kind::Value);
+        }
+        if self.carry_out(word.value) {
+            self.pc = self.pc.wrapping_add(4);
+        }
+        if stack_pointer.value != self.registers[STACK_POINTER].value {
+            self.stack_rule(stack_pointer);
+        }
+    }
+}

@@ -1,0 +1,153 @@
+//! The guest's memory: a flat table of pages, each with a byte, an accessible flag and the undefined bits of every address.
+
+const PAGE: usize = 4096;
+const PAGES: usize = 1 << 20;
+
+/// The flag of an accessible byte; an inaccessible one has 0, and no undefined bits.
+const ACCESSIBLE: u8 = 0xFF;
+
+/// What a range of bytes is made.
+#[derive(Clone, Copy)]
+pub enum RangeKind {
+    NoAccess,
+    Undefined,
+    Defined,
+}
+
+struct Page {
+    bytes: [u8; PAGE],
+    accessible: [u8; PAGE],
+    undef: [u8; PAGE],
+}
+
+/// Bytes loaded as a number, its undefined bits, and the first inaccessible address among them.
+#[derive(Clone, Copy)]
+pub struct Loaded {
+    pub value: u32,
+    pub undef: u32,
+    pub bad: Option<u32>,
+}
+
+pub struct Memory {
+    pages: Box<[Option<Box<Page>>; PAGES]>,
+}
+
+/// The page of an address, and the place in it.
+fn place(addr: u32) -> (usize, usize) {
+    ((addr / PAGE as u32) as usize, addr as usize % PAGE)
+}
+
+/// A number of N bytes, the lowest first.
+fn number<const N: usize>(bytes: &[u8; N]) -> u32 {
+    let mut word = [0; 4];
+    word[..N].copy_from_slice(bytes);
+    u32::from_le_bytes(word)
+}
+
+impl Memory {
+    /// Every byte is 0 and inaccessible.
+    pub fn new() -> Memory {
+        let pages: Vec<Option<Box<Page>>> = (0..PAGES).map(|_| None).collect();
+        let pages = pages.into_boxed_slice().try_into().ok();
+        Memory { pages: pages.expect("the table has this length") }
+    }
+
+    /// The page of a number, made where there is none.
+    fn page(&mut self, number: usize) -> &mut Page {
+        self.pages[number].get_or_insert_with(|| Box::new(Page { bytes: [0; PAGE], accessible: [0; PAGE], undef: [0; PAGE] }))
+    }
+
+    /// The N bytes at an address (modulo 2^32); N is 1, 2 or 4.
+    #[inline(always)]
+    pub fn load<const N: usize>(&self, addr: u32) -> Loaded {
+        let (number_of_page, at) = place(addr);
+        if at <= PAGE - N
+            && let Some(page) = &self.pages[number_of_page]
+        {
+            let accessible: &[u8; N] = page.accessible[at..at + N].try_into().unwrap();
+            if *accessible == [ACCESSIBLE; N] {
+                return Loaded {
+                    value: number::<N>(page.bytes[at..at + N].try_into().unwrap()),
+                    undef: number::<N>(page.undef[at..at + N].try_into().unwrap()),
+                    bad: None,
+                };
+            }
+        }
+        self.load_bytes(addr, N as u32)
+    }
+
+    /// The same byte by byte, over two pages or with inaccessible bytes, which load as defined.
+    #[cold]
+    #[inline(never)]
+    fn load_bytes(&self, addr: u32, n: u32) -> Loaded {
+        let mut loaded = Loaded { value: 0, undef: 0, bad: None };
+        for i in 0..n {
+            let address = addr.wrapping_add(i);
+            let (number, at) = place(address);
+            let page = self.pages[number].as_deref();
+            loaded.value |= page.map_or(0, |page| u32::from(page.bytes[at])) << (8 * i);
+            loaded.undef |= page.map_or(0, |page| u32::from(page.undef[at])) << (8 * i);
+            if page.is_none_or(|page| page.accessible[at] != ACCESSIBLE) && loaded.bad.is_none() {
+                loaded.bad = Some(address);
+            }
+        }
+        loaded
+    }
+
+    /// Stores the low N bytes of a number with its undefined bits, and answers the first inaccessible address. An inaccessible
+    /// byte takes its value, and stays inaccessible.
+    #[inline(always)]
+    pub fn store<const N: usize>(&mut self, addr: u32, value: u32, undef: u32) -> Option<u32> {
+        let (number_of_page, at) = place(addr);
+        if at <= PAGE - N
+            && let Some(page) = &mut self.pages[number_of_page]
+        {
+            let accessible: &[u8; N] = page.accessible[at..at + N].try_into().unwrap();
+            if *accessible == [ACCESSIBLE; N] {
+                page.bytes[at..at + N].copy_from_slice(&value.to_le_bytes()[..N]);
+                page.undef[at..at + N].copy_from_slice(&undef.to_le_bytes()[..N]);
+                return None;
+            }
+        }
+        self.store_bytes(addr, N as u32, value, undef)
+    }
+
+    /// The same byte by byte.
+    #[cold]
+    #[inline(never)]
+    fn store_bytes(&mut self, addr: u32, n: u32, value: u32, undef: u32) -> Option<u32> {
+        let mut bad = None;
+        for i in 0..n {
+            let address = addr.wrapping_add(i);
+            let (number, at) = place(address);
+            let page = self.page(number);
+            page.bytes[at] = value.to_le_bytes()[i as usize];
+            if page.accessible[at] == ACCESSIBLE {
+                page.undef[at] = undef.to_le_bytes()[i as usize];
+            } else if bad.is_none() {
+                bad = Some(address);
+            }
+        }
+        bad
+    }
+
+    /// Makes the `len` bytes from an address on (modulo 2^32) inaccessible, undefined or defined.
+    pub fn set_range(&mut self, start: u32, len: u32, kind: RangeKind) {
+        let (accessible, undef) = match kind {
+            RangeKind::NoAccess => (0, 0),
+            RangeKind::Undefined => (ACCESSIBLE, 0xFF),
+            RangeKind::Defined => (ACCESSIBLE, 0),
+        };
+        let mut start = start;
+        let mut left = len as usize;
+        while left > 0 {
+            let (number, at) = place(start);
+            let here = left.min(PAGE - at);
+            let page = self.page(number);
+            page.accessible[at..at + here].fill(accessible);
+            page.undef[at..at + here].fill(undef);
+            start = start.wrapping_add(here as u32);
+            left -= here;
+        }
+    }
+}
