@@ -44,6 +44,9 @@
 #![tactic(auto)]
 
 mod filtering;
+pub mod laws;
+mod leak_lines;
+mod leaks;
 mod lines;
 mod options;
 mod rendering;
