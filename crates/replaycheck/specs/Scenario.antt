@@ -1,11 +1,11 @@
 -- What the accepted commands leave, and what a line is answered. Nothing of earlier reports is in it.
-use Rattle.std.specs.Prelude.{ℕ, ◌+◌, ◌^◌, ◌||◌, nat_le, nat_lt, if◌then◌else◌, List, [], ◌∷◌, ◌++◌, length, remove, Option, Some, None, Result, Ok, Err, true, false}
+use Rattle.std.specs.Prelude.{◌≡◌, ℕ, ◌+◌, ◌^◌, ◌||◌, nat_le, nat_lt, if◌then◌else◌, List, [], ◌∷◌, ◌++◌, length, remove, Option, Some, None, Result, Ok, Err, true, false}
 use Rattle.guest_elf.specs.declared.image.Image.{Image}
 use Rattle.guest_machine.specs.State.{State}
 use Rattle.guest_machine.specs.Run.{start_state, post}
 use Rattle.guest_machine.specs.declared.setup.Setup.{Setup}
 use Rattle.guest_machine.specs.declared.setup.Mark.{Mark as MarkAt}
-use Rattle.replay_report.specs.Report.{report}
+use Rattle.replay_report.specs.Report.{IsReport}
 use Rattle.replay_report.specs.declared.options.Options.{Options}
 use Rattle.replaycheck.specs.Commands.{parsed}
 use Rattle.replaycheck.specs.Setups.{setup_with}
@@ -53,9 +53,9 @@ first_state sc = record (start_state sc.image) { bytes = sc.bytes }
 unfoldable pub chosen_state : Scenario → State
 chosen_state sc = post (first_state sc) sc.setup sc.marks sc.step
 
--- the report at the chosen step of one run from step zero
-unfoldable pub report_of : Scenario → List ℕ
-report_of sc = report (chosen_state sc) sc.image sc.rules sc.options sc.step (length sc.setup.input)
+-- a text is the report at the chosen step of one run from step zero
+unfoldable pub IsReportOf : Scenario → List ℕ → Type 0
+IsReportOf sc text = IsReport (chosen_state sc) sc.image sc.rules sc.options sc.step (length sc.setup.input) text
 
 -- why a mark is refused where there are so many, in order: its step, its range, too many marks
 unfoldable pub mark_refusal : ℕ → MarkAt → Option Fault
@@ -124,16 +124,17 @@ replied (Err fault) = Err fault
 unfoldable pub reply : Scenario → List ℕ → Result Reply Fault
 reply sc line = replied (accepted sc line)
 
-abbrev pub bytes_for : Scenario → Result Command Fault → List ℕ
-bytes_for sc (Ok Report) = report_of sc
-bytes_for sc (Ok (Goto n)) = []
-bytes_for sc (Ok (Mark mark)) = []
-bytes_for sc (Ok (Unmark i)) = []
-bytes_for sc (Err fault) = []
+-- what an accepted command, or a refusal, appends: a report, and else nothing
+abbrev pub AreBytesFor : Scenario → Result Command Fault → List ℕ → Type 0
+AreBytesFor sc (Ok Report) bytes = IsReportOf sc bytes
+AreBytesFor sc (Ok (Goto n)) bytes = bytes ≡ []
+AreBytesFor sc (Ok (Mark mark)) bytes = bytes ≡ []
+AreBytesFor sc (Ok (Unmark i)) bytes = bytes ≡ []
+AreBytesFor sc (Err fault) bytes = bytes ≡ []
 
--- the bytes that a line appends: those of a report
-unfoldable pub report_bytes : Scenario → List ℕ → List ℕ
-report_bytes sc line = bytes_for sc (accepted sc line)
+-- what a line appends
+unfoldable pub AreReportBytes : Scenario → List ℕ → List ℕ → Type 0
+AreReportBytes sc line bytes = AreBytesFor sc (accepted sc line) bytes
 
 -- the scenario that a session of a program, an input and suppressions begins with: nothing patched, no marks, step 0
 unfoldable pub begun : Image → List ℕ → List Rule → Scenario

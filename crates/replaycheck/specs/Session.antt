@@ -1,7 +1,8 @@
 -- How a session keeps a scenario, and what one line does to it.
-use Rattle.std.specs.Prelude.{◌≡◌, ◌<◌, ◌++◌, ◌⊎◌, ℕ, List, Result, Ok, Err, IsOkAnd}
+use Rattle.std.specs.Prelude.{◌≡◌, ◌<◌, ◌⊎◌, ℕ, List, Result, Ok, Err, IsOkAnd}
 use Rattle.guest_machine.specs.Shows.{Shows}
-use Rattle.replaycheck.specs.Scenario.{Scenario, first_state, accepted, apply, reply, report_bytes, counted, changed, reply_to, bytes_for}
+use Rattle.replay_report.specs.Report.{AppendsReport}
+use Rattle.replaycheck.specs.Scenario.{Scenario, first_state, accepted, apply, reply, AreReportBytes, counted, changed, reply_to, AreBytesFor}
 use Rattle.replaycheck.specs.declared.session.keeper.Session.{Session}
 use Rattle.replaycheck.specs.declared.session.fault.Fault.{Fault}
 use Rattle.replaycheck.specs.declared.session.fault.Fault.TheVariants.{Memory}
@@ -37,7 +38,7 @@ TakesMemory (Unmark i) = ⊥
 -- an accepted command was carried out
 pub record Done (new : Session) (sc : Scenario) (command : Command) (result : Result Reply Fault) (out-old out-new : List ℕ) : Type 0 where
   pub replies : result ≡ Ok (reply_to command)
-  pub appends : out-new ≡ out-old ++ bytes_for sc (Ok command)
+  pub appends : AppendsReport (AreBytesFor sc (Ok command)) out-old out-new
   pub has : HasScenario new (changed sc command)
 
 -- or memory was wanting, and nothing changed
@@ -53,7 +54,7 @@ Carried new sc command result out-old out-new = Done new sc command result out-o
 -- the line was answered as the scenario says
 pub record Answered (new : Session) (sc : Scenario) (line : List ℕ) (result : Result Reply Fault) (out-old out-new : List ℕ) : Type 0 where
   pub replies : result ≡ reply sc line
-  pub appends : out-new ≡ out-old ++ report_bytes sc line
+  pub appends : AppendsReport (AreReportBytes sc line) out-old out-new
   pub has : HasScenario new (apply sc line)
 
 -- or memory was wanting, at a report or a mark that is not refused: the line counts, and nothing else changes

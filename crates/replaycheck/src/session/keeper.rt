@@ -55,7 +55,8 @@ pub(crate) struct Session<'a> {
 
 impl<'a> Session<'a> {
     ghost use Rattle.std.specs.Prelude.{◌≡◌, ◌<◌, ◌↔◌, ◌⊎◌, IfOk, OnOk, OnErr, IfNone, length, [], ◌++◌, vec_len};
-    ghost use Rattle.replaycheck.specs.Scenario.{Scenario, accepted_with, command_refusal, mark_refusal, counted, changed, report_of, begun};
+    ghost use Rattle.replaycheck.specs.Scenario.{Scenario, accepted_with, command_refusal, mark_refusal, counted, changed, IsReportOf, begun};
+    ghost use Rattle.replay_report.specs.Report.{AppendsReport};
     ghost use Rattle.replaycheck.specs.Session.{HasScenario, Meets, Carried, IsWithin};
 
     /// The session of a program with an input and suppressions, with nothing edited and step 0 chosen.
@@ -164,7 +165,7 @@ impl<'a> Session<'a> {
     /// Appends the report at the chosen step.
     fn report(&mut self, out: &mut Vec<u8>) -> Result<(), AllocError>
         ensures has { (sc : Scenario) → HasScenario self.old sc → HasScenario self.new sc }
-        ensures ok { OnOk result ((sc : Scenario) → HasScenario self.old sc → out.new.items ≡ out.old.items ++ report_of sc) }
+        ensures ok { OnOk result ((sc : Scenario) → HasScenario self.old sc → AppendsReport (IsReportOf sc) out.old.items out.new.items) }
         ensures err { OnErr result (out.new.items ≡ out.old.items) }
     {
         let start = self.start.share()?;

@@ -7,7 +7,7 @@ unfolding first_state
 returns-in-Goto c sc h =
     rw c.in-Goto.is (inl (record {
       replies = refl;
-      appends = sym (append-nil c.args.out.now.items);
+      appends = ([], refl, sym (append-nil c.args.out.now.items));
       has = record { image = h.image; start = h.start; setup = h.setup; marks = h.marks; rules = h.rules; options = h.options; step = refl; lines = h.lines };
     }))
 
@@ -16,7 +16,7 @@ unfolding first_state
 returns-in-Ok-push c sc h =
     rw c.in-Mark.is (inl (record {
       replies = refl;
-      appends = sym (append-nil c.args.out.now.items);
+      appends = ([], refl, sym (append-nil c.args.out.now.items));
       has = record { image = h.image; start = h.start; setup = h.setup; marks = c.in-Ok-push.ensures.items ∙ ap (λ ms. ms ++ c.in-Mark.mark ∷ []) h.marks; rules = h.rules; options = h.options; step = h.step; lines = h.lines };
     }))
 
@@ -25,6 +25,6 @@ unfolding first_state
 returns-in-Unmark c sc h =
     rw c.in-Unmark.is (inl (record {
       replies = refl;
-      appends = sym (append-nil c.args.out.now.items);
+      appends = ([], refl, sym (append-nil c.args.out.now.items));
       has = record { image = h.image; start = h.start; setup = h.setup; marks = c.remove-mark.ensures.items ∙ ap (λ ms. remove ms c.in-Unmark.index) h.marks; rules = h.rules; options = h.options; step = h.step; lines = h.lines };
     }))
