@@ -1,7 +1,7 @@
 //! Programs by hand, and what becomes of them. The expected values are those of the instruction set's manual.
 mod values;
 
-use crate::laws::{keeps_heap, keeps_input, keeps_words};
+use crate::laws::{keeps_heap, keeps_input, keeps_pokes, keeps_words, reads_on};
 use crate::{Input, Machine, Mark, Meter, Register, Setup, Span, Status, Stop, Touched};
 use definedness::Bits;
 use error_events::Kind;
@@ -387,6 +387,8 @@ fn the_laws_can_be_called() {
     keeps_words();
     keeps_input();
     keeps_heap();
+    keeps_pokes();
+    reads_on();
 }
 
 #[test]
