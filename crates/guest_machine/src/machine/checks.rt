@@ -7,9 +7,10 @@ ghost use Rattle.guest_machine.specs.Effects.{branch_tested, branch_errors};
 ghost use Rattle.guest_machine.specs.Errors.{here, event_of, event_unless, event_about, note_at, region_note, register_errors, value_errors, parameter_errors};
 ghost use Rattle.guest_machine.specs.Shows.{core_of};
 
+use crate::alu::is_undecided;
+use crate::instruction::Test;
 use crate::machine::Guest;
 use crate::register::Register;
-use definedness::undef_branch;
 use error_events::{Event, Fault3, Kind, Note, Parameter};
 use std::alloc::AllocError;
 
@@ -119,15 +120,20 @@ impl Guest {
         self.test(r, Kind::Param(parameter, Fault3::Contains))
     }
 
-    /// Tests that a branch doesn't depend on undefined bits, and makes its registers defined.
+    /// Tests that a branch doesn't depend on undefined bits; if it does, its registers are made defined.
     #[tactic(auto, unfolding(crate::specs::Effects::branch_tested, crate::specs::Errors::event_unless, error_events::specs::Adding::add_events))]
-    pub(super) fn test_branch(&mut self, rs1: Register, rs2: Register) -> Result<(), AllocError>
-        ensures core { OnOk result (core_of self.new ≡ branch_tested (core_of self.old) rs1 rs2) }
+    pub(super) fn test_branch(
+        &mut self,
+        test: Test,
+        rs1: Register,
+        rs2: Register,
+    ) -> Result<(), AllocError>
+        ensures core { OnOk result (core_of self.new ≡ branch_tested (core_of self.old) test rs1 rs2) }
         ensures memory { self.new.memory ≡ self.old.memory }
         ensures counts { self.new.counts ≡ self.old.counts }
-        ensures groups { OnOk result (groups_of self.new.groups ≡ add_events (groups_of self.old.groups) (branch_errors (core_of self.old) rs1 rs2)) }
+        ensures groups { OnOk result (groups_of self.new.groups ≡ add_events (groups_of self.old.groups) (branch_errors (core_of self.old) test rs1 rs2)) }
     {
-        if undef_branch(self.read_register(rs1), self.read_register(rs2)) {
+        if is_undecided(test, self.read_register(rs1), self.read_register(rs2)) {
             self.raise(Kind::Cond, Note::Absent)?;
             self.define(rs1);
             self.define(rs2);

@@ -127,7 +127,7 @@ impl Guest {
             self.read_register(rs2).value,
         );
         let to = self.pc.wrapping_add(imm);
-        self.test_branch(rs1, rs2)?;
+        self.test_branch(test, rs1, rs2)?;
         if taken {
             self.jump(to);
         } else {
