@@ -1,4 +1,6 @@
 //! Programs by hand, and what becomes of them. The expected values are those of the instruction set's manual.
+mod errors;
+mod heap;
 mod values;
 
 use crate::laws::{keeps_heap, keeps_input, keeps_pokes, keeps_words, reads_on};

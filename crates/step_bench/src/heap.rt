@@ -1,12 +1,12 @@
-//! Measures the heap through its public calls. With no argument it prints its usage alone.
-#![tactic(auto)]
+//! Calls of the heap.
+ghost use Rattle.std.specs.Prelude.{◌≤◌};
 
+use crate::guests::print_each;
 use call_stacks::Trace;
 use guest_heap::{Heap, Released};
 use std::alloc::{AllocError, Global};
-use std::rt::Env;
+use std::io;
 use std::time::Instant;
-use std::{env, io};
 
 // Memcheck's default for `--redzone-size`.
 const REDZONE: u32 = 16;
@@ -95,7 +95,10 @@ fn share_often(alloc: Global, heap: &Heap, trace: Trace, count: u32) -> Result<u
 }
 
 /// The next of a row of sizes from 1 to 4,096 that repeats after 4,096 (a full-period linear congruence).
-fn next_size(size: u32) -> u32 {
+fn next_size(size: u32) -> u32
+    ensures least { 1 ≤ result }
+    ensures most { result ≤ 4096 }
+{
     size.wrapping_mul(1669).wrapping_add(1013) % 4096 + 1
 }
 
@@ -160,34 +163,21 @@ fn two_at_a_time(
     Ok(freed)
 }
 
-/// The first number of the command line.
-fn count_of<R: Env + AllocGlobal>(rt: &R) -> io::Result<Option<u32>> {
-    for word in env::args(rt)?.skip(1) {
-        return Ok(word.as_str().parse().ok());
-    }
-    Ok(None)
-}
-
-fn print_time(rt: &impl Print, name: &str, calls: u32, seconds: f64) -> io::Result<()> {
-    let each = seconds * 1e9 / f64::from(calls.max(1));
-    println!(rt; "{name}: {calls} calls, {each:.0} ns each")
-}
-
 fn measure_one_size(rt: &HostRuntime, trace: Trace, count: u32) -> io::Result<()> {
     let alloc = rt.alloc();
     let mut heap = Heap::new(alloc)?;
     let began = Instant::now(rt)?;
     let _last = allocate_only(alloc, &mut heap, trace, 8, count)?;
-    print_time(rt, "allocate 8", count, began.elapsed(rt)?.as_secs_f64())?;
+    print_each(rt, "allocate 8", count, began.elapsed(rt)?.as_secs_f64())?;
     let began = Instant::now(rt)?;
     let live = count_live(&heap, count);
-    print_time(rt, "live", live, began.elapsed(rt)?.as_secs_f64())?;
+    print_each(rt, "live", live, began.elapsed(rt)?.as_secs_f64())?;
     let began = Instant::now(rt)?;
     let _near = count_near(&heap, count);
-    print_time(rt, "block_near", count, began.elapsed(rt)?.as_secs_f64())?;
+    print_each(rt, "block_near", count, began.elapsed(rt)?.as_secs_f64())?;
     let began = Instant::now(rt)?;
     let made = share_often(alloc, &heap, trace, 100)?;
-    print_time(
+    print_each(
         rt,
         "share and allocate",
         made,
@@ -206,7 +196,7 @@ fn measure_pairs(
     let mut heap = Heap::new(rt.alloc())?;
     let began = Instant::now(rt)?;
     let freed = in_turn(rt.alloc(), &mut heap, trace, size, count)?;
-    print_time(rt, name, freed, began.elapsed(rt)?.as_secs_f64())
+    print_each(rt, name, freed, began.elapsed(rt)?.as_secs_f64())
 }
 
 /// Requests of all sizes, in a heap where every second block left a gap: blocks of 8 bytes first, then of all sizes.
@@ -236,7 +226,7 @@ fn measure_sizes(
     let _freed = free_every_second(rt.alloc(), heap, trace, count)?;
     let began = Instant::now(rt)?;
     let made = allocate_sizes(rt.alloc(), heap, trace, count)?;
-    print_time(rt, name, made, began.elapsed(rt)?.as_secs_f64())
+    print_each(rt, name, made, began.elapsed(rt)?.as_secs_f64())
 }
 
 /// One gap at the front of many blocks.
@@ -247,17 +237,15 @@ fn measure_one_gap(rt: &HostRuntime, trace: Trace, count: u32) -> io::Result<()>
     if let Released::Done(_first) = heap.release(alloc, FIRST, trace, 0)? {}
     let began = Instant::now(rt)?;
     let freed = two_at_a_time(alloc, &mut heap, trace, 100)?;
-    print_time(rt, "two at a time", freed, began.elapsed(rt)?.as_secs_f64())
+    print_each(rt, "two at a time", freed, began.elapsed(rt)?.as_secs_f64())
 }
 
-fn main(rt: HostRuntime) -> io::Result<()> {
-    let Some(count) = count_of(&rt)? else {
-        return println!(rt; "usage: heap_bench COUNT");
-    };
+/// Times calls of the heap, so many of each kind.
+pub(crate) fn measure(rt: &HostRuntime, count: u32) -> io::Result<()> {
     let trace = Trace::of(0x10000);
-    measure_one_size(&rt, trace, count)?;
-    measure_pairs(&rt, "allocate and release 8", trace, 8, count)?;
-    measure_pairs(&rt, "allocate and release 1000", trace, 1000, count)?;
-    measure_gaps(&rt, trace, count)?;
-    measure_one_gap(&rt, trace, count)
+    measure_one_size(rt, trace, count)?;
+    measure_pairs(rt, "allocate and release 8", trace, 8, count)?;
+    measure_pairs(rt, "allocate and release 1000", trace, 1000, count)?;
+    measure_gaps(rt, trace, count)?;
+    measure_one_gap(rt, trace, count)
 }
