@@ -1,0 +1,26 @@
+//! A session, served from its lines to its answers.
+use crate::case::Case;
+use anyhow::{Result, bail};
+use guest_elf::read;
+use replay_session::{Session, serve};
+use std::alloc::Global;
+use suppressions::parse;
+
+/// Every byte that the lines of a session are answered.
+pub(crate) fn played(alloc: Global, case: &Case) -> Result<Vec<u8>> {
+    let Ok(image) = read(alloc, &case.file) else {
+        bail!("the program is refused");
+    };
+    let Ok(suppressions) = parse(alloc, &case.suppressions) else {
+        bail!("the suppressions are refused");
+    };
+    let Ok(session) = Session::begin(alloc, image, case.input.clone()?, suppressions) else {
+        bail!("the session does not begin");
+    };
+    let mut lines = case.lines.as_slice();
+    let mut answers = Vec::new(alloc);
+    match serve(alloc, session, &mut lines, &mut answers) {
+        Ok(()) => Ok(answers),
+        Err(_) => bail!("the session was not served"),
+    }
+}
