@@ -4,8 +4,9 @@
 //! |---|---|
 //! | [`program`] | the file of a program of words |
 //! | [`sized_program`] | the same, with more memory than words |
+//! | [`push_words`] | words appended to a file that is made by hand |
 //!
-//! Both contracts say the file byte for byte, by the definitions of `specs/Files.antt` (System V ABI, edition 4.1, chapters 4 and 5).
+//! The contracts say the file byte for byte, by the definitions of `specs/Files.antt` (System V ABI, edition 4.1, chapters 4 and 5).
 #![tactic(auto)]
 
 ghost use Rattle.std.specs.Prelude.{◌≡◌, ◌++◌, IfOk, OnOk, length};
@@ -59,7 +60,7 @@ pub fn sized_program(alloc: Global, words: &[u32], memsz: u32) -> Result<Vec<u8>
 
 /// Appends words, the lowest byte of each first.
 #[tactic(auto, unfolding(crate::specs::Files::bytes_of), using(std::proofs::Common::append_assoc))]
-fn push_words(file: &mut Vec<u8>, words: &[u32]) -> Result<(), AllocError>
+pub fn push_words(file: &mut Vec<u8>, words: &[u32]) -> Result<(), AllocError>
     ensures { OnOk result (file.new.items ≡ file.old.items ++ bytes_of words.now) }
 {
     for word in words {

@@ -110,7 +110,11 @@ impl Memory {
         ensures err { OnErr result (cells_of self.new ≡ cells_of self.old) }
     {
         let bytes = word_bytes(value);
-        self.change(addr, &Edit::Store(&bytes[..n as usize]))
+        let bytes = &bytes[..n as usize];
+        if self.put(addr, bytes) {
+            return Ok(());
+        }
+        self.change(addr, &Edit::Store(bytes))
     }
 
     // Stores cell by cell.

@@ -1,5 +1,6 @@
 //! 1,024 pages in a row.
-ghost use Rattle.std.specs.Prelude.{◌≡◌, ℕ, ◌<◌, ◌≤◌, ◌+◌, ◌/◌, ◌%◌, OnOk, OnErr, IfOk, vec_len};
+ghost use Rattle.std.specs.Prelude.{◌≡◌, ℕ, ◌<◌, ◌≤◌, ◌+◌, ◌/◌, ◌%◌, OnOk, OnErr, IfOk, IsTrue, IsFalse, length, slice_index, vec_len};
+ghost use Rattle.shadow_memory.specs.Changes.{received};
 
 use crate::cells::RangeKind;
 use crate::edits::Edit;
@@ -41,6 +42,17 @@ impl Directory {
         ensures { (a : ℕ) → a / 4096 ≡ at / 4096 → cells_under self.now a ≡ cells_seen result (a % 4096) }
     {
         self.pages[at / PAGE].view()
+    }
+
+    /// Stores bytes in one page, if it is its own and what is there is all accessible and defined. Says whether it did.
+    #[inline(always)]
+    pub(crate) fn put(&mut self, at: usize, bytes: &[u8]) -> bool
+        requires within { at < 4194304 }
+        requires one_page { at % 4096 + length bytes.now ≤ 4096 }
+        ensures done { IsTrue result → cells_under self.new ≡ changed_from (cells_under self.old) at (length bytes.now) (received (slice_index bytes.now)) }
+        ensures kept { IsFalse result → cells_under self.new ≡ cells_under self.old }
+    {
+        self.pages[at / PAGE].put(at % PAGE, bytes)
     }
 
     /// Changes cells of one page.

@@ -1,5 +1,6 @@
 //! The whole memory, and one change of it.
-ghost use Rattle.std.specs.Prelude.{◌≡◌, ℕ, ◌+◌, ◌/◌, ◌%◌, ◌<◌, ◌≤◌, true, IfOk, IsTrue, OnOk, OnErr, vec_len};
+ghost use Rattle.std.specs.Prelude.{◌≡◌, ℕ, ◌+◌, ◌/◌, ◌%◌, ◌<◌, ◌≤◌, true, IfOk, IsTrue, IsFalse, OnOk, OnErr, length, slice_index, vec_len};
+ghost use Rattle.shadow_memory.specs.Changes.{received};
 ghost use Rattle.shadow_memory.specs.Shadows.{is_bad, shadow_of};
 ghost use Rattle.shadow_memory.specs.Edits.{change_of, count_of, Fits};
 ghost use Rattle.shadow_memory.specs.Cells.{changed_from, shadow_in, AgreeInDirectory, IsClean};
@@ -55,6 +56,22 @@ impl DirectorySlot {
             DirectorySlot::Blank => true,
             DirectorySlot::Held(_) => false,
         }
+    }
+
+    // Stores bytes in one page, if it and the directory are its own and what is there is all accessible and defined.
+    #[inline(always)]
+    fn put(&mut self, at: usize, bytes: &[u8]) -> bool
+        requires within { at < 4194304 }
+        requires one_page { at % 4096 + length bytes.now ≤ 4096 }
+        ensures done { IsTrue result → AgreeInDirectory (cells_below self.new) (changed_from (cells_below self.old) at (length bytes.now) (received (slice_index bytes.now))) }
+        ensures kept { IsFalse result → cells_below self.new ≡ cells_below self.old }
+    {
+        if let DirectorySlot::Held(shared) = self
+            && let Some(own) = Rc::get_mut(shared)
+        {
+            return own.put(at, bytes);
+        }
+        false
     }
 
     // Changes cells of one page, in a directory of its own.
@@ -156,6 +173,19 @@ impl Memory {
             self.directories.push(DirectorySlot::Blank)?;
         }
         Ok(())
+    }
+
+    /// Stores bytes in one page, if what is there is all accessible and defined, and no other memory has the page. Says whether it
+    /// did; it takes no memory.
+    #[inline(always)]
+    pub(crate) fn put(&mut self, addr: u32, bytes: &[u8]) -> bool
+        requires { addr % 4096 + length bytes.now ≤ 4096 }
+        ensures done { IsTrue result → cells_of self.new ≡ changed_from (cells_of self.old) addr (length bytes.now) (received (slice_index bytes.now)) }
+        ensures kept { IsFalse result → cells_of self.new ≡ cells_of self.old }
+    {
+        let at = addr as usize;
+        let number = at / DIRECTORY;
+        number < self.directories.len() && self.directories[number].put(at % DIRECTORY, bytes)
     }
 
     /// Changes cells of one page, all of them or none.

@@ -1,5 +1,5 @@
 //! One page of 4,096 bytes.
-ghost use Rattle.std.specs.Prelude.{◌≡◌, ◌+◌, ◌*◌, ◌%◌, ◌^◌, ◌<◌, ◌≤◌, OnOk, OnErr, IfOk, IfNone, IfSome, length, nat_lt, slice_index, vec_len};
+ghost use Rattle.std.specs.Prelude.{◌≡◌, ◌+◌, ◌*◌, ◌%◌, ◌^◌, ◌<◌, ◌≤◌, OnOk, OnErr, IfOk, IfNone, IfSome, IsTrue, IsFalse, length, nat_lt, slice_index, vec_len};
 ghost use Rattle.shadow_memory.specs.Cells.{blank, changed_from, set_at, shadow_in, IsClean, AgreeInPage};
 ghost use Rattle.shadow_memory.specs.Edits.{change_of, count_of, Fits};
 ghost use Rattle.shadow_memory.specs.Changes.{IsWidth};
@@ -186,6 +186,20 @@ impl Page {
         self.marks.define(alloc, at, at + bytes.len())?;
         write_at(&mut self.bytes, at, bytes);
         Ok(())
+    }
+
+    /// Stores bytes from a place on, if what is there is all accessible and defined. Says whether it did; it takes no memory.
+    #[inline(always)]
+    pub(crate) fn put(&mut self, at: usize, bytes: &[u8]) -> bool
+        requires { at + length bytes.now ≤ 4096 }
+        ensures done { IsTrue result → AgreeInPage (cells_in self.new) (changed_from (cells_in self.old) at (length bytes.now) (received (slice_index bytes.now))) }
+        ensures kept { IsFalse result → cells_in self.new ≡ cells_in self.old }
+    {
+        let whole = self.marks.are_defined(at, at + bytes.len());
+        if whole {
+            write_at(&mut self.bytes, at, bytes);
+        }
+        whole
     }
 
     /// Changes cells from a place on.

@@ -1,5 +1,6 @@
 //! A page that may be blank, or shared.
-ghost use Rattle.std.specs.Prelude.{◌≡◌, ◌+◌, ◌<◌, ◌≤◌, IfSome, OnOk, OnErr};
+ghost use Rattle.std.specs.Prelude.{◌≡◌, ◌+◌, ◌<◌, ◌≤◌, IfSome, IsTrue, IsFalse, OnOk, OnErr, length, slice_index};
+ghost use Rattle.shadow_memory.specs.Changes.{received};
 ghost use Rattle.shadow_memory.specs.Cells.{changed_from, AgreeInPage};
 ghost use Rattle.shadow_memory.specs.Directories.{cells_at};
 ghost use Rattle.shadow_memory.specs.Views.{cells_seen};
@@ -44,6 +45,21 @@ impl PageSlot {
             PageSlot::Blank(kind) => View::Blank(*kind),
             PageSlot::Held(page) => View::Held(page),
         }
+    }
+
+    /// Stores bytes from a place on, if the page is its own and what is there is all accessible and defined. Says whether it did.
+    #[inline(always)]
+    pub(crate) fn put(&mut self, at: usize, bytes: &[u8]) -> bool
+        requires { at + length bytes.now ≤ 4096 }
+        ensures done { IsTrue result → AgreeInPage (cells_at self.new) (changed_from (cells_at self.old) at (length bytes.now) (received (slice_index bytes.now))) }
+        ensures kept { IsFalse result → cells_at self.new ≡ cells_at self.old }
+    {
+        if let PageSlot::Held(shared) = self
+            && let Some(own) = Rc::get_mut(shared)
+        {
+            return own.put(at, bytes);
+        }
+        false
     }
 
     /// Changes cells from a place on, in a page of its own.

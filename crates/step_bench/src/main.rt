@@ -1,8 +1,9 @@
-//! Measures the machine and its parts through their public calls: steps, shares, starts, errors among many groups, and calls of the
-//! heap. With no argument it prints its usage alone.
+//! Measures the machine and its parts through their public calls: steps, shares, starts, large program files, errors among many
+//! groups, and calls of the heap. With no argument it prints its usage alone.
 #![tactic(auto)]
 
 mod errors;
+mod files;
 mod guests;
 mod heap;
 mod shares;
@@ -19,6 +20,7 @@ enum Measurement {
     Steps(u32),
     Share,
     Start,
+    Elf,
     /// An error among so many groups.
     Errors(u32),
     /// So many calls of the heap, of each kind.
@@ -32,6 +34,9 @@ fn measurement_of(word: &str, number: Option<u32>) -> Option<Measurement> {
     }
     if word == "start" {
         return Some(Measurement::Start);
+    }
+    if word == "elf" {
+        return Some(Measurement::Elf);
     }
     let number = number?;
     if word == "steps" {
@@ -64,8 +69,9 @@ fn main(rt: HostRuntime) -> io::Result<()> {
         Some(Measurement::Steps(count)) => steps::measure(&rt, count),
         Some(Measurement::Share) => shares::measure(&rt),
         Some(Measurement::Start) => starts::measure(&rt),
+        Some(Measurement::Elf) => files::measure(&rt),
         Some(Measurement::Errors(groups)) => errors::measure(&rt, groups),
         Some(Measurement::Heap(count)) => heap::measure(&rt, count),
-        None => println!(rt; "usage: step_bench steps N | share | start | errors G | heap N"),
+        None => println!(rt; "usage: step_bench steps N | share | start | elf | errors G | heap N"),
     }
 }

@@ -4,8 +4,8 @@ use crate::guests::{PROGRAM_START, loop_program, print_each};
 use guest_elf::read;
 use guest_machine::Machine;
 use std::alloc::{AllocError, Global};
-use std::{fs, io};
 use std::time::Instant;
+use std::{fs, io};
 
 // How many bytes of memory the program has: 16 MiB.
 const MEMORY: u32 = 0x0100_0000;

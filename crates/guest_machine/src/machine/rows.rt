@@ -19,6 +19,7 @@ use crate::span::Span;
 use crate::width::Width;
 use definedness::Bits;
 use error_events::Kind;
+use shadow_memory::Loaded;
 use std::alloc::AllocError;
 
 impl Guest {
@@ -29,6 +30,23 @@ impl Guest {
     {
         self.set_register(rd, bits);
         self.advance();
+    }
+
+    /// The low bytes at an address, their undefined bits and the first inaccessible one: each width by itself, so that a word is
+    /// loaded as one.
+    #[inline(always)]
+    fn loaded(&self, start: u32, width: Width) -> Loaded
+        ensures value { result.value ≡ little_word (window (bytes_of self.now) start (width_len width)) }
+        ensures undef { result.undef ≡ taken_undef (core_of self.now) start (width_len width) }
+        ensures bad { result.bad ≡ first_inaccessible (core_of self.now).shadow start (width_len width) }
+        ensures small { result.value < width_limit width }
+        ensures small_undef { result.undef < width_limit width }
+    {
+        match width {
+            Width::Byte => self.memory.load(start, 1),
+            Width::Half => self.memory.load(start, 2),
+            Width::Word => self.memory.load(start, 4),
+        }
     }
 
     /// The low bytes at an address and their undefined bits; the first inaccessible one is noted.
@@ -42,7 +60,7 @@ impl Guest {
         ensures small { IfOk result (λ bits. bits.value < width_limit width) }
         ensures small_undef { IfOk result (λ bits. bits.undef < width_limit width) }
     {
-        let loaded = self.memory.load(start, width.len());
+        let loaded = self.loaded(start, width);
         self.raise_about(Kind::Read(width.byte_len()), loaded.bad)?;
         Ok(Bits {
             value: loaded.value,
@@ -105,8 +123,11 @@ impl Guest {
         ensures counts { self.new.counts ≡ self.old.counts }
         ensures groups { self.new.groups ≡ self.old.groups }
     {
-        let fault = self.memory.store(start, width.len(), bits)?;
-        Ok(fault)
+        match width {
+            Width::Byte => self.memory.store(start, 1, bits),
+            Width::Half => self.memory.store(start, 2, bits),
+            Width::Word => self.memory.store(start, 4, bits),
+        }
     }
 
     #[tactic(auto, unfolding(crate::specs::Effects::branched))]
