@@ -1,11 +1,11 @@
 //! How first uses are entered, looked up and forgotten.
-ghost use Rattle.std.specs.Prelude.{◌≡◌, ℕ, ◌+◌, ◌-◌, ◌*◌, ◌/◌, ◌%◌, ◌^◌, ◌<◌, ◌≤◌, ◌==◌, nat_lt, if◌then◌else◌, List, map, slice_index_or, min, length, vec_len, IfOk};
+ghost use Rattle.std.specs.Prelude.{◌≡◌, ℕ, ◌+◌, ◌-◌, ◌*◌, ◌/◌, ◌%◌, ◌<◌, ◌==◌, nat_lt, if◌then◌else◌, map, min, length, IfOk};
 ghost use Rattle.guest_machine.specs.Exec.{has_touched};
 ghost use Rattle.guest_machine.specs.Spans.{span_at};
 ghost use Rattle.guest_machine.specs.Spans.{covers};
 ghost use Rattle.guest_elf.specs.declared.segment.Segment.{Segment as SegmentOf};
-ghost use Rattle.checkpoints.specs.Words.{meets, words_in, words_of, has_word, place_in, IsPlaced, never};
-ghost use Rattle.checkpoints.specs.Entries.{ranges_of, entry_of, below};
+ghost use Rattle.checkpoints.specs.Words.{meets, words_in, has_word, place_in, IsPlaced, never};
+ghost use Rattle.checkpoints.specs.Entries.{ranges_of, entry_of, below, EntersAt};
 
 use crate::uses::FirstUses;
 use guest_elf::Segment;
@@ -100,7 +100,7 @@ impl FirstUses {
     /// Enters a step for each word that a range meets.
     fn enter_span(&mut self, span: Option<Span>, step: u32)
         ensures ranges { ranges_of self.new ≡ ranges_of self.old }
-        ensures entries { (w : ℕ) → w < 2 ^ 30 → IsPlaced (ranges_of self.old) w → entry_of self.new w ≡ (if meets (covers span) (4 * w) then min (entry_of self.old w) step else entry_of self.old w) }
+        ensures entries { EntersAt step (covers span) self.old self.new }
     {
         let Some(span) = span else {
             return;
@@ -118,7 +118,7 @@ impl FirstUses {
     /// Enters a step for each word that it touched.
     pub(crate) fn enter_touched(&mut self, touched: &Touched, step: u32)
         ensures ranges { ranges_of self.new ≡ ranges_of self.old }
-        ensures entries { (w : ℕ) → w < 2 ^ 30 → IsPlaced (ranges_of self.old) w → entry_of self.new w ≡ (if meets (has_touched touched.now) (4 * w) then min (entry_of self.old w) step else entry_of self.old w) }
+        ensures entries { EntersAt step (has_touched touched.now) self.old self.new }
     {
         self.enter_span(touched.fetch, step);
         self.enter_span(touched.reads, step);

@@ -1,6 +1,4 @@
-use Rattle.std.proofs.Common.{◌≡◌, ℕ, ◌-◌, ◌*◌, ◌∙◌, ◌++◌, ◌∷◌, ◌&&◌, ◌||◌, Bool, true, false, cond, List, [], ap, refl, map, length, Some, None, nat_le, nat_lt, ◌+◌}
-use Rattle.std.specs.Prelude.{is_some, slice_index}
-use Rattle.std.specs.Option.{option_or}
+use Rattle.std.proofs.Common.{◌≡◌, ℕ, ◌-◌, ◌*◌, ◌∙◌, ◌++◌, ◌∷◌, ◌||◌, List, [], ap, refl, map, length}
 use Rattle.std.specs.List.{list_any}
 use Rattle.guest_elf.specs.Segments.{has_address}
 use Rattle.guest_elf.specs.declared.segment.Segment.{Segment}
