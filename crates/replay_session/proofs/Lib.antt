@@ -1,1 +1,4 @@
 pub mod NumberSteps
+pub mod AcceptSteps
+pub mod MarkSteps
+pub mod SessionSteps

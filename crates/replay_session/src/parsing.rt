@@ -266,4 +266,3 @@ pub(crate) fn parse(alloc: Global, line: &[u8]) -> Result<Command, Fault>
     };
     command_of(word, fields)
 }
-

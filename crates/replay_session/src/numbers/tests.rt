@@ -35,7 +35,16 @@ fn decimal_and_hexadecimal(rt: HostRuntime) {
 
 #[test]
 fn digits_of_any_case(rt: HostRuntime) {
-    for (b, want) in [(b'0', 0), (b'9', 9), (b'a', 10), (b'F', 15), (b'z', 35), (b' ', 36), (b'/', 36), (b'`', 36)] {
+    for (b, want) in [
+        (b'0', 0),
+        (b'9', 9),
+        (b'a', 10),
+        (b'F', 15),
+        (b'z', 35),
+        (b' ', 36),
+        (b'/', 36),
+        (b'`', 36),
+    ] {
         assert_eq!(rt; digit_value(b), want);
     }
 }
