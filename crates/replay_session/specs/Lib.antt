@@ -4,3 +4,7 @@ pub mod Setups
 pub mod Marks
 pub mod Scenario
 pub mod Session
+pub mod Lines
+pub mod Replies
+pub mod Serving
+pub mod Served

@@ -52,6 +52,7 @@ pub struct Session<'a> {
 impl<'a> Session<'a> {
     ghost use Rattle.std.specs.Prelude.{◌≡◌, ◌<◌, ◌↔◌, IfOk, OnOk, OnErr, length};
     ghost use Rattle.replay_session.specs.Scenario.{Scenario, IsReportOf, begun, counted};
+    ghost use Rattle.replay_session.specs.Replies.{is_over};
     ghost use Rattle.replay_session.specs.Session.{HasScenario, IsWithin, Carried, Meets, AppendsText, room_in};
 
     /// The session of a program with an input and suppressions, with nothing edited and step 0 chosen. A refusal drops the arguments; an
@@ -83,6 +84,18 @@ impl<'a> Session<'a> {
                 meter: Meter::new(),
             }),
         }
+    }
+
+    /// Where the session's memory comes from.
+    pub(crate) fn allocator(&self) -> Global {
+        self.alloc
+    }
+
+    /// Whether all lines were given that are answered.
+    pub(crate) fn is_over(&self) -> bool
+        ensures { (sc : Scenario) → HasScenario self.now sc → result ≡ is_over sc }
+    {
+        self.lines >= MOST_LINES
     }
 
     /// Counts a line.

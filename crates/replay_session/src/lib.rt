@@ -1,14 +1,22 @@
 //! A session over one program.
 #![tactic(auto)]
 
+mod answering;
 mod command;
+mod endings;
 mod fault;
 mod keeper;
 mod numbers;
 mod parsing;
 mod replay;
 mod reply;
+mod sending;
+mod server;
+mod serving;
+mod texts;
 
 pub use fault::{BeginFault, Fault};
 pub use keeper::{LONGEST_INPUT, Session};
 pub use reply::Reply;
+pub use sending::send;
+pub use serving::{READS, ServeFault, serve};
