@@ -88,10 +88,29 @@ fn imm_j(word: u32) -> u32 {
     (signed_field(word, 31) << 20) | (field(word, 19, 12) << 12) | (field(word, 20, 20) << 11) | (field(word, 30, 21) << 1)
 }
 
-/// A sum, a difference or a lower product: an undefined bit reaches itself and those above.
-fn carried(value: u32, x: Bits, y: Bits) -> Bits {
+/// A word with each undefined bit 0, and with each 1.
+fn ends(x: Bits) -> (u32, u32) {
+    (x.value & !x.undef, x.value | x.undef)
+}
+
+/// A sum: an undefined bit reaches itself and those that an undefined carry goes into.
+fn sum(x: Bits, y: Bits) -> Bits {
+    let ((least_x, greatest_x), (least_y, greatest_y)) = (ends(x), ends(y));
+    let carried = least_x.wrapping_add(least_y) ^ greatest_x.wrapping_add(greatest_y);
+    Bits { value: x.value.wrapping_add(y.value), undef: x.undef | y.undef | carried }
+}
+
+/// A difference: the same by borrows.
+fn difference(x: Bits, y: Bits) -> Bits {
+    let ((least_x, greatest_x), (least_y, greatest_y)) = (ends(x), ends(y));
+    let borrowed = least_x.wrapping_sub(greatest_y) ^ greatest_x.wrapping_sub(least_y);
+    Bits { value: x.value.wrapping_sub(y.value), undef: x.undef | y.undef | borrowed }
+}
+
+/// A lower product: an undefined bit reaches itself and those above.
+fn product(x: Bits, y: Bits) -> Bits {
     let lowest = x.undef | y.undef;
-    Bits { value, undef: lowest | lowest.wrapping_neg() }
+    Bits { value: x.value.wrapping_mul(y.value), undef: lowest | lowest.wrapping_neg() }
 }
 
 fn xor(x: Bits, y: Bits) -> Bits {
@@ -253,7 +272,10 @@ impl Machine {
             7 => x.value >= y.value,
             _ => return self.illegal(),
         };
-        if x.undef | y.undef != 0 {
+        let undefined = x.undef | y.undef;
+        // A bit that is defined in both and differs decides BEQ and BNE.
+        let decided = field(word, 14, 13) == 0 && (x.value ^ y.value) & !undefined != 0;
+        if undefined != 0 && !decided {
             self.raise(Kind::Cond);
             self.set(rs1, known(x.value));
             self.set(rs2, known(y.value));
@@ -274,8 +296,8 @@ impl Machine {
     #[inline(always)]
     fn operation(funct3: u32, alternate: bool, x: Bits, y: Bits) -> Bits {
         match funct3 {
-            0 if alternate => carried(x.value.wrapping_sub(y.value), x, y),
-            0 => carried(x.value.wrapping_add(y.value), x, y),
+            0 if alternate => difference(x, y),
+            0 => sum(x, y),
             1 => shift(x, y, |word, by| word << by),
             2 => less(x.value.cast_signed() < y.value.cast_signed(), x, y),
             3 => less(x.value < y.value, x, y),
@@ -309,7 +331,7 @@ impl Machine {
         let result = match (field(word, 31, 25), funct3) {
             (0x00, _) => Self::operation(funct3, false, x, y),
             (0x20, 0 | 5) => Self::operation(funct3, true, x, y),
-            (0x01, 0) => carried(x.value.wrapping_mul(y.value), x, y),
+            (0x01, 0) => product(x, y),
             (0x01, _) => wide(funct3, x, y),
             _ => return self.illegal(),
         };

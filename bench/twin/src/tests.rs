@@ -26,6 +26,18 @@ fn a_frame_is_undefined_and_a_branch_on_it_is_an_error() {
 }
 
 #[test]
+fn a_sum_carries_and_a_defined_bit_decides_equality() {
+    // addi x2,x2,-16; lbu x5,3(x2); andi x5,x5,16; add x6,x5,x5; sub x7,x0,x5; ori x5,x5,256; beq x5,x0,8; blt x5,x0,8
+    let words = [0xFF01_0113, 0x0031_4283, 0x0102_F293, 0x0052_8333, 0x4050_03B3, 0x1002_E293, 0x0002_8463, 0x0002_C463];
+    let machine = after(&words, 7);
+    assert_eq!((machine.registers[6].undef, machine.registers[7].undef), (0x30, 0xFFFF_FFF0));
+    assert_eq!((machine.registers[5].undef, machine.errors.len()), (0x10, 0));
+    let compared = after(&words, 8);
+    assert_eq!(compared.errors.get(&(Kind::Cond, START + 28)), Some(&1));
+    assert_eq!(compared.registers[5].undef, 0);
+}
+
+#[test]
 fn an_inaccessible_byte_takes_its_value_and_loads_as_defined() {
     // lui x5,0x20; addi x6,x0,-1; sb x6,1(x5); lhu x7,0(x5)
     let words = [0x0002_02B7, 0xFFF0_0313, 0x0062_80A3, 0x0002_D383];

@@ -2,8 +2,10 @@
 
 ghost use Rattle.std.specs.Prelude.{◌≡◌, suc};
 ghost use Rattle.definedness.specs.Operations.{add_of, sub_of, mul_of, mulh_of, mulhsu_of, mulhu_of, div_of, divu_of, rem_of, remu_of};
-ghost use Rattle.definedness.specs.Undefined.{bit_is_set, some_below, word_of, undef_add, undef_sub, undef_mul, undef_wide};
+ghost use Rattle.definedness.specs.Undefined.{undef_add, undef_sub, undef_mul, undef_wide};
+ghost use Rattle.definedness.specs.Undefined.{bit_is_set, some_below, word_of, least_value, greatest_value};
 ghost use Rattle.definedness.specs.Law.{KeepsAgreement};
+ghost use Rattle.definedness.specs.Exact.{TakesBothValues};
 
 use crate::{Bits, undef_branch};
 
@@ -11,18 +13,24 @@ use crate::{Bits, undef_branch};
 pub fn undef_add(x: Bits, y: Bits) -> u32
     ensures bits { result ≡ undef_add x y }
     ensures law { KeepsAgreement add_of x y result }
+    ensures exact { TakesBothValues add_of x y result }
 {
-    let carried = x.undef | y.undef;
-    from_lowest(carried)
+    let least_sum = least_value(x).wrapping_add(least_value(y));
+    let greatest_sum = greatest_value(x).wrapping_add(greatest_value(y));
+    // At a bit that is defined in both, the two sums differ just where the carries into it do.
+    x.undef | y.undef | (least_sum ^ greatest_sum)
 }
 
 /// The undefined bits of the difference `x - y` modulo 2^32 (SUB).
 pub fn undef_sub(x: Bits, y: Bits) -> u32
     ensures bits { result ≡ undef_sub x y }
     ensures law { KeepsAgreement sub_of x y result }
+    ensures exact { TakesBothValues sub_of x y result }
 {
-    let borrowed = x.undef | y.undef;
-    from_lowest(borrowed)
+    let least_difference = least_value(x).wrapping_sub(greatest_value(y));
+    let greatest_difference = greatest_value(x).wrapping_sub(least_value(y));
+    // At a bit that is defined in both, the two differ just where the borrows into it do.
+    x.undef | y.undef | (least_difference ^ greatest_difference)
 }
 
 /// The undefined bits of the lower word of the product `x * y` (MUL).
@@ -56,4 +64,20 @@ fn from_lowest(word: u32) -> u32
     ensures { result ≡ word_of (λ i. some_below (bit_is_set word) (suc i)) }
 {
     word | word.wrapping_neg()
+}
+
+/// `x` with each undefined bit 0.
+#[inline]
+fn least_value(x: Bits) -> u32
+    ensures { result ≡ least_value x }
+{
+    x.value & !x.undef
+}
+
+/// `x` with each undefined bit 1.
+#[inline]
+fn greatest_value(x: Bits) -> u32
+    ensures { result ≡ greatest_value x }
+{
+    x.value | x.undef
 }

@@ -75,7 +75,7 @@ suc-zero : (n : ℕ) → (suc n == 0) ≡ false
 suc-zero n = grind (arith, nat_tests)
 
 -- lists that are filled up with zeros are the same where they were
-filled-eq : (xs ys : List ℕ) (m n : ℕ) → (length xs ≡ length ys → m ≡ n) → (pointwise nat_eq (xs ++ replicate m 0) (ys ++ replicate n 0) && (length xs == length ys)) ≡ pointwise nat_eq xs ys
+pub filled-eq : (xs ys : List ℕ) (m n : ℕ) → (length xs ≡ length ys → m ≡ n) → (pointwise nat_eq (xs ++ replicate m 0) (ys ++ replicate n 0) && (length xs == length ys)) ≡ pointwise nat_eq xs ys
 filled-eq [] [] m n h = ap (λ k. pointwise nat_eq (replicate m 0) (replicate k 0) && true) (sym (h refl)) ∙ ap (λ b. b && true) (zeros-eq m)
 filled-eq [] (y ∷ ys) m n h = ap (λ b. pointwise nat_eq (replicate m 0) (y ∷ (ys ++ replicate n 0)) && b) (zero-suc (length ys)) ∙ and-false _
 filled-eq (x ∷ xs) [] m n h = ap (λ b. pointwise nat_eq (x ∷ (xs ++ replicate m 0)) (replicate n 0) && b) (suc-zero (length xs)) ∙ and-false _

@@ -5,7 +5,6 @@ ghost use Rattle.error_events.specs.Regrouping.{regrouped};
 
 use crate::event::{Event, Group, Key, Note};
 use crate::layered_map::LayeredMap;
-use call_stacks::Trace;
 use std::alloc::{AllocError, Global};
 
 /// Errors counted by kind and trace, in order of first occurrence. Contracts see the list of the groups, `groups_of`.
@@ -30,19 +29,6 @@ fn copied(counts: &Vec<u64>) -> Result<Vec<u64>, AllocError>
     counts.clone()
 }
 
-/// The first addresses of a trace.
-fn front(trace: &Trace, callers: u32) -> Trace
-    requires { 0 < callers }
-    ensures { result ≡ take callers trace.now }
-{
-    let addresses = trace.addresses();
-    let len = addresses.len().min(callers as usize);
-    match Trace::new(&addresses[..len]) {
-        Some(front) => front,
-        None => *trace,
-    }
-}
-
 /// A group with the first addresses of its trace alone.
 fn cut(group: Group, callers: u32) -> Group
     requires { 0 < callers }
@@ -50,7 +36,7 @@ fn cut(group: Group, callers: u32) -> Group
 {
     Group {
         kind: group.kind,
-        trace: front(&group.trace, callers),
+        trace: group.trace.front(callers),
         count: group.count,
         note: group.note,
     }

@@ -1,5 +1,5 @@
 -- What a segment loads, and what a list of segments does, against what the file loads.
-use Rattle.std.proofs.Common.{◌≡◌, ℕ, ◌+◌, ◌-◌, ◌<◌, ◌≤◌, false, cond, ◌&&◌, ◌||◌, not, nat_lt, nat_le, List, [], ◌∷◌, ◌++◌, length, Option, Some, None, refl, sym, ◌∙◌, ap, arith, slice_index}
+use Rattle.std.proofs.Common.{◌≡◌, ℕ, ◌+◌, ◌-◌, ◌<◌, ◌≤◌, Bool, true, false, cond, ◌&&◌, ◌||◌, not, nat_lt, nat_le, List, [], ◌∷◌, ◌++◌, length, Option, Some, None, refl, sym, ◌∙◌, ap, arith, slice_index}
 use Rattle.std.proofs.lemmas.Bool.Decides.{nat_tests}
 use Rattle.std.proofs.lemmas.List.{get_or_past}
 use Rattle.std.specs.Option.{option_or}
@@ -7,7 +7,7 @@ use Rattle.std.specs.Prelude.{◌^◌, ◌==◌, is_some}
 use Rattle.std.specs.List.{list_any}
 use Rattle.guest_elf.specs.Fields.{byte_at}
 use Rattle.guest_elf.specs.File.{first_loaded, is_bad_segment, loaded_from}
-use Rattle.guest_elf.specs.Segments.{loaded, loaded_by}
+use Rattle.guest_elf.specs.Segments.{has_address, loaded, loaded_by}
 use Rattle.guest_elf.specs.declared.program.ProgramHeader.{ProgramHeader}
 use Rattle.guest_elf.specs.declared.segment.Segment.{Segment}
 
@@ -93,15 +93,15 @@ pub loaded_all : (file : List ℕ) (segments : List Segment) (headers : List Pro
 loaded_all file segments headers address none =
     ap (λ xs. option_or (loaded segments address) (first_loaded file xs address)) none ∙ option_or_none (loaded segments address)
 
-is_some_or : (x y : Option ℕ) → is_some (option_or x y) ≡ (is_some x || is_some y)
-is_some_or None y = refl
-is_some_or (Some b) y = refl
+either_some : (b : Bool) (here : ℕ) (rest : Option ℕ) → (b || is_some rest) ≡ is_some (option_or (cond b (Some here) None) rest)
+either_some true here rest = refl
+either_some false here rest = refl
 
 -- an address is loaded where a segment has it
 pub any_loaded : (segments : List Segment) (address : ℕ) →
-    list_any (λ segment. is_some (loaded_by segment address)) segments ≡ is_some (loaded segments address)
-unfolding loaded
+    list_any (λ segment. has_address segment address) segments ≡ is_some (loaded segments address)
+unfolding loaded loaded_by
 any_loaded [] address = refl
 any_loaded (segment ∷ segments) address =
-    ap (λ b. is_some (loaded_by segment address) || b) (any_loaded segments address)
-    ∙ sym (is_some_or (loaded_by segment address) (loaded segments address))
+    ap (λ b. has_address segment address || b) (any_loaded segments address)
+    ∙ either_some (has_address segment address) (slice_index segment.bytes.now (address - segment.vaddr)) (loaded segments address)

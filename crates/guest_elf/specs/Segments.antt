@@ -1,12 +1,16 @@
 -- What a list of segments holds at each address (System V ABI, edition 4.1, chapter 5, "Program Header").
-use Rattle.std.specs.Prelude.{ℕ, ◌+◌, ◌-◌, ◌^◌, ◌≤◌, ◌&&◌, nat_le, nat_lt, if◌then◌else◌, List, [], ◌∷◌, length, slice_index, Option, Some, None}
+use Rattle.std.specs.Prelude.{ℕ, Bool, ◌+◌, ◌-◌, ◌^◌, ◌≤◌, ◌&&◌, nat_le, nat_lt, if◌then◌else◌, List, [], ◌∷◌, length, slice_index, Option, Some, None}
 use Rattle.std.specs.Option.{option_or}
 use Rattle.guest_elf.specs.declared.segment.Segment.{Segment}
+
+-- an address is among those of a segment
+abbrev pub has_address : Segment → ℕ → Bool
+has_address segment address = nat_le segment.vaddr address && nat_lt address (segment.vaddr + segment.memsz)
 
 -- the byte that a segment loads at an address: of its bytes, which `slice_index` follows by zeros
 unfoldable pub loaded_by : Segment → ℕ → Option ℕ
 loaded_by segment address =
-    if nat_le segment.vaddr address && nat_lt address (segment.vaddr + segment.memsz)
+    if has_address segment address
     then Some (slice_index segment.bytes.now (address - segment.vaddr))
     else None
 

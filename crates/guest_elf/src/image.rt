@@ -2,7 +2,7 @@
 ghost use Rattle.std.specs.Prelude.{◌≡◌, ℕ, ◌+◌, ◌%◌, ◌^◌, ◌<◌, ◌↔◌, All, IsSome, IsTrue, is_some};
 ghost use Rattle.guest_elf.specs.Images.{segments_of, entry_of, loaded_at, name_at};
 ghost use Rattle.guest_elf.specs.Names.{named_by};
-ghost use Rattle.guest_elf.specs.Segments.{loaded_by, Fits};
+ghost use Rattle.guest_elf.specs.Segments.{has_address, Fits};
 ghost use Rattle.std.specs.List.{list_any};
 
 use crate::names::FunctionNames;
@@ -39,6 +39,7 @@ impl<'a> Image<'a> {
     pub fn segments(&self) -> &[Segment<'a>]
         ensures list { result.now ≡ segments_of self.now }
         ensures fits { All Fits result.now }
+        ensures loads { (address : ℕ) → list_any (λ segment. has_address segment address) result.now ≡ is_some (loaded_at self.now address) }
     {
         self.segments.as_slice()
     }
@@ -78,7 +79,7 @@ impl<'a> Image<'a> {
 
 /// Whether an address is among those of a segment of a list.
 fn has_any(segments: &[Segment], addr: u32) -> bool
-    ensures { result ≡ list_any (λ segment. is_some (loaded_by segment addr)) segments.now }
+    ensures { result ≡ list_any (λ segment. has_address segment addr) segments.now }
 {
     segments.iter().any(|segment| segment.has(addr))
 }

@@ -1,5 +1,5 @@
 //! A loaded segment.
-ghost use Rattle.std.specs.Prelude.{◌≡◌, ◌+◌, ◌^◌, ◌≤◌, length, is_some};
+ghost use Rattle.std.specs.Prelude.{◌≡◌, ◌+◌, ◌^◌, ◌≤◌, length};
 
 /// A range of addresses that a file loads: `bytes` from `vaddr` on, and zeros after them, `memsz` bytes
 /// in all (System V ABI, edition 4.1, chapter 5, "Program Header").
@@ -16,12 +16,11 @@ pub struct Segment<'a> {
 }
 
 impl Segment<'_> {
-    ghost use Rattle.guest_elf.specs.Segments.{loaded_by};
+    ghost use Rattle.guest_elf.specs.Segments.{has_address};
 
     /// Whether an address is among the segment's.
-    #[tactic(auto, unfolding(crate::specs::Segments::loaded_by))]
     pub fn has(&self, addr: u32) -> bool
-        ensures { result ≡ is_some (loaded_by self.now addr) }
+        ensures { result ≡ has_address self.now addr }
     {
         addr >= self.vaddr && addr - self.vaddr < self.memsz
     }

@@ -1,8 +1,9 @@
 -- A clone of a table, and a new one.
-use Rattle.std.proofs.Common.{◌≡◌, ℕ, zero, suc, List, [], ◌∷◌, Option, None, Some, slice_index_or, replicate, is_some, true, false, ◌≤◌, ◌*◌, inl, inr, sym, subst, arith, refl, ap, ◌∙◌, ◌/◌, ◌%◌}
+use Rattle.std.proofs.Common.{◌≡◌, ℕ, zero, suc, List, [], ◌∷◌, ◌++◌, Option, None, Some, slice_index_or, length, replicate, is_some, true, false, ◌≤◌, ◌*◌, inl, inr, arith, refl, ap, ◌∙◌, ◌/◌, ◌%◌}
 use Rattle.std.proofs.Math.Path.{fun_ext}
 use Rattle.std.specs.List.{AllZip}
 use Rattle.std.proofs.lemmas.Bool.{cases_lt}
+use Rattle.std.proofs.lemmas.List.{get_or_past}
 use Rattle.std.specs.declared.alloc.Global.{Global}
 use Rattle.std.specs.declared.rc.Rc.{Rc}
 use Rattle.guest_heap.specs.Entries.{AreNone, entry_of}
@@ -92,16 +93,30 @@ same_uses (u ∷ us) [] c i = absurd c
 same_uses (u ∷ us) (v ∷ vs) c zero = same-use u v c.0
 same_uses (u ∷ us) (v ∷ vs) c (suc i) = same_uses us vs c.1 i
 
-none-of : {T : Type 0} (x : Option T) → is_some x ≡ false → x ≡ None
-none-of None h = refl
-none-of (Some x) h = cc
-
-pub none_in_table : (table : Table) (at i : ℕ) → AreNone (entries_of table) at (i * 65536) → table.used ≤ i → AreNone (entries_of table) at 33554432
+-- a table's rest, which has no branches
+pub none_in_table : (table : Table) (at i : ℕ) → AreNone (entries_of table) at (i * 65536) → length table.branches.items ≤ i → AreNone (entries_of table) at 33554432
 unfolding entries_of entries_below
 none_in_table table at i before done k low high = elim (cases_lt k (i * 65536)) [
   | inl l ↦ before k low l
   | inr g ↦
-      (let past : table.used ≤ k / 65536 = omega arith in
-      let P : Option (Rc Branch Global) → Type 0 = λ x. entries_below x (k % 65536) ≡ None in
-      subst P (sym (none-of _ (table.unused (k / 65536) past))) refl)
+      (let past : length table.branches.items ≤ k / 65536 = omega arith in
+      ap (λ branch. entries_below branch (k % 65536)) (get_or_past table.branches.items (k / 65536) None past))
 ]
+
+-- a table of nothing
+pub none_of : (table : Table) → table.branches.items ≡ [] → entries_of table ≡ (λ _. None)
+unfolding entries_of entries_below
+none_of table e = fun_ext (λ k. ap (λ branches. entries_below (slice_index_or branches (k / 65536) None) (k % 65536)) e)
+
+-- a table with one more slot, which is empty, and one whose slots are the same
+one-more : {T : Type 0} (xs : List (Option T)) (i : ℕ) → slice_index_or (xs ++ (None ∷ [])) i None ≡ slice_index_or xs i None
+one-more [] zero = refl
+one-more [] (suc i) = refl
+one-more (x ∷ xs) zero = refl
+one-more (x ∷ xs) (suc i) = one-more xs i
+
+pub grown_same : (a b : Table) → b.branches.items ≡ a.branches.items ++ (None ∷ []) → entries_of b ≡ entries_of a
+grown_same a b e = same_of a b (λ i. ap (λ branches. entries_below (slice_index_or branches i None)) e ∙ ap entries_below (one-more a.branches.items i))
+
+pub kept_same : (a b : Table) → b.branches.items ≡ a.branches.items → entries_of b ≡ entries_of a
+kept_same a b e = same_of a b (λ i. ap (λ branches. entries_below (slice_index_or branches i None)) e)

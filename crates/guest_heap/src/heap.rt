@@ -46,8 +46,8 @@ impl Heap {
     pub fn new(alloc: Global) -> Result<Heap, AllocError>
         ensures { IfOk result (λ heap. blocks_of heap ≡ no_blocks) }
     {
-        let live = Table::new(alloc)?;
-        let freed = Table::new(alloc)?;
+        let live = Table::new(alloc);
+        let freed = Table::new(alloc);
         let queue = Queue::new(alloc);
         let bounds = Bounds::new(alloc)?;
         Ok(Heap {

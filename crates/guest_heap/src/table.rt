@@ -1,6 +1,5 @@
 // Blocks by their places: the multiples of 16 of the heap region in order. Copies share what neither has changed.
-ghost use Rattle.std.specs.Prelude.{◌≡◌, ◌≤◌, vec_len};
-ghost use Rattle.guest_heap.specs.Unused.{AreUnused};
+ghost use Rattle.std.specs.Prelude.{◌≤◌, vec_len};
 
 use crate::entry::Entry;
 use crate::table::branch::{BRANCH, Branch};
@@ -12,53 +11,48 @@ pub(crate) mod branch;
 pub(crate) mod leaf;
 pub(crate) mod slots;
 
-const BRANCHES: usize = 512;
-
 #[derive(Drop)]
 pub(crate) struct Table {
+    // From its end on there is no branch.
     branches: Vec<Option<Rc<Branch>>>,
-    // From here on there is no branch.
-    used: usize,
-    ghost full: { vec_len branches ≡ 512 },
-    ghost within: { used ≤ 512 },
-    ghost unused: { AreUnused branches.items used },
+    ghost within: { vec_len branches ≤ 512 },
 }
 
 #[tactic(auto, unfolding(crate::specs::Tables::entries_of, crate::specs::Tables::entries_below))]
 impl Table {
-    ghost use Rattle.std.specs.Prelude.{◌≡◌, ℕ, ◌<◌, ◌≤◌, ◌/◌, OnOk, OnErr, IfOk, None};
+    ghost use Rattle.std.specs.Prelude.{◌≡◌, ℕ, ◌*◌, ◌<◌, ◌≤◌, ◌/◌, OnOk, OnErr, IfOk, None};
     ghost use Rattle.std.specs.Option.{option_copied};
     ghost use Rattle.guest_heap.specs.Entries.{entry_of, with_entry, IsNext, IsLast};
     ghost use Rattle.guest_heap.specs.Tables.{entries_of};
 
-    pub(crate) fn new(alloc: Global) -> Result<Table, AllocError>
-        ensures { IfOk result (λ table. entries_of table ≡ (λ _. None)) }
+    pub(crate) fn new(alloc: Global) -> Table
+        ensures { entries_of result ≡ (λ _. None) }
     {
-        let mut branches = Vec::with_capacity(alloc, BRANCHES)?;
-        for _i in 0..BRANCHES {
-            branches.push(None)?;
+        Table {
+            branches: Vec::new(alloc),
         }
-        Ok(Table { branches, used: 0 })
     }
 
     pub(crate) fn get(&self, at: usize) -> Option<&Entry>
         requires { at < 33554432 }
         ensures { option_copied result ≡ entries_of self.now at }
     {
-        match &self.branches[at / BRANCH] {
-            Some(branch) => branch.get(at % BRANCH),
-            None => None,
+        match self.branches.get(at / BRANCH) {
+            Some(Some(branch)) => branch.get(at % BRANCH),
+            _ => None,
         }
     }
 
-    fn use_up_to(&mut self, last: usize)
-        requires { last < 512 }
+    // Makes room for a branch, by its number.
+    fn grow(&mut self, number: usize) -> Result<(), AllocError>
+        requires { number < 512 }
         ensures same { entries_of self.new ≡ entries_of self.old }
-        ensures used { last < self.new.used }
+        ensures room { OnOk result (number < vec_len self.new.branches) }
     {
-        if self.used <= last {
-            self.used = last + 1;
+        for _i in self.branches.len()..number + 1 {
+            self.branches.push(None)?;
         }
+        Ok(())
     }
 
     pub(crate) fn set(
@@ -71,7 +65,7 @@ impl Table {
         ensures ok { OnOk result (entries_of self.new ≡ with_entry (entries_of self.old) at (entry_of entry)) }
         ensures err { OnErr result (entries_of self.new ≡ entries_of self.old) }
     {
-        self.use_up_to(at / BRANCH);
+        self.grow(at / BRANCH)?;
         self.write(alloc, at, entry)
     }
 
@@ -81,8 +75,7 @@ impl Table {
         at: usize,
         entry: Option<Rc<Entry>>,
     ) -> Result<(), AllocError>
-        requires within { at < 33554432 }
-        requires used { at / 65536 < self.old.used }
+        requires { at / 65536 < vec_len self.old.branches }
         ensures ok { OnOk result (entries_of self.new ≡ with_entry (entries_of self.old) at (entry_of entry)) }
         ensures err { OnErr result (entries_of self.new ≡ entries_of self.old) }
     {
@@ -94,7 +87,7 @@ impl Table {
         requires { at ≤ 33554432 }
         ensures { IsNext (entries_of self.now) at 33554432 result }
     {
-        for i in at / BRANCH..self.used {
+        for i in at / BRANCH..self.branches.len() {
             if let Some(place) = next_below(&self.branches[i], at.saturating_sub(i * BRANCH)) {
                 return Some(i * BRANCH + place);
             }
@@ -107,11 +100,11 @@ impl Table {
         requires { at ≤ 33554432 }
         ensures { IsLast (entries_of self.now) at result }
     {
-        self.last_among(at.min(self.used * BRANCH))
+        self.last_among(at.min(self.branches.len() * BRANCH))
     }
 
     fn last_among(&self, at: usize) -> Option<usize>
-        requires { at ≤ 33554432 }
+        requires { at ≤ vec_len self.now.branches * 65536 }
         ensures { IsLast (entries_of self.now) at result }
     {
         for i in (0..at.div_ceil(BRANCH)).rev() {
@@ -126,9 +119,6 @@ impl Table {
         ensures { IfOk result (λ copy. entries_of copy ≡ entries_of self.now) }
     {
         let branches = self.branches.clone()?;
-        Ok(Table {
-            branches,
-            used: self.used,
-        })
+        Ok(Table { branches })
     }
 }

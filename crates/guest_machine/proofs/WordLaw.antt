@@ -22,7 +22,7 @@ left-false : (a b : Bool) → (a || b) ≡ false → a ≡ false
 left-false true b h = h
 left-false false b h = refl
 
-right-false : (a b : Bool) → (a || b) ≡ false → b ≡ false
+pub right-false : (a b : Bool) → (a || b) ≡ false → b ≡ false
 right-false true b h = cc
 right-false false b h = h
 

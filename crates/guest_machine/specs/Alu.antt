@@ -68,6 +68,15 @@ passes GreaterEqual x y = not (Value.less_signed x y)
 passes LessUnsigned x y = Value.less_unsigned x y
 passes GreaterEqualUnsigned x y = not (Value.less_unsigned x y)
 
+-- does what a branch compares depend on an undefined bit?
+unfoldable pub is_undecided : Test → Bits → Bits → Bool
+is_undecided Equal x y = Undef.undef_equal x y
+is_undecided NotEqual x y = Undef.undef_equal x y
+is_undecided Less x y = Undef.undef_branch x y
+is_undecided GreaterEqual x y = Undef.undef_branch x y
+is_undecided LessUnsigned x y = Undef.undef_branch x y
+is_undecided GreaterEqualUnsigned x y = Undef.undef_branch x y
+
 -- a number of some bits, its top bit repeated upwards to 32 bits
 abbrev pub sign_extended : ℕ → ℕ → ℕ
 sign_extended bits x = if nat_lt x (2 ^ (bits - 1)) then x else x + (2 ^ 32 - 2 ^ bits)

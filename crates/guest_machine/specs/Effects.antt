@@ -2,14 +2,13 @@
 -- (RISC-V Unprivileged ISA 20191213, chapters 2 and 7; undefined bits as in Memcheck).
 use Rattle.std.specs.Prelude.{ℕ, ◌+◌, ◌*◌, ◌/◌, ◌%◌, ◌^◌, ◌==◌, Bool, true, false, not, if◌then◌else◌, List, [], ◌++◌}
 use Rattle.definedness.specs.declared.Bits.{Bits}
-use Rattle.definedness.specs.Undefined.{undef_branch}
 use Rattle.shadow_memory.specs.Ranges.{little_word}
 use Rattle.shadow_memory.specs.Shadows.{stored_undef}
 use Rattle.shadow_memory.specs.Ranges.{byte_of}
 use Rattle.guest_machine.specs.Widths.{width_len}
 use Rattle.guest_machine.specs.State.{Core}
 use Rattle.guest_machine.specs.Registers.{known, register, set_register, defined, tested}
-use Rattle.guest_machine.specs.Alu.{computed, passes, extended}
+use Rattle.guest_machine.specs.Alu.{computed, passes, is_undecided, extended}
 use Rattle.guest_machine.specs.Errors.{here, event_unless, value_errors, access_errors, taken_undef}
 use Rattle.guest_machine.specs.CallStack.{jal_hint, jalr_hint, hinted}
 use Rattle.guest_machine.specs.declared.hint.StackHint.{StackHint}
@@ -105,16 +104,16 @@ unfoldable pub jumped : Core → ℕ → Core
 jumped core to = if to % 4 == 0 then moved_to core to else stopped core Misaligned
 
 -- does a branch depend on undefined bits?
-abbrev pub is_undefined : Core → ℕ → ℕ → Bool
-is_undefined core rs1 rs2 = undef_branch (register core rs1) (register core rs2)
+abbrev pub is_undefined : Core → Test → ℕ → ℕ → Bool
+is_undefined core test rs1 rs2 = is_undecided test (register core rs1) (register core rs2)
 
--- after the test of a branch, which makes both registers defined
-unfoldable pub branch_tested : Core → ℕ → ℕ → Core
-branch_tested core rs1 rs2 = if is_undefined core rs1 rs2 then defined (defined core rs1) rs2 else core
+-- after the test of a branch: where it depends on undefined bits, both registers are made defined, else they stay
+unfoldable pub branch_tested : Core → Test → ℕ → ℕ → Core
+branch_tested core test rs1 rs2 = if is_undefined core test rs1 rs2 then defined (defined core rs1) rs2 else core
 
 -- the error of a branch
-abbrev pub branch_errors : Core → ℕ → ℕ → List Event
-branch_errors core rs1 rs2 = event_unless (not (is_undefined core rs1 rs2)) (here core) Cond
+abbrev pub branch_errors : Core → Test → ℕ → ℕ → List Event
+branch_errors core test rs1 rs2 = event_unless (not (is_undefined core test rs1 rs2)) (here core) Cond
 
 -- conditional branches (section 2.5)
 unfoldable pub branched : Bool → Core → ℕ → Core
@@ -124,8 +123,8 @@ branched false core to = advanced core
 abbrev pub branch : Core → Test → ℕ → ℕ → ℕ → Effect
 branch core test rs1 rs2 imm =
     raising
-    (branched (passes test (register core rs1).value (register core rs2).value) (branch_tested core rs1 rs2) ((core.pc + imm) % 2 ^ 32))
-    (branch_errors core rs1 rs2)
+    (branched (passes test (register core rs1).value (register core rs2).value) (branch_tested core test rs1 rs2) ((core.pc + imm) % 2 ^ 32))
+    (branch_errors core test rs1 rs2)
 
 -- the calls that the machine is in, by what a jump hints
 abbrev pub followed : Core → StackHint → ℕ → Core

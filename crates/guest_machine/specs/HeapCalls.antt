@@ -35,17 +35,21 @@ closed core p size redzone = ranged core (p - redzone) (redzone + max size 1 + r
 abbrev pub carved : Core → ℕ → ℕ → ℕ → RangeKind → Core
 carved core p size redzone kind = ranged (closed core p size redzone) p size kind
 
--- a block of a size, if there is a place for it; its address is the answer, or 0
-unfoldable pub given_block : Core → Option ℕ → ℕ → ℕ → RangeKind → Core
-given_block core None size redzone kind = answered core 0
-given_block core (Some p) size redzone kind = answered (carved (placed core (Some p) size redzone) p size redzone kind) p
+-- a block at a place, if there is one; its address is the answer, or 0
+unfoldable pub block_at : Core → Option ℕ → ℕ → ℕ → RangeKind → Core
+block_at core None size redzone kind = answered core 0
+block_at core (Some p) size redzone kind = answered (carved (placed core (Some p) size redzone) p size redzone kind) p
+
+-- a block of a size, at the least place of all
+abbrev pub given_block : Core → ℕ → ℕ → RangeKind → Core
+given_block core size redzone kind = block_at core (place core.blocks size redzone) size redzone kind
 
 -- malloc: its bytes are undefined
 abbrev pub malloc_call : Core → ℕ → Effect
 malloc_call core redzone =
     let size = argument core 10 in
     let now = call_tested core Malloc in
-    raising (given_block now (place core.blocks size redzone) size redzone Undefined) (call_errors core Malloc)
+    raising (given_block now size redzone Undefined) (call_errors core Malloc)
 
 -- calloc: a block for so many members of a size, their product taken as a whole number; its bytes are zeros, and defined
 abbrev pub calloc_size : Core → ℕ
@@ -55,7 +59,7 @@ abbrev pub calloc_call : Core → ℕ → Effect
 calloc_call core redzone =
     let size = calloc_size core in
     let now = call_tested core Calloc in
-    raising (given_block now (place core.blocks size redzone) size redzone Defined) (call_errors core Calloc)
+    raising (given_block now size redzone Defined) (call_errors core Calloc)
 
 -- freeing --
 
@@ -101,13 +105,17 @@ abbrev pub moving : Block → Option ℕ → Resizing
 moving b None = Keeps
 moving b (Some q) = Moves b q
 
-abbrev pub resizing_block : Option Block → ℕ → Option ℕ → Resizing
-resizing_block None size found = Refuses
-resizing_block (Some b) size found = if size == 0 then Frees else moving b found
+-- to the least place of all
+abbrev pub moving_in : Blocks → Block → ℕ → ℕ → Resizing
+moving_in blocks b size redzone = moving b (place blocks size redzone)
+
+abbrev pub resizing_block : Blocks → Option Block → ℕ → ℕ → Resizing
+resizing_block blocks None size redzone = Refuses
+resizing_block blocks (Some b) size redzone = if size == 0 then Frees else moving_in blocks b size redzone
 
 -- of the block at an address, to a size
 unfoldable pub resizing : Blocks → ℕ → ℕ → ℕ → Resizing
-resizing blocks p size redzone = if p == 0 then Allocates else resizing_block (blocks.live p) size (place blocks size redzone)
+resizing blocks p size redzone = if p == 0 then Allocates else resizing_block blocks (blocks.live p) size redzone
 
 -- how many bytes go along
 abbrev pub moved_size : Block → ℕ → ℕ
@@ -124,12 +132,12 @@ moved_block core p b q size redzone volume =
     let full = copied both p q (moved_size b size) in
     freed full (released_here full p) volume
 
-unfoldable pub resized : Core → Option ℕ → ℕ → ℕ → ℕ → ℕ → Resizing → Core
-resized core found p size redzone volume Allocates = given_block core found size redzone Undefined
-resized core found p size redzone volume Refuses = answered core 0
-resized core found p size redzone volume Frees = answered (freed core (released_here core p) volume) 0
-resized core found p size redzone volume Keeps = answered core 0
-resized core found p size redzone volume (Moves b q) = answered (moved_block core p b q size redzone volume) q
+unfoldable pub resized : Core → ℕ → ℕ → ℕ → ℕ → Resizing → Core
+resized core p size redzone volume Allocates = given_block core size redzone Undefined
+resized core p size redzone volume Refuses = answered core 0
+resized core p size redzone volume Frees = answered (freed core (released_here core p) volume) 0
+resized core p size redzone volume Keeps = answered core 0
+resized core p size redzone volume (Moves b q) = answered (moved_block core p b q size redzone volume) q
 
 unfoldable pub resize_errors : Core → ℕ → Resizing → List Event
 resize_errors core p Refuses = event_about core.blocks (here core) FreeError (Some p)
@@ -142,7 +150,7 @@ realloc_call core redzone volume taken =
     let now = call_tested core Realloc in
     let what = resizing core.blocks p size redzone in
     record {
-      core = resized now (place core.blocks size redzone) p size redzone volume what;
+      core = resized now p size redzone volume what;
       raised = call_errors core Realloc ++ resize_errors now p what;
       made = taken;
       output = [];

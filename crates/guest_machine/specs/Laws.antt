@@ -1,6 +1,7 @@
 -- Laws of one step, which follow from its form and not from any instruction.
-use Rattle.std.specs.Prelude.{◌≡◌, ℕ, ◌/◌, ◌≤◌, false, Bool, length, slice_get}
+use Rattle.std.specs.Prelude.{◌≡◌, ℕ, ◌/◌, ◌%◌, ◌^◌, ◌<◌, ◌≤◌, false, Bool, length, slice_get}
 use Rattle.guest_machine.specs.State.{State}
+use Rattle.guest_machine.specs.Run.{poked}
 use Rattle.guest_machine.specs.Exec.{exec, touches, counted, calls_heap, row_at, fetched}
 use Rattle.guest_machine.specs.declared.setup.Setup.{Setup}
 
@@ -49,3 +50,13 @@ pub record KeepsHeap : Type 0 where
   pub same : (one other : Setup) (s : State) → one.input ≡ other.input → is_heap_step s ≡ false
       → (touches s one ≡ touches s other) × (exec s one ≡ exec s other)
   pub counts : (setup : Setup) (s : State) → (exec s setup).heap_calls ≡ counted s.heap_calls (is_heap_step s)
+
+-- a word may be poked before a step that doesn't touch it or after it, and the step touches the same
+abbrev pub KeepsPokes : Type 0
+KeepsPokes =
+    (setup : Setup) (addr word : ℕ) (s : State) → addr % 4 ≡ 0 → addr < 2 ^ 32 → TouchesNone (InWord addr) s setup
+    → (touches s setup ≡ touches (poked s addr word) setup) × (exec (poked s addr word) setup ≡ poked (exec s setup) addr word)
+
+-- a step gives no input back
+abbrev pub ReadsOn : Type 0
+ReadsOn = (setup : Setup) (s : State) → s.position ≤ (exec s setup).position

@@ -1,14 +1,16 @@
 -- The state that a machine shows.
-use Rattle.std.specs.Prelude.{◌≡◌, ℕ, ◌+◌, ◌-◌, length, Option}
+use Rattle.std.specs.Prelude.{◌≡◌, ℕ, ◌+◌, ◌-◌, length, List, Option}
 use Rattle.shadow_memory.specs.Memories.{bytes_in, shadows_in}
 use Rattle.guest_heap.specs.Heaps.{blocks_of}
 use Rattle.guest_machine.specs.State.{Core, State}
 use Rattle.guest_machine.specs.Effects.{Effect}
 use Rattle.guest_machine.specs.Calls.{read_call, write_call}
-use Rattle.guest_machine.specs.Exec.{Uses, Terms, counted, written_to, uses_of, row_effect, rounded, read_uses, write_uses, terms_of, given_at, taken_from, uses_at, effect_at, touched_at}
+use Rattle.guest_machine.specs.HeapCalls.{realloc_call}
+use Rattle.guest_machine.specs.Exec.{Uses, Terms, counted, written_to, uses_of, row_effect, rounded, read_uses, write_uses, realloc_uses, calling_heap, terms_of, given_at, taken_from, uses_at, effect_at, touched_at}
 use Rattle.error_events.specs.Groups.{grouped}
 use Rattle.error_events.specs.Adding.{add_events}
 use Rattle.error_events.specs.Shown.{groups_of}
+use Rattle.error_events.specs.declared.event.Event.{Event}
 use Rattle.guest_machine.specs.declared.instruction.Instruction.{Instruction}
 use Rattle.guest_machine.specs.declared.machine.Guest.{Guest}
 use Rattle.guest_machine.specs.declared.machine.Machine.{Machine}
@@ -36,6 +38,10 @@ pub record Holds (g : Guest) (s : State) : Type 0 where
 unfoldable pub Shows : Machine → State → Type 0
 Shows m s = Holds m.guest.value s
 
+-- the errors are grouped after the earlier ones
+abbrev pub Raises : Guest → Guest → List Event → Type 0
+Raises old new events = groups_of new.groups ≡ add_events (groups_of old.groups) events
+
 -- new is old after this effect, with these uses
 pub record Does (old new : Guest) (effect : Effect) (uses : Uses) : Type 0 where
   pub core : core_of new ≡ effect.core
@@ -43,7 +49,7 @@ pub record Does (old new : Guest) (effect : Effect) (uses : Uses) : Type 0 where
   pub position : new.counts.position ≡ old.counts.position + uses.inputs
   pub output : new.counts.output_len ≡ old.counts.output_len + length effect.output
   pub heap_calls : new.counts.heap_calls ≡ counted old.counts.heap_calls uses.heap_call
-  pub groups : groups_of new.groups ≡ add_events (groups_of old.groups) effect.raised
+  pub groups : Raises old new effect.raised
 
 -- an instruction carried out by a machine: what it sees of the setup, what it uses, and that new is old after it
 abbrev pub row_terms : Guest → Option Instruction → Setup → Terms
@@ -91,3 +97,9 @@ abbrev pub DoesWrite : Guest → Guest → Type 0
 DoesWrite old new =
     let uses = write_uses (core_of old) old.counts.output_len in
     Does old new (write_call (core_of old) old.counts.output_len (taken_from (bytes_of old) uses.reads)) uses
+
+-- realloc carried out
+abbrev pub DoesRealloc : Guest → Guest → ℕ → ℕ → Type 0
+DoesRealloc old new redzone volume =
+    let uses = realloc_uses (core_of old) redzone in
+    Does old new (realloc_call (core_of old) redzone volume (taken_from (bytes_of old) uses.reads)) (calling_heap uses)

@@ -2,14 +2,14 @@
 ghost use Rattle.std.specs.Prelude.{◌≡◌, ◌<◌, ◌^◌};
 ghost use Rattle.guest_machine.specs.Widths.{width_limit};
 ghost use Rattle.definedness.specs.Operations.{less_signed, shift_of, upper_word, mulh_of, mulhsu_of, mulhu_of, div_of, rem_of};
-ghost use Rattle.guest_machine.specs.Alu.{number_of, value_of, undef_of, computed, passes, extended};
+ghost use Rattle.guest_machine.specs.Alu.{number_of, value_of, undef_of, computed, passes, is_undecided, extended};
 
 use crate::instruction::{Operation, Test};
 use crate::width::Width;
 use definedness::signed::arithmetic_shift;
 use definedness::{
-    Bits, Shift, undef_add, undef_and, undef_less, undef_mul, undef_or, undef_shift, undef_sub,
-    undef_wide, undef_xor,
+    Bits, Shift, undef_add, undef_and, undef_branch, undef_equal, undef_less, undef_mul, undef_or,
+    undef_shift, undef_sub, undef_wide, undef_xor,
 };
 
 #[tactic(auto, unfolding(crate::specs::Alu::undef_of))]
@@ -171,6 +171,19 @@ pub(crate) fn passes(test: Test, x: u32, y: u32) -> bool
         Test::GreaterEqual => !less_signed(x, y),
         Test::LessUnsigned => x < y,
         Test::GreaterEqualUnsigned => x >= y,
+    }
+}
+
+/// Whether a branch depends on undefined bits.
+#[tactic(auto, unfolding(crate::specs::Alu::is_undecided))]
+pub(crate) fn is_undecided(test: Test, x: Bits, y: Bits) -> bool
+    ensures { result ≡ is_undecided test x y }
+{
+    match test {
+        Test::Equal | Test::NotEqual => undef_equal(x, y),
+        Test::Less | Test::GreaterEqual | Test::LessUnsigned | Test::GreaterEqualUnsigned => {
+            undef_branch(x, y)
+        }
     }
 }
 

@@ -21,7 +21,7 @@
 //! | [`Machine::memory`], [`Machine::heap`] | the bytes with what is known of them, and the blocks of the heap |
 //! | [`Machine::groups`] | the errors so far, in order of first occurrence |
 //! | [`Meter::new`], [`Meter::read`] | a count of steps, raised by `step` alone |
-//! | [`laws::keeps_words`], [`laws::keeps_input`], [`laws::keeps_heap`] | nothing: their contracts are laws of one step |
+//! | [`laws::keeps_words`], [`laws::keeps_input`], [`laws::keeps_heap`], [`laws::keeps_pokes`], [`laws::reads_on`] | nothing: their contracts are laws of one step |
 //!
 //! [`Setup`], [`Input`], [`Mark`], [`Touched`], [`Span`], [`Register`], [`Status`] and [`Stop`] are the values that these take and
 //! answer; those of memory, traces, blocks and errors are of the crates `shadow_memory`, `call_stacks`, `guest_heap` and
@@ -40,7 +40,8 @@
 //! The calls between steps have the same form: `start` shows `start_state`, `mark` goes from a state to `marked`, `poke_word`
 //! to `poked`, `share` to the same state, and each observer answers a field of it. So a run of any length is the definition
 //! `pre` or `post`, by as many calls. The laws let a caller replay less after an edit: a step is the same if the edit changed
-//! only a word that it doesn't touch, input that it hasn't come to, or, where it is no heap call, the heap's options.
+//! only a word that it doesn't touch, input that it hasn't come to, or, where it is no heap call, the heap's options; and a
+//! word that it doesn't touch may as well be poked after it.
 //!
 //! # Where the definitions stand
 //!

@@ -1,9 +1,12 @@
 //! Programs by hand, and what becomes of them. The expected values are those of the instruction set's manual.
+mod errors;
+mod heap;
 mod values;
 
-use crate::laws::{keeps_heap, keeps_input, keeps_words};
+use crate::laws::{keeps_heap, keeps_input, keeps_pokes, keeps_words, reads_on};
 use crate::{Input, Machine, Mark, Meter, Register, Setup, Span, Status, Stop, Touched};
 use definedness::Bits;
+use error_events::Kind;
 use guest_elf::read;
 use guest_programs::program;
 use shadow_memory::RangeKind;
@@ -61,6 +64,14 @@ fn marked(machine: Machine, addr: u32, kind: RangeKind) -> Result<Machine, Alloc
         len: 4,
         kind,
     })
+}
+
+/// Where the first error was met, if it is that of a branch.
+fn cond_at(machine: &Machine) -> Option<u32> {
+    match machine.groups().get(0) {
+        Some(group) if group.kind == Kind::Cond => Some(group.trace.addresses()[0]),
+        _ => None,
+    }
 }
 
 #[test]
@@ -149,6 +160,37 @@ fn an_undefined_branch_is_an_error(rt: HostRuntime) -> Result<(), Fail> {
     assert_eq!(rt; stopped.status(), Status::Stopped(Stop::Jump));
     assert_eq!(rt; stopped.pc(), 0x1000C);
     assert_eq!(rt; stopped.groups().len(), 2);
+    Ok(())
+}
+
+// `addi x2, x2, -16; lbu a0, 0(x2)` takes eight undefined bits. Then `andi a0, a0, 16; add a0, a0, a0; andi a1, a0, MASK; beq a1, x0, 4`:
+// the sum is 0 or 32, and its bits 4 and 5 are undefined. Or `ori a1, a0, 256; beq a1, x0, 4`: a defined 1 differs from x0's 0, which
+// decides BEQ and not BLT. Each time the error of the branch, if it has one, and the undefined bits of a1 after it.
+#[test]
+fn a_branch_is_tested_by_what_it_compares(rt: HostRuntime) -> Result<(), Fail> {
+    let (move_stack, load, keep_16, double) = (0xFF01_0113, 0x0001_4503, 0x0105_7513, 0x00A5_0533);
+    let (set_256, equal, less) = (0x1005_6593, 0x0005_8263, 0x0005_C263);
+    let low = &[move_stack, load, keep_16, double, 0x00F5_7593, equal];
+    let bit_4 = &[move_stack, load, keep_16, double, 0x0105_7593, equal];
+    let bit_5 = &[move_stack, load, keep_16, double, 0x0205_7593, equal];
+    let bit_6 = &[move_stack, load, keep_16, double, 0x0405_7593, equal];
+    let decided = &[move_stack, load, set_256, equal];
+    let by_order = &[move_stack, load, set_256, less];
+    for (words, error_at, undef) in [
+        (low.as_slice(), None, 0),
+        (bit_4.as_slice(), Some(0x10014), 0),
+        (bit_5.as_slice(), Some(0x10014), 0),
+        (bit_6.as_slice(), None, 0),
+        (decided.as_slice(), None, 0xFF),
+        (by_order.as_slice(), Some(0x1000C), 0),
+    ] {
+        let machine = run(rt.alloc(), words, words.len() as u32)?;
+        assert_eq!(rt; machine.status(), Status::Running);
+        assert_eq!(rt; machine.pc(), 0x10000 + 4 * words.len() as u32);
+        assert_eq!(rt; machine.groups().len(), usize::from(error_at.is_some()));
+        assert_eq!(rt; cond_at(&machine), error_at);
+        assert_eq!(rt; bits_of(&machine, 11).undef, undef);
+    }
     Ok(())
 }
 
@@ -347,6 +389,8 @@ fn the_laws_can_be_called() {
     keeps_words();
     keeps_input();
     keeps_heap();
+    keeps_pokes();
+    reads_on();
 }
 
 #[test]

@@ -1,2 +1,4 @@
 pub mod Joins
 pub mod Filters
+pub mod LeakSteps
+pub mod OneReport

@@ -1,4 +1,7 @@
 pub mod Text
 pub mod Lines
 pub mod Filtering
+pub mod Leaks
+pub mod LeakLines
 pub mod Report
+pub mod Laws

@@ -116,10 +116,6 @@ unfoldable pub group_lines : Image → ℕ → Group → List ℕ
 group_lines image callers group =
     error_line group.count group.kind ++ trace_lines image (take callers group.trace) ++ note_lines image callers group.note
 
--- `NAME: N bytes in B blocks`
-unfoldable pub blocks_line : List ℕ → ℕ → ℕ → List ℕ
-blocks_line name bytes blocks = name ++ codes ": " ++ decimal bytes ++ codes " bytes in " ++ decimal blocks ++ codes " blocks" ++ newline
-
 -- how many errors there are; the sum stands still at the greatest 64-bit number
 abbrev pub error_total : List Group → ℕ
 error_total groups = min (sum_by (λ g. g.count) groups) 18446744073709551615

@@ -14,7 +14,11 @@ use std::alloc::{AllocError, Global};
 use suppressions::{Suppression, Target, is_suppressed};
 
 /// The names of a trace's addresses.
-fn names_of<'a>(alloc: Global, image: &'a Image, trace: &[u32]) -> Result<Vec<&'a [u8]>, AllocError>
+pub(crate) fn names_of<'a>(
+    alloc: Global,
+    image: &'a Image,
+    trace: &[u32],
+) -> Result<Vec<&'a [u8]>, AllocError>
     ensures { IfOk result (λ names. map (λ name. name.now) names.items ≡ names_of image.now trace.now) }
 {
     let mut names = Vec::new(alloc);

@@ -5,6 +5,7 @@
 //! | Call | What it does |
 //! |---|---|
 //! | [`render`] | appends a report to a vector of bytes, or refuses for want of memory |
+//! | [`laws::report_is_one`] | nothing: its contract says that a state has one report |
 //! | [`Options::default`] | what a user has who chooses nothing: 12 addresses of a trace, definite and possible leaks |
 //!
 //! A report's lines, in order, each with a newline:
@@ -18,32 +19,40 @@
 //!    at A: NAME
 //!    by A: NAME
 //!  Address A is ..            where the error speaks of an address
-//! definitely lost: 0 bytes in 0 blocks
-//! indirectly lost: 0 bytes in 0 blocks
-//! possibly lost: 0 bytes in 0 blocks
-//! still reachable: 0 bytes in 0 blocks
-//! suppressed: 0 bytes in 0 blocks
-//! ERROR SUMMARY: E errors from C contexts (suppressed: 0 from 0)
+//! leak N bytes in B blocks are K     for each group of leaked blocks whose kind is shown, in order of their first blocks
+//!    at A: NAME                      where they were allocated
+//! definitely lost: N bytes in B blocks
+//! indirectly lost: N bytes in B blocks
+//! possibly lost: N bytes in B blocks
+//! still reachable: N bytes in B blocks
+//! suppressed: N bytes in B blocks
+//! ERROR SUMMARY: E errors from C contexts (suppressed: E2 from C2)
 //! ```
 //!
 //! Numbers are decimal; an address is `0x` and eight hexadecimal digits in lower case. In a name each byte outside 0x21 to 0x7E
-//! is shown as `?`, so that no name can make up a line. Errors that a suppression matches are only counted, in the summary. Lost
-//! blocks aren't searched for yet: the numbers of those five lines are 0, and of the options `callers` alone counts.
+//! is shown as `?`, so that no name can make up a line. Errors that a suppression matches are only counted, in the summary; so are
+//! leaked blocks, in the line `suppressed` alone. A suppression sees the whole trace, a group the first `callers` addresses of it.
 //!
-//! The layer above uses one contract, that of [`render`]: for each state that the machine shows (`Shows`), what is appended is
-//! `report` of that state, the image, the options, the step and the length of the input.
+//! The layer above uses one contract, that of [`render`]: for each state that the machine shows (`Shows`), a text is appended that
+//! `IsReport` of that state, the image, the suppressions, the options, the step and the length of the input. That is a relation, since
+//! the kinds of leaks are told by paths of pointers; the law [`laws::report_is_one`] says that no two texts are one state's.
 //!
 //! Where the definitions stand, in `specs/`:
 //!
-//! - `Report`: the whole report (`report`), and the lines on leaked blocks.
-//! - `Filtering`: which groups are shown, and which only counted.
-//! - `Lines`: each line, from `step_line` to `summary_line`.
+//! - `Report`: the whole report (`IsReport`, `report_text`).
+//! - `Filtering`: which groups of errors are shown, and which only counted.
+//! - `Leaks`: the same of leaked blocks, with their groups and sums.
+//! - `Lines` and `LeakLines`: each line, from `step_line` to `summary_line`.
+//! - `Laws`: a state has one report.
 //! - `Text`: an address, a byte of a name, and the end of a line. Decimal numbers are std's `decimal`.
 //!
 //! Source: Memcheck manual (Valgrind 3), sections 2.5 and 4.2: how errors, traces, notes and the summary are worded.
 #![tactic(auto)]
 
 mod filtering;
+pub mod laws;
+mod leak_lines;
+mod leaks;
 mod lines;
 mod options;
 mod rendering;

@@ -1,8 +1,7 @@
 //! The lines of a report.
 ghost use Rattle.std.specs.Prelude.{◌≡◌, ◌++◌, ◌≤◌, ◌<◌, OnOk, codes, take};
 ghost use Rattle.std.specs.List.{flat_map};
-ghost use Rattle.replay_report.specs.Lines.{step_line, state_line, stop_word, input_line, output_line, fault_text, param_text, kind_text, error_line, frame_line, trace_lines, place_text, state_text, last_trace, near_front, near_back, note_lines, group_lines, blocks_line, error_total, shown_summary, hidden_summary, summary_line};
-ghost use Rattle.replay_report.specs.Report.{leak_lines};
+ghost use Rattle.replay_report.specs.Lines.{step_line, state_line, stop_word, input_line, output_line, fault_text, param_text, kind_text, error_line, frame_line, trace_lines, place_text, state_text, last_trace, near_front, near_back, note_lines, group_lines, error_total, shown_summary, hidden_summary, summary_line};
 
 use crate::text::{push_address, push_name, push_number, push_text};
 use call_stacks::{Block, Near, Place, Trace};
@@ -177,7 +176,11 @@ fn push_callers(out: &mut Vec<u8>, image: &Image, callers: &[u32]) -> Result<(),
 
 /// The addresses of a trace.
 #[tactic(auto, unfolding(crate::specs::Lines::trace_lines), using(std::proofs::Common::append_assoc))]
-fn push_trace(out: &mut Vec<u8>, image: &Image, addresses: &[u32]) -> Result<(), AllocError>
+pub(crate) fn push_trace(
+    out: &mut Vec<u8>,
+    image: &Image,
+    addresses: &[u32],
+) -> Result<(), AllocError>
     ensures { OnOk result (out.new.items ≡ out.old.items ++ trace_lines image.now addresses.now) }
 {
     match addresses {
@@ -319,39 +322,6 @@ pub(crate) fn push_groups(
     for group in groups {
         push_group(alloc, out, image, callers, group)?;
     }
-    Ok(())
-}
-
-/// `NAME: N bytes in B blocks`
-#[tactic(auto, unfolding(crate::specs::Lines::blocks_line), using(std::proofs::Common::append_assoc))]
-fn push_blocks(
-    alloc: Global,
-    out: &mut Vec<u8>,
-    name: &[u8],
-    bytes: u64,
-    blocks: u64,
-) -> Result<(), AllocError>
-    ensures { OnOk result (out.new.items ≡ out.old.items ++ blocks_line name.now bytes blocks) }
-{
-    push_text(out, name)?;
-    push_text(out, b": ")?;
-    push_number(alloc, out, bytes)?;
-    push_text(out, b" bytes in ")?;
-    push_number(alloc, out, blocks)?;
-    push_text(out, b" blocks")?;
-    push_text(out, b"\n")
-}
-
-/// What is lost: nothing, since no block is tracked yet.
-#[tactic(auto, unfolding(crate::specs::Report::leak_lines), using(std::proofs::Common::append_assoc))]
-pub(crate) fn push_leaks(alloc: Global, out: &mut Vec<u8>) -> Result<(), AllocError>
-    ensures { OnOk result (out.new.items ≡ out.old.items ++ leak_lines) }
-{
-    push_blocks(alloc, out, b"definitely lost", 0, 0)?;
-    push_blocks(alloc, out, b"indirectly lost", 0, 0)?;
-    push_blocks(alloc, out, b"possibly lost", 0, 0)?;
-    push_blocks(alloc, out, b"still reachable", 0, 0)?;
-    push_blocks(alloc, out, b"suppressed", 0, 0)?;
     Ok(())
 }
 

@@ -1,21 +1,38 @@
 //! The report of a machine.
-ghost use Rattle.std.specs.Prelude.{◌≡◌, ◌++◌, ◌<◌, ◌≤◌, OnOk, OnErr, length};
+ghost use Rattle.std.specs.Prelude.{◌≡◌, ◌++◌, ◌<◌, ◌≤◌, IfOk, OnOk, OnErr, length};
 ghost use Rattle.guest_machine.specs.State.{State};
 ghost use Rattle.guest_machine.specs.Shows.{Shows};
-ghost use Rattle.replay_report.specs.Report.{report};
+ghost use Rattle.replay_report.specs.Report.{head_lines, report_text, IsReport, AppendsReport};
 
 use crate::filtering::split_groups;
-use crate::lines::{
-    push_groups, push_input, push_leaks, push_output, push_state, push_step, push_summary,
-};
+use crate::leak_lines::push_leaks;
+use crate::lines::{push_groups, push_input, push_output, push_state, push_step, push_summary};
 use crate::options::Options;
 use guest_elf::Image;
 use guest_machine::Machine;
+use leak_search::{LeakRecord, search};
 use std::alloc::{AllocError, Global};
 use suppressions::Suppression;
 
-/// The lines of a report.
-#[tactic(auto, unfolding(crate::specs::Report::report), using(std::proofs::Common::append_assoc))]
+/// The first lines of a report.
+#[tactic(auto, unfolding(crate::specs::Report::head_lines), using(std::proofs::Common::append_assoc))]
+fn push_head(
+    alloc: Global,
+    out: &mut Vec<u8>,
+    machine: &Machine,
+    step: u32,
+    input_len: u64,
+) -> Result<(), AllocError>
+    ensures { OnOk result ((s : State) → Shows machine.now s → out.new.items ≡ out.old.items ++ head_lines s step input_len) }
+{
+    push_step(alloc, out, step)?;
+    push_state(alloc, out, machine.status(), machine.pc())?;
+    push_input(alloc, out, machine.position(), input_len)?;
+    push_output(alloc, out, machine.output_len())
+}
+
+/// The lines of a report, with these records of the live blocks.
+#[tactic(auto, unfolding(crate::specs::Report::report_text), using(std::proofs::Common::append_assoc))]
 fn push_report(
     alloc: Global,
     out: &mut Vec<u8>,
@@ -25,22 +42,49 @@ fn push_report(
     options: &Options,
     step: u32,
     input_len: u64,
+    records: &[LeakRecord],
 ) -> Result<(), AllocError>
     requires { 0 < options.now.callers }
-    ensures { OnOk result ((s : State) → Shows machine.now s → out.new.items ≡ out.old.items ++ report s image.now suppressions.now options.now step input_len) }
+    ensures { OnOk result ((s : State) → Shows machine.now s → out.new.items ≡ out.old.items ++ report_text s image.now suppressions.now options.now step input_len records.now) }
 {
-    push_step(alloc, out, step)?;
-    push_state(alloc, out, machine.status(), machine.pc())?;
-    push_input(alloc, out, machine.position(), input_len)?;
-    push_output(alloc, out, machine.output_len())?;
+    push_head(alloc, out, machine, step, input_len)?;
     let (shown, hidden) = split_groups(alloc, machine, image, suppressions, options.callers)?;
     push_groups(alloc, out, image, options.callers, &shown)?;
-    push_leaks(alloc, out)?;
+    push_leaks(alloc, out, image, suppressions, options, records)?;
     push_summary(alloc, out, &shown, &hidden)
 }
 
+/// The report.
+fn report_of(
+    alloc: Global,
+    machine: &Machine,
+    image: &Image,
+    suppressions: &[Suppression],
+    options: &Options,
+    step: u32,
+    input_len: u64,
+) -> Result<Vec<u8>, AllocError>
+    requires { 0 < options.now.callers }
+    ensures { IfOk result (λ text. (s : State) → Shows machine.now s → IsReport s image.now suppressions.now options.now step input_len text.items) }
+{
+    let records = search(alloc, machine)?;
+    let mut text = Vec::new(alloc);
+    push_report(
+        alloc,
+        &mut text,
+        machine,
+        image,
+        suppressions,
+        options,
+        step,
+        input_len,
+        &records,
+    )?;
+    Ok(text)
+}
+
 /// Appends the report of a machine at a step, for an input of `input_len` bytes, with names from the image. `callers` of the
-/// options is from 1 to 24. Errors that a suppression matches are only counted.
+/// options is from 1 to 24. Errors and blocks that a suppression matches are only counted.
 ///
 /// An error means that memory failed; the vector is then as it was before the call.
 pub fn render(
@@ -55,13 +99,11 @@ pub fn render(
 ) -> Result<(), AllocError>
     requires some { 1 ≤ options.now.callers }
     requires few { options.now.callers ≤ 24 }
-    ensures ok { OnOk result ((s : State) → Shows machine.now s → out.new.items ≡ out.old.items ++ report s image.now suppressions.now options.now step input_len) }
+    ensures ok { OnOk result ((s : State) → Shows machine.now s → AppendsReport (IsReport s image.now suppressions.now options.now step input_len) out.old.items out.new.items) }
     ensures err { OnErr result (out.new.items ≡ out.old.items) }
 {
-    let mut lines = Vec::new(alloc);
-    push_report(
+    let text = report_of(
         alloc,
-        &mut lines,
         machine,
         image,
         suppressions,
@@ -69,6 +111,6 @@ pub fn render(
         step,
         input_len,
     )?;
-    out.extend_from_slice(&lines)?;
+    out.extend_from_slice(&text)?;
     Ok(())
 }

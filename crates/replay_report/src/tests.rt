@@ -6,6 +6,7 @@ use guest_programs::program;
 use shadow_memory::RangeKind;
 use std::alloc::{AllocError, Global};
 use std::test::Fail;
+use suppressions::Suppression;
 
 /// `addi a7, x0, 93; addi a0, x0, 0; ecall`: the call `exit`.
 const EXIT: [u32; 3] = [0x05D0_0893, 0x0000_0513, 0x0000_0073];
@@ -69,38 +70,27 @@ fn options_are_those_of_memcheck(rt: HostRuntime) {
     assert_eq!(rt; options.show, [true, false, true, false]);
 }
 
+/// The last lines of a report where nothing was allocated and nothing went wrong.
+const NOTHING_LOST: &[u8] = b"input 0 of 0\n\
+output 0\n\
+definitely lost: 0 bytes in 0 blocks\n\
+indirectly lost: 0 bytes in 0 blocks\n\
+possibly lost: 0 bytes in 0 blocks\n\
+still reachable: 0 bytes in 0 blocks\n\
+suppressed: 0 bytes in 0 blocks\n\
+ERROR SUMMARY: 0 errors from 0 contexts (suppressed: 0 from 0)\n";
+
 #[test]
 fn a_report_has_its_lines_in_order(rt: HostRuntime) -> Result<(), Fail> {
-    let before = report_of(rt.alloc(), &EXIT, 0)?;
-    assert_eq!(rt;
-        before.as_slice(),
-        b"step 0\n\
-state running 0x00010000\n\
-input 0 of 0\n\
-output 0\n\
-definitely lost: 0 bytes in 0 blocks\n\
-indirectly lost: 0 bytes in 0 blocks\n\
-possibly lost: 0 bytes in 0 blocks\n\
-still reachable: 0 bytes in 0 blocks\n\
-suppressed: 0 bytes in 0 blocks\n\
-ERROR SUMMARY: 0 errors from 0 contexts (suppressed: 0 from 0)\n"
-            .as_slice()
-    );
-    let after = report_of(rt.alloc(), &EXIT, 3)?;
-    assert_eq!(rt;
-        after.as_slice(),
-        b"step 3\n\
-state exited 0\n\
-input 0 of 0\n\
-output 0\n\
-definitely lost: 0 bytes in 0 blocks\n\
-indirectly lost: 0 bytes in 0 blocks\n\
-possibly lost: 0 bytes in 0 blocks\n\
-still reachable: 0 bytes in 0 blocks\n\
-suppressed: 0 bytes in 0 blocks\n\
-ERROR SUMMARY: 0 errors from 0 contexts (suppressed: 0 from 0)\n"
-            .as_slice()
-    );
+    for (steps, want) in [
+        (0, b"step 0\nstate running 0x00010000\n".as_slice()),
+        (3, b"step 3\nstate exited 0\n"),
+    ] {
+        let report = report_of(rt.alloc(), &EXIT, steps)?;
+        assert!(rt; report.starts_with(want));
+        assert!(rt; report.ends_with(NOTHING_LOST));
+        assert_eq!(rt; report.len(), want.len() + NOTHING_LOST.len());
+    }
     Ok(())
 }
 
@@ -233,5 +223,144 @@ fn a_report_is_appended(rt: HostRuntime) -> Result<(), Fail> {
         &mut out,
     )?;
     assert!(rt; out.starts_with(b"ok\nstep 0\nstate running 0x00010000\ninput 0 of 0\noutput 0\n"));
+    Ok(())
+}
+
+/// `malloc(8)`: two blocks; the first holds the address of the second and then its own, and then no register does.
+const TWO_BLOCKS: [u32; 10] = [
+    0x7D10_0893,
+    0x0080_0513,
+    0x0000_0073,
+    0x0005_0413,
+    0x0080_0513,
+    0x0000_0073,
+    0x00A4_2023,
+    0x0085_2023,
+    0x0000_0413,
+    0x0000_0513,
+];
+
+/// `malloc(8)`, and then its address plus 1.
+const INSIDE: [u32; 4] = [0x7D10_0893, 0x0080_0513, 0x0000_0073, 0x0015_0513];
+
+/// The report of a program after some steps, from its output's line on.
+fn leaks_of(
+    alloc: Global,
+    words: &[u32],
+    steps: u32,
+    suppressions: &[Suppression],
+    show: [bool; 4],
+) -> Result<Vec<u8>, Fail> {
+    let file = program(alloc, words)?;
+    let image = read(alloc, &file)?;
+    let machine = stepped(alloc, Machine::start(alloc, &image)?, steps)?;
+    let mut out = Vec::new(alloc);
+    let options = Options { callers: 12, show };
+    render(
+        alloc,
+        &machine,
+        &image,
+        suppressions,
+        &options,
+        steps,
+        0,
+        &mut out,
+    )?;
+    Ok(out)
+}
+
+#[test]
+fn blocks_are_told_by_what_points_to_them(rt: HostRuntime) -> Result<(), Fail> {
+    let default = Options::default().show;
+    let all = [true; 4];
+    for (words, steps, show, want) in [
+        (
+            TWO_BLOCKS.as_slice(),
+            9,
+            default,
+            b"output 0\n\
+definitely lost: 0 bytes in 0 blocks\n\
+indirectly lost: 0 bytes in 0 blocks\n\
+possibly lost: 0 bytes in 0 blocks\n\
+still reachable: 16 bytes in 2 blocks\n\
+suppressed: 0 bytes in 0 blocks\n\
+ERROR SUMMARY: 0 errors from 0 contexts (suppressed: 0 from 0)\n"
+                .as_slice(),
+        ),
+        (
+            TWO_BLOCKS.as_slice(),
+            10,
+            default,
+            b"output 0\n\
+leak 8 bytes in 1 blocks are definitely lost\n   at 0x00010008: ???\n\
+definitely lost: 8 bytes in 1 blocks\n\
+indirectly lost: 8 bytes in 1 blocks\n\
+possibly lost: 0 bytes in 0 blocks\n\
+still reachable: 0 bytes in 0 blocks\n\
+suppressed: 0 bytes in 0 blocks\n\
+ERROR SUMMARY: 0 errors from 0 contexts (suppressed: 0 from 0)\n",
+        ),
+        (
+            TWO_BLOCKS.as_slice(),
+            10,
+            all,
+            b"output 0\n\
+leak 8 bytes in 1 blocks are definitely lost\n   at 0x00010008: ???\n\
+leak 8 bytes in 1 blocks are indirectly lost\n   at 0x00010014: ???\n\
+definitely lost: 8 bytes in 1 blocks\n\
+indirectly lost: 8 bytes in 1 blocks\n\
+possibly lost: 0 bytes in 0 blocks\n\
+still reachable: 0 bytes in 0 blocks\n\
+suppressed: 0 bytes in 0 blocks\n\
+ERROR SUMMARY: 0 errors from 0 contexts (suppressed: 0 from 0)\n",
+        ),
+        (
+            INSIDE.as_slice(),
+            4,
+            default,
+            b"output 0\n\
+leak 8 bytes in 1 blocks are possibly lost\n   at 0x00010008: ???\n\
+definitely lost: 0 bytes in 0 blocks\n\
+indirectly lost: 0 bytes in 0 blocks\n\
+possibly lost: 8 bytes in 1 blocks\n\
+still reachable: 0 bytes in 0 blocks\n\
+suppressed: 0 bytes in 0 blocks\n\
+ERROR SUMMARY: 0 errors from 0 contexts (suppressed: 0 from 0)\n",
+        ),
+    ] {
+        let report = leaks_of(rt.alloc(), words, steps, &[], show)?;
+        assert!(rt; report.ends_with(want), "after {steps}");
+    }
+    Ok(())
+}
+
+// `malloc(0x1000000)` again and again: 31 blocks have room, and one group has them all.
+#[test]
+fn suppressed_blocks_count_apart_and_like_ones_together(rt: HostRuntime) -> Result<(), Fail> {
+    let loops = [0x7D10_0893, 0x0100_0537, 0x0000_0073, 0xFF9F_F06F];
+    let report = leaks_of(rt.alloc(), &loops, 97, &[], Options::default().show)?;
+    assert!(rt;
+        report.starts_with(
+            b"step 97\n\
+state running 0x00010004\n\
+input 0 of 0\n\
+output 0\n\
+leak 520093696 bytes in 31 blocks are definitely lost\n   at 0x00010008: ???\n\
+definitely lost: 520093696 bytes in 31 blocks\n"
+        )
+    );
+    let hidden = [Suppression::from_words(rt.alloc(), b"Leak match-leak-kinds:possible fun:*")?];
+    let report = leaks_of(rt.alloc(), &INSIDE, 4, &hidden, [true; 4])?;
+    assert!(rt;
+        report.ends_with(
+            b"output 0\n\
+definitely lost: 0 bytes in 0 blocks\n\
+indirectly lost: 0 bytes in 0 blocks\n\
+possibly lost: 0 bytes in 0 blocks\n\
+still reachable: 0 bytes in 0 blocks\n\
+suppressed: 8 bytes in 1 blocks\n\
+ERROR SUMMARY: 0 errors from 0 contexts (suppressed: 0 from 0)\n"
+        )
+    );
     Ok(())
 }

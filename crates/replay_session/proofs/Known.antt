@@ -42,3 +42,9 @@ sent-all a b n xs e h = subst (λ ys. Appends a b ys) (ap (λ m. take m xs) e �
 pub consumes-none : (a : Option (List ℕ)) → Consumes a a []
 consumes-none None = tt
 consumes-none (Some x) = refl
+
+pub appends-keeps : (a b c : Option (List ℕ)) (p : List ℕ) → Appends a b p → Keeps b c → Appends a c p
+appends-keeps None b c p f k = tt
+appends-keeps (Some x) None c p f k = absurd f
+appends-keeps (Some x) (Some y) None p f k = absurd k
+appends-keeps (Some x) (Some y) (Some z) p f k = k ∙ f

@@ -1,11 +1,12 @@
 -- What each part of a line does to the scenario that a session has.
 use Rattle.std.proofs.Common.{◌≡◌, ℕ, zero, suc, ◌+◌, ◌<◌, Bool, List, [], ◌∷◌, get_or, refl, ap, sym, ◌∙◌, cond, nat_le, arith, rules, length, vec_len, subst, Result, Ok, Err, inl, inr}
 use Rattle.std.proofs.Math.ListN.{set}
+use Rattle.std.proofs.Math.Path.{transport}
 use Rattle.std.specs.Prelude.{IsOkAnd}
 use Rattle.std.proofs.lemmas.Bool.Decides.{nat_tests}
 use Rattle.guest_machine.specs.Run.{post, poked}
 use Rattle.guest_machine.specs.declared.setup.Mark.{Mark}
-use Rattle.replay_report.specs.Report.{report}
+use Rattle.replay_report.specs.Report.{IsReport}
 use Rattle.suppressions.specs.Rules.{Rule}
 use Rattle.replay_session.specs.Commands.{Reads, IsAdd}
 use Rattle.replay_session.specs.Scenario.{Scenario, IsReportOf, first_state, chosen_state, most_lines, counted, changed, room_of, accepted, accepted_in, after, applied, switched}
@@ -29,11 +30,11 @@ switched-at (rule ∷ rules) (suc i) d old new on h here made = ap (λ rs. rule 
 
 -- the report of what the session keeps is that of its scenario
 pub report-has : (session : Session) (sc : Scenario) (marks : List Mark) (rules : List Rule) (len : ℕ) → HasScenario session sc → marks ≡ session.marks.items → rules ≡ session.suppressions.items → len ≡ length session.setup.input
-    → report (post (first_state sc) session.setup marks session.step) session.image rules session.options session.step len ≡ report (chosen_state sc) sc.image sc.rules sc.options sc.step (length sc.setup.input)
-unfolding chosen_state
-report-has session sc marks rules len h same kept e =
-    (λ i. report (post (first_state sc) session.setup (same i) session.step) session.image (kept i) session.options session.step (e i))
-    ∙ (λ i. report (post (first_state sc) (h.setup i) (h.marks i) (h.step i)) (h.image i) (h.rules i) (h.options i) (h.step i) (length (h.setup i).input))
+    → (text : List ℕ) → IsReport (post (first_state sc) session.setup marks session.step) session.image rules session.options session.step len text → IsReportOf sc text
+unfolding IsReportOf chosen_state
+report-has session sc marks rules len h same kept e text told =
+    transport (λ i. IsReport (post (first_state sc) (h.setup i) (h.marks i) (h.step i)) (h.image i) (h.rules i) (h.options i) (h.step i) (length (h.setup i).input) text)
+    (transport (λ i. IsReport (post (first_state sc) session.setup (same i) session.step) session.image (kept i) session.options session.step (e i) text) told)
 
 -- what a refusal looks at is that of the scenario
 room-has : (session : Session) (sc : Scenario) → HasScenario session sc → room_of sc ≡ room_in session

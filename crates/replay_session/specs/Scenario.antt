@@ -1,12 +1,12 @@
 -- What the accepted commands leave, and what a line is answered. Nothing of earlier reports is in it.
-use Rattle.std.specs.Prelude.{◌≡◌, ℕ, zero, suc, ◌+◌, ◌%◌, ◌^◌, ◌==◌, ◌||◌, ◌&&◌, nat_le, nat_lt, Bool, true, false, if◌then◌else◌, List, [], ◌∷◌, ◌++◌, length, remove, slice_set, Option, Some, None, is_some, Result, Ok, Err}
+use Rattle.std.specs.Prelude.{ℕ, zero, suc, ◌+◌, ◌%◌, ◌^◌, ◌==◌, ◌||◌, ◌&&◌, nat_le, nat_lt, Bool, true, false, if◌then◌else◌, List, [], ◌∷◌, ◌++◌, length, remove, slice_set, Option, Some, None, is_some, Result, Ok, Err}
 use Rattle.guest_elf.specs.Images.{loaded_at}
 use Rattle.guest_elf.specs.declared.image.Image.{Image}
 use Rattle.guest_machine.specs.State.{State}
 use Rattle.guest_machine.specs.Run.{start_state, poked, post}
 use Rattle.guest_machine.specs.declared.setup.Setup.{Setup}
 use Rattle.guest_machine.specs.declared.setup.Mark.{Mark as MarkAt}
-use Rattle.replay_report.specs.Report.{report}
+use Rattle.replay_report.specs.Report.{IsReport}
 use Rattle.replay_report.specs.declared.options.Options.{Options}
 use Rattle.suppressions.specs.Rules.{Rule}
 use Rattle.suppressions.specs.declared.leak_kinds.LeakKinds.{LeakKinds}
@@ -53,9 +53,9 @@ first_state sc = record (start_state sc.image) { bytes = sc.bytes }
 unfoldable pub chosen_state : Scenario → State
 chosen_state sc = post (first_state sc) sc.setup sc.marks sc.step
 
--- the report at the chosen step of one run from step zero
+-- a text is the report at the chosen step of one run from step zero
 unfoldable pub IsReportOf : Scenario → List ℕ → Type 0
-IsReportOf sc text = text ≡ report (chosen_state sc) sc.image sc.rules sc.options sc.step (length sc.setup.input)
+IsReportOf sc text = IsReport (chosen_state sc) sc.image sc.rules sc.options sc.step (length sc.setup.input) text
 
 -- what a refusal looks at: the program, the length of its input, and how many marks, suppressions and lines there are
 pub record Room : Type 0 where

@@ -1,6 +1,7 @@
 -- How a session keeps a scenario, and what one line does to it.
-use Rattle.std.specs.Prelude.{◌≡◌, ◌<◌, ◌≤◌, ◌++◌, ◌⊎◌, ℕ, List, length, vec_len, Result, Ok, Err, IsOkAnd}
+use Rattle.std.specs.Prelude.{◌≡◌, ◌<◌, ◌≤◌, ◌⊎◌, ℕ, List, length, vec_len, Result, Ok, Err, IsOkAnd}
 use Rattle.guest_machine.specs.Shows.{Shows}
+use Rattle.replay_report.specs.Report.{AppendsReport}
 use Rattle.replay_session.specs.Scenario.{Scenario, Room, IsReportOf, first_state, accepted, applied, counted, changed}
 use Rattle.replay_session.specs.declared.keeper.Session.{Session}
 use Rattle.replay_session.specs.declared.fault.Fault.{Fault}
@@ -61,13 +62,9 @@ abbrev pub replied : ℕ → Result Command Fault → Result Reply Fault
 replied work (Ok command) = Ok (reply_to work command)
 replied work (Err fault) = Err fault
 
--- the bytes of a text with this property were appended
-abbrev pub AppendsText : (List ℕ → Type 0) → List ℕ → List ℕ → Type 0
-AppendsText P old new = (text : List ℕ) × P text × (new ≡ old ++ text)
-
 -- the report was appended, if the line asks for it, and else nothing
 abbrev pub AppendsFor : Scenario → Result Command Fault → List ℕ → List ℕ → Type 0
-AppendsFor sc (Ok Report) old new = AppendsText (IsReportOf sc) old new
+AppendsFor sc (Ok Report) old new = AppendsReport (IsReportOf sc) old new
 AppendsFor sc _ old new = new ≡ old
 
 -- an accepted command was carried out

@@ -21,7 +21,7 @@ pub const LONGEST_INPUT: usize = 1_048_576;
 const MOST_LINES: u32 = 100_000;
 
 /// An input, and the heap's settings of Memcheck: a red zone of 16 bytes, and 20,000,000 bytes of freed blocks.
-pub(crate) fn setup_with(input: Vec<u8>) -> Setup
+pub fn setup_with(input: Vec<u8>) -> Setup
     ensures { result ≡ setup_with input.items }
 {
     Setup {
@@ -52,8 +52,9 @@ pub struct Session<'a> {
 impl<'a> Session<'a> {
     ghost use Rattle.std.specs.Prelude.{◌≡◌, ◌<◌, ◌↔◌, IfOk, OnOk, OnErr, length};
     ghost use Rattle.replay_session.specs.Scenario.{Scenario, IsReportOf, begun, counted};
+    ghost use Rattle.replay_report.specs.Report.{AppendsReport};
     ghost use Rattle.replay_session.specs.Replies.{is_over};
-    ghost use Rattle.replay_session.specs.Session.{HasScenario, IsWithin, Carried, Meets, AppendsText, room_in};
+    ghost use Rattle.replay_session.specs.Session.{HasScenario, IsWithin, Carried, Meets, room_in};
 
     /// The session of a program with an input and suppressions, with nothing edited and step 0 chosen. A refusal drops the arguments; an
     /// input that is too large is told before want of memory.
@@ -112,7 +113,7 @@ impl<'a> Session<'a> {
     /// Appends the report at the chosen step.
     fn report(&mut self, out: &mut Vec<u8>) -> Result<(), AllocError>
         ensures has { (sc : Scenario) → HasScenario self.old sc → HasScenario self.new sc }
-        ensures ok { OnOk result ((sc : Scenario) → HasScenario self.old sc → AppendsText (IsReportOf sc) out.old.items out.new.items) }
+        ensures ok { OnOk result ((sc : Scenario) → HasScenario self.old sc → AppendsReport (IsReportOf sc) out.old.items out.new.items) }
         ensures err { OnErr result (out.new.items ≡ out.old.items) }
     {
         let start = self.start.share()?;

@@ -4,6 +4,7 @@
 mod answering;
 mod command;
 mod endings;
+pub mod fakes;
 mod fault;
 mod keeper;
 mod numbers;
@@ -13,10 +14,13 @@ mod reply;
 mod sending;
 mod server;
 mod serving;
+#[cfg(test)]
+mod tests;
 mod texts;
 
 pub use fault::{BeginFault, Fault};
-pub use keeper::{LONGEST_INPUT, Session};
+pub use keeper::{LONGEST_INPUT, Session, setup_with};
+pub use replay::run_to;
 pub use reply::Reply;
 pub use sending::send;
 pub use serving::{READS, ServeFault, serve};

@@ -65,8 +65,9 @@ fn pass_marks(
     }
 }
 
-/// The machine at a step of the run from a start, with its marks. Each step is made on the meter.
-pub(crate) fn run_to(
+/// The machine at a step of the run from a start, with its marks. Each step is made on the meter. An error means that memory failed; the
+/// machine is dropped then.
+pub fn run_to(
     start: Machine,
     setup: &Setup,
     marks: &[Mark],

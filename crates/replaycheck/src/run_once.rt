@@ -1,15 +1,12 @@
 //! One program, one report.
 ghost use Rattle.std.specs.Prelude.{◌≡◌, ◌<◌, ◌↔◌, Err, IfOk, OnOk, IfErr, length};
-ghost use Rattle.replaycheck.specs.Setups.{longest_input};
-ghost use Rattle.replaycheck.specs.Once.{report_once, StopsBy};
-ghost use Rattle.std.specs.Io.KnownBytes.{Appends};
+ghost use Rattle.replay_session.specs.Setups.{longest_input};
+ghost use Rattle.replaycheck.specs.Once.{IsReportOnce, WritesReport, StopsBy};
 
-use crate::sending::send;
-use crate::session::keeper::{LONGEST_INPUT, setup_with};
-use crate::session::replay::run_to;
 use guest_elf::Image;
 use guest_machine::{Machine, Meter};
 use replay_report::{Options, render};
+use replay_session::{LONGEST_INPUT, run_to, send, setup_with};
 use std::alloc::{AllocError, Global};
 use std::io::Write;
 use suppressions::Suppression;
@@ -37,7 +34,7 @@ fn report_once(
     suppressions: &[Suppression],
     step: u32,
 ) -> Result<Vec<u8>, AllocError>
-    ensures { IfOk result (λ text. text.items ≡ report_once image.now input.items suppressions.now step) }
+    ensures { IfOk result (λ text. IsReportOnce image.now input.items suppressions.now step text.items) }
 {
     let start = Machine::start(alloc, image)?;
     let setup = setup_with(input);
@@ -67,9 +64,9 @@ pub fn run_once<W: Write>(
     step: u32,
     writer: &mut W,
 ) -> Result<(), RunFault>
-    ensures ok { OnOk result (Appends (W.contents writer.old) (W.contents writer.new) (report_once image.now input.items suppressions.now step)) }
+    ensures ok { OnOk result (WritesReport (IsReportOnce image.now input.items suppressions.now step) (W.contents writer.old) (W.contents writer.new)) }
     ensures large { (result ≡ Err RunFault.InputTooLarge) ↔ (longest_input < length input.items) }
-    ensures fault { IfErr result (λ fault. StopsBy fault (report_once image.now input.items suppressions.now step) (W.contents writer.old) (W.contents writer.new)) }
+    ensures fault { IfErr result (λ fault. StopsBy fault (IsReportOnce image.now input.items suppressions.now step) (W.contents writer.old) (W.contents writer.new)) }
 {
     if input.len() > LONGEST_INPUT {
         return Err(RunFault::InputTooLarge);

@@ -23,7 +23,7 @@ pub same_under : (a b : Directory) → ((i : ℕ) → cells_at (slice_index_or b
 unfolding cells_under
 same_under a b h = fun_ext (λ n. ap (λ f. f (n % 4096)) (h (n / 4096)))
 
-pub same_of : (a b : Memory) → ((i : ℕ) → cells_below (slice_index_or b.directories.items i (Below.Blank NoAccess)) ≡ cells_below (slice_index_or a.directories.items i (Below.Blank NoAccess))) → cells_of b ≡ cells_of a
+pub same_of : (a b : Memory) → ((i : ℕ) → cells_below (slice_index_or b.directories.items i Below.Blank) ≡ cells_below (slice_index_or a.directories.items i Below.Blank)) → cells_of b ≡ cells_of a
 unfolding cells_of
 same_of a b h = fun_ext (λ n. ap (λ f. f (n % 4194304)) (h (n / 4194304)))
 

@@ -10,11 +10,11 @@ use Rattle.shadow_memory.specs.declared.memory.DirectorySlot.{DirectorySlot}
 use Rattle.shadow_memory.specs.declared.memory.DirectorySlot.TheVariants.{Blank, Held}
 
 unfoldable pub cells_below : DirectorySlot → ℕ → Cell
-cells_below (Blank kind) = λ at. blank kind
+cells_below Blank = λ at. blank NoAccess
 cells_below (Held directory) = cells_under directory.value
 
 unfoldable pub cells_of : Memory → ℕ → Cell
-cells_of memory = λ a. cells_below (slice_index_or memory.directories.items (a / 4194304) (Blank NoAccess)) (a % 4194304)
+cells_of memory = λ a. cells_below (slice_index_or memory.directories.items (a / 4194304) Blank) (a % 4194304)
 
 -- the byte at each address
 unfoldable pub bytes_in : Memory → ℕ → ℕ

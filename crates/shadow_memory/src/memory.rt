@@ -14,16 +14,14 @@ use crate::views::View;
 use std::alloc::{AllocError, Global};
 use std::rc::Rc;
 
-// How many directories the addresses have, and how many bytes one of them has.
-const DIRECTORIES: usize = 1024;
-
+// How many bytes a directory has.
 const DIRECTORY: usize = 4194304;
 
 /// 1,024 pages, which may be blank, or shared.
 #[derive(Drop)]
 pub(crate) enum DirectorySlot {
-    /// Zeros, all of one kind.
-    Blank(RangeKind),
+    /// Inaccessible zeros.
+    Blank,
     /// Pages, which other memories may hold too.
     Held(Rc<Directory>),
 }
@@ -31,7 +29,7 @@ pub(crate) enum DirectorySlot {
 /// A byte for each of 2^32 addresses, and what is known of it.
 #[derive(Drop)]
 pub struct Memory {
-    // Those from its end on are blank and inaccessible.
+    // Those from its end on are blank.
     directories: Vec<DirectorySlot>,
     alloc: Global,
 }
@@ -44,17 +42,17 @@ impl DirectorySlot {
         ensures { (a : ℕ) → a / 4096 ≡ at / 4096 → a < 4194304 → cells_below self.now a ≡ cells_seen result (a % 4096) }
     {
         match self {
-            DirectorySlot::Blank(kind) => View::Blank(*kind),
+            DirectorySlot::Blank => View::Blank(RangeKind::NoAccess),
             DirectorySlot::Held(directory) => directory.view(at),
         }
     }
 
-    // Is it blank, and not all defined?
+    // Is it blank?
     fn has_no_word(&self) -> bool
         ensures { IsTrue result → (k : ℕ) → is_bad true (shadow_in (cells_below self.now k)) ≡ true }
     {
         match self {
-            DirectorySlot::Blank(kind) => *kind != RangeKind::Defined,
+            DirectorySlot::Blank => true,
             DirectorySlot::Held(_) => false,
         }
     }
@@ -72,8 +70,8 @@ impl DirectorySlot {
                 let own = Rc::make_mut(shared)?;
                 own.change(alloc, at, edit)
             }
-            DirectorySlot::Blank(kind) => {
-                let mut directory = Directory::new(alloc, *kind)?;
+            DirectorySlot::Blank => {
+                let mut directory = Directory::new(alloc, RangeKind::NoAccess)?;
                 directory.change(alloc, at, edit)?;
                 *self = DirectorySlot::Held(Rc::new(alloc, directory)?);
                 Ok(())
@@ -88,7 +86,7 @@ impl Clone for DirectorySlot {
 
     fn clone(&self) -> Result<DirectorySlot, AllocError> {
         match self {
-            DirectorySlot::Blank(kind) => Ok(DirectorySlot::Blank(*kind)),
+            DirectorySlot::Blank => Ok(DirectorySlot::Blank),
             DirectorySlot::Held(directory) => Ok(DirectorySlot::Held(directory.clone()?)),
         }
     }
@@ -136,7 +134,7 @@ impl Memory {
         }
     }
 
-    /// Is a directory, by its number, blank, and not all defined?
+    /// Is a directory, by its number, blank?
     pub(crate) fn has_no_word(&self, number: u32) -> bool
         ensures { IsTrue result → (a : ℕ) → a / 4194304 ≡ number → is_bad true (shadows_in self.now a) ≡ true }
     {
@@ -148,14 +146,14 @@ impl Memory {
         }
     }
 
-    // Makes room for all directories.
-    fn grow(&mut self) -> Result<(), AllocError>
+    // Makes room for a directory, by its number.
+    fn grow(&mut self, number: usize) -> Result<(), AllocError>
+        requires { number < 1024 }
         ensures same { cells_of self.new ≡ cells_of self.old }
-        ensures full { OnOk result (1024 ≤ vec_len self.new.directories) }
+        ensures room { OnOk result (number < vec_len self.new.directories) }
     {
-        for _i in self.directories.len()..DIRECTORIES {
-            self.directories
-                .push(DirectorySlot::Blank(RangeKind::NoAccess))?;
+        for _i in self.directories.len()..number + 1 {
+            self.directories.push(DirectorySlot::Blank)?;
         }
         Ok(())
     }
@@ -167,8 +165,8 @@ impl Memory {
         ensures ok { OnOk result (cells_of self.new ≡ changed_from (cells_of self.old) addr (count_of edit.now) (change_of edit.now)) }
         ensures err { OnErr result (cells_of self.new ≡ cells_of self.old) }
     {
-        self.grow()?;
         let at = addr as usize;
+        self.grow(at / DIRECTORY)?;
         self.directories[at / DIRECTORY].change(self.alloc, at % DIRECTORY, edit)
     }
 

@@ -1,9 +1,10 @@
-//! Measures the machine through its public calls: steps, shares, starts, and errors among many groups. With no argument it
-//! prints its usage alone.
+//! Measures the machine and its parts through their public calls: steps, shares, starts, errors among many groups, and calls of the
+//! heap. With no argument it prints its usage alone.
 #![tactic(auto)]
 
 mod errors;
 mod guests;
+mod heap;
 mod shares;
 mod starts;
 mod steps;
@@ -20,6 +21,8 @@ enum Measurement {
     Start,
     /// An error among so many groups.
     Errors(u32),
+    /// So many calls of the heap, of each kind.
+    Heap(u32),
 }
 
 /// What a word asks for, with the number that follows it.
@@ -36,6 +39,9 @@ fn measurement_of(word: &str, number: Option<u32>) -> Option<Measurement> {
     }
     if word == "errors" {
         return Some(Measurement::Errors(number));
+    }
+    if word == "heap" {
+        return Some(Measurement::Heap(number));
     }
     None
 }
@@ -59,6 +65,7 @@ fn main(rt: HostRuntime) -> io::Result<()> {
         Some(Measurement::Share) => shares::measure(&rt),
         Some(Measurement::Start) => starts::measure(&rt),
         Some(Measurement::Errors(groups)) => errors::measure(&rt, groups),
-        None => println!(rt; "usage: step_bench steps N | share | start | errors G"),
+        Some(Measurement::Heap(count)) => heap::measure(&rt, count),
+        None => println!(rt; "usage: step_bench steps N | share | start | errors G | heap N"),
     }
 }

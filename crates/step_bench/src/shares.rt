@@ -4,7 +4,7 @@ use crate::guests::{PROGRAM_START, loop_program, print_each};
 use guest_elf::read;
 use guest_machine::Machine;
 use std::alloc::{AllocError, Global};
-use std::io;
+use std::{fs, io};
 use std::time::Instant;
 
 // How many bytes of memory the program has: 16 MiB.
@@ -17,6 +17,11 @@ const PAGE: u32 = 4096;
 
 const SHARES: u32 = 1000;
 
+// Where Linux tells how many pages a process holds, and a page's size on x86-64 (proc(5)).
+const HELD_PAGES: &str = "/proc/self/statm";
+
+const HELD_PAGE: u64 = 4096;
+
 /// A word is poked in each page, so that its bytes are held.
 fn touch(machine: Machine) -> Result<Machine, AllocError> {
     let mut machine = machine;
@@ -25,6 +30,14 @@ fn touch(machine: Machine) -> Result<Machine, AllocError> {
         machine = machine.poke_word(at.wrapping_add(256), page)?;
     }
     Ok(machine)
+}
+
+/// The bytes of memory that the process holds: the second number of the file, in pages; 0 where it can't be read.
+fn held_bytes(rt: &HostRuntime) -> io::Result<u64> {
+    let text = fs::read_to_string(rt, HELD_PAGES)?;
+    let pages = text.as_str().split(' ').nth(1);
+    let held: u64 = pages.and_then(|word| word.parse().ok()).unwrap_or(0);
+    Ok(held.saturating_mul(HELD_PAGE))
 }
 
 /// So many shares, all kept.
@@ -60,9 +73,12 @@ pub(crate) fn measure(rt: &HostRuntime) -> io::Result<()> {
         return println!(rt; "the program is refused");
     };
     let machine = touch(Machine::start(rt.alloc(), &image)?)?;
+    let before = held_bytes(rt)?;
     let began = Instant::now(rt)?;
     let _shares = kept_shares(rt.alloc(), &machine)?;
     print_each(rt, "share, kept", SHARES, began.elapsed(rt)?.as_secs_f64())?;
+    let grown = held_bytes(rt)?.saturating_sub(before);
+    println!(rt; "share, kept: {} bytes each", grown / u64::from(SHARES))?;
     let began = Instant::now(rt)?;
     dropped_shares(&machine)?;
     print_each(

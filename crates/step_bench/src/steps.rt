@@ -1,4 +1,5 @@
 //! Steps.
+ghost use Rattle.std.specs.Prelude.{◌≡◌, ◌+◌, min, OnOk};
 
 use crate::guests::{loop_program, print_each};
 use guest_elf::read;
@@ -16,12 +17,16 @@ fn run(
     machine: Machine,
     steps: u32,
     meter: &mut Meter,
-) -> Result<Machine, AllocError> {
+) -> Result<Machine, AllocError>
+    ensures { OnOk result (meter.new ≡ min (meter.old + steps) u64.MAX) }
+{
     let setup = Setup {
         input: Input::new(Vec::new(alloc)),
         redzone: 16,
         volume: 20_000_000,
     };
+    // At most the greatest u64, as is asked of its sum with the steps.
+    let _before = meter.read();
     let mut machine = machine;
     for _step in 0..steps {
         let (next, _touched) = machine.step(&setup, meter)?;

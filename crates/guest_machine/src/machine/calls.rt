@@ -1,13 +1,11 @@
 //! The calls that a program makes of its environment.
 ghost use Rattle.std.specs.Prelude.{◌≡◌, ◌+◌, ◌-◌, ◌^◌, ◌<◌, ◌≤◌, ◌∷◌, [], length, min, nat_le, slice_index, Some, IfOk, OnOk};
-ghost use Rattle.error_events.specs.Adding.{add_events};
-ghost use Rattle.error_events.specs.Shown.{groups_of};
 ghost use Rattle.guest_machine.specs.Calls.{argument, answers, call_tested, call_errors, tested_from, errors_from, moved_len, exit_call, output_room};
 ghost use Rattle.guest_machine.specs.Errors.{fault_of, buffer_errors};
 ghost use Rattle.shadow_memory.specs.Ranges.{written};
 ghost use Rattle.guest_machine.specs.Effects.{stored_core};
 ghost use Rattle.guest_machine.specs.Exec.{nothing, given_at, read_uses, write_uses};
-ghost use Rattle.guest_machine.specs.Shows.{core_of, bytes_of, input_left, uses_by, Does, DoesRow, DoesRead, DoesWrite};
+ghost use Rattle.guest_machine.specs.Shows.{core_of, bytes_of, input_left, uses_by, Raises, Does, DoesRow, DoesRead, DoesWrite};
 
 use crate::call::Call;
 use crate::instruction::Instruction;
@@ -66,7 +64,7 @@ impl Guest {
         ensures memory { self.new.memory ≡ self.old.memory }
         ensures counts { self.new.counts ≡ self.old.counts }
         ensures heap { self.new.heap ≡ self.old.heap }
-        ensures groups { OnOk result (groups_of self.new.groups ≡ add_events (groups_of self.old.groups) (errors_from (core_of self.old) 10 (first ∷ []))) }
+        ensures groups { OnOk result (Raises self.old self.new (errors_from (core_of self.old) 10 (first ∷ []))) }
     {
         self.test_parameter(Register::new(A0), first)
     }
@@ -78,7 +76,7 @@ impl Guest {
         ensures memory { self.new.memory ≡ self.old.memory }
         ensures counts { self.new.counts ≡ self.old.counts }
         ensures heap { self.new.heap ≡ self.old.heap }
-        ensures groups { OnOk result (groups_of self.new.groups ≡ add_events (groups_of self.old.groups) (errors_from (core_of self.old) 10 (first ∷ second ∷ []))) }
+        ensures groups { OnOk result (Raises self.old self.new (errors_from (core_of self.old) 10 (first ∷ second ∷ []))) }
     {
         self.test_parameter(Register::new(A0), first)?;
         self.test_parameter(Register::new(A1), second)
@@ -96,7 +94,7 @@ impl Guest {
         ensures memory { self.new.memory ≡ self.old.memory }
         ensures counts { self.new.counts ≡ self.old.counts }
         ensures heap { self.new.heap ≡ self.old.heap }
-        ensures groups { OnOk result (groups_of self.new.groups ≡ add_events (groups_of self.old.groups) (errors_from (core_of self.old) 10 (first ∷ second ∷ third ∷ []))) }
+        ensures groups { OnOk result (Raises self.old self.new (errors_from (core_of self.old) 10 (first ∷ second ∷ third ∷ []))) }
     {
         self.test_parameter(Register::new(A0), first)?;
         self.test_parameter(Register::new(A1), second)?;
@@ -110,7 +108,7 @@ impl Guest {
         ensures memory { self.new.memory ≡ self.old.memory }
         ensures counts { self.new.counts ≡ self.old.counts }
         ensures heap { self.new.heap ≡ self.old.heap }
-        ensures groups { OnOk result (groups_of self.new.groups ≡ add_events (groups_of self.old.groups) (call_errors (core_of self.old) call)) }
+        ensures groups { OnOk result (Raises self.old self.new (call_errors (core_of self.old) call)) }
     {
         self.test_parameter(Register::new(A7), Parameter::SyscallNumber)?;
         match call {
@@ -168,7 +166,7 @@ impl Guest {
         ensures core { core_of self.new ≡ core_of self.old }
         ensures memory { self.new.memory ≡ self.old.memory }
         ensures counts { self.new.counts ≡ self.old.counts }
-        ensures groups { OnOk result (groups_of self.new.groups ≡ add_events (groups_of self.old.groups) (buffer_errors (core_of self.old) parameter need_defined start n)) }
+        ensures groups { OnOk result (Raises self.old self.new (buffer_errors (core_of self.old) parameter need_defined start n)) }
     {
         if let Some(bad) = self.memory.first_bad(start, n, need_defined) {
             let kind = Kind::Param(parameter, fault_of(bad));

@@ -1,15 +1,14 @@
 //! The tests of a step, and the errors that they record.
 ghost use Rattle.std.specs.Prelude.{◌≡◌, ◌∷◌, ◌<◌, [], OnOk};
-ghost use Rattle.error_events.specs.Adding.{add_events};
-ghost use Rattle.error_events.specs.Shown.{groups_of};
 ghost use Rattle.guest_machine.specs.Registers.{tested};
 ghost use Rattle.guest_machine.specs.Effects.{branch_tested, branch_errors};
 ghost use Rattle.guest_machine.specs.Errors.{here, event_of, event_unless, event_about, note_at, region_note, register_errors, value_errors, parameter_errors};
-ghost use Rattle.guest_machine.specs.Shows.{core_of};
+ghost use Rattle.guest_machine.specs.Shows.{core_of, Raises};
 
+use crate::alu::is_undecided;
+use crate::instruction::Test;
 use crate::machine::Guest;
 use crate::register::Register;
-use definedness::undef_branch;
 use error_events::{Event, Fault3, Kind, Note, Parameter};
 use std::alloc::AllocError;
 
@@ -43,7 +42,7 @@ impl Guest {
         ensures memory { self.new.memory ≡ self.old.memory }
         ensures counts { self.new.counts ≡ self.old.counts }
         ensures heap { self.new.heap ≡ self.old.heap }
-        ensures groups { OnOk result (groups_of self.new.groups ≡ add_events (groups_of self.old.groups) (event_of (here (core_of self.old)) kind note ∷ [])) }
+        ensures groups { OnOk result (Raises self.old self.new (event_of (here (core_of self.old)) kind note ∷ [])) }
     {
         let trace = self.frames.trace(self.pc);
         self.groups.add(Event { kind, trace, note })
@@ -55,7 +54,7 @@ impl Guest {
         ensures core { core_of self.new ≡ core_of self.old }
         ensures memory { self.new.memory ≡ self.old.memory }
         ensures counts { self.new.counts ≡ self.old.counts }
-        ensures groups { OnOk result (groups_of self.new.groups ≡ add_events (groups_of self.old.groups) (event_unless fine (here (core_of self.old)) kind)) }
+        ensures groups { OnOk result (Raises self.old self.new (event_unless fine (here (core_of self.old)) kind)) }
     {
         if !fine {
             self.raise(kind, Note::Absent)?;
@@ -69,7 +68,7 @@ impl Guest {
         ensures core { core_of self.new ≡ core_of self.old }
         ensures memory { self.new.memory ≡ self.old.memory }
         ensures counts { self.new.counts ≡ self.old.counts }
-        ensures groups { OnOk result (groups_of self.new.groups ≡ add_events (groups_of self.old.groups) (event_about (core_of self.old).blocks (here (core_of self.old)) kind fault)) }
+        ensures groups { OnOk result (Raises self.old self.new (event_about (core_of self.old).blocks (here (core_of self.old)) kind fault)) }
     {
         if let Some(addr) = fault {
             let note = self.note_at(addr);
@@ -85,7 +84,7 @@ impl Guest {
         ensures memory { self.new.memory ≡ self.old.memory }
         ensures counts { self.new.counts ≡ self.old.counts }
         ensures heap { self.new.heap ≡ self.old.heap }
-        ensures groups { OnOk result (groups_of self.new.groups ≡ add_events (groups_of self.old.groups) (register_errors (core_of self.old) r kind)) }
+        ensures groups { OnOk result (Raises self.old self.new (register_errors (core_of self.old) r kind)) }
     {
         if self.read_register(r).undef != 0 {
             self.raise(kind, Note::Absent)?;
@@ -99,7 +98,7 @@ impl Guest {
         ensures core { OnOk result (core_of self.new ≡ tested (core_of self.old) r) }
         ensures memory { self.new.memory ≡ self.old.memory }
         ensures counts { self.new.counts ≡ self.old.counts }
-        ensures groups { OnOk result (groups_of self.new.groups ≡ add_events (groups_of self.old.groups) (value_errors (core_of self.old) r)) }
+        ensures groups { OnOk result (Raises self.old self.new (value_errors (core_of self.old) r)) }
     {
         self.test(r, Kind::Value)
     }
@@ -114,20 +113,25 @@ impl Guest {
         ensures memory { self.new.memory ≡ self.old.memory }
         ensures counts { self.new.counts ≡ self.old.counts }
         ensures heap { self.new.heap ≡ self.old.heap }
-        ensures groups { OnOk result (groups_of self.new.groups ≡ add_events (groups_of self.old.groups) (parameter_errors (core_of self.old) r parameter)) }
+        ensures groups { OnOk result (Raises self.old self.new (parameter_errors (core_of self.old) r parameter)) }
     {
         self.test(r, Kind::Param(parameter, Fault3::Contains))
     }
 
-    /// Tests that a branch doesn't depend on undefined bits, and makes its registers defined.
+    /// Tests that a branch doesn't depend on undefined bits; if it does, its registers are made defined.
     #[tactic(auto, unfolding(crate::specs::Effects::branch_tested, crate::specs::Errors::event_unless, error_events::specs::Adding::add_events))]
-    pub(super) fn test_branch(&mut self, rs1: Register, rs2: Register) -> Result<(), AllocError>
-        ensures core { OnOk result (core_of self.new ≡ branch_tested (core_of self.old) rs1 rs2) }
+    pub(super) fn test_branch(
+        &mut self,
+        test: Test,
+        rs1: Register,
+        rs2: Register,
+    ) -> Result<(), AllocError>
+        ensures core { OnOk result (core_of self.new ≡ branch_tested (core_of self.old) test rs1 rs2) }
         ensures memory { self.new.memory ≡ self.old.memory }
         ensures counts { self.new.counts ≡ self.old.counts }
-        ensures groups { OnOk result (groups_of self.new.groups ≡ add_events (groups_of self.old.groups) (branch_errors (core_of self.old) rs1 rs2)) }
+        ensures groups { OnOk result (Raises self.old self.new (branch_errors (core_of self.old) test rs1 rs2)) }
     {
-        if undef_branch(self.read_register(rs1), self.read_register(rs2)) {
+        if is_undecided(test, self.read_register(rs1), self.read_register(rs2)) {
             self.raise(Kind::Cond, Note::Absent)?;
             self.define(rs1);
             self.define(rs2);

@@ -3,15 +3,13 @@ ghost use Rattle.std.specs.Prelude.{◌≡◌, ◌+◌, ◌*◌, ◌≤◌, ◌<
 ghost use Rattle.std.specs.Option.{option_map};
 ghost use Rattle.shadow_memory.specs.Ranges.{written, window};
 ghost use Rattle.shadow_memory.specs.Changes.{AreApart};
-ghost use Rattle.error_events.specs.Adding.{add_events};
-ghost use Rattle.error_events.specs.Shown.{groups_of};
 ghost use Rattle.guest_heap.specs.Steps.{place};
 ghost use Rattle.guest_machine.specs.StackPointer.{ranged};
-ghost use Rattle.guest_machine.specs.HeapCalls.{placed, closed, carved, copied, IsClearOf, given_block, malloc_call, calloc_call, calloc_size, freed, released_here, is_invalid, free_call, moving, resizing, resized, resize_errors, moved_size, realloc_call};
+ghost use Rattle.guest_machine.specs.HeapCalls.{placed, closed, carved, copied, IsClearOf, given_block, malloc_call, calloc_call, freed, released_here, is_invalid, free_call, moving_in, resizing, resized, resize_errors, realloc_call};
 ghost use Rattle.guest_machine.specs.Effects.{no_bytes};
 ghost use Rattle.guest_machine.specs.Exec.{heap_uses, calling_heap, calloc_uses, realloc_uses, moved_from, moved_into, taken_from, written_to};
 ghost use Rattle.guest_machine.specs.Spans.{span_at};
-ghost use Rattle.guest_machine.specs.Shows.{core_of, bytes_of, Does};
+ghost use Rattle.guest_machine.specs.Shows.{core_of, bytes_of, Raises, Does, DoesRealloc};
 
 use crate::call::Call;
 use crate::machine::Guest;
@@ -80,9 +78,9 @@ impl Guest {
     }
 
     /// A block of a size, if there is a place for it, whose address is answered; 0 is answered where there is none.
-    #[tactic(auto, unfolding(crate::specs::HeapCalls::given_block))]
+    #[tactic(auto, unfolding(crate::specs::HeapCalls::block_at))]
     fn give_block(&mut self, size: u32, redzone: u32) -> Result<(), AllocError>
-        ensures core { OnOk result (core_of self.new ≡ given_block (core_of self.old) (place (core_of self.old).blocks size redzone) size redzone RangeKind.Undefined) }
+        ensures core { OnOk result (core_of self.new ≡ given_block (core_of self.old) size redzone RangeKind.Undefined) }
         ensures bytes { OnOk result (bytes_of self.new ≡ bytes_of self.old) }
         ensures counts { self.new.counts ≡ self.old.counts }
         ensures groups { self.new.groups ≡ self.old.groups }
@@ -98,9 +96,9 @@ impl Guest {
     }
 
     /// The same with zeros in it; where they are is told.
-    #[tactic(auto, unfolding(crate::specs::HeapCalls::given_block))]
+    #[tactic(auto, unfolding(crate::specs::HeapCalls::block_at))]
     fn give_zeros(&mut self, size: u32, redzone: u32) -> Result<Option<Span>, AllocError>
-        ensures core { OnOk result (core_of self.new ≡ given_block (core_of self.old) (place (core_of self.old).blocks size redzone) size redzone RangeKind.Defined) }
+        ensures core { OnOk result (core_of self.new ≡ given_block (core_of self.old) size redzone RangeKind.Defined) }
         ensures span { IfOk result (λ span. span ≡ option_map (λ p. span_at p size) (place (core_of self.old).blocks size redzone)) }
         ensures bytes { IfOk result (λ span. bytes_of self.new ≡ written_to (bytes_of self.old) span no_bytes) }
         ensures counts { self.new.counts ≡ self.old.counts }
@@ -156,7 +154,7 @@ impl Guest {
         self.give_block(size, redzone)
     }
 
-    #[tactic(auto, unfolding(crate::specs::HeapCalls::given_block, error_events::specs::Adding::add_events))]
+    #[tactic(auto, unfolding(crate::specs::HeapCalls::block_at, error_events::specs::Adding::add_events))]
     pub(super) fn calloc_call(&mut self, redzone: u32) -> Result<Option<Span>, AllocError>
         ensures does { OnOk result (Does self.old self.new (calloc_call (core_of self.old) redzone) (calling_heap (calloc_uses (core_of self.old) redzone))) }
         ensures writes { IfOk result (λ writes. writes ≡ (calloc_uses (core_of self.old) redzone).writes) }
@@ -244,9 +242,9 @@ impl Guest {
         volume: u32,
     ) -> Result<Used, AllocError>
         requires live { (core_of self.old).blocks.live block.start ≡ Some block }
-        ensures core { OnOk result (core_of self.new ≡ resized (core_of self.old) (place (core_of self.old).blocks size redzone) block.start size redzone volume (moving block (place (core_of self.old).blocks size redzone))) }
-        ensures reads { IfOk result (λ used. used.reads ≡ moved_from (moving block (place (core_of self.old).blocks size redzone)) block.start size) }
-        ensures writes { IfOk result (λ used. used.writes ≡ moved_into (moving block (place (core_of self.old).blocks size redzone)) size) }
+        ensures core { OnOk result (core_of self.new ≡ resized (core_of self.old) block.start size redzone volume (moving_in (core_of self.old).blocks block size redzone)) }
+        ensures reads { IfOk result (λ used. used.reads ≡ moved_from (moving_in (core_of self.old).blocks block size redzone) block.start size) }
+        ensures writes { IfOk result (λ used. used.writes ≡ moved_into (moving_in (core_of self.old).blocks block size redzone) size) }
         ensures bytes { IfOk result (λ used. bytes_of self.new ≡ written_to (bytes_of self.old) used.writes (taken_from (bytes_of self.old) used.reads)) }
         ensures counts { self.new.counts ≡ self.old.counts }
         ensures groups { self.new.groups ≡ self.old.groups }
@@ -275,12 +273,12 @@ impl Guest {
     /// Gives what is at an address another size.
     #[tactic(auto, unfolding(crate::specs::HeapCalls::resizing, crate::specs::HeapCalls::resized, crate::specs::HeapCalls::resize_errors, error_events::specs::Adding::add_events))]
     fn resize(&mut self, p: u32, size: u32, redzone: u32, volume: u32) -> Result<Used, AllocError>
-        ensures core { OnOk result (core_of self.new ≡ resized (core_of self.old) (place (core_of self.old).blocks size redzone) p size redzone volume (resizing (core_of self.old).blocks p size redzone)) }
+        ensures core { OnOk result (core_of self.new ≡ resized (core_of self.old) p size redzone volume (resizing (core_of self.old).blocks p size redzone)) }
         ensures reads { IfOk result (λ used. used.reads ≡ moved_from (resizing (core_of self.old).blocks p size redzone) p size) }
         ensures writes { IfOk result (λ used. used.writes ≡ moved_into (resizing (core_of self.old).blocks p size redzone) size) }
         ensures bytes { IfOk result (λ used. bytes_of self.new ≡ written_to (bytes_of self.old) used.writes (taken_from (bytes_of self.old) used.reads)) }
         ensures counts { self.new.counts ≡ self.old.counts }
-        ensures groups { OnOk result (groups_of self.new.groups ≡ add_events (groups_of self.old.groups) (resize_errors (core_of self.old) p (resizing (core_of self.old).blocks p size redzone))) }
+        ensures groups { OnOk result (Raises self.old self.new (resize_errors (core_of self.old) p (resizing (core_of self.old).blocks p size redzone))) }
     {
         if p == 0 {
             self.give_block(size, redzone)?;
@@ -301,7 +299,7 @@ impl Guest {
 
     #[tactic(auto, using(crate::proofs::Showing::add_events_append))]
     pub(super) fn realloc_call(&mut self, redzone: u32, volume: u32) -> Result<Used, AllocError>
-        ensures does { IfOk result (λ used. Does self.old self.new (realloc_call (core_of self.old) redzone volume (taken_from (bytes_of self.old) used.reads)) (calling_heap (realloc_uses (core_of self.old) redzone))) }
+        ensures does { OnOk result (DoesRealloc self.old self.new redzone volume) }
         ensures reads { IfOk result (λ used. used.reads ≡ (realloc_uses (core_of self.old) redzone).reads) }
         ensures writes { IfOk result (λ used. used.writes ≡ (realloc_uses (core_of self.old) redzone).writes) }
     {

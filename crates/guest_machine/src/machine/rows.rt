@@ -2,15 +2,13 @@
 ghost use Rattle.std.specs.Prelude.{◌≡◌, ◌<◌, Some, OnOk, IfOk};
 ghost use Rattle.shadow_memory.specs.Ranges.{byte_of, written};
 ghost use Rattle.shadow_memory.specs.Shadows.{first_inaccessible};
-ghost use Rattle.error_events.specs.Adding.{add_events};
-ghost use Rattle.error_events.specs.Shown.{groups_of};
 ghost use Rattle.error_events.specs.declared.kind.Kind.TheVariants.{Read as ReadError};
 ghost use Rattle.shadow_memory.specs.Ranges.{little_word, window};
 ghost use Rattle.guest_machine.specs.Errors.{access_errors, taken_undef};
 ghost use Rattle.guest_machine.specs.Widths.{width_len, width_limit};
 ghost use Rattle.guest_machine.specs.Effects.{results_in, load, store, branch, jump, jump_register, branched, stored_core};
 ghost use Rattle.guest_machine.specs.Exec.{nothing, accessed, writing, taken_from};
-ghost use Rattle.guest_machine.specs.Shows.{core_of, bytes_of, Does};
+ghost use Rattle.guest_machine.specs.Shows.{core_of, bytes_of, Raises, Does};
 
 use crate::alu::{extended, passes};
 use crate::hint::StackHint;
@@ -38,7 +36,7 @@ impl Guest {
         ensures core { core_of self.new ≡ core_of self.old }
         ensures memory { self.new.memory ≡ self.old.memory }
         ensures counts { self.new.counts ≡ self.old.counts }
-        ensures groups { OnOk result (groups_of self.new.groups ≡ add_events (groups_of self.old.groups) (access_errors (core_of self.old) (ReadError (width_len width)) start (width_len width))) }
+        ensures groups { OnOk result (Raises self.old self.new (access_errors (core_of self.old) (ReadError (width_len width)) start (width_len width))) }
         ensures value { IfOk result (λ bits. bits.value ≡ little_word (window (bytes_of self.old) start (width_len width))) }
         ensures undef { IfOk result (λ bits. bits.undef ≡ taken_undef (core_of self.old) start (width_len width)) }
         ensures small { IfOk result (λ bits. bits.value < width_limit width) }
@@ -127,7 +125,7 @@ impl Guest {
             self.read_register(rs2).value,
         );
         let to = self.pc.wrapping_add(imm);
-        self.test_branch(rs1, rs2)?;
+        self.test_branch(test, rs1, rs2)?;
         if taken {
             self.jump(to);
         } else {

@@ -1,6 +1,5 @@
 use Rattle.std.proofs.Common.{◌≡◌, arith, length}
 use Rattle.std.proofs.lemmas.Bool.Decides.{nat_tests}
-use Rattle.replay_session.proofs.Known.{sent-all}
 use Rattle.replay_session.proofs.ReplySteps.{replied-to}
 use Rattle.replay_session.proofs.answering.answer.Goals as goal
 
@@ -14,7 +13,7 @@ returns-then-all-clause-answered g c sc h =
       after = next.0;
       replies_to = next.2;
       has = next.1;
-      appended = sent-all _ _ c.send-sent.result.0 c.text-reply.result.now all c.send-sent.ensures.sent;
+      appended = c.send-sent.ensures.whole c.if-all.true;
       replies = let e = c.add.ensures.replies in grind (arith, nat_tests);
       bytes = let e = c.add.ensures.bytes in grind (arith, nat_tests);
     }

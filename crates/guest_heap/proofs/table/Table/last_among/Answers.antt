@@ -10,11 +10,11 @@ unfolding entries_of
 returns-in-Some c =
     let back : c.loop-i.i ≡ (c.loop-i.i - 1) + 1 = omega arith in
     let P : ℕ → Type 0 = λ x. AreNone (entries_of c.args.self.now) (x * 65536) c.args.at in
-    last_less65536 (λ i. entries_below (slice_index_or c.args.self.now.branches.items i None)) _ (c.loop-i.i - 1) _ (subst P back c.loop-i.invariant) (last_along _ _ _ _ _ (ap entries_below (get_or_read_under _ (c.loop-i.i - 1) (vec_len c.args.self.now.branches) _ None c.index.ensures (omega (arith, c.args.self.now.full)) (search rules))) c.min.ensures c.in-Some.ensures)
+    last_less65536 (λ i. entries_below (slice_index_or c.args.self.now.branches.items i None)) _ (c.loop-i.i - 1) _ (subst P back c.loop-i.invariant) (last_along _ _ _ _ _ (ap entries_below (get_or_read_under _ (c.loop-i.i - 1) (vec_len c.args.self.now.branches) _ None c.index.ensures (omega arith) (search rules))) c.min.ensures c.in-Some.ensures)
 
 pub loop-i-preserved : goal.loop-i-preserved
 unfolding entries_of
 loop-i-preserved c =
     let back : c.loop-i.i ≡ (c.loop-i.i - 1) + 1 = omega arith in
     let P : ℕ → Type 0 = λ x. AreNone (entries_of c.args.self.now) (x * 65536) c.args.at in
-    none_less65536 (λ i. entries_below (slice_index_or c.args.self.now.branches.items i None)) _ (c.loop-i.i - 1) (subst P back c.loop-i.invariant) (none_along _ _ _ _ _ _ (ap entries_below (get_or_read_under _ (c.loop-i.i - 1) (vec_len c.args.self.now.branches) _ None c.index.ensures (omega (arith, c.args.self.now.full)) (search rules))) refl c.min.ensures c.in_default.ensures)
+    none_less65536 (λ i. entries_below (slice_index_or c.args.self.now.branches.items i None)) _ (c.loop-i.i - 1) (subst P back c.loop-i.invariant) (none_along _ _ _ _ _ _ (ap entries_below (get_or_read_under _ (c.loop-i.i - 1) (vec_len c.args.self.now.branches) _ None c.index.ensures (omega arith) (search rules))) refl c.min.ensures c.in_default.ensures)

@@ -1,0 +1,288 @@
+-- Places of words in a table, and the words that a range meets.
+use Rattle.std.proofs.Common.{◌≡◌, ℕ, zero, suc, ◌+◌, ◌-◌, ◌*◌, ◌/◌, ◌%◌, ◌^◌, ◌<◌, ◌≤◌, ◌==◌, ◌||◌, nat_lt, Bool, true, false, cond, List, [], ◌∷◌, refl, ap, sym, add-zero, add-one, drop, drop-cons, ◌++◌, ◌⊎◌, ◌∙◌, inl, inr, arith, min, max, map, subst, length, get_or, eq-eqb, ne_eqb, Some, None}
+use Rattle.std.proofs.Math.ListN.{set, get_or-map}
+use Rattle.std.proofs.lemmas.Bool.{cases_eq, cases_lt, false≢true}
+use Rattle.std.proofs.lemmas.Bool.Decides.{nat_tests}
+use Rattle.std.proofs.lemmas.List.{get_or-set_other, get_or-set_same}
+use Rattle.shadow_memory.specs.Ranges.{is_in, offset}
+use Rattle.guest_machine.specs.Spans.{covers}
+use Rattle.guest_machine.specs.declared.span.Span.{Span}
+use Rattle.guest_machine.specs.declared.setup.Touched.{Touched}
+use Rattle.guest_machine.specs.Exec.{has_touched}
+use Rattle.checkpoints.specs.Words.{meets, has_address, is_among, IsWordIn, words_in, words_of, has_word, place_in, IsPlaced, never, AreBelow}
+
+-- words in and out of a range
+inside : (r : Span) (w : ℕ) → has_word r w ≡ true → (r.start / 4 ≤ w) × (w < r.start / 4 + words_in r)
+inside r w h = (grind (arith, nat_tests), grind (arith, nat_tests))
+
+-- two words at one place are one
+pub place-apart : (rs : List Span) (v w : ℕ) → place_in rs v ≡ place_in rs w → IsPlaced rs w → v ≡ w
+unfolding place_in words_of
+place-apart [] v w e h = absurd (omega arith)
+place-apart (r ∷ rs) v w e h = go (place-apart rs v w) (has_word r v) (has_word r w) refl refl e h
+  where
+    go : (place_in rs v ≡ place_in rs w → IsPlaced rs w → v ≡ w) → (a b : Bool) → has_word r v ≡ a → has_word r w ≡ b
+        → cond a (v - r.start / 4) (words_in r + place_in rs v) ≡ cond b (w - r.start / 4) (words_in r + place_in rs w)
+        → cond b (w - r.start / 4) (words_in r + place_in rs w) < words_in r + words_of rs → v ≡ w
+    go rest true true p q k l = let x = inside r v p in let y = inside r w q in omega arith
+    go rest true false p q k l = let x = inside r v p in absurd (omega arith)
+    go rest false true p q k l = let y = inside r w q in absurd (omega arith)
+    go rest false false p q k l = rest (omega arith) (omega arith)
+
+-- a word with a byte in the ranges has a place
+has-word : (r : Span) (a w : ℕ) → has_address r a ≡ true → a / 4 ≡ w → has_word r w ≡ true
+has-word r a w h e = grind (arith, nat_tests)
+
+place-of-address : (rs : List Span) (a w : ℕ) → is_among rs a ≡ true → a / 4 ≡ w → IsPlaced rs w
+unfolding place_in words_of is_among
+place-of-address [] a w h e = absurd (false≢true h)
+place-of-address (r ∷ rs) a w h e = go (λ m. place-of-address rs a w m e) (has_address r a) (has_word r w) refl refl h
+  where
+    go : (is_among rs a ≡ true → IsPlaced rs w) → (p q : Bool) → has_address r a ≡ p → has_word r w ≡ q → (p || is_among rs a) ≡ true → cond q (w - r.start / 4) (words_in r + place_in rs w) < words_in r + words_of rs
+    go rest p true k l m = let x = inside r w l in omega arith
+    go rest true false k l m = absurd (false≢true (sym l ∙ has-word r a w k e))
+    go rest false false k l m = let x = rest m in omega arith
+
+pub placed-word : (rs : List Span) (addr : ℕ) → IsWordIn rs addr → IsPlaced rs (addr / 4)
+placed-word rs addr h = place-of-address rs (addr + 0) (addr / 4) (h.loaded 0 (omega arith)) (omega arith)
+
+-- an entry, after a step was entered for a word that has a place, or that has none
+pub entered-there : (rs : List Span) (ss : List ℕ) (v w step first : ℕ) (d : ℕ) → length ss ≡ words_of rs → IsPlaced rs w → place_in rs v < length ss → first ≡ min (get_or ss (place_in rs v) d) step
+    → get_or (set ss (place_in rs v) first) (place_in rs w) d ≡ cond (w == v) (min (get_or ss (place_in rs w) d) step) (get_or ss (place_in rs w) d)
+entered-there rs ss v w step first d size h l e = elim (cases_eq w v) [
+  | inl same ↦ (
+      let here : place_in rs w ≡ place_in rs v = ap (place_in rs) same in
+      ap (λ k. get_or (set ss (place_in rs v) first) k d) here ∙ get_or-set_same ss (place_in rs v) first d l ∙ e ∙ ap (λ k. min (get_or ss k d) step) (sym here)
+      ∙ sym (ap (λ b. cond b (min (get_or ss (place_in rs w) d) step) (get_or ss (place_in rs w) d)) (eq-eqb w v same))
+      )
+  | inr other ↦ (
+      get_or-set_other ss (place_in rs v) (place_in rs w) first d (λ k. other (sym (place-apart rs v w (sym k) h)))
+      ∙ sym (ap (λ b. cond b (min (get_or ss (place_in rs w) d) step) (get_or ss (place_in rs w) d)) (ne_eqb w v other))
+      )
+]
+
+pub entered-nowhere : (rs : List Span) (ss : List ℕ) (v w step d : ℕ) → length ss ≡ words_of rs → IsPlaced rs w → length ss ≤ place_in rs v
+    → get_or ss (place_in rs w) d ≡ cond (w == v) (min (get_or ss (place_in rs w) d) step) (get_or ss (place_in rs w) d)
+entered-nowhere rs ss v w step d size h l =
+    let other : w ≡ v → ⊥ = λ same. let here : place_in rs w ≡ place_in rs v = ap (place_in rs) same in omega arith in
+    sym (ap (λ b. cond b (min (get_or ss (place_in rs w) d) step) (get_or ss (place_in rs w) d)) (ne_eqb w v other))
+
+-- how far a word lies above another, where the one after the last is the first
+distance : ℕ → ℕ → ℕ
+distance first w = (w + 2 ^ 30 - first) % 2 ^ 30
+
+-- is a word among the n from one on?
+pub word_in : ℕ → ℕ → ℕ → Bool
+unfolding distance
+word_in first n w = nat_lt (distance first w) n
+
+pub no-word : (first w x y : ℕ) → x ≡ cond (word_in first 0 w) y x
+unfolding word_in distance
+no-word first w x y = grind (arith, nat_tests)
+
+-- the word i above the first
+reaches : (first i w : ℕ) → first < 2 ^ 30 → w < 2 ^ 30 → w ≡ (first + i) % 2 ^ 30 → word_in first (i + 1) w ≡ true
+unfolding word_in distance
+reaches first i w a b e = grind (arith, nat_tests)
+
+passes : (first i w : ℕ) → first < 2 ^ 30 → w < 2 ^ 30 → (w ≡ (first + i) % 2 ^ 30 → ⊥) → word_in first (i + 1) w ≡ word_in first i w
+unfolding word_in distance
+passes first i w a b e = grind (arith, nat_tests)
+
+-- one more word of a range is entered
+pub next-word : (first i w x now new step : ℕ) → first < 2 ^ 30 → w < 2 ^ 30 → now ≡ cond (word_in first i w) (min x step) x → new ≡ cond (w == (first + i) % 2 ^ 30) (min now step) now
+    → new ≡ cond (word_in first (i + 1) w) (min x step) x
+next-word first i w x now new step a b e f = elim (cases_eq w ((first + i) % 2 ^ 30)) [
+  | inl same ↦ (f ∙ ap (λ t. cond t (min now step) now) (eq-eqb w _ same) ∙ twice (word_in first i w) e ∙ sym (ap (λ t. cond t (min x step) x) (reaches first i w a b same)))
+  | inr other ↦ (f ∙ ap (λ t. cond t (min now step) now) (ne_eqb w _ other) ∙ e ∙ sym (ap (λ t. cond t (min x step) x) (passes first i w a b other)))
+]
+  where
+    twice : (t : Bool) → now ≡ cond t (min x step) x → min now step ≡ min x step
+    twice true k = omega arith
+    twice false k = omega arith
+
+-- tests of several
+or-first : (a b : Bool) → a ≡ true → (a || b) ≡ true
+or-first true b h = refl
+or-first false b h = cc
+
+or-later : (a b : Bool) → b ≡ true → (a || b) ≡ true
+or-later true b h = refl
+or-later false b h = h
+
+or-none : (a b : Bool) → a ≡ false → b ≡ false → (a || b) ≡ false
+or-none true b h k = h
+or-none false b h k = k
+
+or-swap : (a b c d : Bool) → ((a || b) || (c || d)) ≡ ((a || c) || (b || d))
+or-swap true b c d = refl
+or-swap false true true d = refl
+or-swap false true false d = refl
+or-swap false false c d = refl
+
+-- a word is met at one of its four addresses, or at none
+meets-at : (j : ℕ) (p : ℕ → Bool) (a : ℕ) → j < 4 → p (a + j) ≡ true → meets p a ≡ true
+meets-at zero p a l h = or-first (p a) _ (ap p (sym (add-zero a)) ∙ h)
+meets-at (suc zero) p a l h = or-later (p a) _ (or-first (p (a + 1)) _ h)
+meets-at (suc (suc zero)) p a l h = or-later (p a) _ (or-later (p (a + 1)) _ (or-first (p (a + 2)) _ h))
+meets-at (suc (suc (suc zero))) p a l h = or-later (p a) _ (or-later (p (a + 1)) _ (or-later (p (a + 2)) _ h))
+meets-at (suc (suc (suc (suc n)))) p a l h = absurd (omega arith)
+
+meets-nowhere : (p : ℕ → Bool) (a : ℕ) → ((j : ℕ) → j < 4 → p (a + j) ≡ false) → meets p a ≡ false
+meets-nowhere p a h = or-none (p a) _ (ap p (sym (add-zero a)) ∙ h 0 (omega arith)) (or-none (p (a + 1)) _ (h 1 (omega arith)) (or-none (p (a + 2)) _ (h 2 (omega arith)) (h 3 (omega arith))))
+
+pub unmet : (p : ℕ → Bool) (addr a : ℕ) → meets p addr ≡ false → addr % 4 ≡ 0 → a / 4 ≡ addr / 4 → p a ≡ false
+unmet p addr a h m e = go (p a) refl
+  where
+    go : (b : Bool) → p a ≡ b → b ≡ false
+    go false k = refl
+    go true k = absurd (false≢true (sym h ∙ meets-at (a - addr) p addr (omega arith) (ap p (back (omega arith)) ∙ k)))
+      where
+        back : addr ≤ a → addr + (a - addr) ≡ a
+        back l = omega arith
+
+pub meets-or : (p q : ℕ → Bool) (a : ℕ) → meets (λ x. p x || q x) a ≡ (meets p a || meets q a)
+meets-or p q a =
+    ap (λ b. (p a || q a) || b) (ap (λ b. (p (a + 1) || q (a + 1)) || b) (or-swap (p (a + 2)) (q (a + 2)) (p (a + 3)) (q (a + 3))) ∙ or-swap (p (a + 1)) (q (a + 1)) (p (a + 2) || p (a + 3)) (q (a + 2) || q (a + 3)))
+    ∙ or-swap (p a) (q a) (p (a + 1) || (p (a + 2) || p (a + 3))) (q (a + 1) || (q (a + 2) || q (a + 3)))
+
+pub meets-touched : (t : Touched) (a : ℕ) → meets (has_touched t) a ≡ (meets (covers t.fetch) a || (meets (covers t.reads) a || meets (covers t.writes) a))
+meets-touched t a = meets-or (covers t.fetch) (λ x. covers t.reads x || covers t.writes x) a ∙ ap (λ b. meets (covers t.fetch) a || b) (meets-or (covers t.reads) (covers t.writes) a)
+
+-- the words that a range meets are those from its first on
+offset-first : (start w : ℕ) → start < 2 ^ 32 → w < 2 ^ 30 → distance (start / 4) w ≡ 0 → offset start (4 * w + start % 4) ≡ 0
+unfolding distance
+offset-first start w a b e = grind (arith, nat_tests)
+
+offset-word : (start w j : ℕ) → start < 2 ^ 32 → w < 2 ^ 30 → j < 4 → 0 < distance (start / 4) w → offset start (4 * w + j) + start % 4 ≡ 4 * distance (start / 4) w + j
+unfolding distance
+offset-word start w j a b l e = grind (arith, nat_tests)
+
+is-in : (start n a : ℕ) → offset start a < n → a < 2 ^ 32 → is_in start n a ≡ true
+is-in start n a l m = grind (arith, nat_tests)
+
+not-in : (start n a : ℕ) → n ≤ offset start a → is_in start n a ≡ false
+not-in start n a l = grind (arith, nat_tests)
+
+pub span-words : (span : Span) (w words : ℕ) → span.start < 2 ^ 32 → 0 < span.len → w < 2 ^ 30 → words ≡ words_in span → meets (is_in span.start span.len) (4 * w) ≡ word_in (span.start / 4) words w
+unfolding word_in
+span-words span w words small some few size = elim (cases_lt d words) [
+  | inl near ↦ (met (cases_lt 0 d) near ∙ sym (near-is near))
+  | inr far ↦ (meets-nowhere (is_in span.start span.len) (4 * w) (λ j l. not-in span.start span.len (4 * w + j) (let o = offset-word span.start w j small few l (omega arith) in omega arith)) ∙ sym (far-is far))
+]
+  where
+    d : ℕ
+    d = distance (span.start / 4) w
+
+    near-is : d < words → nat_lt d words ≡ true
+    near-is l = grind (arith, nat_tests)
+
+    far-is : words ≤ d → nat_lt d words ≡ false
+    far-is l = grind (arith, nat_tests)
+
+    met : ((0 < d) ⊎ (d ≤ 0)) → d < words → meets (is_in span.start span.len) (4 * w) ≡ true
+    met (inl later) near = meets-at 0 (is_in span.start span.len) (4 * w) (omega arith) (let o = offset-word span.start w 0 small few (omega arith) later in is-in span.start span.len (4 * w + 0) (omega arith) (omega arith))
+    met (inr first) near = meets-at (span.start % 4) (is_in span.start span.len) (4 * w) (omega arith) (let o = offset-first span.start w small few (omega arith) in is-in span.start span.len (4 * w + span.start % 4) (omega arith) (omega arith))
+
+pub no-span : (w x y : ℕ) → x ≡ cond (meets (covers None) (4 * w)) y x
+no-span w x y = refl
+
+pub empty-span : (span : Span) (w x y : ℕ) → span.len ≡ 0 → x ≡ cond (meets (covers (Some span)) (4 * w)) y x
+empty-span span w x y e = sym (ap (λ b. cond b y x) (meets-nowhere (is_in span.start span.len) (4 * w) (λ j l. not-in span.start span.len (4 * w + j) (omega arith))))
+
+-- three ranges, one after another
+pub after-three : (f r w : Bool) (x k one two three : ℕ) → one ≡ cond f (min x k) x → two ≡ cond r (min one k) one → three ≡ cond w (min two k) two → three ≡ cond (f || (r || w)) (min x k) x
+after-three true true true x k one two three a b c = omega arith
+after-three true true false x k one two three a b c = omega arith
+after-three true false true x k one two three a b c = omega arith
+after-three true false false x k one two three a b c = omega arith
+after-three false true true x k one two three a b c = omega arith
+after-three false true false x k one two three a b c = omega arith
+after-three false false true x k one two three a b c = omega arith
+after-three false false false x k one two three a b c = omega arith
+
+-- a walk over the ranges
+pub place-here : (rs : List Span) (i w : ℕ) (d : Span) → i < length rs → has_word (get_or rs i d) w ≡ true → place_in (drop i rs) w ≡ w - (get_or rs i d).start / 4
+unfolding place_in
+place-here rs i w d l h =
+    ap (λ xs. place_in xs w) (drop-cons rs i d l) ∙ ap (λ b. cond b (w - (get_or rs i d).start / 4) (words_in (get_or rs i d) + place_in (drop (suc i) rs) w)) h
+
+pub place-later : (rs : List Span) (i w : ℕ) (d : Span) → i < length rs → has_word (get_or rs i d) w ≡ false → place_in (drop i rs) w ≡ words_in (get_or rs i d) + place_in (drop (i + 1) rs) w
+unfolding place_in
+place-later rs i w d l h = rw (add-one i) (
+    ap (λ xs. place_in xs w) (drop-cons rs i d l) ∙ ap (λ b. cond b (w - (get_or rs i d).start / 4) (words_in (get_or rs i d) + place_in (drop (suc i) rs) w)) h
+    )
+
+pub words-later : (rs : List Span) (i : ℕ) (d : Span) → i < length rs → words_of (drop i rs) ≡ words_in (get_or rs i d) + words_of (drop (i + 1) rs)
+unfolding words_of
+words-later rs i d l = rw (add-one i) (ap words_of (drop-cons rs i d l))
+
+pub words-none : words_of [] ≡ 0
+unfolding words_of
+words-none = refl
+
+pub place-none : (w : ℕ) → place_in [] w ≡ 0
+unfolding place_in
+place-none w = refl
+
+pub words-more : (rs : List Span) (r : Span) → words_of (rs ++ r ∷ []) ≡ words_of rs + words_in r
+unfolding words_of
+words-more [] r = omega arith
+words-more (x ∷ rs) r = omega (arith, words-more rs r)
+
+-- a word of a range
+pub word-at : (r : Span) (w : ℕ) → has_word r w ≡ true → (r.start / 4 ≤ w) × (w - r.start / 4 < words_in r)
+word-at r w h = let x = inside r w h in (x.0, omega arith)
+
+-- all steps stay below a number, as one is entered
+entered-low : (x first step entered limit : ℕ) → first ≡ min x step → step ≤ never → limit ≡ max entered (min (step + 1) never) → ((x ≡ never → ⊥) → x < entered) → (first ≡ never → ⊥) → first < limit
+entered-low x first step entered limit e l m b n = elim (cases_eq x never) [
+  | inl none ↦ omega arith
+  | inr some ↦ (let low = b some in omega arith)
+]
+
+pub entered-early : (ss : List ℕ) (place first step entered limit : ℕ) → place < length ss → first ≡ min (get_or ss place never) step → step ≤ never → limit ≡ max entered (min (step + 1) never) → AreBelow ss entered → AreBelow (set ss place first) limit
+entered-early ss place first step entered limit within e l m b k n = elim (cases_eq k place) [
+  | inl here ↦ (
+      let now : get_or (set ss place first) k never ≡ first = ap (λ i. get_or (set ss place first) i never) here ∙ get_or-set_same ss place first never within in
+      let low = entered-low (get_or ss place never) first step entered limit e l m (b place) (λ z. n (now ∙ z)) in
+      omega arith
+      )
+  | inr other ↦ (
+      let now : get_or (set ss place first) k never ≡ get_or ss k never = get_or-set_other ss place k first never other in
+      let low = b k (λ z. n (now ∙ z)) in
+      omega arith
+      )
+]
+
+-- and as those from one on are dropped
+either-never : (b : Bool) → cond b never never ≡ never
+either-never true = refl
+either-never false = refl
+
+left-low : (x n : ℕ) → (cond (nat_lt x n) x never ≡ never → ⊥) → cond (nat_lt x n) x never < n
+left-low x n h = go (nat_lt x n) refl h
+  where
+    go : (b : Bool) → nat_lt x n ≡ b → (cond b x never ≡ never → ⊥) → cond b x never < n
+    go true e k = grind (arith, nat_tests)
+    go false e k = absurd (k refl)
+
+pub forgotten-early : (ss : List ℕ) (n : ℕ) → AreBelow (map (λ x. cond (nat_lt x n) x never) ss) n
+forgotten-early ss n k h =
+    let f : ℕ → ℕ = λ x. cond (nat_lt x n) x never in
+    let now : get_or (map f ss) k never ≡ f (get_or ss k never) = ap (get_or (map f ss) k) (sym (either-never (nat_lt never n))) ∙ get_or-map f ss k never in
+    let P : ℕ → Type 0 = λ x. (x ≡ never → ⊥) → x < n in
+    subst P (sym now) (left-low (get_or ss k never) n) h
+
+pub still-early : (ss : List ℕ) (n step place : ℕ) → AreBelow ss n → n ≤ step → get_or ss place never ≡ cond (nat_lt (get_or ss place never) step) (get_or ss place never) never
+still-early ss n step place b l = elim (cases_eq (get_or ss place never) never) [
+  | inl none ↦ (none ∙ sym (ap (λ x. cond (nat_lt (get_or ss place never) step) x never) none ∙ same (nat_lt (get_or ss place never) step)))
+  | inr some ↦ (let low = b place some in sym (ap (λ t. cond t (get_or ss place never) never) (is-below (get_or ss place never) step (omega arith))))
+]
+  where
+    same : (t : Bool) → cond t never never ≡ never
+    same true = refl
+    same false = refl
+
+    is-below : (x y : ℕ) → x < y → nat_lt x y ≡ true
+    is-below x y h = grind (arith, nat_tests)

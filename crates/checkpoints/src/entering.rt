@@ -1,0 +1,150 @@
+//! How first uses are entered, looked up and forgotten.
+ghost use Rattle.std.specs.Prelude.{◌≡◌, ℕ, ◌+◌, ◌-◌, ◌*◌, ◌/◌, ◌%◌, ◌^◌, ◌<◌, ◌≤◌, ◌==◌, nat_lt, if◌then◌else◌, List, map, slice_index_or, min, length, vec_len, IfOk};
+ghost use Rattle.guest_machine.specs.Exec.{has_touched};
+ghost use Rattle.guest_machine.specs.Spans.{span_at};
+ghost use Rattle.guest_machine.specs.Spans.{covers};
+ghost use Rattle.guest_elf.specs.declared.segment.Segment.{Segment as SegmentOf};
+ghost use Rattle.checkpoints.specs.Words.{meets, words_in, words_of, has_word, place_in, IsPlaced, never};
+ghost use Rattle.checkpoints.specs.Entries.{ranges_of, entry_of, below};
+
+use crate::uses::FirstUses;
+use guest_elf::Segment;
+use guest_machine::{Span, Touched};
+use std::alloc::{AllocError, Global};
+
+/// In place of a step where there is none.
+const NEVER: u32 = u32::MAX;
+/// How many words there are at all.
+const ALL_WORDS: u32 = 1 << 30;
+
+/// How many words have a byte in a range.
+fn words_in(range: Span) -> usize
+    ensures { result ≡ words_in range }
+{
+    ((u64::from(range.start % 4) + u64::from(range.len) + 3) / 4) as usize
+}
+
+/// Whether a word is among those of a range.
+fn has_word(range: Span, word: u32) -> bool
+    ensures { result ≡ has_word range word }
+{
+    let first = range.start / 4;
+    word >= first && ((word - first) as usize) < words_in(range)
+}
+
+impl FirstUses {
+    /// A table over the segments of a program, with no step in it.
+    #[tactic(auto, unfolding(crate::specs::Entries::ranges_of))]
+    pub(crate) fn new(alloc: Global, segments: &[Segment]) -> Result<FirstUses, AllocError>
+        ensures ranges { IfOk result (λ uses. ranges_of uses ≡ map (λ (s : SegmentOf). span_at s.vaddr s.memsz) segments.now) }
+        ensures none { IfOk result (λ uses. (w : ℕ) → entry_of uses w ≡ never) }
+    {
+        let mut ranges = Vec::new(alloc);
+        let mut steps = Vec::new(alloc);
+        for segment in segments {
+            let range = Span {
+                start: segment.vaddr,
+                len: segment.memsz,
+            };
+            steps.resize(steps.len() + words_in(range), NEVER)?;
+            ranges.push(range)?;
+        }
+        Ok(FirstUses {
+            ranges,
+            steps,
+            entered: 0,
+        })
+    }
+
+    /// The place of a word in the table; the table's length, where it has none.
+    #[tactic(auto, unfolding(crate::specs::Entries::ranges_of))]
+    fn place_of(&self, word: u32) -> usize
+        ensures { result ≡ place_in (ranges_of self.now) word }
+    {
+        let mut before = 0;
+        for range in &self.ranges {
+            if has_word(*range, word) {
+                return before + (word - range.start / 4) as usize;
+            }
+            before += words_in(*range);
+        }
+        before
+    }
+
+    /// The first step that was entered for a word, if it lies below another.
+    #[tactic(auto, unfolding(crate::specs::Entries::ranges_of, crate::specs::Entries::entry_of))]
+    pub(crate) fn first_below(&self, word: u32, step: u32) -> Option<u32>
+        ensures { result ≡ below step (entry_of self.now word) }
+    {
+        let place = self.place_of(word);
+        if place < self.steps.len() && self.steps[place] < step {
+            return Some(self.steps[place]);
+        }
+        None
+    }
+
+    /// Enters a step for a word.
+    #[tactic(auto, unfolding(crate::specs::Entries::ranges_of, crate::specs::Entries::entry_of))]
+    fn enter(&mut self, word: u32, step: u32)
+        ensures ranges { ranges_of self.new ≡ ranges_of self.old }
+        ensures entries { (w : ℕ) → IsPlaced (ranges_of self.old) w → entry_of self.new w ≡ (if w == word then min (entry_of self.old w) step else entry_of self.old w) }
+    {
+        let place = self.place_of(word);
+        if place < self.steps.len() {
+            let first = self.steps[place].min(step);
+            self.entered = self.entered.max(step.saturating_add(1));
+            self.steps[place] = first;
+        }
+    }
+
+    /// Enters a step for each word that a range meets.
+    fn enter_span(&mut self, span: Option<Span>, step: u32)
+        ensures ranges { ranges_of self.new ≡ ranges_of self.old }
+        ensures entries { (w : ℕ) → w < 2 ^ 30 → IsPlaced (ranges_of self.old) w → entry_of self.new w ≡ (if meets (covers span) (4 * w) then min (entry_of self.old w) step else entry_of self.old w) }
+    {
+        let Some(span) = span else {
+            return;
+        };
+        if span.len == 0 {
+            return;
+        }
+        let first = span.start / 4;
+        let words = words_in(span) as u32;
+        for i in 0..words {
+            self.enter((first + i) % ALL_WORDS, step);
+        }
+    }
+
+    /// Enters a step for each word that it touched.
+    pub(crate) fn enter_touched(&mut self, touched: &Touched, step: u32)
+        ensures ranges { ranges_of self.new ≡ ranges_of self.old }
+        ensures entries { (w : ℕ) → w < 2 ^ 30 → IsPlaced (ranges_of self.old) w → entry_of self.new w ≡ (if meets (has_touched touched.now) (4 * w) then min (entry_of self.old w) step else entry_of self.old w) }
+    {
+        self.enter_span(touched.fetch, step);
+        self.enter_span(touched.reads, step);
+        self.enter_span(touched.writes, step);
+    }
+
+    /// Drops the entries of steps from one on.
+    #[tactic(auto, unfolding(crate::specs::Entries::ranges_of, crate::specs::Entries::entry_of))]
+    pub(crate) fn forget_from(&mut self, step: u32)
+        ensures ranges { ranges_of self.new ≡ ranges_of self.old }
+        ensures entries { (w : ℕ) → entry_of self.new w ≡ (if nat_lt (entry_of self.old w) step then entry_of self.old w else never) }
+    {
+        if self.entered > step {
+            forget_each(&mut self.steps, step);
+            self.entered = step;
+        }
+    }
+}
+
+/// Drops the steps from one on.
+fn forget_each(steps: &mut [u32], from: u32)
+    ensures { steps.new ≡ map (λ step. if nat_lt step from then step else never) steps.old }
+{
+    for step in steps.iter_mut() {
+        if *step >= from {
+            *step = NEVER;
+        }
+    }
+}

@@ -1,0 +1,9 @@
+use Rattle.std.proofs.Common.{ap₂, ◌∙◌, ◌++◌}
+use Rattle.replay_report.specs.Report.{report_text, IsReport}
+use Rattle.replay_report.proofs.rendering.report_of.Goals as goal
+
+pub returns : goal.returns
+unfolding IsReport
+returns c s h =
+    let told = report_text s c.args.image.now c.args.suppressions.now c.args.options.now c.args.step c.args.input_len in
+    (c.in_ok-records.records.items, c.in_ok-records.ensures s h, c.in_ok-push_report.ensures s h ∙ ap₂ (λ former records. former ++ told records) c.new-text.ensures.items c.deref.ensures.value)
