@@ -2,7 +2,7 @@
 use Rattle.std.specs.Prelude.{ℕ, ◌≤◌, List, [], Option, length, take}
 use Rattle.std.specs.Io.KnownBytes.{Appends}
 use Rattle.guest_elf.specs.declared.image.Image.{Image}
-use Rattle.replaycheck.specs.Scenario.{begun, at_step, IsReportOf}
+use Rattle.replay_session.specs.Scenario.{begun, at_step, IsReportOf}
 use Rattle.replaycheck.specs.declared.run_once.RunFault.{RunFault}
 use Rattle.replaycheck.specs.declared.run_once.RunFault.TheVariants.{InputTooLarge, NoMemory, WriteFailed}
 use Rattle.suppressions.specs.Rules.{Rule}

@@ -2,29 +2,29 @@
 use clap::{Arg, ArgMatches, Command, Error, value_parser};
 use std::alloc::{AllocError, Global};
 
-/// What is asked for: the report of a program at a step.
+/// What is asked for: a session with a program, or the report of one at a step.
 #[derive(Clone, Copy, Debug, PartialEq, Eq)]
 pub(crate) struct Order<'a> {
     pub(crate) file: &'a str,
     pub(crate) input: Option<&'a str>,
     pub(crate) suppressions: Option<&'a str>,
-    pub(crate) step: u32,
+    /// The step of a report, or none for a session.
+    pub(crate) step: Option<u32>,
 }
 
 const ABOUT: &str =
     "Finds memory errors in static RV32IM programs, and shows what an edit of the run would change. \
     It is this program that was proved, not each of its reports";
 
-fn make_command<'a>(alloc: Global) -> Result<Command<'a>, AllocError> {
+/// A command on a program, with an input and suppressions.
+fn program_command<'a>(
+    alloc: Global,
+    name: &'a str,
+    about: &'a str,
+) -> Result<Command<'a>, AllocError> {
     let file = Arg::new(alloc, "FILE")
         .required(true)
         .help("A static ELF32 program for RV32IM");
-    let step = Arg::new(alloc, "step")
-        .long("step")
-        .value_name("N")
-        .value_parser(value_parser!(u32).range(0..=1_048_576))
-        .default_value("1048576")
-        .help("The step to report at, from 0 to 1048576");
     let input = Arg::new(alloc, "input").long("input").value_name("F").help(
         "A file with the bytes that the program can read; none without it",
     );
@@ -32,17 +32,32 @@ fn make_command<'a>(alloc: Global) -> Result<Command<'a>, AllocError> {
         .long("supp")
         .value_name("F")
         .help("A file of suppressions, in Valgrind's form");
-    let run = Command::new(alloc, "run")
-        .about("Prints the report of a program at a step")
+    Command::new(alloc, name)
+        .about(about)
         .arg(file)?
         .arg(input)?
-        .arg(supp)?
-        .arg(step)?;
+        .arg(supp)
+}
+
+fn make_command<'a>(alloc: Global) -> Result<Command<'a>, AllocError> {
+    let step = Arg::new(alloc, "step")
+        .long("step")
+        .value_name("N")
+        .value_parser(value_parser!(u32).range(0..=1_048_576))
+        .default_value("1048576")
+        .help("The step to report at, from 0 to 1048576");
+    let run = program_command(alloc, "run", "Prints the report of a program at a step")?.arg(step)?;
+    let session = program_command(
+        alloc,
+        "session",
+        "Answers lines of standard input that edit a run or ask for its report",
+    )?;
     Command::new(alloc, "replaycheck")
         .version("0.1.0")
         .about(ABOUT)
         .subcommand_required(true)
-        .subcommand(run)
+        .subcommand(run)?
+        .subcommand(session)
 }
 
 /// Reads the words of a command line, the program's name first. Help is an error whose text goes to standard output.
@@ -55,13 +70,17 @@ pub(crate) fn read_order<'a>(
 }
 
 fn order_of<'a>(matches: &ArgMatches<'a>) -> Option<Order<'a>> {
-    let (_name, run) = matches.subcommand()?;
-    let file = run.get_str("FILE")?;
-    let step = run.get_one::<u32>("step")?;
+    let (name, chosen) = matches.subcommand()?;
+    let file = chosen.get_str("FILE")?;
+    let step = if name == "run" {
+        Some(chosen.get_one::<u32>("step")?)
+    } else {
+        None
+    };
     Some(Order {
         file,
-        input: run.get_str("input"),
-        suppressions: run.get_str("supp"),
+        input: chosen.get_str("input"),
+        suppressions: chosen.get_str("supp"),
         step,
     })
 }

@@ -13,6 +13,8 @@ pub enum End<'a> {
     Done,
     /// A file, named as it was given.
     CannotRead(&'a str),
+    /// Standard input, or it has no end.
+    CannotReadInput,
     CannotWrite,
     Usage,
     Image(ElfFault),
@@ -31,7 +33,7 @@ pub fn tell<W: Write>(end: &End, writer: &mut W) -> u8
     let _told = write_line(end, writer);
     match end {
         End::Done => 0,
-        End::CannotRead(_) | End::CannotWrite => 1,
+        End::CannotRead(_) | End::CannotReadInput | End::CannotWrite => 1,
         End::Usage => 2,
         End::Image(ElfFault::Memory) | End::Suppressions(SuppFault::Memory) | End::NoMemory => 4,
         End::Image(_)
@@ -45,6 +47,7 @@ fn write_line<W: Write>(end: &End, writer: &mut W) -> std::io::Result<()> {
     match end {
         End::Done | End::Usage => Ok(()),
         End::CannotRead(path) => writeln!(writer, "replaycheck: cannot read {path}"),
+        End::CannotReadInput => writeln!(writer, "replaycheck: cannot read standard input"),
         End::CannotWrite => writeln!(writer, "replaycheck: cannot write"),
         End::Image(ElfFault::Memory) | End::Suppressions(SuppFault::Memory) | End::NoMemory => {
             writeln!(writer, "replaycheck: out of memory")

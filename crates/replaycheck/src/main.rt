@@ -4,16 +4,14 @@
 mod arguments;
 mod ends;
 mod run_once;
-mod sending;
-mod session;
 #[cfg(test)]
 mod tests;
 
 use crate::arguments::{Order, read_order};
 use crate::ends::{End, tell};
 use crate::run_once::{RunFault, run_once};
-use crate::session::keeper::LONGEST_INPUT;
-use guest_elf::read;
+use guest_elf::{Image, read};
+use replay_session::{BeginFault, LONGEST_INPUT, ServeFault, Session, serve};
 use std::process::ExitCode;
 use std::rt::Env;
 use std::{env, fs, io};
@@ -70,23 +68,21 @@ fn read_input<'a>(rt: &HostRuntime, path: Option<&'a str>) -> Result<Vec<u8>, En
     Ok(input)
 }
 
-/// Prints the report that is asked for: the program is read, then the suppressions, then the input, each checked before the next.
-fn print_report<'a>(rt: &HostRuntime, order: Order<'a>) -> Result<(), End<'a>> {
-    let file = read_file(rt, order.file)?;
-    let image = match read(rt.alloc(), &file) {
-        Ok(image) => image,
-        Err(fault) => return Err(End::Image(fault)),
-    };
-    let suppressions = read_suppressions(rt, order.suppressions)?;
-    let input = read_input(rt, order.input)?;
-    let mut out = rt.stdout();
+/// Prints the report of a program at a step.
+fn print_report<'a>(
+    rt: &HostRuntime,
+    image: &Image,
+    input: Vec<u8>,
+    suppressions: &[Suppression],
+    step: u32,
+) -> Result<(), End<'a>> {
     match run_once(
         rt.alloc(),
-        &image,
+        image,
         input,
-        &suppressions,
-        order.step,
-        &mut out,
+        suppressions,
+        step,
+        &mut rt.stdout(),
     ) {
         Ok(()) => Ok(()),
         Err(RunFault::InputTooLarge) => Err(End::InputTooLarge),
@@ -95,8 +91,45 @@ fn print_report<'a>(rt: &HostRuntime, order: Order<'a>) -> Result<(), End<'a>> {
     }
 }
 
+/// Serves a session with a program on standard input and output.
+fn serve_session<'a>(
+    rt: &HostRuntime,
+    image: Image<'_>,
+    input: Vec<u8>,
+    suppressions: Vec<Suppression>,
+) -> Result<(), End<'a>> {
+    let session = match Session::begin(rt.alloc(), image, input, suppressions) {
+        Ok(session) => session,
+        Err(BeginFault::InputTooLarge) => return Err(End::InputTooLarge),
+        Err(BeginFault::Memory) => return Err(End::NoMemory),
+    };
+    match serve(session, &mut rt.stdin(), &mut rt.stdout()) {
+        Ok(()) => Ok(()),
+        Err(ServeFault::ReadFailed { .. } | ServeFault::Endless { .. }) => {
+            Err(End::CannotReadInput)
+        }
+        Err(ServeFault::WriteFailed { .. }) => Err(End::CannotWrite),
+        Err(ServeFault::NoMemory { .. }) => Err(End::NoMemory),
+    }
+}
+
+/// Does what is asked for: the program is read, then the suppressions, then the input, each checked before the next.
+fn carry_out<'a>(rt: &HostRuntime, order: Order<'a>) -> Result<(), End<'a>> {
+    let file = read_file(rt, order.file)?;
+    let image = match read(rt.alloc(), &file) {
+        Ok(image) => image,
+        Err(fault) => return Err(End::Image(fault)),
+    };
+    let suppressions = read_suppressions(rt, order.suppressions)?;
+    let input = read_input(rt, order.input)?;
+    match order.step {
+        Some(step) => print_report(rt, &image, input, &suppressions, step),
+        None => serve_session(rt, image, input, suppressions),
+    }
+}
+
 fn run<'a>(rt: &HostRuntime, order: Order<'a>) -> End<'a> {
-    match print_report(rt, order) {
+    match carry_out(rt, order) {
         Ok(()) => End::Done,
         Err(end) => end,
     }

@@ -1,14 +1,12 @@
 //! One program, one report.
 ghost use Rattle.std.specs.Prelude.{◌≡◌, ◌<◌, ◌↔◌, Err, IfOk, OnOk, IfErr, length};
-ghost use Rattle.replaycheck.specs.Setups.{longest_input};
+ghost use Rattle.replay_session.specs.Setups.{longest_input};
 ghost use Rattle.replaycheck.specs.Once.{IsReportOnce, WritesReport, StopsBy};
 
-use crate::sending::send;
-use crate::session::keeper::{LONGEST_INPUT, setup_with};
-use crate::session::replay::run_to;
 use guest_elf::Image;
 use guest_machine::{Machine, Meter};
 use replay_report::{Options, render};
+use replay_session::{LONGEST_INPUT, run_to, send, setup_with};
 use std::alloc::{AllocError, Global};
 use std::io::Write;
 use suppressions::Suppression;

@@ -64,6 +64,11 @@ fn ends(rt: HostRuntime) -> Result<(), Fail> {
     let cases = [
         (End::Done, 0, ""),
         (End::CannotRead("a b"), 1, "replaycheck: cannot read a b\n"),
+        (
+            End::CannotReadInput,
+            1,
+            "replaycheck: cannot read standard input\n",
+        ),
         (End::CannotWrite, 1, "replaycheck: cannot write\n"),
         (End::Usage, 2, ""),
         (

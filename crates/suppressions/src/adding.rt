@@ -4,7 +4,7 @@ ghost use Rattle.suppressions.specs.Words.{are_frames};
 ghost use Rattle.suppressions.specs.Added.{framed, parameter_rule, leak_rule, added, Gives};
 
 use crate::fault::SuppFault;
-use crate::leak_kinds::{EACH_KIND, leak_kinds};
+use crate::leak_kinds::{EACH_KIND, LeakKinds};
 use crate::parts::Parts;
 use crate::subject::Subject;
 use crate::suppression::Suppression;
@@ -54,7 +54,7 @@ fn leak_rule(alloc: Global, words: Parts<'_>) -> Result<Suppression, SuppFault>
     if let Some(word) = others.next()
         && let Some(list) = word.strip_prefix(b"match-leak-kinds:")
     {
-        return match leak_kinds(list) {
+        return match LeakKinds::from_list(list) {
             Some(kinds) => framed(alloc, Subject::Leak(kinds), others),
             None => Err(REFUSED),
         };

@@ -13,6 +13,8 @@
 //! | [`Suppression::matches`] | whether a suppression matches an error or a leak with a trace, whatever its switch |
 //! | [`Suppression::is_on`], [`Suppression::switch`] | its switch |
 //! | [`is_suppressed`] | whether some suppression that is switched on matches |
+//! | [`LeakKinds::from_list`] | the leak kinds that a list of words names |
+//! | [`Parts::new`], [`Parts::next`], [`Parts::fork`] | the parts of a text, as words between spaces |
 //!
 //! [`Target`] is an error's or a leak's kind, [`SuppFault`] a refusal. `matches`, `is_suppressed`, `is_on` and `switch` take no
 //! memory and always answer. A walk over a pattern goes back to its last star alone, and frame lines lead from a set of places to
@@ -63,7 +65,9 @@ mod words;
 
 pub use fault::SuppFault;
 pub use frames::TRACE_LIMIT;
+pub use leak_kinds::LeakKinds;
 pub use lines::TEXT_LIMIT;
 pub use parsing::parse;
+pub use parts::Parts;
 pub use suppression::{Suppression, is_suppressed};
 pub use target::Target;

@@ -1,7 +1,7 @@
 use Rattle.std.proofs.Common.{◌≡◌, ◌∙◌, ◌++◌, ap, sym, subst, length, rules}
 use Rattle.guest_machine.specs.Run.{start_state}
 use Rattle.replaycheck.specs.Once.{IsReportOnce}
-use Rattle.replaycheck.proofs.SessionSteps.{report-once}
+use Rattle.replaycheck.proofs.RunSteps.{report-once}
 use Rattle.replaycheck.proofs.run_once.report_once.Goals as goal
 
 pub returns : goal.returns

@@ -1,0 +1,314 @@
+-- Bytes that are served one after another.
+use Rattle.std.proofs.Common.{◌≡◌, ◌≢◌, ℕ, zero, suc, List, [], ◌∷◌, ◌++◌, Bool, true, false, not, Option, refl, sym, ap, ◌∙◌, subst, inl, inr, ◌⊎◌, cond, arith, rules, ◌+◌, ◌-◌, ◌≤◌, ◌<◌, ◌==◌, ◌&&◌, length, length-append, append_assoc, take, min, ne_eqb, eq-eqb, nat_lt, lt-ltb, le-ltb, slice_index, if◌then◌else◌, ◌^◌, None, Some, append-nil, Result, Ok, add-zero, ⊎_elim, length-take, get_or, drop}
+use Rattle.std.proofs.lemmas.List.{take-append-drop, take_more}
+use Rattle.std.proofs.lemmas.Grind.{common_steps}
+use Rattle.std.specs.Bool.{MatchBool}
+use Rattle.std.specs.Io.KnownBytes.{Appends}
+use Rattle.std.specs.Str.Lines.{strip_carriage_return}
+use Rattle.replay_session.specs.Lines.{lines_by, KeepsByte}
+use Rattle.replay_session.specs.Replies.{Answers, Replies, is_over, joined}
+use Rattle.replay_session.specs.Scenario.{Scenario, accepted, accepted_in, longest_line}
+use Rattle.replay_session.specs.Served.{standing}
+use Rattle.replay_session.specs.Serving.{Answered, Cut, Fed, Over, Broken, Ended}
+use Rattle.replay_session.specs.Session.{HasScenario}
+use Rattle.replay_session.specs.declared.answering.Counts.{Counts}
+use Rattle.replay_session.specs.declared.keeper.Session.{Session}
+use Rattle.replay_session.specs.declared.server.Server.{Server}
+use Rattle.replay_session.proofs.Known.{appends-then}
+use Rattle.replay_session.proofs.ReplySteps.{replies-alike}
+
+-- is a line too long?
+abbrev is_long : List ℕ → Bool
+is_long line = nat_lt longest_line (length line)
+
+-- two lines that are too long are answered alike
+long-alike : (sc : Scenario) (a b : List ℕ) → is_long a ≡ true → is_long b ≡ true → accepted sc a ≡ accepted sc b
+unfolding accepted_in
+long-alike sc a b f g = rw (f, g) refl
+
+first-alike : (s : Scenario) (a b : List ℕ) (lines replies : List (List ℕ)) → is_long a ≡ true → is_long b ≡ true → Answers s (a ∷ lines) replies → Answers s (b ∷ lines) replies
+first-alike s a b lines [] f g h = h
+first-alike s a b lines (r ∷ rs) f g h = (h.0, replies-alike s h.0 a b r (long-alike s a b f g) h.1, h.2)
+
+is_long-of : (a : List ℕ) → 4097 ≤ length a → is_long a ≡ true
+is_long-of a h = lt-ltb 4096 (length a) (omega arith)
+
+either-long : (t : Bool) (a b : List ℕ) → is_long a ≡ true → is_long b ≡ true → is_long (cond t a b) ≡ true
+either-long true a b f g = f
+either-long false a b f g = g
+
+strip-long : (a : List ℕ) → 4098 ≤ length a → is_long (strip_carriage_return a) ≡ true
+strip-long a h =
+    let shorter : 4097 ≤ length (take (length a - 1) a) = rw length-take (omega arith) in
+    let whole : 4097 ≤ length a = omega arith in
+    either-long (slice_index a (length a - 1) == 13) _ _ (is_long-of _ shorter) (is_long-of a whole)
+
+more-long : (a : List ℕ) (b : ℕ) → 4098 ≤ length a → 4098 ≤ length (a ++ b ∷ [])
+more-long a b h = rw length-append (omega arith)
+
+either : (t : Bool) (s : Scenario) (rs A A' B B' : List (List ℕ)) → (Answers s A rs → Answers s B rs) → (Answers s A' rs → Answers s B' rs) → Answers s (cond t A A') rs → Answers s (cond t B B') rs
+either true s rs A A' B B' f g h = f h
+either false s rs A A' B B' f g h = g h
+
+lines-alike : (last : Bool) (bytes a b : List ℕ) (s : Scenario) (rs : List (List ℕ)) → 4098 ≤ length a → 4098 ≤ length b → Answers s (lines_by last a bytes) rs → Answers s (lines_by last b bytes) rs
+lines-alike false [] a b s rs f g h = h
+lines-alike true [] a b s rs f g h =
+    let e : (length a == 0) ≡ false = ne_eqb _ _ (omega arith) in
+    let e' : (length b == 0) ≡ false = ne_eqb _ _ (omega arith) in
+    let whole : 4097 ≤ length a = omega arith in
+    let whole' : 4097 ≤ length b = omega arith in
+    let ha : Answers s (a ∷ []) rs = subst (λ t. Answers s (cond (not t) (a ∷ []) []) rs) e h in
+    subst (λ t. Answers s (cond (not t) (b ∷ []) []) rs) (sym e') (first-alike s a b [] rs (is_long-of a whole) (is_long-of b whole') ha)
+lines-alike last (x ∷ bytes) a b s rs f g h =
+    either (x == 10) s rs _ _ _ _ (first-alike s _ _ _ rs (strip-long a f) (strip-long b g))
+    (lines-alike last bytes (a ++ x ∷ []) (b ++ x ∷ []) s rs (more-long a x f) (more-long b x g)) h
+
+no-newline : (last : Bool) (kept more : List ℕ) (byte : ℕ) → byte ≢ 10 → lines_by last kept (byte ∷ more) ≡ lines_by last (kept ++ byte ∷ []) more
+no-newline last kept more byte other = rw (ne_eqb byte 10 other) refl
+
+appends-none : (held : Option (List ℕ)) → Appends held held []
+appends-none None = tt
+appends-none (Some xs) = sym (append-nil xs)
+
+-- a byte of a line is kept
+pub keep-fed : (sc : Scenario) (old new : Server) (held : Option (List ℕ)) (byte : ℕ) → byte ≢ 10 → new.session ≡ old.session → new.counts ≡ old.counts → KeepsByte old.kept.items new.kept.items byte → HasScenario old.session sc → Fed sc old new held held (byte ∷ [])
+keep-fed sc old new held byte other session counts kept has = record {
+  done = [];
+  after = sc;
+  has = subst (λ (s : Session). HasScenario s sc) (sym session) has;
+  appended = appends-none held;
+  replies = rw (counts, add-zero) refl;
+  written = rw (counts, add-zero) refl;
+  goes = λ last more rs h.
+      let next : Answers sc (lines_by last (old.kept.items ++ byte ∷ []) more) rs = ⊎_elim
+      (λ e. subst (λ (ks : List ℕ). Answers sc (lines_by last ks more) rs) e h)
+      (λ full. lines-alike last more old.kept.items (old.kept.items ++ byte ∷ []) sc rs full.0 (more-long old.kept.items byte full.0)
+      (subst (λ (ks : List ℕ). Answers sc (lines_by last ks more) rs) full.1 h))
+      kept in
+      rw (no-newline last old.kept.items more byte other) next;
+}
+
+joined-one : (reply : List ℕ) → joined (reply ∷ []) ≡ reply
+joined-one reply = append-nil reply
+
+-- what stands under a test that is known
+under-true : (t : Bool) (P Q : Type 0) → t ≡ true → P → MatchBool t P Q
+under-true true P Q e p = p
+under-true false P Q e p = absurd (let e' : false ≡ true = e in cc)
+
+under-false : (t : Bool) (P Q : Type 0) → t ≡ false → Q → MatchBool t P Q
+under-false true P Q e q = absurd (let e' : true ≡ false = e in cc)
+under-false false P Q e q = q
+
+under-both : (t : Bool) (P Q : Type 0) → P → Q → MatchBool t P Q
+under-both true P Q p q = p
+under-both false P Q p q = q
+
+-- a line was answered, and more may come
+pub answer-fed : (sc : Scenario) (old new : Server) (held held' : Option (List ℕ)) (line : List ℕ) → Answered sc new.session old.counts new.counts held held' line → line ≡ strip_carriage_return old.kept.items → is_over sc ≡ false → new.kept.items ≡ [] → Fed sc old new held held' (10 ∷ [])
+answer-fed sc old new held held' line a whole going empty = record {
+  done = a.reply ∷ [];
+  after = a.after;
+  has = a.has;
+  appended = subst (Appends held held') (sym (joined-one a.reply)) a.appended;
+  replies = let e = a.replies in grind (arith, e);
+  written = let e = a.bytes in rw (joined-one a.reply) (grind (arith, e));
+  goes = λ last more rs h. (
+    a.after,
+    subst (λ (l : List ℕ). Replies sc l a.reply a.after) whole a.replies_to,
+    under-false (is_over sc) _ _ going (subst (λ (ks : List ℕ). Answers a.after (lines_by last ks more) rs) empty h),
+  );
+}
+
+-- a line was answered that tells that the session is over
+pub answer-over : (sc : Scenario) (session : Session) (old new : Server) (counts : Counts) (held held' : Option (List ℕ)) (line : List ℕ) → Answered sc session old.counts counts held held' line → line ≡ strip_carriage_return old.kept.items → is_over sc ≡ true → Over sc old new held held' (10 ∷ [])
+answer-over sc session old new counts held held' line a whole over = record {
+  done = a.reply ∷ [];
+  appended = subst (Appends held held') (sym (joined-one a.reply)) a.appended;
+  answers = λ last more. (
+    a.after,
+    subst (λ (l : List ℕ). Replies sc l a.reply a.after) whole a.replies_to,
+    under-true (is_over sc) _ _ over refl,
+  );
+}
+
+-- a reply was cut off
+pub answer-broken : (sc : Scenario) (old new : Server) (held held' : Option (List ℕ)) (line : List ℕ) → Cut sc old.counts new.counts held held' line → line ≡ strip_carriage_return old.kept.items → Broken sc old new held held' (10 ∷ [])
+answer-broken sc old new held held' line a whole = record {
+  done = [];
+  last = a.reply;
+  sent = a.sent;
+  within = a.within;
+  appended = a.appended;
+  replies = let e = a.replies in rw (a.replies, add-zero) (omega arith);
+  written = let e = a.bytes in rw (a.bytes, add-zero) (omega arith);
+  front = 10 ∷ [];
+  rest = [];
+  split = refl;
+  answers = (
+    a.after,
+    subst (λ (l : List ℕ). Replies sc l a.reply a.after) whole a.replies_to,
+    under-both (is_over sc) _ _ refl refl,
+  );
+}
+
+ok_is : (E : Type 0) (x y : Bool) → ◌≡◌ {A = Result Bool E} (Ok x) (Ok y) → x ≡ y
+ok_is E x y e = cc
+
+module _ (E : Type 0) (sc : Scenario) (old new : Server) (held held' : Option (List ℕ)) (line : List ℕ) (byte : ℕ) (newline : byte ≡ 10) (whole : line ≡ strip_carriage_return old.kept.items) where
+  pub taken-fed : (over : Bool) → over ≡ is_over sc → Answered sc new.session old.counts new.counts held held' line → new.kept.items ≡ [] → ◌≡◌ {A = Result Bool E} (Ok over) (Ok false) → Fed sc old new held held' (byte ∷ [])
+  taken-fed over says a empty e =
+      subst (λ (b : ℕ). Fed sc old new held held' (b ∷ [])) (sym newline) (answer-fed sc old new held held' line a whole (sym says ∙ ok_is E over false e) empty)
+
+  pub taken-over : (over : Bool) → over ≡ is_over sc → Answered sc new.session old.counts new.counts held held' line → ◌≡◌ {A = Result Bool E} (Ok over) (Ok true) → Over sc old new held held' (byte ∷ [])
+  taken-over over says a e =
+      subst (λ (b : ℕ). Over sc old new held held' (b ∷ [])) (sym newline) (answer-over sc new.session old new new.counts held held' line a whole (sym says ∙ ok_is E over true e))
+
+  pub taken-broken : Cut sc old.counts new.counts held held' line → Broken sc old new held held' (byte ∷ [])
+  taken-broken a = subst (λ (b : ℕ). Broken sc old new held held' (b ∷ [])) (sym newline) (answer-broken sc old new held held' line a whole)
+
+joined-append : (xs ys : List (List ℕ)) → joined (xs ++ ys) ≡ joined xs ++ joined ys
+joined-append [] ys = refl
+joined-append (x ∷ xs) ys = ap (λ (zs : List ℕ). x ++ zs) (joined-append xs ys) ∙ sym (append_assoc x (joined xs) (joined ys))
+
+-- counts that rise twice
+standing-twice : (a b c x y : ℕ) → standing b ≡ standing (a + x) → standing c ≡ standing (b + y) → standing c ≡ standing (a + (x + y))
+standing-twice a b c x y h k = omega arith
+
+standing-thrice : (a b c x y z : ℕ) → standing b ≡ standing (a + x) → standing c ≡ standing (b + y + z) → standing c ≡ standing (a + (x + y) + z)
+standing-thrice a b c x y z h k = omega arith
+
+pub fed-none : (sc : Scenario) (server : Server) (held : Option (List ℕ)) → HasScenario server.session sc → Fed sc server server held held []
+fed-none sc server held has = record {
+  done = [];
+  after = sc;
+  has = has;
+  appended = appends-none held;
+  replies = rw add-zero refl;
+  written = rw add-zero refl;
+  goes = λ last more rs h. h;
+}
+
+module _ (sc : Scenario) (a b c : Server) (h0 h1 h2 : Option (List ℕ)) (xs ys : List ℕ) (f : Fed sc a b h0 h1 xs) where
+  appended-then : (zs : List ℕ) → Appends h1 h2 zs → Appends h0 h2 (joined f.done ++ zs)
+  appended-then zs k = appends-then h0 h1 h2 (joined f.done) zs f.appended k
+
+  replies-then : (n : ℕ) → standing c.counts.replies ≡ standing (b.counts.replies + n) → standing c.counts.replies ≡ standing (a.counts.replies + (length f.done + n))
+  replies-then n e = standing-twice a.counts.replies b.counts.replies c.counts.replies (length f.done) n f.replies e
+
+  bytes-then : (n : ℕ) → standing c.counts.bytes ≡ standing (b.counts.bytes + n) → standing c.counts.bytes ≡ standing (a.counts.bytes + (length (joined f.done) + n))
+  bytes-then n e = standing-twice a.counts.bytes b.counts.bytes c.counts.bytes (length (joined f.done)) n f.written e
+
+  pub fed-then : Fed f.after b c h1 h2 ys → Fed sc a c h0 h2 (xs ++ ys)
+  fed-then g = record {
+    done = f.done ++ g.done;
+    after = g.after;
+    has = g.has;
+    appended = rw joined-append (appended-then (joined g.done) g.appended);
+    replies = rw length-append (replies-then (length g.done) g.replies);
+    written = rw (joined-append, length-append) (bytes-then (length (joined g.done)) g.written);
+    goes = λ last more rs h. rw (append_assoc xs ys more, append_assoc f.done g.done rs) (f.goes last (ys ++ more) (g.done ++ rs) (g.goes last more rs h));
+  }
+
+  pub over-then : Over f.after b c h1 h2 ys → Over sc a c h0 h2 (xs ++ ys)
+  over-then g = record {
+    done = f.done ++ g.done;
+    appended = rw joined-append (appended-then (joined g.done) g.appended);
+    answers = λ last more. rw (append_assoc xs ys more) (f.goes last (ys ++ more) g.done (g.answers last more));
+  }
+
+  pub broken-then : Broken f.after b c h1 h2 ys → Broken sc a c h0 h2 (xs ++ ys)
+  broken-then g = record {
+    done = f.done ++ g.done;
+    last = g.last;
+    sent = g.sent;
+    within = g.within;
+    appended = rw (joined-append, append_assoc (joined f.done) (joined g.done) (take g.sent g.last)) (appended-then (joined g.done ++ take g.sent g.last) g.appended);
+    replies = rw length-append (standing-thrice a.counts.replies b.counts.replies c.counts.replies (length f.done) (length g.done) (if g.sent == length g.last then 1 else 0) f.replies g.replies);
+    written = rw (joined-append, length-append) (standing-thrice a.counts.bytes b.counts.bytes c.counts.bytes (length (joined f.done)) (length (joined g.done)) g.sent f.written g.written);
+    front = xs ++ g.front;
+    rest = g.rest;
+    split = ap (λ (zs : List ℕ). xs ++ zs) g.split ∙ sym (append_assoc xs g.front g.rest);
+    answers = rw (append_assoc f.done g.done (g.last ∷ [])) (f.goes true g.front (g.done ++ g.last ∷ []) g.answers);
+  }
+
+  pub ended-then : Ended f.after b h1 h2 → xs ≡ ys → (done : List (List ℕ)) × Answers sc (lines_by true a.kept.items ys) done × Appends h0 h2 (joined done)
+  ended-then g e = (
+    f.done ++ g.done,
+    subst (λ (zs : List ℕ). Answers sc (lines_by true a.kept.items zs) (f.done ++ g.done)) (append-nil xs ∙ e) (f.goes true [] g.done g.answers),
+    rw joined-append (appended-then (joined g.done) g.appended),
+  )
+
+pub over-more : (sc : Scenario) (a b : Server) (h0 h1 : Option (List ℕ)) (xs zs : List ℕ) → Over sc a b h0 h1 xs → Over sc a b h0 h1 (xs ++ zs)
+over-more sc a b h0 h1 xs zs g = record {
+  done = g.done;
+  appended = g.appended;
+  answers = λ last more. rw (append_assoc xs zs more) (g.answers last (zs ++ more));
+}
+
+pub broken-more : (sc : Scenario) (a b : Server) (h0 h1 : Option (List ℕ)) (xs zs : List ℕ) → Broken sc a b h0 h1 xs → Broken sc a b h0 h1 (xs ++ zs)
+broken-more sc a b h0 h1 xs zs g = record {
+  done = g.done;
+  last = g.last;
+  sent = g.sent;
+  within = g.within;
+  appended = g.appended;
+  replies = g.replies;
+  written = g.written;
+  front = g.front;
+  rest = g.rest ++ zs;
+  split = ap (λ (ws : List ℕ). ws ++ zs) g.split ∙ append_assoc g.front g.rest zs;
+  answers = g.answers;
+}
+
+-- a last line with no newline
+pub answer-ended : (sc : Scenario) (old : Server) (session : Session) (new : Counts) (held held' : Option (List ℕ)) (line : List ℕ) → Answered sc session old.counts new held held' line → line ≡ old.kept.items → (length old.kept.items == 0) ≡ false → Ended sc old held held'
+answer-ended sc old session new held held' line a whole some = record {
+  done = a.reply ∷ [];
+  appended = subst (Appends held held') (sym (joined-one a.reply)) a.appended;
+  answers = subst (λ t. Answers sc (cond (not t) (old.kept.items ∷ []) []) (a.reply ∷ [])) (sym some) (
+    a.after,
+    subst (λ (l : List ℕ). Replies sc l a.reply a.after) whole a.replies_to,
+    under-both (is_over sc) _ _ refl refl,
+  );
+}
+
+pub none-ended : (sc : Scenario) (old : Server) (held : Option (List ℕ)) → (length old.kept.items == 0) ≡ true → Ended sc old held held
+none-ended sc old held none = record {
+  done = [];
+  appended = appends-none held;
+  answers = subst (λ t. Answers sc (cond (not t) (old.kept.items ∷ []) []) []) (sym none) refl;
+}
+
+pub answer-broken-end : (sc : Scenario) (old new : Server) (held held' : Option (List ℕ)) (line : List ℕ) → Cut sc old.counts new.counts held held' line → line ≡ old.kept.items → (length old.kept.items == 0) ≡ false → Broken sc old new held held' []
+answer-broken-end sc old new held held' line a whole some = record {
+  done = [];
+  last = a.reply;
+  sent = a.sent;
+  within = a.within;
+  appended = a.appended;
+  replies = rw (a.replies, add-zero) (omega arith);
+  written = rw (a.bytes, add-zero) (omega arith);
+  front = [];
+  rest = [];
+  split = refl;
+  answers = subst (λ t. Answers sc (cond (not t) (old.kept.items ∷ []) []) (a.reply ∷ [])) (sym some) (
+    a.after,
+    subst (λ (l : List ℕ). Replies sc l a.reply a.after) whole a.replies_to,
+    under-both (is_over sc) _ _ refl refl,
+  );
+}
+
+-- the bytes up to a place, the one there, and the rest
+cut-at : (bytes : List ℕ) (i : ℕ) → i < length bytes → (take i bytes ++ (get_or bytes i 0 ∷ [])) ++ drop (i + 1) bytes ≡ bytes
+cut-at bytes i inside = ap (λ (ws : List ℕ). ws ++ drop (i + 1) bytes) (sym (take_more bytes i 0 inside)) ∙ take-append-drop (i + 1) bytes
+
+module _ (sc : Scenario) (a b c : Server) (h0 h1 h2 : Option (List ℕ)) (bytes : List ℕ) (i : ℕ) (inside : i < length bytes) (f : Fed sc a b h0 h1 (take i bytes)) where
+  pub fed-in : Fed f.after b c h1 h2 (get_or bytes i 0 ∷ []) → Fed sc a c h0 h2 (take (i + 1) bytes)
+  fed-in g = subst (Fed sc a c h0 h2) (sym (take_more bytes i 0 inside)) (fed-then sc a b c h0 h1 h2 (take i bytes) (get_or bytes i 0 ∷ []) f g)
+
+  pub over-in : Over f.after b c h1 h2 (get_or bytes i 0 ∷ []) → Over sc a c h0 h2 bytes
+  over-in g = subst (Over sc a c h0 h2) (cut-at bytes i inside) (over-more sc a c h0 h2 _ (drop (i + 1) bytes) (over-then sc a b c h0 h1 h2 (take i bytes) (get_or bytes i 0 ∷ []) f g))
+
+  pub broken-in : Broken f.after b c h1 h2 (get_or bytes i 0 ∷ []) → Broken sc a c h0 h2 bytes
+  broken-in g = subst (Broken sc a c h0 h2) (cut-at bytes i inside) (broken-more sc a c h0 h2 _ (drop (i + 1) bytes) (broken-then sc a b c h0 h1 h2 (take i bytes) (get_or bytes i 0 ∷ []) f g))

@@ -1,0 +1,17 @@
+use Rattle.std.proofs.Common.{refl}
+use Rattle.replay_session.specs.Scenario.{begun, first_state}
+use Rattle.replay_session.proofs.keeper.Session.begin.Goals as goal
+
+pub returns-clause-ok : goal.returns-clause-ok
+unfolding begun first_state
+returns-clause-ok c =
+    record {
+      image = refl;
+      start = c.in-Ok.ensures;
+      setup = c.setup_with.ensures;
+      marks = c.new.ensures.items;
+      rules = refl;
+      options = λ i. record { callers = c.default.ensures.callers i; show = c.default.ensures.show i };
+      step = refl;
+      lines = refl;
+    }

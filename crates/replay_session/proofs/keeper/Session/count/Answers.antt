@@ -1,0 +1,10 @@
+use Rattle.std.proofs.Common.{◌<◌, arith}
+use Rattle.replay_session.specs.Scenario.{counted, first_state, most_lines}
+use Rattle.replay_session.proofs.SessionSteps.{lines-counted}
+use Rattle.replay_session.proofs.keeper.Session.count.Goals as goal
+
+pub returns-then-self-lt-MOST_LINES-clause-counted : goal.returns-then-self-lt-MOST_LINES-clause-counted
+unfolding counted first_state
+returns-then-self-lt-MOST_LINES-clause-counted c sc h =
+    let few : c.args.self.now.lines < most_lines = omega arith in
+    record { image = h.image; start = h.start; setup = h.setup; marks = h.marks; rules = h.rules; options = h.options; step = h.step; lines = lines-counted c.args.self.now.lines sc.lines h.lines few }

@@ -1,0 +1,12 @@
+use Rattle.std.proofs.Common.{refl, inl}
+use Rattle.replay_session.specs.Scenario.{first_state}
+use Rattle.replay_session.proofs.keeper.Session.set_callers.Goals as goal
+
+pub returns : goal.returns
+unfolding first_state
+returns c sc out h =
+    inl (record {
+      replies = refl;
+      appends = refl;
+      has = record { image = h.image; start = h.start; setup = h.setup; marks = h.marks; rules = h.rules; options = λ i. record { callers = c.args.n; show = (h.options i).show }; step = h.step; lines = h.lines };
+    })

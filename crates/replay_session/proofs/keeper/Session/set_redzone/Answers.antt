@@ -1,0 +1,12 @@
+use Rattle.std.proofs.Common.{refl, inl}
+use Rattle.replay_session.specs.Scenario.{first_state}
+use Rattle.replay_session.proofs.keeper.Session.set_redzone.Goals as goal
+
+pub returns : goal.returns
+unfolding first_state
+returns c sc out h =
+    inl (record {
+      replies = refl;
+      appends = refl;
+      has = record { image = h.image; start = h.start; setup = λ i. record { input = (h.setup i).input; redzone = c.args.n; volume = (h.setup i).volume }; marks = h.marks; rules = h.rules; options = h.options; step = h.step; lines = h.lines };
+    })

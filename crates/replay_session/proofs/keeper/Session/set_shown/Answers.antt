@@ -1,0 +1,12 @@
+use Rattle.std.proofs.Common.{refl, inl}
+use Rattle.replay_session.specs.Scenario.{first_state, shown}
+use Rattle.replay_session.proofs.keeper.Session.set_shown.Goals as goal
+
+pub returns : goal.returns
+unfolding first_state
+returns c sc out h =
+    inl (record {
+      replies = refl;
+      appends = refl;
+      has = record { image = h.image; start = h.start; setup = h.setup; marks = h.marks; rules = h.rules; options = λ i. record { callers = (h.options i).callers; show = shown c.args.kinds }; step = h.step; lines = h.lines };
+    })

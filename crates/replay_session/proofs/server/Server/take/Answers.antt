@@ -1,0 +1,16 @@
+use Rattle.std.proofs.Common.{arith, ◌∙◌, sym, ap, take, ℕ}
+use Rattle.std.specs.Str.Lines.{strip_carriage_return}
+use Rattle.replay_session.proofs.ServeSteps.{keep-fed, taken-fed, taken-over, taken-broken}
+use Rattle.replay_session.proofs.server.Server.take.Goals as goal
+
+pub returns-then-byte-ne10-clause-fed : goal.returns-then-byte-ne10-clause-fed
+returns-then-byte-ne10-clause-fed g c = λ e sc h. keep-fed sc c.args.self.now c.keep.new.self (g.W.Write.contents c.args.writer.now) c.args.byte c.if-byte-ne10.true c.keep.ensures.session c.keep.ensures.counts c.keep.ensures.kept h
+
+pub returns-in-Ok-clause-fed : goal.returns-in-Ok-clause-fed
+returns-in-Ok-clause-fed g c = λ e sc h. taken-fed _ sc c.args.self.now _ _ _ _ c.args.byte c.if-byte-ne10.false (ap (take c.line_len-len.result) (c.deref-2.ensures.value ∙ sym c.deref.ensures.value) ∙ c.line_len-len.ensures.stripped ∙ ap strip_carriage_return c.deref.ensures.value) c.in-Ok.over (c.in-Ok.ensures.ok sc h) (c.in-Ok.ensures.answered sc h) c.clear.ensures.items e
+
+pub returns-in-Ok-clause-over : goal.returns-in-Ok-clause-over
+returns-in-Ok-clause-over g c = λ e sc h. taken-over _ sc c.args.self.now _ _ _ _ c.args.byte c.if-byte-ne10.false (ap (take c.line_len-len.result) (c.deref-2.ensures.value ∙ sym c.deref.ensures.value) ∙ c.line_len-len.ensures.stripped ∙ ap strip_carriage_return c.deref.ensures.value) c.in-Ok.over (c.in-Ok.ensures.ok sc h) (c.in-Ok.ensures.answered sc h) e
+
+pub returns-in-Err-clause-broken : goal.returns-in-Err-clause-broken
+returns-in-Err-clause-broken g c = λ sc h. taken-broken ℕ sc c.args.self.now _ _ _ _ c.args.byte c.if-byte-ne10.false (ap (take c.line_len-len.result) (c.deref-2.ensures.value ∙ sym c.deref.ensures.value) ∙ c.line_len-len.ensures.stripped ∙ ap strip_carriage_return c.deref.ensures.value) (c.in-Err.ensures.err sc h)

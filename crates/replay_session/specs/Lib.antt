@@ -1,0 +1,10 @@
+pub mod Commands
+pub mod Faults
+pub mod Setups
+pub mod Marks
+pub mod Scenario
+pub mod Session
+pub mod Lines
+pub mod Replies
+pub mod Serving
+pub mod Served

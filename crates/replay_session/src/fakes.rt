@@ -1,0 +1,74 @@
+//! A reader and a writer over memory that fail where they are told to, for tests.
+use std::alloc::Global;
+use std::io;
+use std::io::{Error, ErrorKind, Read, Write};
+
+/// A reader of some bytes, so many at a time.
+#[derive(Drop)]
+pub struct Script<'a> {
+    /// What is left.
+    pub rest: &'a [u8],
+    /// How many bytes a read gives at most; one in place of none.
+    pub most: usize,
+    /// Whether a read fails after the last byte, in place of telling the end.
+    pub fails: bool,
+    /// Whether the next read is interrupted. Where the first is, every second one is.
+    pub interrupted: Option<bool>,
+}
+
+impl Read for Script<'_> {
+    ghost use Rattle.std.specs.Prelude.{Some};
+
+    ghost remaining = { λ s. Some s.rest.now };
+
+    fn read(&mut self, buf: &mut [u8]) -> io::Result<usize> {
+        if let Some(now) = self.interrupted {
+            self.interrupted = Some(!now);
+            if now {
+                return Err(Error::from(ErrorKind::Interrupted));
+            }
+        }
+        if self.rest.is_empty() && self.fails {
+            return Err(Error::from(ErrorKind::Other));
+        }
+        let n = self.rest.len().min(buf.len()).min(self.most.max(1));
+        buf[..n].copy_from_slice(&self.rest[..n]);
+        self.rest = &self.rest[n..];
+        Ok(n)
+    }
+}
+
+/// A writer that takes so many bytes, and then fails.
+#[derive(Drop)]
+pub struct Room {
+    /// How many bytes are still taken.
+    pub left: usize,
+    /// The bytes that were taken.
+    pub taken: Vec<u8>,
+}
+
+impl Room {
+    /// A writer with room for so many bytes.
+    pub fn new(alloc: Global, left: usize) -> Self {
+        Room {
+            left,
+            taken: Vec::new(alloc),
+        }
+    }
+}
+
+impl Write for Room {
+    fn write(&mut self, bytes: &[u8]) -> io::Result<usize> {
+        let n = bytes.len().min(self.left);
+        if n == 0 && !bytes.is_empty() {
+            return Err(Error::from(ErrorKind::BrokenPipe));
+        }
+        self.taken.extend_from_slice(&bytes[..n])?;
+        self.left -= n;
+        Ok(n)
+    }
+
+    fn flush(&mut self) -> io::Result<()> {
+        Ok(())
+    }
+}

@@ -1,0 +1,83 @@
+//! Why a line is refused, and why no session begins.
+ghost use Rattle.std.specs.Prelude.{◌≡◌};
+ghost use Rattle.replay_session.specs.Faults.{number_of};
+
+use thiserror::Error;
+
+/// Why a line is refused. A refused line changes nothing but the number of lines.
+#[derive(Clone, Copy, Debug, PartialEq, Eq, Error)]
+pub enum Fault {
+    /// Memory was wanting, at a report, a patch, a mark or a new suppression that nothing else refuses.
+    #[error("no memory")]
+    Memory,
+    /// An unknown word, another number of fields, an empty field, or one of another form.
+    #[error("unknown command or bad fields")]
+    BadCommand,
+    /// An offset at or above the input's length.
+    #[error("outside of the input")]
+    OutsideInput,
+    /// An address that is no multiple of 4, or whose word isn't loaded whole.
+    #[error("no loaded word")]
+    NotPatchable,
+    /// A step above 1,048,576.
+    #[error("the step is above the limit")]
+    StepLimit,
+    /// A mark of no bytes, of more than 1,048,576, or that ends above 2^32.
+    #[error("the range is empty, too long or ends above 2^32")]
+    BadRange,
+    /// No mark has this index.
+    #[error("there is no such mark")]
+    NoSuchMark,
+    /// No suppression has this index.
+    #[error("there is no such suppression")]
+    NoSuchSuppression,
+    /// An unknown option, a number out of its range, or a list that isn't one of leak kinds.
+    #[error("no such option or value")]
+    BadOption,
+    /// There are 4,096 marks already.
+    #[error("too many marks")]
+    TooManyMarks,
+    /// A line of more than 4,096 bytes.
+    #[error("the line is too long")]
+    LineTooLong,
+    /// 100,000 lines were given before.
+    #[error("too many commands")]
+    TooManyCommands,
+    /// Words that are no suppression's.
+    #[error("no suppression")]
+    BadSuppression,
+}
+
+impl Fault {
+    /// The number of the refusal, from 1 to 13, as a reply writes it.
+    pub fn number(self) -> u8
+        ensures { result ≡ number_of self }
+    {
+        match self {
+            Fault::Memory => 1,
+            Fault::BadCommand => 2,
+            Fault::OutsideInput => 3,
+            Fault::NotPatchable => 4,
+            Fault::StepLimit => 5,
+            Fault::BadRange => 6,
+            Fault::NoSuchMark => 7,
+            Fault::NoSuchSuppression => 8,
+            Fault::BadOption => 9,
+            Fault::TooManyMarks => 10,
+            Fault::LineTooLong => 11,
+            Fault::TooManyCommands => 12,
+            Fault::BadSuppression => 13,
+        }
+    }
+}
+
+/// Why no session begins.
+#[derive(Clone, Copy, Debug, PartialEq, Eq, Error)]
+pub enum BeginFault {
+    /// Memory was wanting.
+    #[error("no memory")]
+    Memory,
+    /// An input of more than 1,048,576 bytes.
+    #[error("the input is too large")]
+    InputTooLarge,
+}

@@ -1,0 +1,147 @@
+//! A session, and one line of it.
+mod edits;
+mod refusals;
+
+ghost use Rattle.std.specs.Prelude.{◌≡◌, ◌≤◌};
+ghost use Rattle.replay_session.specs.Setups.{setup_with, longest_input};
+
+use crate::command::Command;
+use crate::fault::{BeginFault, Fault};
+use crate::replay::run_to;
+use crate::reply::Reply;
+use guest_elf::Image;
+use guest_machine::{Input, Machine, Mark, Meter, Setup};
+use replay_report::{Options, render};
+use std::alloc::{AllocError, Global};
+use suppressions::Suppression;
+
+/// How many bytes an input may have.
+pub const LONGEST_INPUT: usize = 1_048_576;
+/// How many lines are answered.
+const MOST_LINES: u32 = 100_000;
+
+/// An input, and the heap's settings of Memcheck: a red zone of 16 bytes, and 20,000,000 bytes of freed blocks.
+pub fn setup_with(input: Vec<u8>) -> Setup
+    ensures { result ≡ setup_with input.items }
+{
+    Setup {
+        input: Input::new(input),
+        redzone: 16,
+        volume: 20_000_000,
+    }
+}
+
+/// One program and what the accepted lines leave: the machine before step 0 with the patches written, the input and the heap's
+/// settings, marks, suppressions, options, the chosen step, and how many lines were given and steps made.
+#[derive(Drop)]
+pub struct Session<'a> {
+    alloc: Global,
+    image: Image<'a>,
+    start: Machine,
+    setup: Setup,
+    marks: Vec<Mark>,
+    suppressions: Vec<Suppression>,
+    options: Options,
+    ghost some_callers: { 1 ≤ options.callers },
+    ghost few_callers: { options.callers ≤ 24 },
+    step: u32,
+    lines: u32,
+    meter: Meter,
+}
+
+impl<'a> Session<'a> {
+    ghost use Rattle.std.specs.Prelude.{◌≡◌, ◌<◌, ◌↔◌, IfOk, OnOk, OnErr, length};
+    ghost use Rattle.replay_session.specs.Scenario.{Scenario, IsReportOf, begun, counted};
+    ghost use Rattle.replay_report.specs.Report.{AppendsReport};
+    ghost use Rattle.replay_session.specs.Replies.{is_over};
+    ghost use Rattle.replay_session.specs.Session.{HasScenario, IsWithin, Carried, Meets, room_in};
+
+    /// The session of a program with an input and suppressions, with nothing edited and step 0 chosen. A refusal drops the arguments; an
+    /// input that is too large is told before want of memory.
+    pub fn begin(
+        alloc: Global,
+        image: Image<'a>,
+        input: Vec<u8>,
+        suppressions: Vec<Suppression>,
+    ) -> Result<Self, BeginFault>
+        ensures ok { IfOk result (λ session. HasScenario session (begun image.entry input.items suppressions.items)) }
+        ensures large { (result ≡ Err BeginFault.InputTooLarge) ↔ (longest_input < length input.items) }
+    {
+        if input.len() > LONGEST_INPUT {
+            return Err(BeginFault::InputTooLarge);
+        }
+        match Machine::start(alloc, &image) {
+            Err(_) => Err(BeginFault::Memory),
+            Ok(start) => Ok(Session {
+                alloc,
+                image,
+                start,
+                setup: setup_with(input),
+                marks: Vec::new(alloc),
+                suppressions,
+                options: Options::default(),
+                step: 0,
+                lines: 0,
+                meter: Meter::new(),
+            }),
+        }
+    }
+
+    /// Where the session's memory comes from.
+    pub(crate) fn allocator(&self) -> Global {
+        self.alloc
+    }
+
+    /// Whether all lines were given that are answered.
+    pub(crate) fn is_over(&self) -> bool
+        ensures { (sc : Scenario) → HasScenario self.now sc → result ≡ is_over sc }
+    {
+        self.lines >= MOST_LINES
+    }
+
+    /// Counts a line.
+    #[tactic(auto, unfolding(crate::specs::Scenario::counted))]
+    fn count(&mut self)
+        ensures counted { (sc : Scenario) → HasScenario self.old sc → HasScenario self.new (counted sc) }
+        ensures room { room_in self.new ≡ record (room_in self.old) { lines = self.new.lines } }
+    {
+        if self.lines < MOST_LINES {
+            self.lines += 1;
+        }
+    }
+
+    /// Appends the report at the chosen step.
+    fn report(&mut self, out: &mut Vec<u8>) -> Result<(), AllocError>
+        ensures has { (sc : Scenario) → HasScenario self.old sc → HasScenario self.new sc }
+        ensures ok { OnOk result ((sc : Scenario) → HasScenario self.old sc → AppendsReport (IsReportOf sc) out.old.items out.new.items) }
+        ensures err { OnErr result (out.new.items ≡ out.old.items) }
+    {
+        let start = self.start.share()?;
+        let machine = run_to(start, &self.setup, &self.marks, self.step, &mut self.meter)?;
+        let input_len = self.setup.input.len() as u64;
+        render(
+            self.alloc,
+            &machine,
+            &self.image,
+            &self.suppressions,
+            &self.options,
+            self.step,
+            input_len,
+            out,
+        )?;
+        Ok(())
+    }
+
+    /// Answers one line, which has no newline, and appends the bytes of a report and nothing else. A refused line changes nothing but
+    /// the number of lines.
+    pub fn command(&mut self, line: &[u8], out: &mut Vec<u8>) -> Result<Reply, Fault>
+        ensures { (sc : Scenario) → HasScenario self.old sc → Meets self.new sc line.now result out.old.items out.new.items }
+    {
+        let accepted = self.accept(line);
+        self.count();
+        match accepted {
+            Ok(command) => self.carry_out(command, out),
+            Err(fault) => Err(fault),
+        }
+    }
+}

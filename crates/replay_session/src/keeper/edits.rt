@@ -1,0 +1,167 @@
+//! What the accepted commands change.
+ghost use Rattle.std.specs.Prelude.{◌≡◌, ◌<◌, length, slice_set};
+
+use crate::command::Command;
+use crate::fault::Fault;
+use crate::keeper::Session;
+use crate::reply::Reply;
+use guest_machine::{Input, Mark};
+use std::mem;
+use suppressions::{LeakKinds, Suppression};
+
+/// An input with one byte replaced.
+fn with_byte(input: Input, offset: u32, byte: u8) -> Input
+    requires { offset < length input }
+    ensures { result ≡ slice_set input offset byte }
+{
+    let mut bytes = input.into_vec();
+    bytes[offset as usize] = byte;
+    Input::new(bytes)
+}
+
+impl<'a> Session<'a> {
+    ghost use Rattle.std.specs.Prelude.{◌≡◌, ◌<◌, ◌≤◌, length, vec_len};
+    ghost use Rattle.replay_session.specs.Scenario.{Scenario};
+    ghost use Rattle.replay_session.specs.Session.{HasScenario, IsWithin, Carried, Edits, room_in};
+
+    /// Chooses a step.
+    fn goto(&mut self, step: u32) -> Result<Reply, Fault>
+        ensures { Edits self.old self.new (Command.Goto step) result }
+    {
+        self.step = step;
+        Ok(Reply::Done)
+    }
+
+    /// Replaces a byte of the input.
+    fn set_input(&mut self, offset: u32, byte: u8) -> Result<Reply, Fault>
+        requires { offset < length self.old.setup.input }
+        ensures { Edits self.old self.new (Command.Input offset byte) result }
+    {
+        let input = mem::replace(&mut self.setup.input, Input::new(Vec::new(self.alloc)));
+        self.setup.input = with_byte(input, offset, byte);
+        Ok(Reply::Done)
+    }
+
+    /// Replaces a word of the loaded program.
+    fn patch(&mut self, addr: u32, word: u32) -> Result<Reply, Fault>
+        ensures { Edits self.old self.new (Command.Patch addr word) result }
+    {
+        let Ok(copy) = self.start.share() else {
+            return Err(Fault::Memory);
+        };
+        let Ok(patched) = copy.poke_word(addr, word) else {
+            return Err(Fault::Memory);
+        };
+        self.start = patched;
+        Ok(Reply::Done)
+    }
+
+    /// Puts a mark at the end of the list.
+    fn add_mark(&mut self, mark: Mark) -> Result<Reply, Fault>
+        ensures { Edits self.old self.new (Command.Mark mark) result }
+    {
+        match self.marks.push(mark) {
+            Ok(()) => Ok(Reply::Done),
+            Err(_) => Err(Fault::Memory),
+        }
+    }
+
+    /// Takes the mark at an index out.
+    fn unmark(&mut self, index: u32) -> Result<Reply, Fault>
+        requires { index < vec_len self.old.marks }
+        ensures { Edits self.old self.new (Command.Unmark index) result }
+    {
+        let _mark = self.marks.remove(index as usize);
+        Ok(Reply::Done)
+    }
+
+    /// Switches the suppression at an index.
+    fn switch(&mut self, index: u32, on: bool) -> Result<Reply, Fault>
+        requires { index < vec_len self.old.suppressions }
+        ensures { Edits self.old self.new (Command.Switch index on) result }
+    {
+        self.suppressions[index as usize].switch(on);
+        Ok(Reply::Done)
+    }
+
+    /// Puts a suppression at the end of the list.
+    fn add_suppression(&mut self, suppression: Suppression) -> Result<Reply, Fault>
+        ensures { Edits self.old self.new (Command.Add suppression) result }
+    {
+        let Ok(()) = self.suppressions.push(suppression) else {
+            return Err(Fault::Memory);
+        };
+        Ok(Reply::Done)
+    }
+
+    /// Chooses how many addresses of a trace are shown.
+    fn set_callers(&mut self, n: u32) -> Result<Reply, Fault>
+        requires { (1 ≤ n) × (n ≤ 24) }
+        ensures { Edits self.old self.new (Command.Callers n) result }
+    {
+        self.options.callers = n;
+        Ok(Reply::Done)
+    }
+
+    /// Chooses the red zone of the blocks that are allocated.
+    fn set_redzone(&mut self, n: u32) -> Result<Reply, Fault>
+        ensures { Edits self.old self.new (Command.Redzone n) result }
+    {
+        self.setup.redzone = n;
+        Ok(Reply::Done)
+    }
+
+    /// Chooses how many bytes the freed blocks may have.
+    fn set_queue(&mut self, n: u32) -> Result<Reply, Fault>
+        ensures { Edits self.old self.new (Command.Queue n) result }
+    {
+        self.setup.volume = n;
+        Ok(Reply::Done)
+    }
+
+    /// Chooses which kinds of leak are shown.
+    fn set_shown(&mut self, kinds: LeakKinds) -> Result<Reply, Fault>
+        ensures { Edits self.old self.new (Command.Show kinds) result }
+    {
+        self.options.show = [
+            kinds.definite,
+            kinds.indirect,
+            kinds.possible,
+            kinds.reachable,
+        ];
+        Ok(Reply::Done)
+    }
+
+    /// Tells how many steps were made.
+    #[tactic(auto, unfolding(crate::specs::Session::work_of))]
+    fn tell_work(&self) -> Result<Reply, Fault>
+        ensures { Edits self.now self.now Command.Worked result }
+    {
+        Ok(Reply::Work(self.meter.read()))
+    }
+
+    /// Carries an accepted command out.
+    pub(crate) fn carry_out(&mut self, command: Command, out: &mut Vec<u8>) -> Result<Reply, Fault>
+        requires { IsWithin (room_in self.old) command }
+        ensures { (sc : Scenario) → HasScenario self.old sc → Carried self.new sc command result out.old.items out.new.items }
+    {
+        match command {
+            Command::Goto(step) => self.goto(step),
+            Command::Report => match self.report(out) {
+                Ok(()) => Ok(Reply::Report),
+                Err(_) => Err(Fault::Memory),
+            },
+            Command::Input { offset, byte } => self.set_input(offset, byte),
+            Command::Patch { addr, word } => self.patch(addr, word),
+            Command::Mark(mark) => self.add_mark(mark),
+            Command::Unmark(index) => self.unmark(index),
+            Command::Switch { index, on } => self.switch(index, on),
+            Command::Add(suppression) => self.add_suppression(suppression),
+            Command::Callers(n) => self.set_callers(n),
+            Command::Redzone(n) => self.set_redzone(n),
+            Command::Queue(n) => self.set_queue(n),
+            Command::Show(kinds) => self.set_shown(kinds),
+            Command::Worked => self.tell_work(),
+        }
+    }
+}

@@ -1,0 +1,95 @@
+//! A session over any reader and any writer.
+ghost use Rattle.std.specs.Prelude.{◌≡◌, OnOk, IfErr};
+ghost use Rattle.replay_session.specs.Scenario.{Scenario};
+ghost use Rattle.replay_session.specs.Served.{ServedAll, ServedRead, StoppedBy};
+ghost use Rattle.replay_session.specs.Session.{HasScenario};
+
+use crate::keeper::Session;
+use crate::server::Server;
+use std::io::{ErrorKind, Read, Write};
+use thiserror::Error;
+
+/// How many calls of `read` are made at most.
+pub const READS: u32 = 500_000_000;
+
+/// Why a session was not served to its end, with the number of whole replies and of bytes that were written.
+#[derive(Clone, Copy, Debug, PartialEq, Eq, Error)]
+pub enum ServeFault {
+    /// A read failed. The replies to all lines whose newline was read were written.
+    #[error("the read failed after {replies} replies")]
+    ReadFailed { replies: u64, bytes: u64 },
+    /// A write or a flush failed, or a write took nothing. Whole replies were written, and a front of the next.
+    #[error("the write failed after {bytes} bytes")]
+    WriteFailed { replies: u64, bytes: u64 },
+    /// Memory was wanting before the first read.
+    #[error("no memory")]
+    NoMemory { replies: u64, bytes: u64 },
+    /// 500,000,000 calls of `read` found no end. The replies to all lines whose newline was read were written.
+    #[error("the input has no end")]
+    Endless { replies: u64, bytes: u64 },
+}
+
+/// Answers each line of a reader to a writer: `ok`, the report, `worked N` or `refused N`, each with a newline at its end, and flushes
+/// after each. One carriage return before a newline is dropped; bytes after the last newline are a line. It ends at the reader's
+/// end, or after the first reply `refused 12`. A read that was interrupted is tried again, a write isn't.
+pub fn serve<R: Read, W: Write>(
+    session: Session<'_>,
+    reader: &mut R,
+    writer: &mut W,
+) -> Result<(), ServeFault>
+    // To the end, the replies to the lines of all bytes were written, and nothing else.
+    ensures ok { OnOk result ((sc : Scenario) → HasScenario session.entry sc →
+        ServedAll sc (R.remaining reader.old) (W.contents writer.old) (W.contents writer.new)) }
+
+    // Of a reader that doesn't tell its bytes: these are the replies to the lines of some bytes.
+    ensures read { OnOk result ((sc : Scenario) → HasScenario session.entry sc →
+        ServedRead sc (R.remaining reader.old) (R.remaining reader.new) (W.contents writer.old) (W.contents writer.new)) }
+
+    // Some bytes were read and the others stay, and the fault says what was written for those.
+    ensures fault { IfErr result (λ fault. (sc : Scenario) → HasScenario session.entry sc →
+        StoppedBy fault sc (R.remaining reader.old) (R.remaining reader.new) (W.contents writer.old) (W.contents writer.new)) }
+{
+    let Ok(mut server) = Server::new(session) else {
+        return Err(ServeFault::NoMemory {
+            replies: 0,
+            bytes: 0,
+        });
+    };
+    let mut chunk = [0u8; 512];
+    for _i in 0..READS {
+        match reader.read(&mut chunk) {
+            Ok(0) => match server.finish(writer) {
+                Ok(()) => return Ok(()),
+                Err(_) => {
+                    return Err(ServeFault::WriteFailed {
+                        replies: server.replies(),
+                        bytes: server.bytes(),
+                    });
+                }
+            },
+            Ok(n) => match server.feed(writer, &chunk[..n]) {
+                Ok(true) => return Ok(()),
+                Ok(false) => continue,
+                Err(_) => {
+                    return Err(ServeFault::WriteFailed {
+                        replies: server.replies(),
+                        bytes: server.bytes(),
+                    });
+                }
+            },
+            Err(e) => {
+                if e.kind() == ErrorKind::Interrupted {
+                    continue;
+                }
+                return Err(ServeFault::ReadFailed {
+                    replies: server.replies(),
+                    bytes: server.bytes(),
+                });
+            }
+        }
+    }
+    Err(ServeFault::Endless {
+        replies: server.replies(),
+        bytes: server.bytes(),
+    })
+}

@@ -1,0 +1,244 @@
+//! Lines and their answers, and readers and writers that fail.
+use crate::fakes::{Room, Script};
+use crate::{BeginFault, LONGEST_INPUT, Reply, ServeFault, Session, serve};
+use guest_elf::read;
+use guest_programs::program;
+use std::alloc::Global;
+use std::process::Abort;
+use std::test::Fail;
+
+/// Three words: exit with status 0.
+const EXITS: [u32; 3] = [0x05D0_0893, 0x0000_0513, 0x0000_0073];
+
+/// `lw a0, 0(x2)` and a branch on it, below a new stack frame.
+const BRANCHES: [u32; 3] = [0xFF01_0113, 0x0001_2503, 0x0005_0463];
+
+const EXIT_REPORT: &[u8] = b"step 3
+state exited 0
+input 0 of 0
+output 0
+definitely lost: 0 bytes in 0 blocks
+indirectly lost: 0 bytes in 0 blocks
+possibly lost: 0 bytes in 0 blocks
+still reachable: 0 bytes in 0 blocks
+suppressed: 0 bytes in 0 blocks
+ERROR SUMMARY: 0 errors from 0 contexts (suppressed: 0 from 0)
+";
+
+/// What the lines of a script are answered, served with a reader and a writer, and how it ended.
+fn served(
+    alloc: Global,
+    words: &[u32],
+    script: &mut Script<'_>,
+    room: usize,
+) -> Result<(Vec<u8>, Result<(), ServeFault>), Fail> {
+    let file = program(alloc, words)?;
+    let image = read(alloc, &file).map_err(|_| Fail::from("the image is refused"))?;
+    let input = b"ab".to_vec(alloc)?;
+    let session = Session::begin(alloc, image, input, Vec::new(alloc))?;
+    let mut writer = Room::new(alloc, room);
+    let end = serve(session, script, &mut writer);
+    Ok((writer.taken, end))
+}
+
+fn script(rest: &[u8]) -> Script<'_> {
+    Script {
+        rest,
+        most: 4096,
+        fails: false,
+        interrupted: None,
+    }
+}
+
+/// Whether some lines are answered with these bytes.
+fn answers(alloc: Global, words: &[u32], lines: &[u8], want: &[u8]) -> Result<bool, Fail> {
+    let (taken, end) = served(alloc, words, &mut script(lines), 1 << 20)?;
+    Ok(end.is_ok() && taken.as_slice() == want)
+}
+
+/// Fields, numbers and limits: what is taken, and what each other line is refused with.
+#[test]
+fn lines_and_refusals(rt: HostRuntime) -> Result<(), Fail> {
+    let cases = [
+        (b"goto 1048576".as_slice(), b"ok\n".as_slice()),
+        (b"goto 1048577", b"refused 5\n"),
+        (b"goto", b"refused 2\n"),
+        (b"goto  1", b"refused 2\n"),
+        (b"goto 1 ", b"refused 2\n"),
+        (b" goto 1", b"refused 2\n"),
+        (b"goto 1 2", b"refused 2\n"),
+        (b"Goto 1", b"refused 2\n"),
+        (b"report now", b"refused 2\n"),
+        (b"\n", b"refused 2\n"),
+        (b"worked", b"worked 0\n"),
+        (b"worked 1", b"refused 2\n"),
+        (b"input 1 0xff", b"ok\n"),
+        (b"input 1 256", b"refused 2\n"),
+        (b"input 2 0", b"refused 3\n"),
+        (b"patch 0x10008 0", b"ok\n"),
+        (b"patch 0x10002 0", b"refused 4\n"),
+        (b"patch 0x1000c 0", b"refused 4\n"),
+        (b"mark 0 0xffffffff 1 noaccess", b"ok\n"),
+        (b"mark 0 0xffffffff 2 defined", b"refused 6\n"),
+        (b"mark 0 0 0 defined", b"refused 6\n"),
+        (b"mark 0 0 1048577 defined", b"refused 6\n"),
+        (b"mark 1048577 0 0 defined", b"refused 5\n"),
+        (b"mark 0 0 1 Defined", b"refused 2\n"),
+        (b"unmark 0", b"refused 7\n"),
+        (b"supp on 0", b"refused 8\n"),
+        (b"supp", b"refused 2\n"),
+        (b"supp add", b"refused 2\n"),
+        (b"supp add Foo fun:a", b"refused 13\n"),
+        (b"supp add Param", b"refused 13\n"),
+        (b"supp add Cond  fun:a", b"refused 2\n"),
+        (b"supp add Leak match-leak-kinds:none", b"ok\n"),
+        (b"option callers 24", b"ok\n"),
+        (b"option callers 25", b"refused 9\n"),
+        (b"option callers 0", b"refused 9\n"),
+        (b"option callers x", b"refused 2\n"),
+        (b"option redzone 4096", b"ok\n"),
+        (b"option redzone 4097", b"refused 9\n"),
+        (b"option queue 1000000000", b"ok\n"),
+        (b"option queue 1000000001", b"refused 9\n"),
+        (b"option show all,none,all", b"ok\n"),
+        (b"option show all,", b"refused 9\n"),
+        (b"option colour 1", b"refused 9\n"),
+        (b"option colour", b"refused 2\n"),
+        (b"option colour ", b"refused 2\n"),
+    ];
+    for (line, want) in cases {
+        assert!(rt; answers(rt.alloc(), &EXITS, line, want)?);
+    }
+    Ok(())
+}
+
+/// An input byte, a suppression and its switch, and a refused line between two reports.
+#[test]
+fn edits_show(rt: HostRuntime) -> Result<(), Fail> {
+    let alloc = rt.alloc();
+    let (taken, end) = served(
+        alloc,
+        &BRANCHES,
+        &mut script(b"goto 3\nreport\nsupp add Cond ...\nreport\nsupp off 0\nreport\nworked\n"),
+        1 << 20,
+    )?;
+    assert!(rt; end.is_ok());
+    let text = std::str::from_utf8(&taken).map_err(|_| Fail::from("no text"))?;
+    for (part, want) in [
+        (
+            "ERROR SUMMARY: 1 errors from 1 contexts (suppressed: 0 from 0)\n",
+            2,
+        ),
+        (
+            "ERROR SUMMARY: 0 errors from 0 contexts (suppressed: 1 from 1)\n",
+            1,
+        ),
+        ("input 0 of 2\n", 3),
+        ("ok\n", 3),
+        ("worked 9\n", 1),
+    ] {
+        assert_eq!(rt; text.matches(part).count(), want);
+    }
+    Ok(())
+}
+
+/// A byte at a time, with interruptions, or all at once; a carriage return goes before a newline alone.
+#[test]
+fn any_reader(rt: HostRuntime) -> Result<(), Fail> {
+    let alloc = rt.alloc();
+    let lines = b"goto 3\r\nreport\r\r\n\nunmark 0";
+    let want = b"ok\nrefused 2\nrefused 2\nrefused 7\n";
+    assert!(rt; answers(alloc, &EXITS, lines, want)?);
+    assert!(rt; answers(alloc, &EXITS, b"goto 3\r", b"refused 2\n")?);
+    let mut slow = script(lines);
+    slow.most = 1;
+    slow.interrupted = Some(true);
+    let (taken, end) = served(alloc, &EXITS, &mut slow, 1 << 20)?;
+    assert!(rt; end.is_ok());
+    assert_eq!(rt; taken.as_slice(), want.as_slice());
+    Ok(())
+}
+
+/// The replies to whole lines are written before a read fails, and the counts tell of what was written.
+#[test]
+fn faults_tell_what_was_written(rt: HostRuntime) -> Result<(), Fail> {
+    let alloc = rt.alloc();
+    let mut failing = script(b"goto 3\nreport\nunm");
+    failing.fails = true;
+    let (taken, end) = served(alloc, &EXITS, &mut failing, 1 << 20)?;
+    assert_eq!(rt;
+        end,
+        Err(ServeFault::ReadFailed {
+            replies: 2,
+            bytes: 288
+        })
+    );
+    assert!(rt; taken.starts_with(b"ok\nstep 3\nstate exited 0\ninput 0 of 2\n"));
+    let (taken, end) = served(alloc, &EXITS, &mut script(b"goto 3\nreport\n"), 100)?;
+    assert_eq!(rt;
+        end,
+        Err(ServeFault::WriteFailed {
+            replies: 1,
+            bytes: 100
+        })
+    );
+    assert_eq!(rt; taken.len(), 100);
+    Ok(())
+}
+
+/// Lines of 4,096 and 4,097 bytes.
+#[test]
+fn long_lines(rt: HostRuntime) -> Result<(), Fail> {
+    let alloc = rt.alloc();
+    let mut lines = b"supp add Cond fun:".to_vec(alloc)?;
+    let letters = vec![in alloc; b'a'; 4096 - lines.len()]?;
+    lines.extend_from_slice(&letters)?;
+    lines.extend_from_slice(b"\r\nsupp add Cond fun:a")?;
+    lines.extend_from_slice(&letters)?;
+    lines.extend_from_slice(b"\r\n")?;
+    assert!(rt; answers(alloc, &EXITS, &lines, b"ok\nrefused 11\n")?);
+    Ok(())
+}
+
+/// The first 100,000 lines are answered; the next and all after it are refused, and change nothing.
+#[test]
+fn too_many_lines(rt: HostRuntime) -> Result<(), Fail> {
+    let alloc = rt.alloc();
+    let file = program(alloc, &EXITS)?;
+    let image = read(alloc, &file).map_err(|_| Fail::from("the image is refused"))?;
+    let mut session = Session::begin(alloc, image, Vec::new(alloc), Vec::new(alloc))?;
+    let mut out = Vec::new(alloc);
+    assert_eq!(rt; session.command(b"goto 3", &mut out), Ok(Reply::Done));
+    assert_eq!(rt; session.command(b"report", &mut out), Ok(Reply::Report));
+    assert_eq!(rt; out.as_slice(), EXIT_REPORT);
+    for _ in 2..100_000 {
+        assert_eq!(rt; session.command(b"worked", &mut out), Ok(Reply::Work(3)));
+    }
+    for _ in 0..2 {
+        let refused = session.command(b"report", &mut out);
+        assert_eq!(rt; refused.map_err(|fault| fault.number()), Err(12));
+    }
+    assert_eq!(rt; out.len(), EXIT_REPORT.len());
+    Ok(())
+}
+
+fn begins(rt: &impl Abort, alloc: Global, bytes: usize) -> Result<bool, Fail> {
+    let file = program(alloc, &EXITS)?;
+    let image = read(alloc, &file).map_err(|_| Fail::from("the image is refused"))?;
+    let input = vec![in alloc; 0u8; bytes]?;
+    match Session::begin(alloc, image, input, Vec::new(alloc)) {
+        Ok(_) => Ok(true),
+        Err(fault) => {
+            assert_eq!(rt; fault, BeginFault::InputTooLarge);
+            Ok(false)
+        }
+    }
+}
+
+#[test]
+fn the_longest_input(rt: HostRuntime) -> Result<(), Fail> {
+    let alloc = rt.alloc();
+    assert!(rt; begins(&rt, alloc, LONGEST_INPUT)?);
+    assert!(rt; !begins(&rt, alloc, LONGEST_INPUT + 1)?);
+    Ok(())
+}
