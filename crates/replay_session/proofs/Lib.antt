@@ -1,9 +1,9 @@
 pub mod NumberSteps
 pub mod AcceptSteps
-pub mod MarkSteps
 pub mod SessionSteps
 pub mod Known
 pub mod LineSteps
 pub mod ReplySteps
 pub mod ServeSteps
 pub mod ServedSteps
+pub mod EditSteps

@@ -4,7 +4,10 @@ use Rattle.std.proofs.Math.ListN.{set}
 use Rattle.std.proofs.Math.Path.{transport}
 use Rattle.std.specs.Prelude.{IsOkAnd}
 use Rattle.std.proofs.lemmas.Bool.Decides.{nat_tests}
+use Rattle.guest_machine.specs.State.{State}
 use Rattle.guest_machine.specs.Run.{post, poked}
+use Rattle.checkpoints.specs.Trails.{IsRightFor}
+use Rattle.checkpoints.specs.declared.trail.Trail.{Trail}
 use Rattle.guest_machine.specs.declared.setup.Mark.{Mark}
 use Rattle.replay_report.specs.Report.{IsReport}
 use Rattle.suppressions.specs.Rules.{Rule}
@@ -35,6 +38,19 @@ unfolding IsReportOf chosen_state
 report-has session sc marks rules len h same kept e text told =
     transport (λ i. IsReport (post (first_state sc) (h.setup i) (h.marks i) (h.step i)) (h.image i) (h.rules i) (h.options i) (h.step i) (length (h.setup i).input) text)
     (transport (λ i. IsReport (post (first_state sc) session.setup (same i) session.step) session.image (kept i) session.options session.step (e i) text) told)
+
+-- a trail that a report moved on is right for the same run
+pub moved : (session : Session) (sc : Scenario) (marks : List Mark) → marks ≡ session.marks.items → (new : Trail) → HasScenario session sc
+    → ((start : State) → IsRightFor session.trail start session.setup marks → IsRightFor new start session.setup marks)
+    → IsRightFor new (first_state sc) session.setup session.marks.items
+moved session sc marks same new h right =
+    let before = subst (IsRightFor session.trail (first_state sc) session.setup) (sym same) h.trail in
+    subst (IsRightFor new (first_state sc) session.setup) same (right (first_state sc) before)
+
+-- a session with another trail that is right has the scenario
+pub kept : (session : Session) (new : Trail) (sc : Scenario) → HasScenario session sc → IsRightFor new (first_state sc) session.setup session.marks.items
+    → HasScenario (record session { trail = new }) sc
+kept session new sc h right = record { image = h.image; trail = right; setup = h.setup; marks = h.marks; rules = h.rules; options = h.options; step = h.step; lines = h.lines }
 
 -- what a refusal looks at is that of the scenario
 room-has : (session : Session) (sc : Scenario) → HasScenario session sc → room_of sc ≡ room_in session

@@ -1,8 +1,9 @@
 -- How a session keeps a scenario, and what one line does to it.
-use Rattle.std.specs.Prelude.{◌≡◌, ◌<◌, ◌≤◌, ◌⊎◌, ℕ, List, length, vec_len, Result, Ok, Err, IsOkAnd}
-use Rattle.guest_machine.specs.Shows.{Shows}
+use Rattle.std.specs.Prelude.{◌≡◌, ◌<◌, ◌≤◌, ◌⊎◌, ℕ, List, length, vec_len, true, Result, Ok, Err, IsOkAnd}
+use Rattle.checkpoints.specs.Trails.{IsRightFor, meter_of}
+use Rattle.checkpoints.specs.declared.trail.Trail.{Trail}
 use Rattle.replay_report.specs.Report.{AppendsReport}
-use Rattle.replay_session.specs.Scenario.{Scenario, Room, IsReportOf, first_state, accepted, applied, counted, changed}
+use Rattle.replay_session.specs.Scenario.{Scenario, Room, IsReportOf, first_state, is_word, accepted, applied, counted, changed}
 use Rattle.replay_session.specs.declared.keeper.Session.{Session}
 use Rattle.replay_session.specs.declared.fault.Fault.{Fault}
 use Rattle.replay_session.specs.declared.fault.Fault.TheVariants.{Memory}
@@ -11,10 +12,10 @@ use Rattle.replay_session.specs.declared.reply.Reply.TheVariants.{Done as IsDone
 use Rattle.replay_session.specs.declared.command.Command.{Command}
 use Rattle.replay_session.specs.declared.command.Command.TheVariants.{Goto, Report, Input, Patch, Mark, Unmark, Switch, Add, Callers, Redzone, Queue, Show, Worked}
 
--- the session has the scenario: its machine shows the state before step 0, and it keeps the rest as it is
+-- the session has the scenario: its trail is right for the run from the state before step 0, and it keeps the rest as it is
 pub record HasScenario (session : Session) (sc : Scenario) : Type 0 where
   pub image : session.image ≡ sc.image
-  pub start : Shows session.start (first_state sc)
+  pub trail : IsRightFor session.trail (first_state sc) session.setup session.marks.items
   pub setup : session.setup ≡ sc.setup
   pub marks : session.marks.items ≡ sc.marks
   pub rules : session.suppressions.items ≡ sc.rules
@@ -32,13 +33,18 @@ room_in session = record {
   lines = session.lines;
 }
 
+-- the machines that a session holds of its run
+unfoldable pub trail_of : Session → Trail
+trail_of session = session.trail
+
 -- how many steps were made for a session's reports
 unfoldable pub work_of : Session → ℕ
-work_of session = session.meter
+work_of session = meter_of session.trail
 
 -- what an accepted command names is there and in its range
 abbrev pub IsWithin : Room → Command → Type 0
 IsWithin room (Input offset value) = offset < room.input
+IsWithin room (Patch addr word) = is_word room.image addr ≡ true
 IsWithin room (Unmark i) = i < room.marks
 IsWithin room (Switch i on) = i < room.rules
 IsWithin room (Callers n) = (1 ≤ n) × (n ≤ 24)

@@ -3,14 +3,15 @@ mod edits;
 mod refusals;
 
 ghost use Rattle.std.specs.Prelude.{◌≡◌, ◌≤◌};
+ghost use Rattle.checkpoints.specs.Trails.{LoadsAs};
 ghost use Rattle.replay_session.specs.Setups.{setup_with, longest_input};
 
 use crate::command::Command;
 use crate::fault::{BeginFault, Fault};
-use crate::replay::run_to;
 use crate::reply::Reply;
 use guest_elf::Image;
-use guest_machine::{Input, Machine, Mark, Meter, Setup};
+use checkpoints::Trail;
+use guest_machine::{Input, Mark, Setup};
 use replay_report::{Options, render};
 use std::alloc::{AllocError, Global};
 use suppressions::Suppression;
@@ -31,13 +32,14 @@ pub fn setup_with(input: Vec<u8>) -> Setup
     }
 }
 
-/// One program and what the accepted lines leave: the machine before step 0 with the patches written, the input and the heap's
-/// settings, marks, suppressions, options, the chosen step, and how many lines were given and steps made.
+/// One program and what the accepted lines leave: the machines that are held of its run, with the patches written, the input and the
+/// heap's settings, marks, suppressions, options, the chosen step, and how many lines were given.
 #[derive(Drop)]
 pub struct Session<'a> {
     alloc: Global,
     image: Image<'a>,
-    start: Machine,
+    trail: Trail,
+    ghost loads: { LoadsAs trail image },
     setup: Setup,
     marks: Vec<Mark>,
     suppressions: Vec<Suppression>,
@@ -46,7 +48,6 @@ pub struct Session<'a> {
     ghost few_callers: { options.callers ≤ 24 },
     step: u32,
     lines: u32,
-    meter: Meter,
 }
 
 impl<'a> Session<'a> {
@@ -54,7 +55,7 @@ impl<'a> Session<'a> {
     ghost use Rattle.replay_session.specs.Scenario.{Scenario, IsReportOf, begun, counted};
     ghost use Rattle.replay_report.specs.Report.{AppendsReport};
     ghost use Rattle.replay_session.specs.Replies.{is_over};
-    ghost use Rattle.replay_session.specs.Session.{HasScenario, IsWithin, Carried, Meets, room_in};
+    ghost use Rattle.replay_session.specs.Session.{HasScenario, IsWithin, Carried, Meets, room_in, trail_of};
 
     /// The session of a program with an input and suppressions, with nothing edited and step 0 chosen. A refusal drops the arguments; an
     /// input that is too large is told before want of memory.
@@ -70,21 +71,28 @@ impl<'a> Session<'a> {
         if input.len() > LONGEST_INPUT {
             return Err(BeginFault::InputTooLarge);
         }
-        match Machine::start(alloc, &image) {
+        match Trail::begin(alloc, &image) {
             Err(_) => Err(BeginFault::Memory),
-            Ok(start) => Ok(Session {
+            Ok(trail) => Ok(Session {
                 alloc,
                 image,
-                start,
+                trail,
                 setup: setup_with(input),
                 marks: Vec::new(alloc),
                 suppressions,
                 options: Options::default(),
                 step: 0,
                 lines: 0,
-                meter: Meter::new(),
             }),
         }
+    }
+
+    /// The machines that are held of the run, on whose meter each step of a report was made.
+    #[tactic(auto, unfolding(crate::specs::Session::trail_of))]
+    pub fn trail(&self) -> &Trail
+        ensures { result.now ≡ trail_of self.now }
+    {
+        &self.trail
     }
 
     /// Where the session's memory comes from.
@@ -116,8 +124,7 @@ impl<'a> Session<'a> {
         ensures ok { OnOk result ((sc : Scenario) → HasScenario self.old sc → AppendsReport (IsReportOf sc) out.old.items out.new.items) }
         ensures err { OnErr result (out.new.items ≡ out.old.items) }
     {
-        let start = self.start.share()?;
-        let machine = run_to(start, &self.setup, &self.marks, self.step, &mut self.meter)?;
+        let machine = self.trail.at(self.step, &self.setup, &self.marks)?;
         let input_len = self.setup.input.len() as u64;
         render(
             self.alloc,

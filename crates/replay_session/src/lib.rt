@@ -9,7 +9,6 @@ mod fault;
 mod keeper;
 mod numbers;
 mod parsing;
-mod replay;
 mod reply;
 mod sending;
 mod server;
@@ -20,7 +19,6 @@ mod texts;
 
 pub use fault::{BeginFault, Fault};
 pub use keeper::{LONGEST_INPUT, Session, setup_with};
-pub use replay::run_to;
 pub use reply::Reply;
 pub use sending::send;
 pub use serving::{READS, ServeFault, serve};

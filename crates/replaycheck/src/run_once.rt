@@ -4,9 +4,10 @@ ghost use Rattle.replay_session.specs.Setups.{longest_input};
 ghost use Rattle.replaycheck.specs.Once.{IsReportOnce, WritesReport, StopsBy};
 
 use guest_elf::Image;
+use checkpoints::run_to;
 use guest_machine::{Machine, Meter};
 use replay_report::{Options, render};
-use replay_session::{LONGEST_INPUT, run_to, send, setup_with};
+use replay_session::{LONGEST_INPUT, send, setup_with};
 use std::alloc::{AllocError, Global};
 use std::io::Write;
 use suppressions::Suppression;

@@ -20,8 +20,8 @@ fn with_byte(input: Input, offset: u32, byte: u8) -> Input
 }
 
 impl<'a> Session<'a> {
-    ghost use Rattle.std.specs.Prelude.{◌≡◌, ◌<◌, ◌≤◌, length, vec_len};
-    ghost use Rattle.replay_session.specs.Scenario.{Scenario};
+    ghost use Rattle.std.specs.Prelude.{◌≡◌, ◌<◌, ◌≤◌, length, vec_len, true};
+    ghost use Rattle.replay_session.specs.Scenario.{Scenario, is_word};
     ghost use Rattle.replay_session.specs.Session.{HasScenario, IsWithin, Carried, Edits, room_in};
 
     /// Chooses a step.
@@ -39,21 +39,19 @@ impl<'a> Session<'a> {
     {
         let input = mem::replace(&mut self.setup.input, Input::new(Vec::new(self.alloc)));
         self.setup.input = with_byte(input, offset, byte);
+        self.trail.cut_input(offset);
         Ok(Reply::Done)
     }
 
     /// Replaces a word of the loaded program.
     fn patch(&mut self, addr: u32, word: u32) -> Result<Reply, Fault>
+        requires { is_word self.old.image addr ≡ true }
         ensures { Edits self.old self.new (Command.Patch addr word) result }
     {
-        let Ok(copy) = self.start.share() else {
-            return Err(Fault::Memory);
-        };
-        let Ok(patched) = copy.poke_word(addr, word) else {
-            return Err(Fault::Memory);
-        };
-        self.start = patched;
-        Ok(Reply::Done)
+        match self.trail.patch(addr, word) {
+            Ok(()) => Ok(Reply::Done),
+            Err(_) => Err(Fault::Memory),
+        }
     }
 
     /// Puts a mark at the end of the list.
@@ -61,7 +59,10 @@ impl<'a> Session<'a> {
         ensures { Edits self.old self.new (Command.Mark mark) result }
     {
         match self.marks.push(mark) {
-            Ok(()) => Ok(Reply::Done),
+            Ok(()) => {
+                self.trail.cut_mark(mark.step);
+                Ok(Reply::Done)
+            }
             Err(_) => Err(Fault::Memory),
         }
     }
@@ -71,7 +72,8 @@ impl<'a> Session<'a> {
         requires { index < vec_len self.old.marks }
         ensures { Edits self.old self.new (Command.Unmark index) result }
     {
-        let _mark = self.marks.remove(index as usize);
+        let mark = self.marks.remove(index as usize);
+        self.trail.cut_mark(mark.step);
         Ok(Reply::Done)
     }
 
@@ -108,6 +110,7 @@ impl<'a> Session<'a> {
         ensures { Edits self.old self.new (Command.Redzone n) result }
     {
         self.setup.redzone = n;
+        self.trail.cut_heap();
         Ok(Reply::Done)
     }
 
@@ -116,6 +119,7 @@ impl<'a> Session<'a> {
         ensures { Edits self.old self.new (Command.Queue n) result }
     {
         self.setup.volume = n;
+        self.trail.cut_heap();
         Ok(Reply::Done)
     }
 
@@ -137,7 +141,7 @@ impl<'a> Session<'a> {
     fn tell_work(&self) -> Result<Reply, Fault>
         ensures { Edits self.now self.now Command.Worked result }
     {
-        Ok(Reply::Work(self.meter.read()))
+        Ok(Reply::Work(self.trail.meter().read()))
     }
 
     /// Carries an accepted command out.

@@ -1,4 +1,6 @@
-use Rattle.std.proofs.Common.{refl, inl, ◌∙◌, ◌++◌, ◌∷◌, [], ap}
+use Rattle.std.proofs.Common.{refl, sym, subst, inl, ◌∙◌, ◌++◌, ◌∷◌, [], ap}
+use Rattle.checkpoints.specs.FirstEffects.{DifferAtStep}
+use Rattle.replay_session.proofs.EditSteps.{differ_appended}
 use Rattle.replay_session.specs.Scenario.{first_state}
 use Rattle.replay_session.proofs.keeper.Session.add_mark.Goals as goal
 
@@ -8,5 +10,5 @@ returns-in-Ok c sc out h =
     inl (record {
       replies = refl;
       appends = refl;
-      has = record { image = h.image; start = h.start; setup = h.setup; marks = c.in-Ok.ensures.items ∙ ap (λ ms. ms ++ c.args.mark ∷ []) h.marks; rules = h.rules; options = h.options; step = h.step; lines = h.lines };
+      has = record { image = h.image; trail = c.cut_mark.ensures.right (first_state sc) _ _ _ (subst (DifferAtStep c.args.mark.step c.args.self.now.marks.items) (sym c.in-Ok.ensures.items) (differ_appended c.args.self.now.marks.items c.args.mark)) h.trail; setup = h.setup; marks = c.in-Ok.ensures.items ∙ ap (λ ms. ms ++ c.args.mark ∷ []) h.marks; rules = h.rules; options = h.options; step = h.step; lines = h.lines };
     })

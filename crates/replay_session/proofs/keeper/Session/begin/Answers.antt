@@ -7,7 +7,7 @@ unfolding begun first_state
 returns-clause-ok c =
     record {
       image = refl;
-      start = c.in-Ok.ensures;
+      trail = c.in-Ok.ensures.right _ _;
       setup = c.setup_with.ensures;
       marks = c.new.ensures.items;
       rules = refl;

@@ -7,4 +7,4 @@ pub returns-then-self-lt-MOST_LINES-clause-counted : goal.returns-then-self-lt-M
 unfolding counted first_state
 returns-then-self-lt-MOST_LINES-clause-counted c sc h =
     let few : c.args.self.now.lines < most_lines = omega arith in
-    record { image = h.image; start = h.start; setup = h.setup; marks = h.marks; rules = h.rules; options = h.options; step = h.step; lines = lines-counted c.args.self.now.lines sc.lines h.lines few }
+    record { image = h.image; trail = h.trail; setup = h.setup; marks = h.marks; rules = h.rules; options = h.options; step = h.step; lines = lines-counted c.args.self.now.lines sc.lines h.lines few }

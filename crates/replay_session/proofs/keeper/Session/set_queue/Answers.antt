@@ -8,5 +8,5 @@ returns c sc out h =
     inl (record {
       replies = refl;
       appends = refl;
-      has = record { image = h.image; start = h.start; setup = λ i. record { input = (h.setup i).input; redzone = (h.setup i).redzone; volume = c.args.n }; marks = h.marks; rules = h.rules; options = h.options; step = h.step; lines = h.lines };
+      has = record { image = h.image; trail = c.cut_heap.ensures.right (first_state sc) _ _ _ refl h.trail; setup = λ i. record { input = (h.setup i).input; redzone = (h.setup i).redzone; volume = c.args.n }; marks = h.marks; rules = h.rules; options = h.options; step = h.step; lines = h.lines };
     })

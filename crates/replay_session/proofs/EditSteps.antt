@@ -1,0 +1,76 @@
+-- What the edits of a session are to its run: other marks at one step, another byte of the input, a word of the image.
+use Rattle.std.proofs.Common.{◌≡◌, ℕ, zero, suc, ◌+◌, ◌%◌, ◌^◌, ◌<◌, ◌==◌, ◌&&◌, Bool, true, false, cond, List, [], ◌∷◌, ◌++◌, filter, remove, length, Option, Some, None, refl, ap, sym, ◌∙◌, arith}
+use Rattle.std.specs.Prelude.{slice_get, slice_set, is_some}
+use Rattle.std.proofs.lemmas.Bool.Decides.{nat_tests}
+use Rattle.std.proofs.lemmas.List.{length-set}
+use Rattle.error_events.proofs.SameKeys.{left-true, right-true}
+use Rattle.guest_elf.specs.Images.{loaded_at}
+use Rattle.guest_elf.specs.declared.image.Image.{Image}
+use Rattle.guest_machine.specs.Laws.{DifferAt}
+use Rattle.guest_machine.specs.Run.{marks_at}
+use Rattle.guest_machine.specs.declared.setup.Setup.{Setup}
+use Rattle.guest_machine.specs.declared.setup.Mark.{Mark}
+use Rattle.checkpoints.specs.FirstEffects.{DifferAtStep}
+use Rattle.checkpoints.specs.Words.{IsWordIn, is_among}
+use Rattle.checkpoints.specs.Trails.{LoadsAs, loaded_of}
+use Rattle.checkpoints.specs.declared.trail.Trail.{Trail}
+use Rattle.replay_session.specs.Scenario.{is_word, is_loaded}
+
+not-at : (m k : ℕ) → (k ≡ m → ⊥) → (m == k) ≡ false
+not-at m k n = grind (arith, nat_tests)
+
+-- one more mark at a step
+pub differ_appended : (marks : List Mark) (mark : Mark) → DifferAtStep mark.step marks (marks ++ mark ∷ [])
+differ_appended [] mark k n = sym (ap (λ b. cond b (mark ∷ []) []) (not-at mark.step k n))
+differ_appended (m ∷ ms) mark k n = ap (λ rest. cond (m.step == k) (m ∷ rest) rest) (differ_appended ms mark k n)
+
+-- one mark less
+pub differ_removed : (marks : List Mark) (i : ℕ) (mark : Mark) → slice_get marks i ≡ Some mark → DifferAtStep mark.step marks (remove marks i)
+differ_removed [] i mark h k n = cc
+differ_removed (m ∷ ms) zero mark h k n = let e : m ≡ mark = cc in ap (λ (x : Mark). cond (x.step == k) (x ∷ marks_at k ms) (marks_at k ms)) e ∙ ap (λ b. cond b (mark ∷ marks_at k ms) (marks_at k ms)) (not-at mark.step k n)
+differ_removed (m ∷ ms) (suc i) mark h k n = ap (λ rest. cond (m.step == k) (m ∷ rest) rest) (differ_removed ms i mark h k n)
+
+-- another byte of the input
+get-other : (bytes : List ℕ) (offset byte i : ℕ) → (i ≡ offset → ⊥) → slice_get bytes i ≡ slice_get (slice_set bytes offset byte) i
+get-other [] offset byte i n = refl
+get-other (b ∷ bs) zero byte zero n = absurd (n refl)
+get-other (b ∷ bs) zero byte (suc i) n = refl
+get-other (b ∷ bs) (suc offset) byte zero n = refl
+get-other (b ∷ bs) (suc offset) byte (suc i) n = get-other bs offset byte i (λ e. n (ap suc e))
+
+pub differ_at : (one other : Setup) (offset byte : ℕ) → other.input ≡ slice_set one.input offset byte → one.redzone ≡ other.redzone → one.volume ≡ other.volume → DifferAt offset one other
+differ_at one other offset byte input redzone volume = record {
+  redzone = redzone;
+  volume = volume;
+  len = sym (ap length input ∙ length-set one.input offset byte);
+  bytes = λ i n. get-other one.input offset byte i n ∙ ap (λ bytes. slice_get bytes i) (sym input);
+}
+
+-- a word of the image
+pub word_in : (trail : Trail) (image : Image) (addr : ℕ) → LoadsAs trail image → addr < 2 ^ 32 → is_word image addr ≡ true → IsWordIn (loaded_of trail) addr
+unfolding is_word
+word_in trail image addr loads small is =
+    let aligned : addr % 4 ≡ 0 = grind (arith, nat_tests) in record {
+      aligned = aligned;
+      small = small;
+      loaded = λ i h. loads (addr + i) ∙ each i h aligned;
+    }
+  where
+    tests : Bool
+    tests = is_loaded image addr 0 && (is_loaded image addr 1 && (is_loaded image addr 2 && is_loaded image addr 3))
+
+    all : tests ≡ true
+    all = right-true (addr % 4 == 0) tests is
+
+    at : (i : ℕ) → is_loaded image addr i ≡ true → (addr + i) % 2 ^ 32 ≡ addr + i → is_some (loaded_at image (addr + i)) ≡ true
+    at i h e = ap (λ a. is_some (loaded_at image a)) (sym e) ∙ h
+
+    plain : (i : ℕ) → i < 4 → addr % 4 ≡ 0 → (addr + i) % 2 ^ 32 ≡ addr + i
+    plain i h m = omega arith
+
+    each : (i : ℕ) → i < 4 → addr % 4 ≡ 0 → is_some (loaded_at image (addr + i)) ≡ true
+    each zero h m = at 0 (left-true (is_loaded image addr 0) _ all) (plain 0 h m)
+    each (suc zero) h m = at 1 (left-true (is_loaded image addr 1) _ (right-true (is_loaded image addr 0) _ all)) (plain 1 h m)
+    each (suc (suc zero)) h m = at 2 (left-true (is_loaded image addr 2) _ (right-true (is_loaded image addr 1) _ (right-true (is_loaded image addr 0) _ all))) (plain 2 h m)
+    each (suc (suc (suc zero))) h m = at 3 (right-true (is_loaded image addr 2) _ (right-true (is_loaded image addr 1) _ (right-true (is_loaded image addr 0) _ all))) (plain 3 h m)
+    each (suc (suc (suc (suc i)))) h m = absurd (omega arith)
