@@ -34,7 +34,7 @@ has-word : (r : Span) (a w : ℕ) → has_address r a ≡ true → a / 4 ≡ w �
 has-word r a w h e = grind (arith, nat_tests)
 
 place-of-address : (rs : List Span) (a w : ℕ) → is_among rs a ≡ true → a / 4 ≡ w → IsPlaced rs w
-unfolding place_in words_of is_among
+unfolding place_in words_of
 place-of-address [] a w h e = absurd (false≢true h)
 place-of-address (r ∷ rs) a w h e = go (λ m. place-of-address rs a w m e) (has_address r a) (has_word r w) refl refl h
   where
