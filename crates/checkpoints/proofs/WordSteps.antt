@@ -34,7 +34,7 @@ has-word : (r : Span) (a w : ℕ) → has_address r a ≡ true → a / 4 ≡ w �
 has-word r a w h e = grind (arith, nat_tests)
 
 place-of-address : (rs : List Span) (a w : ℕ) → is_among rs a ≡ true → a / 4 ≡ w → IsPlaced rs w
-unfolding place_in words_of is_among
+unfolding place_in words_of
 place-of-address [] a w h e = absurd (false≢true h)
 place-of-address (r ∷ rs) a w h e = go (λ m. place-of-address rs a w m e) (has_address r a) (has_word r w) refl refl h
   where
@@ -60,12 +60,6 @@ entered-there rs ss v w step first d size h l e = elim (cases_eq w v) [
       ∙ sym (ap (λ b. cond b (min (get_or ss (place_in rs w) d) step) (get_or ss (place_in rs w) d)) (ne_eqb w v other))
       )
 ]
-
-pub entered-nowhere : (rs : List Span) (ss : List ℕ) (v w step d : ℕ) → length ss ≡ words_of rs → IsPlaced rs w → length ss ≤ place_in rs v
-    → get_or ss (place_in rs w) d ≡ cond (w == v) (min (get_or ss (place_in rs w) d) step) (get_or ss (place_in rs w) d)
-entered-nowhere rs ss v w step d size h l =
-    let other : w ≡ v → ⊥ = λ same. let here : place_in rs w ≡ place_in rs v = ap (place_in rs) same in omega arith in
-    sym (ap (λ b. cond b (min (get_or ss (place_in rs w) d) step) (get_or ss (place_in rs w) d)) (ne_eqb w v other))
 
 -- how far a word lies above another, where the one after the last is the first
 distance : ℕ → ℕ → ℕ
@@ -184,12 +178,6 @@ span-words span w words small some few size = elim (cases_lt d words) [
     met (inl later) near = meets-at 0 (is_in span.start span.len) (4 * w) (omega arith) (let o = offset-word span.start w 0 small few (omega arith) later in is-in span.start span.len (4 * w + 0) (omega arith) (omega arith))
     met (inr first) near = meets-at (span.start % 4) (is_in span.start span.len) (4 * w) (omega arith) (let o = offset-first span.start w small few (omega arith) in is-in span.start span.len (4 * w + span.start % 4) (omega arith) (omega arith))
 
-pub no-span : (w x y : ℕ) → x ≡ cond (meets (covers None) (4 * w)) y x
-no-span w x y = refl
-
-pub empty-span : (span : Span) (w x y : ℕ) → span.len ≡ 0 → x ≡ cond (meets (covers (Some span)) (4 * w)) y x
-empty-span span w x y e = sym (ap (λ b. cond b y x) (meets-nowhere (is_in span.start span.len) (4 * w) (λ j l. not-in span.start span.len (4 * w + j) (omega arith))))
-
 -- three ranges, one after another
 pub after-three : (f r w : Bool) (x k one two three : ℕ) → one ≡ cond f (min x k) x → two ≡ cond r (min one k) one → three ≡ cond w (min two k) two → three ≡ cond (f || (r || w)) (min x k) x
 after-three true true true x k one two three a b c = omega arith
@@ -201,59 +189,14 @@ after-three false true false x k one two three a b c = omega arith
 after-three false false true x k one two three a b c = omega arith
 after-three false false false x k one two three a b c = omega arith
 
--- a walk over the ranges
-pub place-here : (rs : List Span) (i w : ℕ) (d : Span) → i < length rs → has_word (get_or rs i d) w ≡ true → place_in (drop i rs) w ≡ w - (get_or rs i d).start / 4
-unfolding place_in
-place-here rs i w d l h =
-    ap (λ xs. place_in xs w) (drop-cons rs i d l) ∙ ap (λ b. cond b (w - (get_or rs i d).start / 4) (words_in (get_or rs i d) + place_in (drop (suc i) rs) w)) h
-
-pub place-later : (rs : List Span) (i w : ℕ) (d : Span) → i < length rs → has_word (get_or rs i d) w ≡ false → place_in (drop i rs) w ≡ words_in (get_or rs i d) + place_in (drop (i + 1) rs) w
-unfolding place_in
-place-later rs i w d l h = rw (add-one i) (
-    ap (λ xs. place_in xs w) (drop-cons rs i d l) ∙ ap (λ b. cond b (w - (get_or rs i d).start / 4) (words_in (get_or rs i d) + place_in (drop (suc i) rs) w)) h
-    )
-
-pub words-later : (rs : List Span) (i : ℕ) (d : Span) → i < length rs → words_of (drop i rs) ≡ words_in (get_or rs i d) + words_of (drop (i + 1) rs)
-unfolding words_of
-words-later rs i d l = rw (add-one i) (ap words_of (drop-cons rs i d l))
-
 pub words-none : words_of [] ≡ 0
 unfolding words_of
 words-none = refl
-
-pub place-none : (w : ℕ) → place_in [] w ≡ 0
-unfolding place_in
-place-none w = refl
 
 pub words-more : (rs : List Span) (r : Span) → words_of (rs ++ r ∷ []) ≡ words_of rs + words_in r
 unfolding words_of
 words-more [] r = omega arith
 words-more (x ∷ rs) r = omega (arith, words-more rs r)
-
--- a word of a range
-pub word-at : (r : Span) (w : ℕ) → has_word r w ≡ true → (r.start / 4 ≤ w) × (w - r.start / 4 < words_in r)
-word-at r w h = let x = inside r w h in (x.0, omega arith)
-
--- all steps stay below a number, as one is entered
-entered-low : (x first step entered limit : ℕ) → first ≡ min x step → step ≤ never → limit ≡ max entered (min (step + 1) never) → ((x ≡ never → ⊥) → x < entered) → (first ≡ never → ⊥) → first < limit
-entered-low x first step entered limit e l m b n = elim (cases_eq x never) [
-  | inl none ↦ omega arith
-  | inr some ↦ (let low = b some in omega arith)
-]
-
-pub entered-early : (ss : List ℕ) (place first step entered limit : ℕ) → place < length ss → first ≡ min (get_or ss place never) step → step ≤ never → limit ≡ max entered (min (step + 1) never) → AreBelow ss entered → AreBelow (set ss place first) limit
-entered-early ss place first step entered limit within e l m b k n = elim (cases_eq k place) [
-  | inl here ↦ (
-      let now : get_or (set ss place first) k never ≡ first = ap (λ i. get_or (set ss place first) i never) here ∙ get_or-set_same ss place first never within in
-      let low = entered-low (get_or ss place never) first step entered limit e l m (b place) (λ z. n (now ∙ z)) in
-      omega arith
-      )
-  | inr other ↦ (
-      let now : get_or (set ss place first) k never ≡ get_or ss k never = get_or-set_other ss place k first never other in
-      let low = b k (λ z. n (now ∙ z)) in
-      omega arith
-      )
-]
 
 -- and as those from one on are dropped
 either-never : (b : Bool) → cond b never never ≡ never

@@ -1,13 +1,17 @@
 //! How first uses are entered, looked up and forgotten.
-ghost use Rattle.std.specs.Prelude.{◌≡◌, ℕ, ◌+◌, ◌-◌, ◌*◌, ◌/◌, ◌%◌, ◌<◌, ◌==◌, nat_lt, if◌then◌else◌, map, min, length, IfOk};
+ghost use Rattle.std.specs.Prelude.{◌≡◌, ℕ, ◌+◌, ◌-◌, ◌*◌, ◌/◌, ◌%◌, ◌^◌, ◌<◌, ◌==◌, nat_lt, if◌then◌else◌, map, min, max, length, IfOk};
+ghost use Rattle.std.specs.List.{list_any};
+ghost use Rattle.std.specs.List.Sorted.{IsNonDecreasingBy};
+ghost use Rattle.guest_machine.specs.declared.span.Span.{Span as SpanOf};
+ghost use Rattle.guest_elf.specs.Segments.{has_address};
 ghost use Rattle.guest_machine.specs.Exec.{has_touched};
 ghost use Rattle.guest_machine.specs.Spans.{span_at};
 ghost use Rattle.guest_machine.specs.Spans.{covers};
 ghost use Rattle.guest_elf.specs.declared.segment.Segment.{Segment as SegmentOf};
-ghost use Rattle.checkpoints.specs.Words.{meets, words_in, has_word, place_in, IsPlaced, never};
+ghost use Rattle.checkpoints.specs.Words.{meets, is_among, words_in, word_end, place_in, IsPlaced, never};
 ghost use Rattle.checkpoints.specs.Entries.{ranges_of, entry_of, below, EntersAt};
 
-use crate::uses::FirstUses;
+use crate::uses::{FirstUses, Row};
 use guest_elf::Segment;
 use guest_machine::{Span, Touched};
 use std::alloc::{AllocError, Global};
@@ -19,38 +23,74 @@ const ALL_WORDS: u32 = 1 << 30;
 
 /// How many words have a byte in a range.
 fn words_in(range: Span) -> usize
-    ensures { result ≡ words_in range }
+    ensures value { result ≡ words_in range }
+    ensures few { result < 2 ^ 31 }
 {
     ((u64::from(range.start % 4) + u64::from(range.len) + 3) / 4) as usize
 }
 
-/// Whether a word is among those of a range.
-fn has_word(range: Span, word: u32) -> bool
-    ensures { result ≡ has_word range word }
+/// One past the last word of a range, by a quarter of its address.
+fn word_end(range: Span) -> u64
+    ensures { result ≡ word_end range }
 {
-    let first = range.start / 4;
-    word >= first && ((word - first) as usize) < words_in(range)
+    u64::from(range.start / 4) + words_in(range) as u64
+}
+
+/// The greater of two numbers.
+fn greater(x: u64, y: u64) -> u64
+    ensures { result ≡ max x y }
+{
+    if x < y { y } else { x }
+}
+
+/// The ranges of the segments of a program, in their order.
+fn spans_of(alloc: Global, segments: &[Segment]) -> Result<Vec<Span>, AllocError>
+    ensures { IfOk result (λ ranges. ranges.items ≡ map (λ (s : SegmentOf). span_at s.vaddr s.memsz) segments.now) }
+{
+    let mut ranges = Vec::new(alloc);
+    for segment in segments {
+        ranges.push(Span {
+            start: segment.vaddr,
+            len: segment.memsz,
+        })?;
+    }
+    Ok(ranges)
 }
 
 impl FirstUses {
     /// A table over the segments of a program, with no step in it.
-    #[tactic(auto, unfolding(crate::specs::Entries::ranges_of))]
     pub(crate) fn new(alloc: Global, segments: &[Segment]) -> Result<FirstUses, AllocError>
-        ensures ranges { IfOk result (λ uses. ranges_of uses ≡ map (λ (s : SegmentOf). span_at s.vaddr s.memsz) segments.now) }
+        ensures ranges { IfOk result (λ uses. (a : ℕ) → is_among (ranges_of uses) a ≡ list_any (λ segment. has_address segment a) segments.now) }
         ensures none { IfOk result (λ uses. (w : ℕ) → entry_of uses w ≡ never) }
     {
-        let mut ranges = Vec::new(alloc);
+        let mut ranges = spans_of(alloc, segments)?;
+        ranges.sort_unstable_by_key(|range| range.start);
+        let uses = FirstUses::over(alloc, ranges)?;
+        Ok(uses)
+    }
+
+    /// A table over ranges in the order of their addresses, with no step in it.
+    #[tactic(auto, unfolding(crate::specs::Entries::ranges_of))]
+    fn over(alloc: Global, ranges: Vec<Span>) -> Result<FirstUses, AllocError>
+        requires { IsNonDecreasingBy (λ (range : SpanOf). range.start) ranges.items }
+        ensures ranges { IfOk result (λ uses. ranges_of uses ≡ ranges.items) }
+        ensures none { IfOk result (λ uses. (w : ℕ) → entry_of uses w ≡ never) }
+    {
+        let mut rows = Vec::new(alloc);
         let mut steps = Vec::new(alloc);
-        for segment in segments {
-            let range = Span {
-                start: segment.vaddr,
-                len: segment.memsz,
-            };
-            steps.resize(steps.len() + words_in(range), NEVER)?;
-            ranges.push(range)?;
+        let mut end = 0;
+        for range in &ranges {
+            end = greater(end, word_end(*range));
+            rows.push(Row {
+                first: range.start / 4,
+                before: steps.len(),
+                end,
+            })?;
+            steps.resize(steps.len() + words_in(*range), NEVER)?;
         }
         Ok(FirstUses {
             ranges,
+            rows,
             steps,
             entered: 0,
         })
@@ -61,14 +101,14 @@ impl FirstUses {
     fn place_of(&self, word: u32) -> usize
         ensures { result ≡ place_in (ranges_of self.now) word }
     {
-        let mut before = 0;
-        for range in &self.ranges {
-            if has_word(*range, word) {
-                return before + (word - range.start / 4) as usize;
+        let index = self.rows.partition_point(|row| row.end <= u64::from(word));
+        if index < self.rows.len() {
+            let row = self.rows[index];
+            if row.first <= word {
+                return row.before + (word - row.first) as usize;
             }
-            before += words_in(*range);
         }
-        before
+        self.steps.len()
     }
 
     /// The first step that was entered for a word, if it lies below another.

@@ -2,9 +2,9 @@
 //! an edit first shows: a trail that is asked for step n makes those from the last multiple of 1024 that it holds, or n has.
 ghost use Rattle.checkpoints.specs.Trails.{LoadsAs};
 
-use crate::Trail;
+use crate::{Trail, run_to};
 use guest_elf::{Image, read};
-use guest_machine::{Input, Mark, Setup, Status, Stop};
+use guest_machine::{Input, Machine, Mark, Meter, Setup, Status, Stop};
 use guest_programs::{program, sized_program};
 use shadow_memory::RangeKind;
 use std::alloc::{AllocError, Global};
@@ -202,5 +202,9 @@ fn input_is_replaced(rt: HostRuntime) -> Result<(), Fail> {
     assert_eq!(rt; first, (10, Status::Exited(98), 0x10024, 0));
     assert_eq!(rt; second, (20, Status::Exited(7), 0x10024, 0));
     assert_eq!(rt; third, (25, RUNS, 0x10014, 0));
+    let mut meter = Meter::new();
+    let alone = Machine::start(rt.alloc(), &image)?;
+    let alone = run_to(alone, &after, &[], 10, &mut meter)?;
+    assert_eq!(rt; (meter.read(), alone.status()), (10, Status::Exited(7)));
     Ok(())
 }

@@ -1,5 +1,5 @@
 -- What the edits of a session are to its run: other marks at one step, another byte of the input, a word of the image.
-use Rattle.std.proofs.Common.{◌≡◌, ℕ, zero, suc, ◌+◌, ◌%◌, ◌^◌, ◌<◌, ◌==◌, ◌&&◌, Bool, true, false, cond, List, [], ◌∷◌, ◌++◌, filter, remove, length, Option, Some, None, refl, ap, sym, ◌∙◌, arith}
+use Rattle.std.proofs.Common.{◌≡◌, ℕ, zero, suc, ◌+◌, ◌%◌, ◌^◌, ◌<◌, ◌==◌, ◌&&◌, Bool, true, false, cond, List, [], ◌∷◌, ◌++◌, filter, remove, length, get_or, Option, Some, None, refl, ap, sym, ◌∙◌, arith}
 use Rattle.std.specs.Prelude.{slice_get, slice_set, is_some}
 use Rattle.std.proofs.lemmas.Bool.Decides.{nat_tests}
 use Rattle.std.proofs.lemmas.List.{length-set}
@@ -25,10 +25,10 @@ differ_appended [] mark k n = sym (ap (λ b. cond b (mark ∷ []) []) (not-at ma
 differ_appended (m ∷ ms) mark k n = ap (λ rest. cond (m.step == k) (m ∷ rest) rest) (differ_appended ms mark k n)
 
 -- one mark less
-pub differ_removed : (marks : List Mark) (i : ℕ) (mark : Mark) → slice_get marks i ≡ Some mark → DifferAtStep mark.step marks (remove marks i)
-differ_removed [] i mark h k n = cc
-differ_removed (m ∷ ms) zero mark h k n = let e : m ≡ mark = cc in ap (λ (x : Mark). cond (x.step == k) (x ∷ marks_at k ms) (marks_at k ms)) e ∙ ap (λ b. cond b (mark ∷ marks_at k ms) (marks_at k ms)) (not-at mark.step k n)
-differ_removed (m ∷ ms) (suc i) mark h k n = ap (λ rest. cond (m.step == k) (m ∷ rest) rest) (differ_removed ms i mark h k n)
+pub differ_removed : (marks : List Mark) (i : ℕ) (d mark : Mark) → i < length marks → mark ≡ get_or marks i d → DifferAtStep mark.step marks (remove marks i)
+differ_removed [] i d mark h e k n = absurd (omega arith)
+differ_removed (m ∷ ms) zero d mark h e k n = ap (λ (x : Mark). cond (x.step == k) (x ∷ marks_at k ms) (marks_at k ms)) (sym e) ∙ ap (λ b. cond b (mark ∷ marks_at k ms) (marks_at k ms)) (not-at mark.step k n)
+differ_removed (m ∷ ms) (suc i) d mark h e k n = ap (λ rest. cond (m.step == k) (m ∷ rest) rest) (differ_removed ms i d mark (omega arith) e k n)
 
 -- another byte of the input
 get-other : (bytes : List ℕ) (offset byte i : ℕ) → (i ≡ offset → ⊥) → slice_get bytes i ≡ slice_get (slice_set bytes offset byte) i

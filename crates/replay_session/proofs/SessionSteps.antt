@@ -47,11 +47,6 @@ moved session sc marks same new h right =
     let before = subst (IsRightFor session.trail (first_state sc) session.setup) (sym same) h.trail in
     subst (IsRightFor new (first_state sc) session.setup) same (right (first_state sc) before)
 
--- a session with another trail that is right has the scenario
-pub kept : (session : Session) (new : Trail) (sc : Scenario) → HasScenario session sc → IsRightFor new (first_state sc) session.setup session.marks.items
-    → HasScenario (record session { trail = new }) sc
-kept session new sc h right = record { image = h.image; trail = right; setup = h.setup; marks = h.marks; rules = h.rules; options = h.options; step = h.step; lines = h.lines }
-
 -- what a refusal looks at is that of the scenario
 room-has : (session : Session) (sc : Scenario) → HasScenario session sc → room_of sc ≡ room_in session
 room-has session sc h =

@@ -1,10 +1,5 @@
-use Rattle.std.proofs.Common.{◌≡◌, ℕ, ◌-◌, ◌*◌, ◌∙◌, ◌++◌, ◌∷◌, ◌||◌, List, [], ap, refl, map, length}
-use Rattle.std.specs.List.{list_any}
-use Rattle.guest_elf.specs.Segments.{has_address}
-use Rattle.guest_elf.specs.declared.segment.Segment.{Segment}
-use Rattle.guest_machine.specs.Spans.{span_at}
+use Rattle.std.proofs.Common.{◌-◌, ◌*◌, ◌∙◌, ◌++◌, ◌∷◌, [], ap, refl, length}
 use Rattle.guest_machine.specs.Run.{start_state}
-use Rattle.checkpoints.specs.Words.{is_among}
 use Rattle.checkpoints.specs.FirstUses.{uses_word}
 use Rattle.checkpoints.specs.Trails.{machines_of, table_of, loaded_of, last_held, first_use}
 use Rattle.checkpoints.proofs.HeldSteps.{one-held}
@@ -23,13 +18,6 @@ returns-clause-right c setup marks =
       uses = λ addr word. first-of-none (uses_word (start_state c.args.image.now) setup marks addr) _ _ (ap (λ n. 1024 * (n - 1)) one);
     }
 
--- the ranges of segments have the addresses of the segments
-among-segments : (segments : List Segment) (a : ℕ) → is_among (map (λ (s : Segment). span_at s.vaddr s.memsz) segments) a ≡ list_any (λ segment. has_address segment a) segments
-unfolding is_among
-among-segments [] a = refl
-among-segments (s ∷ ss) a = ap (λ b. has_address s a || b) (among-segments ss a)
-
 pub returns-clause-loaded : goal.returns-clause-loaded
 unfolding loaded_of table_of
-returns-clause-loaded c a =
-    ap (λ rs. is_among rs a) c.in_ok-uses.ensures.ranges ∙ among-segments c.segments.result.now a ∙ c.segments.ensures.loads a
+returns-clause-loaded c a = c.in_ok-uses.ensures.ranges a ∙ c.segments.ensures.loads a

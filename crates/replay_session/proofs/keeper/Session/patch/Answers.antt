@@ -14,4 +14,4 @@ returns-in-Ok c sc out h =
     })
 
 pub patch-requires : goal.patch-requires
-patch-requires c = let small : c.args.addr < 2 ^ 32 = omega arith in word_in c.args.self.now.trail c.args.self.now.image c.args.addr c.well_formed.self.loads small c.requires
+patch-requires c = let small : c.args.addr < 2 ^ 32 = omega arith in word_in c.args.self.now.trail c.args.self.now.image c.args.addr c.args.self.now.loads small c.requires

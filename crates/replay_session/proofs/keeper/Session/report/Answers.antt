@@ -1,7 +1,7 @@
 use Rattle.std.proofs.Common.{◌≡◌, sym, subst, length, rules}
 use Rattle.checkpoints.specs.Trails.{IsRightFor}
 use Rattle.replay_session.specs.Scenario.{first_state}
-use Rattle.replay_session.proofs.SessionSteps.{report-has, moved, kept}
+use Rattle.replay_session.proofs.SessionSteps.{report-has, moved}
 use Rattle.replay_session.proofs.keeper.Session.report.Goals as goal
 
 pub returns-clause-ok : goal.returns-clause-ok
@@ -14,10 +14,16 @@ returns-clause-ok c sc h =
     )
 
 pub returns-in_err-machine-clause-has : goal.returns-in_err-machine-clause-has
-returns-in_err-machine-clause-has c sc h = kept c.args.self.now _ sc h (moved c.args.self.now sc c.deref.result.now c.deref.ensures.value _ h c.at.ensures.right)
+unfolding first_state
+returns-in_err-machine-clause-has c sc h =
+    record { image = h.image; trail = moved c.args.self.now sc c.deref.result.now c.deref.ensures.value _ h c.at.ensures.right; setup = h.setup; marks = h.marks; rules = h.rules; options = h.options; step = h.step; lines = h.lines }
 
 pub returns-in_err-render-clause-has : goal.returns-in_err-render-clause-has
-returns-in_err-render-clause-has c sc h = kept c.args.self.now _ sc h (moved c.args.self.now sc c.deref.result.now c.deref.ensures.value _ h c.at.ensures.right)
+unfolding first_state
+returns-in_err-render-clause-has c sc h =
+    record { image = h.image; trail = moved c.args.self.now sc c.deref.result.now c.deref.ensures.value _ h c.at.ensures.right; setup = h.setup; marks = h.marks; rules = h.rules; options = h.options; step = h.step; lines = h.lines }
 
 pub returns-clause-has : goal.returns-clause-has
-returns-clause-has c sc h = kept c.args.self.now _ sc h (moved c.args.self.now sc c.deref.result.now c.deref.ensures.value _ h c.at.ensures.right)
+unfolding first_state
+returns-clause-has c sc h =
+    record { image = h.image; trail = moved c.args.self.now sc c.deref.result.now c.deref.ensures.value _ h c.at.ensures.right; setup = h.setup; marks = h.marks; rules = h.rules; options = h.options; step = h.step; lines = h.lines }
