@@ -1,5 +1,5 @@
 -- The kept blocks by their places, and by the tables and the queue.
-use Rattle.std.proofs.Common.{min, ◌≡◌, ℕ, zero, suc, ◌+◌, ◌-◌, ◌*◌, ◌/◌, ◌<◌, ◌≤◌, ◌==◌, inl, inr, nat_le, List, [], ◌∷◌, Bool, true, false, cond, Option, Some, None, length, map, slice_get, refl, ap, ap₂, sym, ◌∙◌, subst, arith, eq-eqb}
+use Rattle.std.proofs.Common.{◌≡◌, ℕ, zero, suc, ◌+◌, ◌-◌, ◌*◌, ◌/◌, ◌<◌, ◌≤◌, ◌==◌, inl, inr, nat_le, List, [], ◌∷◌, Bool, true, false, cond, Option, Some, None, length, map, slice_get, refl, ap, ap₂, sym, ◌∙◌, subst, arith, eq-eqb}
 use Rattle.std.specs.List.{Contains}
 use Rattle.std.proofs.lemmas.Bool.{cases_lt}
 use Rattle.std.proofs.lemmas.Bool.Decides.{nat_tests}
@@ -210,12 +210,12 @@ clear blocks low high from under over b kept meets =
       | inr ge ↦ (let e = over b kept ge in omega (arith, e, meets.1))
     ]
 
-pub meets_below : (blocks : Blocks) (low high from : ℕ) (b : Block) → 0x40000000 ≤ low → low < high → from ≡ (min high 0x60000000 - 0x40000000 + 15) / 16 → PastBelow blocks from low b → Meets low high b
+pub meets_below : (blocks : Blocks) (low high from : ℕ) (b : Block) → 0x40000000 ≤ low → low < high → from ≡ (low - 0x40000000 + 15) / 16 → PastBelow blocks from low b → Meets low high b
 meets_below blocks low high from b above order is h =
-    let under : b.start < high = omega (arith, h.below) in
+    let under : b.start < low = omega (arith, h.below) in
     (h.past, omega arith)
 
-pub meets_from : (blocks : Blocks) (low high from : ℕ) (b : Block) → 0x40000000 ≤ low → low ≤ 0x60000000 → low < high → from ≡ (min high 0x60000000 - 0x40000000 + 15) / 16 → BeforeFrom blocks from high b → Meets low high b
-meets_from blocks low high from b above region order is h =
+pub meets_from : (blocks : Blocks) (low high from : ℕ) (b : Block) → 0x40000000 ≤ low → low < high → from ≡ (low - 0x40000000 + 15) / 16 → BeforeFrom blocks from high b → Meets low high b
+meets_from blocks low high from b above order is h =
     let over : low ≤ b.start = omega (arith, h.above) in
     (omega arith, h.before)

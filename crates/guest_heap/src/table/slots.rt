@@ -23,9 +23,10 @@ pub(crate) fn set_in(
 {
     match slot {
         Some(shared) => {
+            let goes = entry.is_none();
             let leaf = Rc::make_mut(shared)?;
             leaf.set(at, entry);
-            if leaf.is_empty() {
+            if goes && leaf.is_empty() {
                 *slot = None;
             }
             Ok(())
@@ -52,9 +53,10 @@ pub(crate) fn set_below(
 {
     match slot {
         Some(shared) => {
+            let goes = entry.is_none();
             let branch = Rc::make_mut(shared)?;
             branch.set(alloc, at, entry)?;
-            if branch.is_empty() {
+            if goes && branch.is_empty() {
                 *slot = None;
             }
             Ok(())
