@@ -23,10 +23,9 @@ pub(crate) fn set_in(
 {
     match slot {
         Some(shared) => {
-            let goes = entry.is_none();
             let leaf = Rc::make_mut(shared)?;
             leaf.set(at, entry);
-            if goes && leaf.is_empty() {
+            if leaf.is_empty() {
                 *slot = None;
             }
             Ok(())
@@ -53,13 +52,8 @@ pub(crate) fn set_below(
 {
     match slot {
         Some(shared) => {
-            let goes = entry.is_none();
             let branch = Rc::make_mut(shared)?;
-            branch.set(alloc, at, entry)?;
-            if goes && branch.is_empty() {
-                *slot = None;
-            }
-            Ok(())
+            branch.set(alloc, at, entry)
         }
         None => {
             let mut branch = Branch::new(alloc)?;
