@@ -203,8 +203,8 @@ last_kept live freed first to at n b later order h there = record {
 }
 
 -- a range that meets none before it and none after it
-pub clear : (blocks : Blocks) (low high from : ℕ) → 0x40000000 ≤ low → from ≡ (low - 0x40000000 + 15) / 16 → MeetsBelow blocks from low None → MeetsFrom blocks from high None → (b : Block) → IsKept blocks b → ¬ (Meets low high b)
-clear blocks low high from above is under over b kept meets =
+pub clear : (blocks : Blocks) (low high from : ℕ) → MeetsBelow blocks from low None → MeetsFrom blocks from high None → (b : Block) → IsKept blocks b → ¬ (Meets low high b)
+clear blocks low high from under over b kept meets =
     elim (cases_lt b.start (0x40000000 + 16 * from)) [
       | inl lt ↦ (let e = under b kept lt in omega (arith, e, meets.0))
       | inr ge ↦ (let e = over b kept ge in omega (arith, e, meets.1))

@@ -161,10 +161,11 @@ impl Heap {
         ensures within { IfSome result (λ b. high_end b.now ≤ 0x60000000) }
         ensures none { IfNone result ((b : Block) → IsKept (blocks_of self.now) b → ¬ (Meets low high b)) }
     {
+        // The one behind first: a walk from block to block then has each in front of it, and seldom looks back.
         let from = ((low - HEAP_BEGIN + 15) / 16) as usize;
-        match self.meeting_below(from, low) {
+        match self.meeting_from(from, high) {
             Some(block) => Some(block),
-            None => self.meeting_from(from, high),
+            None => self.meeting_below(from, low),
         }
     }
 }

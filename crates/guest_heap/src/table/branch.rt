@@ -1,5 +1,5 @@
 // 256 leaves in a row.
-ghost use Rattle.std.specs.Prelude.{◌≡◌, ℕ, ◌<◌, ◌≤◌, ◌%◌, ◌/◌, vec_len, OnOk, OnErr, IfOk, IsTrue, None};
+ghost use Rattle.std.specs.Prelude.{◌≡◌, ℕ, ◌<◌, ◌≤◌, ◌%◌, ◌/◌, vec_len, OnOk, OnErr, IfOk, None};
 ghost use Rattle.guest_heap.specs.Unused.{AreUnused};
 
 use crate::entry::Entry;
@@ -67,7 +67,18 @@ impl Branch {
         ensures err { OnErr result (entries_under self.new ≡ entries_under self.old) }
     {
         self.use_up_to(at / LEAF);
-        self.write(alloc, at, entry)
+        self.write(alloc, at, entry)?;
+        self.shrink();
+        Ok(())
+    }
+
+    // Leaves that went from the end are no longer in use.
+    fn shrink(&mut self)
+        ensures { entries_under self.new ≡ entries_under self.old }
+    {
+        while self.used > 0 && self.leaves[self.used - 1].is_none() {
+            self.used -= 1;
+        }
     }
 
     fn write(
@@ -82,12 +93,6 @@ impl Branch {
         ensures err { OnErr result (entries_under self.new ≡ entries_under self.old) }
     {
         set_in(&mut self.leaves[at / LEAF], alloc, at % LEAF, entry)
-    }
-
-    pub(crate) fn is_empty(&self) -> bool
-        ensures { IsTrue result → entries_under self.now ≡ (λ _. None) }
-    {
-        self.leaves.iter().all(|leaf| leaf.is_none())
     }
 
     /// The first place from this one on that has a block.
@@ -108,7 +113,7 @@ impl Branch {
         requires { at ≤ 65536 }
         ensures { IsLast (entries_under self.now) at result }
     {
-        for i in (0..at.div_ceil(LEAF)).rev() {
+        for i in (0..at.div_ceil(LEAF).min(self.used)).rev() {
             if let Some(place) = last_in(&self.leaves[i], (at - i * LEAF).min(LEAF)) {
                 return Some(i * LEAF + place);
             }

@@ -53,11 +53,7 @@ pub(crate) fn set_below(
     match slot {
         Some(shared) => {
             let branch = Rc::make_mut(shared)?;
-            branch.set(alloc, at, entry)?;
-            if branch.is_empty() {
-                *slot = None;
-            }
-            Ok(())
+            branch.set(alloc, at, entry)
         }
         None => {
             let mut branch = Branch::new(alloc)?;
