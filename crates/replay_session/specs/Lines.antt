@@ -15,7 +15,8 @@ closed_lines bytes = map strip_carriage_return (all_but_last (slice_split (λ b.
 -- the lines of bytes, of the first of which a front stands already; is a last line with no newline one?
 abbrev pub lines_by : Bool → List ℕ → List ℕ → List (List ℕ)
 lines_by last front [] = if last && not (length front == 0) then front ∷ [] else []
-lines_by last front (b ∷ bytes) = if b == 10 then strip_carriage_return front ∷ lines_by last [] bytes else lines_by last (front ++ b ∷ []) bytes
+lines_by last front (b ∷ bytes) =
+    if b == 10 then strip_carriage_return front ∷ lines_by last [] bytes else lines_by last (front ++ b ∷ []) bytes
 
 -- one more byte of a line is kept, unless enough of it is
 abbrev pub KeepsByte : List ℕ → List ℕ → ℕ → Type 0

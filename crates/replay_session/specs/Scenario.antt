@@ -17,8 +17,8 @@ use Rattle.replay_session.specs.declared.command.Command.TheVariants.{Goto, Repo
 use Rattle.replay_session.specs.declared.fault.Fault.{Fault}
 use Rattle.replay_session.specs.declared.fault.Fault.TheVariants.{OutsideInput, NotPatchable, StepLimit, BadRange, NoSuchMark, NoSuchSuppression, BadOption, TooManyMarks, LineTooLong, TooManyCommands}
 
--- a program with its patched byte values, its input and heap settings, the marks, the suppressions with their switches, the options of
--- the report, the chosen step, and how many lines were given
+-- a program with its patched byte values, its input and heap settings, the marks, the suppressions with their switches, the options
+-- of the report, the chosen step, and how many lines were given
 pub record Scenario : Type 0 where
   pub image : Image
   pub bytes : ℕ → ℕ

@@ -55,4 +55,5 @@ StopsBy (NoMemory count bytes) sc seen held-old held-new = (seen ≡ []) × Whol
 
 -- some bytes were read, and what a fault says of them holds
 abbrev pub StoppedBy : ServeFault → Scenario → Option (List ℕ) → Option (List ℕ) → Option (List ℕ) → Option (List ℕ) → Type 0
-StoppedBy fault sc left-old left-new held-old held-new = (seen : List ℕ) × Consumes left-old left-new seen × StopsBy fault sc seen held-old held-new
+StoppedBy fault sc left-old left-new held-old held-new =
+    (seen : List ℕ) × Consumes left-old left-new seen × StopsBy fault sc seen held-old held-new

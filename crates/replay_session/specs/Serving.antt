@@ -39,7 +39,8 @@ pub record Fed (sc : Scenario) (old new : Server) (held-old held-new : Option (L
   pub appended : Appends held-old held-new (joined done)
   pub replies : standing new.counts.replies ≡ standing (old.counts.replies + length done)
   pub written : standing new.counts.bytes ≡ standing (old.counts.bytes + length (joined done))
-  pub goes : (last : Bool) (more : List ℕ) (rs : List (List ℕ)) → Answers after (lines_by last new.kept.items more) rs → Answers sc (lines_by last old.kept.items (bytes ++ more)) (done ++ rs)
+  pub goes : (last : Bool) (more : List ℕ) (rs : List (List ℕ)) → Answers after (lines_by last new.kept.items more) rs
+      → Answers sc (lines_by last old.kept.items (bytes ++ more)) (done ++ rs)
 
 -- the session is over: whatever comes, these are all the replies
 pub record Over (sc : Scenario) (old new : Server) (held-old held-new : Option (List ℕ)) (bytes : List ℕ) : Type 0 where

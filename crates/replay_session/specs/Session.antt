@@ -23,6 +23,10 @@ pub record HasScenario (session : Session) (sc : Scenario) : Type 0 where
   pub step : session.step ≡ sc.step
   pub lines : session.lines ≡ sc.lines
 
+-- what holds of each scenario that the session has
+abbrev pub ForEachScenario : Session → (Scenario → Type 0) → Type 0
+ForEachScenario session P = (sc : Scenario) → HasScenario session sc → P sc
+
 -- what a refusal looks at
 abbrev pub room_in : Session → Room
 room_in session = record {

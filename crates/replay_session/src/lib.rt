@@ -1,4 +1,70 @@
-//! A session over one program.
+//! A session over one program: lines edit its run or ask for its report, and each report is that of one run from step zero.
+//!
+//! A [`Session`] keeps what the accepted lines leave: the machine before step 0 with the patches written, the input and the heap's
+//! settings, marks, suppressions with their switches, options of the report, and the chosen step. Each report replays from a copy of
+//! that machine, so that nothing of earlier reports is in it.
+//!
+//! # Public items
+//!
+//! | Call | What it does |
+//! |---|---|
+//! | [`Session::begin`] | a session of a program with an input and suppressions, or a [`BeginFault`] |
+//! | [`Session::command`] | answers one line: a [`Reply`], or a [`Fault`] with its number; appends the bytes of a report |
+//! | [`serve`] | answers each line of any reader to any writer, or stops with a [`ServeFault`] |
+//! | [`run_to`] | the machine at a step of a run from step zero, with marks |
+//! | [`setup_with`] | an input and Memcheck's settings of the heap |
+//! | [`send`] | writes all of some bytes and flushes |
+//! | [`fakes`] | a reader and a writer over memory that fail where a test wants them to |
+//!
+//! # The lines
+//!
+//! Fields are parted by one space each. A number is one to ten decimal digits with a value below 2^32, or `0x` and one to eight
+//! hexadecimal digits of either case.
+//!
+//! | Line | What it does |
+//! |---|---|
+//! | `goto N` | chooses step N, at most 1,048,576 |
+//! | `report` | answers the report at the chosen step |
+//! | `input OFFSET BYTE` | replaces a byte of the input |
+//! | `patch ADDR WORD` | replaces a loaded word, the lowest byte first; what is known of its bits stays |
+//! | `mark STEP ADDR LEN KIND` | makes a range `defined`, `undefined` or `noaccess` just before a step |
+//! | `unmark I` | takes mark I out, from 0; later ones move down |
+//! | `supp on I`, `supp off I` | switches suppression I, from 0 |
+//! | `supp add KIND WORDS..` | adds a suppression, switched on: a kind, what Param and Leak take, and frame lines as words |
+//! | `option callers N` | shows and groups by N addresses of a trace, 1 to 24 |
+//! | `option redzone N` | N inaccessible bytes beside each block of the heap, at most 4,096 |
+//! | `option queue N` | keeps freed blocks of N bytes in all, at most 1,000,000,000 |
+//! | `option show LIST` | shows these leak kinds: `definite`, `indirect`, `possible`, `reachable`, `all`, `none`, between commas |
+//! | `worked` | answers how many steps were made so far |
+//!
+//! A line is answered `ok`, the report, `worked N`, or `refused N` with the first that holds of: 12 the 100,001st line or a later one,
+//! 11 more than 4,096 bytes, 2 no command, and then the command's own, which [`Fault`] lists; 1 stands for want of memory, after these.
+//!
+//! # What a caller relies on
+//!
+//! A `Scenario` is a value of `specs/` and no code: what a user has said so far. A session has a scenario (`HasScenario`), and
+//!
+//! - [`Session::begin`]: the session has the scenario of its arguments (`begun`).
+//! - [`Session::command`]: for each scenario that the session has, the answer and the bytes appended are those of the line, and the
+//!   session then has the scenario that the line leaves (`Answered`); or memory was wanting where it may be, at a report, a patch, a mark
+//!   or a new suppression that isn't refused, and the line only counts (`Wanting`). A refused line changes the number of lines alone.
+//! - [`serve`]: to the end, what was written is the replies to the lines of all bytes read, up to and with the first `refused 12`, and
+//!   nothing else (`Served`); on a fault, a front of that, with the stated numbers of whole replies and bytes (`StopsBy`).
+//! - A report is the text of one run from step zero over the scenario (`IsReportOf`); a state has one report (`replay_report::laws`).
+//!
+//! # Where the definitions stand
+//!
+//! In `specs/`, in the order to read them:
+//!
+//! - `Commands`: the language, a definition for each command over the fields of a line; `Faults`: the numbers of the refusals.
+//! - `Scenario`: the scenario, which lines are refused, and what an accepted command changes; `Setups`: the heap's defaults.
+//! - `Session`: that a session has a scenario, and one line of it.
+//! - `Replies`: the text of each reply, and the replies to one line after another (`Answers`).
+//! - `Served`, over `Lines`: what was written for the bytes read.
+//! - `Marks` and `Serving` are for this crate's proofs.
+//!
+//! Sources: the Memcheck manual, section 4.3 (options), and Valgrind's user manual, section 2.5 (suppressions); the language of the lines
+//! and the limits are this project's.
 #![tactic(auto)]
 
 mod answering;

@@ -1,8 +1,7 @@
 //! A session over any reader and any writer.
-ghost use Rattle.std.specs.Prelude.{◌≡◌, OnOk, IfErr};
-ghost use Rattle.replay_session.specs.Scenario.{Scenario};
+ghost use Rattle.std.specs.Prelude.{OnOk, IfErr};
 ghost use Rattle.replay_session.specs.Served.{ServedAll, ServedRead, StoppedBy};
-ghost use Rattle.replay_session.specs.Session.{HasScenario};
+ghost use Rattle.replay_session.specs.Session.{ForEachScenario};
 
 use crate::keeper::Session;
 use crate::server::Server;
@@ -38,16 +37,16 @@ pub fn serve<R: Read, W: Write>(
     writer: &mut W,
 ) -> Result<(), ServeFault>
     // To the end, the replies to the lines of all bytes were written, and nothing else.
-    ensures ok { OnOk result ((sc : Scenario) → HasScenario session.entry sc →
-        ServedAll sc (R.remaining reader.old) (W.contents writer.old) (W.contents writer.new)) }
+    ensures ok { OnOk result (ForEachScenario session.entry (λ sc.
+        ServedAll sc (R.remaining reader.old) (W.contents writer.old) (W.contents writer.new))) }
 
     // Of a reader that doesn't tell its bytes: these are the replies to the lines of some bytes.
-    ensures read { OnOk result ((sc : Scenario) → HasScenario session.entry sc →
-        ServedRead sc (R.remaining reader.old) (R.remaining reader.new) (W.contents writer.old) (W.contents writer.new)) }
+    ensures read { OnOk result (ForEachScenario session.entry (λ sc.
+        ServedRead sc (R.remaining reader.old) (R.remaining reader.new) (W.contents writer.old) (W.contents writer.new))) }
 
     // Some bytes were read and the others stay, and the fault says what was written for those.
-    ensures fault { IfErr result (λ fault. (sc : Scenario) → HasScenario session.entry sc →
-        StoppedBy fault sc (R.remaining reader.old) (R.remaining reader.new) (W.contents writer.old) (W.contents writer.new)) }
+    ensures fault { IfErr result (λ fault. ForEachScenario session.entry (λ sc.
+        StoppedBy fault sc (R.remaining reader.old) (R.remaining reader.new) (W.contents writer.old) (W.contents writer.new))) }
 {
     let Ok(mut server) = Server::new(session) else {
         return Err(ServeFault::NoMemory {

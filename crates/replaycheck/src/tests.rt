@@ -3,43 +3,16 @@ use crate::ends::{End, tell};
 use crate::run_once::{RunFault, run_once};
 use guest_elf::{ElfFault, read};
 use guest_programs::program;
-use std::io;
-use std::io::Write;
+use replay_session::fakes::Room;
 use std::test::Fail;
 use suppressions::SuppFault;
-
-/// A writer over memory that takes so many bytes, and then fails.
-#[derive(Drop)]
-struct Failing {
-    room: usize,
-    taken: Vec<u8>,
-}
-
-impl Write for Failing {
-    fn write(&mut self, bytes: &[u8]) -> io::Result<usize> {
-        let n = bytes.len().min(self.room);
-        if n == 0 && !bytes.is_empty() {
-            return Err(io::Error::from(io::ErrorKind::BrokenPipe));
-        }
-        self.taken.extend_from_slice(&bytes[..n])?;
-        self.room -= n;
-        Ok(n)
-    }
-
-    fn flush(&mut self) -> io::Result<()> {
-        Ok(())
-    }
-}
 
 #[test]
 fn one_report(rt: HostRuntime) -> Result<(), Fail> {
     let alloc = rt.alloc();
     let file = program(alloc, &[0x05D0_0893, 0x0000_0513, 0x0000_0073])?;
     let image = read(alloc, &file).map_err(|_| Fail::from("the image is refused"))?;
-    let mut all = Failing {
-        room: 1000,
-        taken: Vec::new(alloc),
-    };
+    let mut all = Room::new(alloc, 1000);
     assert_eq!(rt;
         run_once(alloc, &image, Vec::new(alloc), &[], 3, &mut all),
         Ok(())
@@ -49,10 +22,7 @@ fn one_report(rt: HostRuntime) -> Result<(), Fail> {
         all.taken
             .starts_with(b"step 3\nstate exited 0\ninput 0 of 0\n")
     );
-    let mut some = Failing {
-        room: 100,
-        taken: Vec::new(alloc),
-    };
+    let mut some = Room::new(alloc, 100);
     let stopped = run_once(alloc, &image, Vec::new(alloc), &[], 3, &mut some);
     assert_eq!(rt; stopped, Err(RunFault::WriteFailed { bytes: 100 }));
     assert!(rt; all.taken.starts_with(some.taken.as_slice()));
@@ -105,10 +75,7 @@ fn ends(rt: HostRuntime) -> Result<(), Fail> {
         (End::NoMemory, 4, "replaycheck: out of memory\n"),
     ];
     for (end, status, line) in cases {
-        let mut writer = Failing {
-            room: 1000,
-            taken: Vec::new(rt.alloc()),
-        };
+        let mut writer = Room::new(rt.alloc(), 1000);
         assert_eq!(rt; tell(&end, &mut writer), status);
         assert_eq!(rt; writer.taken.as_slice(), line.as_bytes());
     }
