@@ -11,7 +11,6 @@
 //! | [`Session::begin`] | a session of a program with an input and suppressions, or a [`BeginFault`] |
 //! | [`Session::command`] | answers one line: a [`Reply`], or a [`Fault`] with its number; appends the bytes of a report |
 //! | [`serve`] | answers each line of any reader to any writer, or stops with a [`ServeFault`] |
-//! | [`run_to`] | the machine at a step of a run from step zero, with marks |
 //! | [`setup_with`] | an input and Memcheck's settings of the heap |
 //! | [`send`] | writes all of some bytes and flushes |
 //! | [`fakes`] | a reader and a writer over memory that fail where a test wants them to |

@@ -93,7 +93,7 @@ impl Case {
 
     fn take_input(&mut self, bytes: &str) -> Result<()> {
         for byte in bytes.split(' ') {
-            self.input.push(hexadecimal(byte)? as u8)?;
+            self.input.push(u8::from_str_radix(byte, 16)?)?;
         }
         Ok(())
     }

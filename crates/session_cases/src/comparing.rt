@@ -10,19 +10,19 @@ pub(crate) enum Outcome {
 }
 
 /// How answers compare with what is wanted.
-pub(crate) fn outcome(answers: &[u8], wanted: &[u8]) -> Outcome
+pub(crate) fn compared(answers: &[u8], wanted: &[u8]) -> Outcome
     ensures { (result ≡ Outcome.Same) ↔ (answers.now ≡ wanted.now) }
 {
     if answers == wanted {
         return Outcome::Same;
     }
-    let mut line = 1;
+    let mut line: u64 = 1;
     for (answer, want) in answers.iter().zip(wanted) {
         if answer != want {
             return Outcome::Differs { line };
         }
         if *answer == b'\n' {
-            line += 1;
+            line = line.saturating_add(1);
         }
     }
     Outcome::Differs { line }

@@ -8,7 +8,7 @@ mod comparing;
 mod playing;
 
 use crate::case::Case;
-use crate::comparing::{Outcome, outcome};
+use crate::comparing::{Outcome, compared};
 use crate::playing::played;
 use anyhow::Result;
 use std::process::ExitCode;
@@ -23,7 +23,7 @@ fn run(rt: &HostRuntime, name: &str) -> Result<bool> {
     }
     case.read_program(rt)?;
     let answers = played(rt.alloc(), &case)?;
-    match outcome(&answers, &case.answers) {
+    match compared(&answers, &case.answers) {
         Outcome::Same => {
             let count = case.count;
             println!(rt; "{name}: {count} lines answered as written")?;
@@ -41,5 +41,9 @@ fn main(rt: HostRuntime) -> Result<ExitCode> {
     for name in env::args(&rt)?.skip(1) {
         all = run(&rt, name.as_str())? && all;
     }
-    Ok(if all { ExitCode::SUCCESS } else { ExitCode::from(1) })
+    Ok(if all {
+        ExitCode::SUCCESS
+    } else {
+        ExitCode::from(1)
+    })
 }

@@ -4,13 +4,16 @@ use anyhow::{Result, bail};
 use guest_elf::read;
 use replay_session::{Session, serve};
 use std::alloc::Global;
-use suppressions::parse;
+use suppressions::{TEXT_LIMIT, parse};
 
 /// Every byte that the lines of a session are answered.
 pub(crate) fn played(alloc: Global, case: &Case) -> Result<Vec<u8>> {
     let Ok(image) = read(alloc, &case.file) else {
         bail!("the program is refused");
     };
+    if case.suppressions.len() > TEXT_LIMIT {
+        bail!("the suppressions are too long");
+    }
     let Ok(suppressions) = parse(alloc, &case.suppressions) else {
         bail!("the suppressions are refused");
     };
@@ -19,7 +22,7 @@ pub(crate) fn played(alloc: Global, case: &Case) -> Result<Vec<u8>> {
     };
     let mut lines = case.lines.as_slice();
     let mut answers = Vec::new(alloc);
-    match serve(alloc, session, &mut lines, &mut answers) {
+    match serve(session, &mut lines, &mut answers) {
         Ok(()) => Ok(answers),
         Err(_) => bail!("the session was not served"),
     }
