@@ -1,5 +1,5 @@
-//! Measures the machine through its public calls: steps, shares, starts, and errors among many groups. With no argument it
-//! prints its usage alone.
+//! Measures the machine through its public calls: steps, shares, starts, trails of held machines, and errors among many groups.
+//! With no argument it prints its usage alone.
 #![tactic(auto)]
 
 mod errors;
@@ -7,6 +7,7 @@ mod guests;
 mod shares;
 mod starts;
 mod steps;
+mod trails;
 
 use std::rt::Env;
 use std::{env, io};
@@ -18,6 +19,7 @@ enum Measurement {
     Steps(u32),
     Share,
     Start,
+    Trail,
     /// An error among so many groups.
     Errors(u32),
 }
@@ -29,6 +31,9 @@ fn measurement_of(word: &str, number: Option<u32>) -> Option<Measurement> {
     }
     if word == "start" {
         return Some(Measurement::Start);
+    }
+    if word == "trail" {
+        return Some(Measurement::Trail);
     }
     let number = number?;
     if word == "steps" {
@@ -58,7 +63,8 @@ fn main(rt: HostRuntime) -> io::Result<()> {
         Some(Measurement::Steps(count)) => steps::measure(&rt, count),
         Some(Measurement::Share) => shares::measure(&rt),
         Some(Measurement::Start) => starts::measure(&rt),
+        Some(Measurement::Trail) => trails::measure(&rt),
         Some(Measurement::Errors(groups)) => errors::measure(&rt, groups),
-        None => println!(rt; "usage: step_bench steps N | share | start | errors G"),
+        None => println!(rt; "usage: step_bench steps N | share | start | trail | errors G"),
     }
 }
