@@ -1,5 +1,5 @@
 -- Places of words in a table, and the words that a range meets.
-use Rattle.std.proofs.Common.{◌≡◌, ℕ, zero, suc, ◌+◌, ◌-◌, ◌*◌, ◌/◌, ◌%◌, ◌^◌, ◌<◌, ◌≤◌, ◌==◌, ◌||◌, nat_lt, Bool, true, false, cond, List, [], ◌∷◌, refl, ap, sym, add-zero, add-one, drop, drop-cons, ◌++◌, ◌⊎◌, ◌∙◌, inl, inr, arith, min, max, map, subst, length, get_or, eq-eqb, ne_eqb, Some, None}
+use Rattle.std.proofs.Common.{◌≡◌, ℕ, zero, suc, ◌+◌, ◌-◌, ◌*◌, ◌/◌, ◌%◌, ◌^◌, ◌<◌, ◌≤◌, ◌==◌, ◌||◌, nat_lt, Bool, true, false, cond, List, [], ◌∷◌, refl, ap, sym, add-zero, ◌++◌, ◌⊎◌, ◌∙◌, inl, inr, arith, min, map, subst, length, get_or, eq-eqb, ne_eqb}
 use Rattle.std.proofs.Math.ListN.{set, get_or-map}
 use Rattle.std.proofs.lemmas.Bool.{cases_eq, cases_lt, false≢true}
 use Rattle.std.proofs.lemmas.Bool.Decides.{nat_tests}

@@ -1,8 +1,9 @@
 //! How first uses are entered, looked up and forgotten.
-ghost use Rattle.std.specs.Prelude.{◌≡◌, ℕ, ◌+◌, ◌-◌, ◌*◌, ◌/◌, ◌%◌, ◌^◌, ◌<◌, ◌==◌, nat_lt, if◌then◌else◌, map, min, max, length, IfOk};
+ghost use Rattle.std.specs.Prelude.{◌≡◌, ℕ, ◌+◌, ◌-◌, ◌*◌, ◌/◌, ◌%◌, ◌^◌, ◌<◌, ◌≤◌, ◌==◌, slice_index_or, nat_lt, if◌then◌else◌, map, min, max, length, IfOk};
 ghost use Rattle.std.specs.List.{list_any};
 ghost use Rattle.std.specs.List.Sorted.{IsNonDecreasingBy};
 ghost use Rattle.guest_machine.specs.declared.span.Span.{Span as SpanOf};
+ghost use Rattle.checkpoints.specs.declared.uses.Row.{Row as RowOf};
 ghost use Rattle.guest_elf.specs.Segments.{has_address};
 ghost use Rattle.guest_machine.specs.Exec.{has_touched};
 ghost use Rattle.guest_machine.specs.Spans.{span_at};
@@ -41,6 +42,16 @@ fn greater(x: u64, y: u64) -> u64
     ensures { result ≡ max x y }
 {
     if x < y { y } else { x }
+}
+
+/// How many rows end before a word.
+fn ended_by(rows: &[Row], word: u32) -> usize
+    requires { IsNonDecreasingBy (λ (row : RowOf). row.end) rows.now }
+    ensures within { result ≤ length rows.now }
+    ensures before { (k : ℕ) (d : RowOf) → k < result → (slice_index_or rows.now k d).end ≤ word }
+    ensures next { (d : RowOf) → result < length rows.now → word < (slice_index_or rows.now result d).end }
+{
+    rows.partition_point(|row| row.end <= u64::from(word))
 }
 
 /// The ranges of the segments of a program, in their order.
@@ -101,7 +112,7 @@ impl FirstUses {
     fn place_of(&self, word: u32) -> usize
         ensures { result ≡ place_in (ranges_of self.now) word }
     {
-        let index = self.rows.partition_point(|row| row.end <= u64::from(word));
+        let index = ended_by(&self.rows, word);
         if index < self.rows.len() {
             let row = self.rows[index];
             if row.first <= word {

@@ -1,4 +1,3 @@
-pub mod ListSteps
 pub mod Showing
 pub mod LoadSteps
 pub mod Starting

@@ -1,5 +1,5 @@
-//! Measures the machine and its parts through their public calls: steps, shares, starts, large program files, errors among many
-//! groups, and calls of the heap. With no argument it prints its usage alone.
+//! Measures the machine and its parts through their public calls: steps, shares, starts, trails of held machines, large program files,
+//! errors among many groups, and calls of the heap. With no argument it prints its usage alone.
 #![tactic(auto)]
 
 mod errors;
@@ -9,6 +9,7 @@ mod heap;
 mod shares;
 mod starts;
 mod steps;
+mod trails;
 
 use std::rt::Env;
 use std::{env, io};
@@ -21,6 +22,7 @@ enum Measurement {
     Share,
     Start,
     Elf,
+    Trail,
     /// An error among so many groups.
     Errors(u32),
     /// So many calls of the heap, of each kind.
@@ -37,6 +39,9 @@ fn measurement_of(word: &str, number: Option<u32>) -> Option<Measurement> {
     }
     if word == "elf" {
         return Some(Measurement::Elf);
+    }
+    if word == "trail" {
+        return Some(Measurement::Trail);
     }
     let number = number?;
     if word == "steps" {
@@ -70,8 +75,11 @@ fn main(rt: HostRuntime) -> io::Result<()> {
         Some(Measurement::Share) => shares::measure(&rt),
         Some(Measurement::Start) => starts::measure(&rt),
         Some(Measurement::Elf) => files::measure(&rt),
+        Some(Measurement::Trail) => trails::measure(&rt),
         Some(Measurement::Errors(groups)) => errors::measure(&rt, groups),
         Some(Measurement::Heap(count)) => heap::measure(&rt, count),
-        None => println!(rt; "usage: step_bench steps N | share | start | elf | errors G | heap N"),
+        None => {
+            println!(rt; "usage: step_bench steps N | share | start | trail | elf | errors G | heap N")
+        }
     }
 }
