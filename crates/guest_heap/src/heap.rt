@@ -49,7 +49,7 @@ impl Heap {
         let live = Table::new(alloc);
         let freed = Table::new(alloc);
         let queue = Queue::new(alloc);
-        let bounds = Bounds::new(alloc)?;
+        let bounds = Bounds::new(alloc);
         Ok(Heap {
             live,
             freed,
