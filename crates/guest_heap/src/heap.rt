@@ -42,7 +42,7 @@ impl Heap {
     ghost use Rattle.guest_heap.specs.Blocks.{no_blocks};
     ghost use Rattle.guest_heap.specs.Steps.{AreInRegion, AreApart};
 
-    /// A heap with no blocks. Fails where there is no memory for its empty tables.
+    /// A heap with no blocks, which takes no memory.
     pub fn new(alloc: Global) -> Result<Heap, AllocError>
         ensures { IfOk result (λ heap. blocks_of heap ≡ no_blocks) }
     {
