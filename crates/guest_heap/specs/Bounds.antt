@@ -24,9 +24,6 @@ IsEmpty b = (b.from ≡ 0) × (b.until ≡ 0)
 abbrev pub AreFresh : List Bound → Type 0
 AreFresh bounds = (i : ℕ) (b : Bound) → slice_get bounds i ≡ Some b → IsEmpty b
 
-abbrev pub unknown : Bound → Bound
-unknown b = record { size = 0; from = 0; next = 0; until = 0 }
-
 -- where one of the bounds that hold of a size ends, or 0
 abbrev pub IsKnown : List Bound → ℕ → ℕ → Type 0
 IsKnown bounds size from =

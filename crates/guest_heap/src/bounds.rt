@@ -69,11 +69,10 @@ const NOTHING_KNOWN: Bound = Bound {
     until: 0,
 };
 
-/// A bound for each class.
+/// A bound for each class, once there are any.
 #[derive(Drop)]
 pub(crate) struct Bounds {
     list: Vec<Bound>,
-    ghost full: { vec_len list ≡ 268 },
 }
 
 /// A range that came free, for blocks with a red zone: its first place, where it ends, and the greatest size that has a place in it.
@@ -132,17 +131,22 @@ pub(crate) fn past(at: u64, bound: &Bound) -> u64
 }
 
 impl Bounds {
-    ghost use Rattle.std.specs.Prelude.{IfOk, Some, map, slice_get, slice_set};
-    ghost use Rattle.guest_heap.specs.Bounds.{AreFresh, IsKnown, IsTaken, unknown};
+    ghost use Rattle.std.specs.Prelude.{IfOk, Some, map, nat_eq, slice_get, slice_set};
+    ghost use Rattle.guest_heap.specs.Bounds.{AreFresh, IsKnown, IsTaken};
 
-    pub(crate) fn new(alloc: Global) -> Result<Bounds, AllocError>
-        ensures { IfOk result (λ bounds. AreFresh bounds.list.items) }
+    pub(crate) fn new(alloc: Global) -> Bounds
+        ensures { AreFresh result.list.items }
     {
-        let mut list = Vec::with_capacity(alloc, CLASSES)?;
-        for _class in 0..CLASSES {
-            list.push(NOTHING_KNOWN)?;
+        Bounds {
+            list: Vec::new(alloc),
         }
-        Ok(Bounds { list })
+    }
+
+    /// Are there no bounds yet?
+    pub(crate) fn are_absent(&self) -> bool
+        ensures { result ≡ nat_eq (vec_len self.now.list) 0 }
+    {
+        self.list.is_empty()
     }
 
     /// The greatest bound known of a class: where a lesser size has no place, it has none.
@@ -151,7 +155,7 @@ impl Bounds {
         ensures { IsKnown self.now.list.items class.now.least result }
     {
         let mut known = 0;
-        for index in 0..class.index + 1 {
+        for index in 0..(class.index + 1).min(self.list.len()) {
             let bound = self.list[index];
             if bound.size <= class.least && bound.from > known {
                 known = bound.from;
@@ -162,12 +166,12 @@ impl Bounds {
 
     /// What is known between places of a class, with the least size of it.
     pub(crate) fn get(&self, class: &SizeClass) -> Bound
-        requires { class.now.index < 268 }
         ensures size { result.size ≡ class.now.least }
         ensures known { IsTaken self.now.list.items result }
     {
-        let bound = self.list[class.index];
-        if bound.size <= class.least {
+        if let Some(bound) = self.list.get(class.index)
+            && bound.size <= class.least
+        {
             return Bound {
                 size: class.least,
                 from: bound.from,
@@ -184,19 +188,22 @@ impl Bounds {
     }
 
     pub(crate) fn put(&mut self, index: usize, bound: Bound)
-        requires { index < 268 }
         ensures { self.new.list.items ≡ slice_set self.old.list.items index bound }
     {
-        self.list[index] = bound;
+        if index < self.list.len() {
+            self.list[index] = bound;
+        }
     }
 
-    /// Nothing is known any more.
-    pub(crate) fn forget(&mut self)
-        ensures { self.new.list.items ≡ map unknown self.old.list.items }
+    /// A bound for each class, and nothing is known any more; where memory fails of fewer classes.
+    pub(crate) fn forget(&mut self) -> Result<(), AllocError>
+        ensures { AreFresh self.new.list.items }
     {
-        for bound in self.list.iter_mut() {
-            *bound = NOTHING_KNOWN;
+        self.list.clear();
+        for _class in 0..CLASSES {
+            self.list.push(NOTHING_KNOWN)?;
         }
+        Ok(())
     }
 
     /// A range came free.

@@ -42,14 +42,14 @@ impl Heap {
     ghost use Rattle.guest_heap.specs.Blocks.{no_blocks};
     ghost use Rattle.guest_heap.specs.Steps.{AreInRegion, AreApart};
 
-    /// A heap with no blocks. Fails where there is no memory for its empty tables.
+    /// A heap with no blocks, which takes no memory.
     pub fn new(alloc: Global) -> Result<Heap, AllocError>
         ensures { IfOk result (λ heap. blocks_of heap ≡ no_blocks) }
     {
         let live = Table::new(alloc);
         let freed = Table::new(alloc);
         let queue = Queue::new(alloc);
-        let bounds = Bounds::new(alloc)?;
+        let bounds = Bounds::new(alloc);
         Ok(Heap {
             live,
             freed,

@@ -46,14 +46,15 @@ impl Heap {
 
     // The bounds are those of a red zone.
     #[tactic(auto, unfolding(crate::specs::Heaps::blocks_of, crate::specs::Heaps::redzone_in))]
-    fn use_redzone(&mut self, redzone: u32)
+    fn use_redzone(&mut self, redzone: u32) -> Result<(), AllocError>
         ensures same { blocks_of self.new ≡ blocks_of self.old }
-        ensures redzone { redzone_in self.new ≡ redzone }
+        ensures redzone { OnOk result (redzone_in self.new ≡ redzone) }
     {
-        if self.redzone != redzone {
-            self.bounds.forget();
+        if self.redzone != redzone || self.bounds.are_absent() {
+            self.bounds.forget()?;
             self.redzone = redzone;
         }
+        Ok(())
     }
 
     // Raises the bound of a class to the least place of its least block, and answers it.
@@ -84,17 +85,17 @@ impl Heap {
     }
 
     // The least place for a block.
-    fn place(&mut self, size: u32, redzone: u32) -> Option<u32>
+    fn place(&mut self, size: u32, redzone: u32) -> Result<Option<u32>, AllocError>
         ensures same { blocks_of self.new ≡ blocks_of self.old }
-        ensures place { Places (blocks_of self.new) size redzone result }
+        ensures place { IfOk result (λ start. Places (blocks_of self.new) size redzone start) }
     {
         if size > GREATEST_SIZE {
-            return None;
+            return Ok(None);
         }
-        self.use_redzone(redzone);
+        self.use_redzone(redzone)?;
         let bound = self.raise_bound(&class_of(size));
         let from = aligned(u64::from(bound.from).max(HEAP_BEGIN + u64::from(redzone)));
-        self.place_from(from, size, redzone, &bound)
+        Ok(self.place_from(from, size, redzone, &bound))
     }
 
     // A new live block at a place.
@@ -124,7 +125,7 @@ impl Heap {
         ensures ok { IfOk result (λ start. blocks_of self.new ≡ allocated (blocks_of self.old) start size trace redzone) }
         ensures err { OnErr result (blocks_of self.new ≡ blocks_of self.old) }
     {
-        match self.place(size, redzone) {
+        match self.place(size, redzone)? {
             Some(start) => {
                 let block = Block {
                     start,

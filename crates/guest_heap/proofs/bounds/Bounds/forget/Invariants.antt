@@ -1,6 +1,5 @@
-use Rattle.std.proofs.Common.{◌≡◌, ◌++◌, map, take, drop}
-use Rattle.guest_heap.specs.Bounds.{unknown}
+use Rattle.std.proofs.Common.{◌≡◌, replicate}
 use Rattle.guest_heap.proofs.bounds.Bounds.forget.Given as goal
 
-abbrev pub invariant-loop-bound : goal.invariant-loop-bound
-invariant-loop-bound l = l.bound-items ≡ map unknown (take l.bound-index l.initial.bound-items) ++ drop l.bound-index l.initial.bound-items
+abbrev pub invariant-loop-class : goal.invariant-loop-class
+invariant-loop-class l = l.self.list.items ≡ replicate l._class (record { size = 0; from = 0; next = 0; until = 0 })
