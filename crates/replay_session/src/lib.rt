@@ -1,8 +1,8 @@
 //! A session over one program: lines edit its run or ask for its report, and each report is that of one run from step zero.
 //!
-//! A [`Session`] keeps what the accepted lines leave: the machine before step 0 with the patches written, the input and the heap's
-//! settings, marks, suppressions with their switches, options of the report, and the chosen step. Each report replays from a copy of
-//! that machine, so that nothing of earlier reports is in it.
+//! A [`Session`] keeps what the accepted lines leave: a trail of machines of the run with the patches written, the input and the heap's
+//! settings, marks, suppressions with their switches, options of the report, and the chosen step. Each report goes on from the last
+//! machine of the trail before its step; an edit cuts the trail where it may first show, so that nothing of earlier reports is in it.
 //!
 //! # Public items
 //!
@@ -10,6 +10,7 @@
 //! |---|---|
 //! | [`Session::begin`] | a session of a program with an input and suppressions, or a [`BeginFault`] |
 //! | [`Session::command`] | answers one line: a [`Reply`], or a [`Fault`] with its number; appends the bytes of a report |
+//! | [`Session::trail`] | the machines that are held, on whose meter each step of a report was made |
 //! | [`serve`] | answers each line of any reader to any writer, or stops with a [`ServeFault`] |
 //! | [`setup_with`] | an input and Memcheck's settings of the heap |
 //! | [`send`] | writes all of some bytes and flushes |
