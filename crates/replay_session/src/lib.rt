@@ -61,7 +61,7 @@
 //! - `Session`: that a session has a scenario, and one line of it.
 //! - `Replies`: the text of each reply, and the replies to one line after another (`Answers`).
 //! - `Served`, over `Lines`: what was written for the bytes read.
-//! - `Marks` and `Serving` are for this crate's proofs.
+//! - `Serving` is for this crate's proofs.
 //!
 //! Sources: the Memcheck manual, section 4.3 (options), and Valgrind's user manual, section 2.5 (suppressions); the language of the lines
 //! and the limits are this project's.
