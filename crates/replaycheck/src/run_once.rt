@@ -3,8 +3,8 @@ ghost use Rattle.std.specs.Prelude.{◌≡◌, ◌<◌, ◌↔◌, Err, IfOk, On
 ghost use Rattle.replay_session.specs.Setups.{longest_input};
 ghost use Rattle.replaycheck.specs.Once.{IsReportOnce, WritesReport, StopsBy};
 
-use guest_elf::Image;
 use checkpoints::run_to;
+use guest_elf::Image;
 use guest_machine::{Machine, Meter};
 use replay_report::{Options, render};
 use replay_session::{LONGEST_INPUT, send, setup_with};

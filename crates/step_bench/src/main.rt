@@ -79,7 +79,9 @@ fn main(rt: HostRuntime) -> io::Result<()> {
         Some(Measurement::Errors(groups)) => errors::measure(&rt, groups),
         Some(Measurement::Heap(count)) => heap::measure(&rt, count),
         None => {
-            println!(rt; "usage: step_bench steps N | share | start | trail | elf | errors G | heap N")
+            println!(rt;
+                "usage: step_bench steps N | share | start | trail | elf | errors G | heap N"
+            )
         }
     }
 }
