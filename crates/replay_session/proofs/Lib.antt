@@ -7,3 +7,4 @@ pub mod ReplySteps
 pub mod ServeSteps
 pub mod ServedSteps
 pub mod EditSteps
+pub mod WorkSteps

@@ -7,3 +7,4 @@ pub mod Lines
 pub mod Replies
 pub mod Serving
 pub mod Served
+pub mod Work

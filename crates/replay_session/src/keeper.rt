@@ -54,6 +54,8 @@ impl<'a> Session<'a> {
     ghost use Rattle.std.specs.Prelude.{◌≡◌, ◌<◌, ◌↔◌, IfOk, OnOk, OnErr, length};
     ghost use Rattle.replay_session.specs.Scenario.{Scenario, IsReportOf, begun, counted};
     ghost use Rattle.replay_report.specs.Report.{AppendsReport};
+    ghost use Rattle.checkpoints.specs.Trails.{last_held, meter_of};
+    ghost use Rattle.replay_session.specs.Work.{MovesWork, WorksLine};
     ghost use Rattle.replay_session.specs.Replies.{is_over};
     ghost use Rattle.replay_session.specs.Session.{HasScenario, IsWithin, Carried, Meets, room_in, trail_of};
 
@@ -66,6 +68,7 @@ impl<'a> Session<'a> {
         suppressions: Vec<Suppression>,
     ) -> Result<Self, BeginFault>
         ensures ok { IfOk result (λ session. HasScenario session (begun image.entry input.items suppressions.items)) }
+        ensures work { IfOk result (λ session. (last_held (trail_of session) ≡ 0) × (meter_of (trail_of session) ≡ 0)) }
         ensures large { (result ≡ Err BeginFault.InputTooLarge) ↔ (longest_input < length input.items) }
     {
         if input.len() > LONGEST_INPUT {
@@ -112,6 +115,7 @@ impl<'a> Session<'a> {
     fn count(&mut self)
         ensures counted { (sc : Scenario) → HasScenario self.old sc → HasScenario self.new (counted sc) }
         ensures room { room_in self.new ≡ record (room_in self.old) { lines = self.new.lines } }
+        ensures trail { trail_of self.new ≡ trail_of self.old }
     {
         if self.lines < MOST_LINES {
             self.lines += 1;
@@ -123,6 +127,7 @@ impl<'a> Session<'a> {
         ensures has { (sc : Scenario) → HasScenario self.old sc → HasScenario self.new sc }
         ensures ok { OnOk result ((sc : Scenario) → HasScenario self.old sc → AppendsReport (IsReportOf sc) out.old.items out.new.items) }
         ensures err { OnErr result (out.new.items ≡ out.old.items) }
+        ensures work { OnOk result ((sc : Scenario) → HasScenario self.old sc → MovesWork sc Command.Report (trail_of self.old) (trail_of self.new)) }
     {
         let machine = self.trail.at(self.step, &self.setup, &self.marks)?;
         let input_len = self.setup.input.len() as u64;
@@ -142,7 +147,9 @@ impl<'a> Session<'a> {
     /// Answers one line, which has no newline, and appends the bytes of a report and nothing else. A refused line changes nothing but
     /// the number of lines.
     pub fn command(&mut self, line: &[u8], out: &mut Vec<u8>) -> Result<Reply, Fault>
-        ensures { (sc : Scenario) → HasScenario self.old sc → Meets self.new sc line.now result out.old.items out.new.items }
+        ensures meets { (sc : Scenario) → HasScenario self.old sc → Meets self.new sc line.now result out.old.items out.new.items }
+        // Unless memory was wanting or the trail is short: the steps made are those that the line asks for, by its first effect.
+        ensures work { WorksLine self.old self.new line.now result }
     {
         let accepted = self.accept(line);
         self.count();

@@ -48,6 +48,7 @@
 //! - [`Session::command`]: for each scenario that the session has, the answer and the bytes appended are those of the line, and the
 //!   session then has the scenario that the line leaves (`Answered`); or memory was wanting where it may be, at a report, a patch, a mark
 //!   or a new suppression that isn't refused, and the line only counts (`Wanting`). A refused line changes the number of lines alone.
+//!   What the line costs in steps is that of its command by its first effect (`WorksLine`).
 //! - [`serve`]: to the end, what was written is the replies to the lines of all bytes read, up to and with the first `refused 12`, and
 //!   nothing else (`Served`); on a fault, a front of that, with the stated numbers of whole replies and bytes (`StopsBy`).
 //! - A report is the text of one run from step zero over the scenario (`IsReportOf`); a state has one report (`replay_report::laws`).
@@ -59,6 +60,7 @@
 //! - `Commands`: the language, a definition for each command over the fields of a line; `Faults`: the numbers of the refusals.
 //! - `Scenario`: the scenario, which lines are refused, and what an accepted command changes; `Setups`: the heap's defaults.
 //! - `Session`: that a session has a scenario, and one line of it.
+//! - `Work`: how a line moves the last held step and the number of steps made.
 //! - `Replies`: the text of each reply, and the replies to one line after another (`Answers`).
 //! - `Served`, over `Lines`: what was written for the bytes read.
 //! - `Serving` is for this crate's proofs.

@@ -22,11 +22,13 @@ fn with_byte(input: Input, offset: u32, byte: u8) -> Input
 impl<'a> Session<'a> {
     ghost use Rattle.std.specs.Prelude.{◌≡◌, ◌<◌, ◌≤◌, length, vec_len, true};
     ghost use Rattle.replay_session.specs.Scenario.{Scenario, is_word};
+    ghost use Rattle.replay_session.specs.Work.{Works};
     ghost use Rattle.replay_session.specs.Session.{HasScenario, IsWithin, Carried, Edits, room_in};
 
     /// Chooses a step.
     fn goto(&mut self, step: u32) -> Result<Reply, Fault>
-        ensures { Edits self.old self.new (Command.Goto step) result }
+        ensures edits { Edits self.old self.new (Command.Goto step) result }
+        ensures work { Works self.old self.new (Command.Goto step) result }
     {
         self.step = step;
         Ok(Reply::Done)
@@ -35,7 +37,8 @@ impl<'a> Session<'a> {
     /// Replaces a byte of the input.
     fn set_input(&mut self, offset: u32, byte: u8) -> Result<Reply, Fault>
         requires { offset < length self.old.setup.input }
-        ensures { Edits self.old self.new (Command.Input offset byte) result }
+        ensures edits { Edits self.old self.new (Command.Input offset byte) result }
+        ensures work { Works self.old self.new (Command.Input offset byte) result }
     {
         let input = mem::replace(&mut self.setup.input, Input::new(Vec::new(self.alloc)));
         self.setup.input = with_byte(input, offset, byte);
@@ -46,7 +49,8 @@ impl<'a> Session<'a> {
     /// Replaces a word of the loaded program.
     fn patch(&mut self, addr: u32, word: u32) -> Result<Reply, Fault>
         requires { is_word self.old.image addr ≡ true }
-        ensures { Edits self.old self.new (Command.Patch addr word) result }
+        ensures edits { Edits self.old self.new (Command.Patch addr word) result }
+        ensures work { Works self.old self.new (Command.Patch addr word) result }
     {
         match self.trail.patch(addr, word) {
             Ok(()) => Ok(Reply::Done),
@@ -56,7 +60,8 @@ impl<'a> Session<'a> {
 
     /// Puts a mark at the end of the list.
     fn add_mark(&mut self, mark: Mark) -> Result<Reply, Fault>
-        ensures { Edits self.old self.new (Command.Mark mark) result }
+        ensures edits { Edits self.old self.new (Command.Mark mark) result }
+        ensures work { Works self.old self.new (Command.Mark mark) result }
     {
         match self.marks.push(mark) {
             Ok(()) => {
@@ -70,7 +75,8 @@ impl<'a> Session<'a> {
     /// Takes the mark at an index out.
     fn unmark(&mut self, index: u32) -> Result<Reply, Fault>
         requires { index < vec_len self.old.marks }
-        ensures { Edits self.old self.new (Command.Unmark index) result }
+        ensures edits { Edits self.old self.new (Command.Unmark index) result }
+        ensures work { Works self.old self.new (Command.Unmark index) result }
     {
         let mark = self.marks.remove(index as usize);
         self.trail.cut_mark(mark.step);
@@ -80,7 +86,8 @@ impl<'a> Session<'a> {
     /// Switches the suppression at an index.
     fn switch(&mut self, index: u32, on: bool) -> Result<Reply, Fault>
         requires { index < vec_len self.old.suppressions }
-        ensures { Edits self.old self.new (Command.Switch index on) result }
+        ensures edits { Edits self.old self.new (Command.Switch index on) result }
+        ensures work { Works self.old self.new (Command.Switch index on) result }
     {
         self.suppressions[index as usize].switch(on);
         Ok(Reply::Done)
@@ -88,7 +95,8 @@ impl<'a> Session<'a> {
 
     /// Puts a suppression at the end of the list.
     fn add_suppression(&mut self, suppression: Suppression) -> Result<Reply, Fault>
-        ensures { Edits self.old self.new (Command.Add suppression) result }
+        ensures edits { Edits self.old self.new (Command.Add suppression) result }
+        ensures work { Works self.old self.new (Command.Add suppression) result }
     {
         let Ok(()) = self.suppressions.push(suppression) else {
             return Err(Fault::Memory);
@@ -99,7 +107,8 @@ impl<'a> Session<'a> {
     /// Chooses how many addresses of a trace are shown.
     fn set_callers(&mut self, n: u32) -> Result<Reply, Fault>
         requires { (1 ≤ n) × (n ≤ 24) }
-        ensures { Edits self.old self.new (Command.Callers n) result }
+        ensures edits { Edits self.old self.new (Command.Callers n) result }
+        ensures work { Works self.old self.new (Command.Callers n) result }
     {
         self.options.callers = n;
         Ok(Reply::Done)
@@ -107,7 +116,8 @@ impl<'a> Session<'a> {
 
     /// Chooses the red zone of the blocks that are allocated.
     fn set_redzone(&mut self, n: u32) -> Result<Reply, Fault>
-        ensures { Edits self.old self.new (Command.Redzone n) result }
+        ensures edits { Edits self.old self.new (Command.Redzone n) result }
+        ensures work { Works self.old self.new (Command.Redzone n) result }
     {
         self.setup.redzone = n;
         self.trail.cut_heap();
@@ -116,7 +126,8 @@ impl<'a> Session<'a> {
 
     /// Chooses how many bytes the freed blocks may have.
     fn set_queue(&mut self, n: u32) -> Result<Reply, Fault>
-        ensures { Edits self.old self.new (Command.Queue n) result }
+        ensures edits { Edits self.old self.new (Command.Queue n) result }
+        ensures work { Works self.old self.new (Command.Queue n) result }
     {
         self.setup.volume = n;
         self.trail.cut_heap();
@@ -125,7 +136,8 @@ impl<'a> Session<'a> {
 
     /// Chooses which kinds of leak are shown.
     fn set_shown(&mut self, kinds: LeakKinds) -> Result<Reply, Fault>
-        ensures { Edits self.old self.new (Command.Show kinds) result }
+        ensures edits { Edits self.old self.new (Command.Show kinds) result }
+        ensures work { Works self.old self.new (Command.Show kinds) result }
     {
         self.options.show = [
             kinds.definite,
@@ -139,7 +151,8 @@ impl<'a> Session<'a> {
     /// Tells how many steps were made.
     #[tactic(auto, unfolding(crate::specs::Session::work_of))]
     fn tell_work(&self) -> Result<Reply, Fault>
-        ensures { Edits self.now self.now Command.Worked result }
+        ensures edits { Edits self.now self.now Command.Worked result }
+        ensures work { Works self.now self.now Command.Worked result }
     {
         Ok(Reply::Work(self.trail.meter().read()))
     }
@@ -147,7 +160,8 @@ impl<'a> Session<'a> {
     /// Carries an accepted command out.
     pub(crate) fn carry_out(&mut self, command: Command, out: &mut Vec<u8>) -> Result<Reply, Fault>
         requires { IsWithin (room_in self.old) command }
-        ensures { (sc : Scenario) → HasScenario self.old sc → Carried self.new sc command result out.old.items out.new.items }
+        ensures carried { (sc : Scenario) → HasScenario self.old sc → Carried self.new sc command result out.old.items out.new.items }
+        ensures work { Works self.old self.new command result }
     {
         match command {
             Command::Goto(step) => self.goto(step),

@@ -6,7 +6,7 @@ use Rattle.replay_session.proofs.answering.answer.Goals as goal
 pub returns-then-all-clause-answered : goal.returns-then-all-clause-answered
 returns-then-all-clause-answered g c sc h =
     let next = replied-to c.command-outcome.new.self sc c.args.line.now c.command-outcome.result c.clear.new.self.items c.command-outcome.new.out.items c.put.new.self.report.items c.text-reply.result.now
-    (c.command-outcome.ensures sc h) c.clear.ensures.items (λ i. (c.put.ensures.report i).items) c.text-reply.ensures in
+    (c.command-outcome.ensures.meets sc h) c.clear.ensures.items (λ i. (c.put.ensures.report i).items) c.text-reply.ensures in
     let all : c.send-sent.result.0 ≡ length c.text-reply.result.now = c.send-sent.ensures.all c.if-all.true in
     record {
       reply = c.text-reply.result.now;
@@ -21,7 +21,7 @@ returns-then-all-clause-answered g c sc h =
 pub returns-else-all-clause-err : goal.returns-else-all-clause-err
 returns-else-all-clause-err g c sc h =
     let next = replied-to c.command-outcome.new.self sc c.args.line.now c.command-outcome.result c.clear.new.self.items c.command-outcome.new.out.items c.put.new.self.report.items c.text-reply.result.now
-    (c.command-outcome.ensures sc h) c.clear.ensures.items (λ i. (c.put.ensures.report i).items) c.text-reply.ensures in
+    (c.command-outcome.ensures.meets sc h) c.clear.ensures.items (λ i. (c.put.ensures.report i).items) c.text-reply.ensures in
     record {
       reply = c.text-reply.result.now;
       sent = c.send-sent.result.0;

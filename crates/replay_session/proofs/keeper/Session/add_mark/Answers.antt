@@ -2,13 +2,23 @@ use Rattle.std.proofs.Common.{refl, sym, subst, inl, ◌∙◌, ◌++◌, ◌∷
 use Rattle.checkpoints.specs.FirstEffects.{DifferAtStep}
 use Rattle.replay_session.proofs.EditSteps.{differ_appended}
 use Rattle.replay_session.specs.Scenario.{first_state}
+use Rattle.checkpoints.specs.FirstEffects.{MarkShows}
+use Rattle.replay_session.specs.Session.{trail_of}
+use Rattle.replay_session.proofs.WorkSteps.{mark-first}
 use Rattle.replay_session.proofs.keeper.Session.add_mark.Goals as goal
 
-pub returns-in-Ok : goal.returns-in-Ok
+pub returns-in-Ok-clause-edits : goal.returns-in-Ok-clause-edits
 unfolding first_state
-returns-in-Ok c sc out h =
+returns-in-Ok-clause-edits c sc out h =
     inl (record {
       replies = refl;
       appends = refl;
       has = record { image = h.image; trail = c.cut_mark.ensures.right (first_state sc) _ _ _ (subst (DifferAtStep c.args.mark.step c.args.self.now.marks.items) (sym c.in-Ok.ensures.items) (differ_appended c.args.self.now.marks.items c.args.mark)) h.trail; setup = h.setup; marks = c.in-Ok.ensures.items ∙ ap (λ ms. ms ++ c.args.mark ∷ []) h.marks; rules = h.rules; options = h.options; step = h.step; lines = h.lines };
     })
+
+pub returns-in-Ok-clause-work : goal.returns-in-Ok-clause-work
+unfolding trail_of
+returns-in-Ok-clause-work c wanted whole sc h = (mark-first (MarkShows c.args.mark.step) c.args.mark.step _ _ refl (λ k e. e) c.cut_mark.ensures.lowers, c.cut_mark.ensures.meter)
+
+pub returns-in-Err-clause-work : goal.returns-in-Err-clause-work
+returns-in-Err-clause-work c wanted whole sc h = absurd (wanted refl)

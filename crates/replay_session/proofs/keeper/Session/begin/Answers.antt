@@ -1,5 +1,6 @@
 use Rattle.std.proofs.Common.{refl}
 use Rattle.replay_session.specs.Scenario.{begun, first_state}
+use Rattle.replay_session.specs.Session.{trail_of}
 use Rattle.replay_session.proofs.keeper.Session.begin.Goals as goal
 
 pub returns-clause-ok : goal.returns-clause-ok
@@ -15,3 +16,7 @@ returns-clause-ok c =
       step = refl;
       lines = refl;
     }
+
+pub returns-clause-work : goal.returns-clause-work
+unfolding trail_of
+returns-clause-work c = (c.in-Ok.ensures.first, c.in-Ok.ensures.meter)

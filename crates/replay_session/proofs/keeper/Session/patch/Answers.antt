@@ -2,11 +2,13 @@ use Rattle.std.proofs.Common.{refl, inl, arith, ◌<◌, ◌^◌}
 use Rattle.guest_machine.specs.Run.{poked}
 use Rattle.replay_session.proofs.EditSteps.{word_in}
 use Rattle.replay_session.specs.Scenario.{first_state}
+use Rattle.replay_session.specs.Session.{trail_of}
+use Rattle.replay_session.proofs.WorkSteps.{right-of}
 use Rattle.replay_session.proofs.keeper.Session.patch.Goals as goal
 
-pub returns-in-Ok : goal.returns-in-Ok
+pub returns-in-Ok-clause-edits : goal.returns-in-Ok-clause-edits
 unfolding first_state poked
-returns-in-Ok c sc out h =
+returns-in-Ok-clause-edits c sc out h =
     inl (record {
       replies = refl;
       appends = refl;
@@ -15,3 +17,10 @@ returns-in-Ok c sc out h =
 
 pub patch-requires : goal.patch-requires
 patch-requires c = let small : c.args.addr < 2 ^ 32 = omega arith in word_in c.args.self.now.trail c.args.self.now.image c.args.addr c.args.self.now.loads small c.requires
+
+pub returns-in-Ok-clause-work : goal.returns-in-Ok-clause-work
+unfolding trail_of
+returns-in-Ok-clause-work c wanted whole sc h = (c.in-Ok.ensures.lowers whole (first_state sc) sc.setup sc.marks (right-of c.args.self.now sc h), c.patch.ensures.meter)
+
+pub returns-in-Err-clause-work : goal.returns-in-Err-clause-work
+returns-in-Err-clause-work c wanted whole sc h = absurd (wanted refl)

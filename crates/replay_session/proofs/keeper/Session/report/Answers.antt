@@ -1,7 +1,10 @@
-use Rattle.std.proofs.Common.{◌≡◌, sym, subst, length, rules}
+use Rattle.std.proofs.Common.{◌≡◌, ◌∙◌, ◌+◌, ap, min, sym, subst, length, rules}
 use Rattle.checkpoints.specs.Trails.{IsRightFor}
 use Rattle.replay_session.specs.Scenario.{first_state}
 use Rattle.replay_session.proofs.SessionSteps.{report-has, moved}
+use Rattle.checkpoints.specs.Trails.{last_held, meter_of}
+use Rattle.checkpoints.specs.Work.{reached, steps_made}
+use Rattle.replay_session.specs.Session.{trail_of}
 use Rattle.replay_session.proofs.keeper.Session.report.Goals as goal
 
 pub returns-clause-ok : goal.returns-clause-ok
@@ -27,3 +30,7 @@ pub returns-clause-has : goal.returns-clause-has
 unfolding first_state
 returns-clause-has c sc h =
     record { image = h.image; trail = moved c.args.self.now sc c.deref.result.now c.deref.ensures.value _ h c.at.ensures.right; setup = h.setup; marks = h.marks; rules = h.rules; options = h.options; step = h.step; lines = h.lines }
+
+pub returns-clause-work : goal.returns-clause-work
+unfolding trail_of
+returns-clause-work c sc h = (c.in_ok-machine.ensures.held ∙ ap (reached _) h.step, c.in_ok-machine.ensures.meter ∙ ap (λ n. min (meter_of c.args.self.now.trail + steps_made (last_held c.args.self.now.trail) n) 18446744073709551615) h.step)

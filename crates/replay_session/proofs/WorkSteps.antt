@@ -1,0 +1,66 @@
+-- How commands move the work of a session.
+use Rattle.std.proofs.Common.{◌≡◌, ℕ, zero, suc, ◌+◌, ◌<◌, List, [], ◌∷◌, length, get_or, Option, None, Some, Result, Ok, Err, inl, inr, refl, ap, sym, ◌∙◌, subst, arith}
+use Rattle.std.proofs.Math.Path.{transport}
+use Rattle.std.specs.Prelude.{slice_get}
+use Rattle.guest_machine.specs.declared.setup.Mark.{Mark}
+use Rattle.checkpoints.specs.FirstEffects.{MarkShows}
+use Rattle.checkpoints.specs.Trails.{IsRightFor, last_held, meter_of}
+use Rattle.checkpoints.specs.Work.{IsFirst, lowered, EditMoves}
+use Rattle.checkpoints.specs.declared.trail.Trail.{Trail}
+use Rattle.replay_session.specs.Commands.{Reads}
+use Rattle.replay_session.specs.Scenario.{Scenario, first_state, counted, accepted}
+use Rattle.replay_session.specs.Session.{HasScenario}
+use Rattle.replay_session.specs.Work.{MovesWork, LineMoves}
+use Rattle.replay_session.specs.declared.command.Command.{Command}
+use Rattle.replay_session.specs.declared.command.Command.TheVariants.{Report}
+use Rattle.replay_session.specs.declared.fault.Fault.{Fault}
+use Rattle.replay_session.specs.declared.fault.Fault.TheVariants.{Memory}
+use Rattle.replay_session.specs.declared.keeper.Session.{Session}
+
+-- what shows nowhere leaves the work
+pub unmoved : (P : ℕ → Type 0) (last meter : ℕ) → ((k : ℕ) → P k → ⊥) → EditMoves P last meter last meter
+unmoved P last meter none = (go, refl)
+  where
+    go : (f : Option ℕ) → IsFirst P f → last ≡ lowered last f
+    go None h = refl
+    go (Some f) h = absurd (none f h.0)
+
+-- the trail of a session is right for the run of its scenario
+pub right-of : (session : Session) (sc : Scenario) → HasScenario session sc → IsRightFor session.trail (first_state sc) sc.setup sc.marks
+right-of session sc h = transport (λ i. IsRightFor session.trail (first_state sc) (h.setup i) (h.marks i)) h.trail
+
+-- marks show at one step
+pub mark-first : (P : ℕ → Type 0) (s last after : ℕ) → P (s + 1) → ((k : ℕ) → P k → k ≡ s + 1) → after ≡ lowered last (Some (s + 1)) → (f : Option ℕ) → IsFirst P f → after ≡ lowered last f
+mark-first P s last after here only e None h = absurd (h (s + 1) here)
+mark-first P s last after here only e (Some g) h = e ∙ ap (λ k. lowered last (Some k)) (sym (only g h.0))
+
+pub got : (marks : List Mark) (i : ℕ) (d mark : Mark) → i < length marks → mark ≡ get_or marks i d → slice_get marks i ≡ Some mark
+got [] i d mark h e = absurd (omega arith)
+got (m ∷ ms) zero d mark h e = ap Some (sym e)
+got (m ∷ ms) (suc i) d mark h e = got ms i d mark (omega arith) e
+
+-- counting a line doesn't change how a command moves the work
+pub work-counted : (sc : Scenario) (command : Command) (old new : Trail) → MovesWork (counted sc) command old new → MovesWork sc command old new
+unfolding counted first_state
+work-counted sc Report old new h = h
+work-counted sc _ old new h = h
+
+-- two things that a place has are one
+pub some-one : (x : Option Mark) (a b : Mark) → x ≡ Some a → x ≡ Some b → a ≡ b
+some-one None a b p q = cc
+some-one (Some m) a b p q = cc
+
+-- a line that is an accepted command
+pub line-moves : (sc : Scenario) (line : List ℕ) (command : Command) (old between new : Trail) → accepted sc line ≡ Ok command → between ≡ old
+    → MovesWork (counted sc) command between new → LineMoves sc (accepted sc line) old new
+line-moves sc line command old between new is same h =
+    let moved = subst (λ (t : Trail). MovesWork sc command t new) same (work-counted sc command between new h) in
+    subst (λ (r : Result Command Fault). LineMoves sc r old new) (sym is) moved
+
+-- a line that is refused
+pub line-stays : (sc : Scenario) (line : List ℕ) (fault : Fault) (says read : Result Command Fault) (old new : Trail) → accepted sc line ≡ says → Reads says read → read ≡ Err fault
+    → (fault ≡ Memory → ⊥) → new ≡ old → LineMoves sc (accepted sc line) old new
+line-stays sc line fault says read old new is (inl e) told wanted same =
+    let stays : LineMoves sc (Err fault) old new = (ap last_held same, ap meter_of same) in
+    subst (λ (r : Result Command Fault). LineMoves sc r old new) (sym (is ∙ sym e ∙ told)) stays
+line-stays sc line fault says read old new is (inr w) told wanted same = absurd (wanted (let e : ◌≡◌ {A = Result Command Fault} (Err fault) (Err Memory) = sym told ∙ w.0 in cc))
