@@ -1,5 +1,5 @@
 -- Known bytes that grow.
-use Rattle.std.proofs.Common.{◌≡◌, ℕ, List, [], ◌∷◌, ◌++◌, Option, None, Some, ◌∙◌, refl, ap, sym, append_assoc, arith, ◌+◌, ◌-◌, ◌<◌, ◌≤◌, length, take, drop, length-drop, subst}
+use Rattle.std.proofs.Common.{◌≡◌, ℕ, List, [], ◌++◌, Option, None, Some, ◌∙◌, refl, ap, sym, append_assoc, arith, ◌+◌, ◌-◌, ◌<◌, ◌≤◌, length, take, drop, length-drop, subst}
 use Rattle.std.proofs.Math.Seq.{take-add, take-length}
 use Rattle.std.specs.Io.KnownBytes.{Appends, Consumes, Keeps}
 

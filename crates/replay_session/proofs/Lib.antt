@@ -8,3 +8,5 @@ pub mod ServeSteps
 pub mod ServedSteps
 pub mod EditSteps
 pub mod WorkSteps
+pub mod LeastSteps
+pub mod LawSteps

@@ -1,5 +1,5 @@
 -- The lines of bytes, of the first of which a front stands already.
-use Rattle.std.proofs.Common.{◌≡◌, ℕ, List, [], ◌∷◌, ◌++◌, Bool, true, false, not, refl, sym, ap, ◌∙◌, cond, append-nil, append_assoc, ◌==◌, ◌&&◌, length, map, eqb}
+use Rattle.std.proofs.Common.{◌≡◌, ℕ, List, [], ◌∷◌, ◌++◌, Bool, true, false, not, refl, sym, ap, ◌∙◌, cond, append-nil, append_assoc, ◌==◌, length, map}
 use Rattle.std.specs.List.{slice_split, onto_first}
 use Rattle.std.specs.Str.Lines.{lines, lines_of_parts, strip_carriage_return}
 use Rattle.replay_session.specs.Lines.{lines_by, closed_lines, all_but_last}

@@ -1,5 +1,5 @@
 -- The number that a field's digits write.
-use Rattle.std.proofs.Common.{◌≡◌, ℕ, zero, suc, ◌+◌, ◌*◌, ◌^◌, ◌<◌, ◌≤◌, ◌==◌, nat_lt, List, [], ◌∷◌, Bool, true, false, cond, Some, None, Result, Ok, Err, lt-ltb, le-ltb, refl, ◌∙◌, take, length, get_or, arith, length-take, lit<}
+use Rattle.std.proofs.Common.{◌≡◌, ℕ, ◌+◌, ◌*◌, ◌^◌, ◌<◌, ◌≤◌, nat_lt, List, [], ◌∷◌, Bool, true, false, cond, Some, None, Result, Ok, Err, lt-ltb, le-ltb, ◌∙◌, take, length, get_or, arith, length-take, lit<}
 use Rattle.std.specs.List.{list_all}
 use Rattle.std.specs.Result.{OkIff, result_ok}
 use Rattle.std.specs.Char.{digit_value}

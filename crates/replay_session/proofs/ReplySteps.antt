@@ -1,8 +1,8 @@
 -- The text that is written for a line is its reply.
-use Rattle.std.proofs.Common.{◌≡◌, ℕ, List, [], ◌++◌, refl, ap, sym, ◌∙◌, subst, Result, Ok, Err, inl, inr}
-use Rattle.std.specs.Prelude.{IsOkAnd, nat_le}
-use Rattle.replay_session.specs.Replies.{Replies, IsReplyTo, is_over, short_text, text_of, worked_line}
-use Rattle.replay_session.specs.Scenario.{Scenario, IsReportOf, accepted, accepted_in, applied, counted, after, most_lines, longest_line, Room}
+use Rattle.std.proofs.Common.{◌≡◌, ℕ, List, [], refl, ap, sym, ◌∙◌, subst, Result, Ok, Err, inl, inr}
+use Rattle.std.specs.Prelude.{IsOkAnd}
+use Rattle.replay_session.specs.Replies.{Replies, IsReplyTo, text_of}
+use Rattle.replay_session.specs.Scenario.{Scenario, IsReportOf, accepted, applied, counted, after}
 use Rattle.replay_session.specs.Session.{HasScenario, Meets, AppendsFor, TakesMemory, replied, work_of}
 use Rattle.replay_session.specs.declared.command.Command.{Command}
 use Rattle.replay_session.specs.declared.command.Command.TheVariants.{Report, Worked}

@@ -1,7 +1,6 @@
 -- Bytes that are served one after another.
-use Rattle.std.proofs.Common.{◌≡◌, ◌≢◌, ℕ, zero, suc, List, [], ◌∷◌, ◌++◌, Bool, true, false, not, Option, refl, sym, ap, ◌∙◌, subst, inl, inr, ◌⊎◌, cond, arith, rules, ◌+◌, ◌-◌, ◌≤◌, ◌<◌, ◌==◌, ◌&&◌, length, length-append, append_assoc, take, min, ne_eqb, eq-eqb, nat_lt, lt-ltb, le-ltb, slice_index, if◌then◌else◌, ◌^◌, None, Some, append-nil, Result, Ok, add-zero, ⊎_elim, length-take, get_or, drop}
+use Rattle.std.proofs.Common.{◌≡◌, ◌≢◌, ℕ, List, [], ◌∷◌, ◌++◌, Bool, true, false, not, Option, refl, sym, ap, ◌∙◌, subst, cond, arith, ◌+◌, ◌-◌, ◌≤◌, ◌<◌, ◌==◌, length, length-append, append_assoc, take, ne_eqb, nat_lt, lt-ltb, slice_index, if◌then◌else◌, None, Some, append-nil, Result, Ok, add-zero, ⊎_elim, length-take, get_or, drop}
 use Rattle.std.proofs.lemmas.List.{take-append-drop, take_more}
-use Rattle.std.proofs.lemmas.Grind.{common_steps}
 use Rattle.std.specs.Bool.{MatchBool}
 use Rattle.std.specs.Io.KnownBytes.{Appends}
 use Rattle.std.specs.Str.Lines.{strip_carriage_return}

@@ -1,5 +1,5 @@
 -- From what is served between two reads to what `serve` ensures.
-use Rattle.std.proofs.Common.{◌≡◌, ℕ, List, [], ◌∷◌, ◌++◌, Bool, true, false, Option, None, Some, refl, sym, ap, ◌∙◌, subst, append-nil, append_assoc, arith, ◌+◌, ◌<◌, ◌^◌, length, IfSome, if◌then◌else◌, ◌==◌}
+use Rattle.std.proofs.Common.{◌≡◌, ℕ, List, [], ◌∷◌, ◌++◌, Bool, true, false, Option, None, Some, refl, sym, ap, ◌∙◌, subst, append-nil, arith, ◌+◌, ◌<◌, ◌^◌, length, if◌then◌else◌, ◌==◌}
 use Rattle.std.specs.Io.KnownBytes.{Appends, Consumes, IsAtEnd}
 use Rattle.std.specs.Str.Lines.{lines}
 use Rattle.replay_session.specs.Lines.{lines_by, closed_lines}

@@ -3,16 +3,15 @@ use Rattle.std.proofs.Common.{◌≡◌, ℕ, zero, suc, ◌+◌, ◌<◌, List,
 use Rattle.std.proofs.Math.Path.{transport}
 use Rattle.std.specs.Prelude.{slice_get}
 use Rattle.guest_machine.specs.declared.setup.Mark.{Mark}
-use Rattle.checkpoints.specs.FirstEffects.{MarkShows}
-use Rattle.checkpoints.specs.Trails.{IsRightFor, last_held, meter_of}
+use Rattle.checkpoints.specs.Trails.{IsRightFor, last_held, meter_of, is_short}
 use Rattle.checkpoints.specs.Work.{IsFirst, lowered, EditMoves}
 use Rattle.checkpoints.specs.declared.trail.Trail.{Trail}
 use Rattle.replay_session.specs.Commands.{Reads}
 use Rattle.replay_session.specs.Scenario.{Scenario, first_state, counted, accepted}
 use Rattle.replay_session.specs.Session.{HasScenario}
-use Rattle.replay_session.specs.Work.{MovesWork, LineMoves}
+use Rattle.replay_session.specs.Work.{Work, MovesWork, MovesTrail, LineMoves, StaysWhole, work_on}
 use Rattle.replay_session.specs.declared.command.Command.{Command}
-use Rattle.replay_session.specs.declared.command.Command.TheVariants.{Report}
+use Rattle.replay_session.specs.declared.command.Command.TheVariants.{Report, Patch}
 use Rattle.replay_session.specs.declared.fault.Fault.{Fault}
 use Rattle.replay_session.specs.declared.fault.Fault.TheVariants.{Memory}
 use Rattle.replay_session.specs.declared.keeper.Session.{Session}
@@ -40,7 +39,7 @@ got (m ∷ ms) zero d mark h e = ap Some (sym e)
 got (m ∷ ms) (suc i) d mark h e = got ms i d mark (omega arith) e
 
 -- counting a line doesn't change how a command moves the work
-pub work-counted : (sc : Scenario) (command : Command) (old new : Trail) → MovesWork (counted sc) command old new → MovesWork sc command old new
+work-counted : (sc : Scenario) (command : Command) (old new : Work) → MovesWork (counted sc) command old new → MovesWork sc command old new
 unfolding counted first_state
 work-counted sc Report old new h = h
 work-counted sc _ old new h = h
@@ -52,15 +51,26 @@ some-one (Some m) a b p q = cc
 
 -- a line that is an accepted command
 pub line-moves : (sc : Scenario) (line : List ℕ) (command : Command) (old between new : Trail) → accepted sc line ≡ Ok command → between ≡ old
-    → MovesWork (counted sc) command between new → LineMoves sc (accepted sc line) old new
+    → MovesTrail (counted sc) command between new → LineMoves sc (accepted sc line) (work_on old) (work_on new)
 line-moves sc line command old between new is same h =
-    let moved = subst (λ (t : Trail). MovesWork sc command t new) same (work-counted sc command between new h) in
-    subst (λ (r : Result Command Fault). LineMoves sc r old new) (sym is) moved
+    let moved = subst (λ (t : Trail). MovesTrail sc command t new) same (work-counted sc command (work_on between) (work_on new) h) in
+    subst (λ (r : Result Command Fault). LineMoves sc r (work_on old) (work_on new)) (sym is) moved
+
+pub line-whole : (sc : Scenario) (line : List ℕ) (command : Command) (old between new : Trail) → accepted sc line ≡ Ok command → between ≡ old
+    → StaysWhole (Ok command) between new → StaysWhole (accepted sc line) old new
+line-whole sc line command old between new is same h =
+    subst (λ (r : Result Command Fault). StaysWhole r old new) (sym is) (subst (λ (t : Trail). StaysWhole (Ok command) t new) same h)
 
 -- a line that is refused
 pub line-stays : (sc : Scenario) (line : List ℕ) (fault : Fault) (says read : Result Command Fault) (old new : Trail) → accepted sc line ≡ says → Reads says read → read ≡ Err fault
-    → (fault ≡ Memory → ⊥) → new ≡ old → LineMoves sc (accepted sc line) old new
+    → (fault ≡ Memory → ⊥) → new ≡ old → LineMoves sc (accepted sc line) (work_on old) (work_on new)
 line-stays sc line fault says read old new is (inl e) told wanted same =
-    let stays : LineMoves sc (Err fault) old new = (ap last_held same, ap meter_of same) in
-    subst (λ (r : Result Command Fault). LineMoves sc r old new) (sym (is ∙ sym e ∙ told)) stays
+    let stays : LineMoves sc (Err fault) (work_on old) (work_on new) = (ap last_held same, ap meter_of same) in
+    subst (λ (r : Result Command Fault). LineMoves sc r (work_on old) (work_on new)) (sym (is ∙ sym e ∙ told)) stays
 line-stays sc line fault says read old new is (inr w) told wanted same = absurd (wanted (let e : ◌≡◌ {A = Result Command Fault} (Err fault) (Err Memory) = sym told ∙ w.0 in cc))
+
+-- one trail is as short as itself
+pub as-short : (outcome : Result Command Fault) (old new : Trail) → new ≡ old → StaysWhole outcome old new
+as-short (Ok (Patch addr word)) old new same = λ h. ap is_short same ∙ h
+as-short (Ok _) old new same = ap is_short same
+as-short (Err fault) old new same = ap is_short same

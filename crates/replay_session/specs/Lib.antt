@@ -8,3 +8,4 @@ pub mod Replies
 pub mod Serving
 pub mod Served
 pub mod Work
+pub mod LinesWork

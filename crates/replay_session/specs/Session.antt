@@ -10,7 +10,7 @@ use Rattle.replay_session.specs.declared.fault.Fault.TheVariants.{Memory}
 use Rattle.replay_session.specs.declared.reply.Reply.{Reply}
 use Rattle.replay_session.specs.declared.reply.Reply.TheVariants.{Done as IsDone, Work, Report as Reported}
 use Rattle.replay_session.specs.declared.command.Command.{Command}
-use Rattle.replay_session.specs.declared.command.Command.TheVariants.{Goto, Report, Input, Patch, Mark, Unmark, Switch, Add, Callers, Redzone, Queue, Show, Worked}
+use Rattle.replay_session.specs.declared.command.Command.TheVariants.{Report, Input, Patch, Mark, Unmark, Switch, Add, Callers, Worked}
 
 -- the session has the scenario: its trail is right for the run from the state before step 0, and it keeps the rest as it is
 pub record HasScenario (session : Session) (sc : Scenario) : Type 0 where

@@ -1,5 +1,5 @@
 -- How a line moves a session's work: the last step at which a machine is held, and how many steps were made.
-use Rattle.std.specs.Prelude.{◌≡◌, ℕ, List, false, Some, slice_get, Result, Ok, Err}
+use Rattle.std.specs.Prelude.{◌≡◌, ℕ, List, true, false, Some, slice_get, Result, Ok, Err}
 use Rattle.guest_machine.specs.declared.setup.Mark.{Mark as MarkAt}
 use Rattle.checkpoints.specs.FirstEffects.{MarkShows, InputShows, HeapShows, PatchShows}
 use Rattle.checkpoints.specs.Trails.{last_held, meter_of, is_short}
@@ -24,22 +24,49 @@ ShowsAt sc (Redzone n) k = HeapShows (first_state sc) sc.setup sc.marks k
 ShowsAt sc (Queue n) k = HeapShows (first_state sc) sc.setup sc.marks k
 ShowsAt sc _ k = ⊥
 
+-- how far work has come: the last step at which a machine is held, and how many steps were made
+pub record Work : Type 0 where
+  pub last : ℕ
+  pub made : ℕ
+
+-- that of a trail
+abbrev pub work_on : Trail → Work
+work_on trail = record { last = last_held trail; made = meter_of trail }
+
+-- what a session begins with
+abbrev pub no_work : Work
+no_work = record { last = 0; made = 0 }
+
 -- a report moves the work by the steps that it made, each other command by its first effect, if it has one
-abbrev pub MovesWork : Scenario → Command → Trail → Trail → Type 0
-MovesWork sc Report old new = ReportMoves sc.step (last_held old) (meter_of old) (last_held new) (meter_of new)
-MovesWork sc command old new = EditMoves (ShowsAt sc command) (last_held old) (meter_of old) (last_held new) (meter_of new)
+abbrev pub MovesWork : Scenario → Command → Work → Work → Type 0
+MovesWork sc Report old new = ReportMoves sc.step old.last old.made new.last new.made
+MovesWork sc command old new = EditMoves (ShowsAt sc command) old.last old.made new.last new.made
 
 -- and a refused line leaves it
-abbrev pub LineMoves : Scenario → Result Command Fault → Trail → Trail → Type 0
+abbrev pub LineMoves : Scenario → Result Command Fault → Work → Work → Type 0
 LineMoves sc (Ok command) old new = MovesWork sc command old new
-LineMoves sc (Err fault) old new = LeavesWork (last_held old) (meter_of old) (last_held new) (meter_of new)
+LineMoves sc (Err fault) old new = LeavesWork old.last old.made new.last new.made
 
--- an accepted command moves a session's work so, unless memory was wanting or the trail is short after it
+-- the same of the trails before and after
+abbrev pub MovesTrail : Scenario → Command → Trail → Trail → Type 0
+MovesTrail sc command old new = MovesWork sc command (work_on old) (work_on new)
+
+-- no command but a patch makes a trail short, and one that is short stays so
+abbrev pub StaysWhole : Result Command Fault → Trail → Trail → Type 0
+StaysWhole (Ok (Patch addr word)) old new = is_short old ≡ true → is_short new ≡ true
+StaysWhole outcome old new = is_short new ≡ is_short old
+
+-- so does an accepted command of a session, and it moves the work so, unless memory was wanting or the trail is short after it
 abbrev pub Works : Session → Session → Command → Result Reply Fault → Type 0
 Works old new command result =
-    (result ≡ Err Memory → ⊥) → is_short (trail_of new) ≡ false → (sc : Scenario) → HasScenario old sc → MovesWork sc command (trail_of old) (trail_of new)
+    StaysWhole (Ok command) (trail_of old) (trail_of new)
+    × ((result ≡ Err Memory → ⊥) → is_short (trail_of new) ≡ false → (sc : Scenario) → HasScenario old sc → MovesTrail sc command (trail_of old) (trail_of new))
 
 -- and so does a line
+abbrev pub StaysWholeAfter : Session → Session → List ℕ → Type 0
+StaysWholeAfter old new line = (sc : Scenario) → HasScenario old sc → StaysWhole (accepted sc line) (trail_of old) (trail_of new)
+
 abbrev pub WorksLine : Session → Session → List ℕ → Result Reply Fault → Type 0
 WorksLine old new line result =
-    (result ≡ Err Memory → ⊥) → is_short (trail_of new) ≡ false → (sc : Scenario) → HasScenario old sc → LineMoves sc (accepted sc line) (trail_of old) (trail_of new)
+    (result ≡ Err Memory → ⊥) → is_short (trail_of new) ≡ false → (sc : Scenario) → HasScenario old sc
+    → LineMoves sc (accepted sc line) (work_on (trail_of old)) (work_on (trail_of new))

@@ -51,11 +51,11 @@ pub struct Session<'a> {
 }
 
 impl<'a> Session<'a> {
-    ghost use Rattle.std.specs.Prelude.{◌≡◌, ◌<◌, ◌↔◌, IfOk, OnOk, OnErr, length};
+    ghost use Rattle.std.specs.Prelude.{◌≡◌, ◌<◌, ◌↔◌, false, IfOk, OnOk, OnErr, length};
     ghost use Rattle.replay_session.specs.Scenario.{Scenario, IsReportOf, begun, counted};
     ghost use Rattle.replay_report.specs.Report.{AppendsReport};
-    ghost use Rattle.checkpoints.specs.Trails.{last_held, meter_of};
-    ghost use Rattle.replay_session.specs.Work.{MovesWork, WorksLine};
+    ghost use Rattle.checkpoints.specs.Trails.{is_short};
+    ghost use Rattle.replay_session.specs.Work.{MovesTrail, WorksLine, StaysWholeAfter, work_on, no_work};
     ghost use Rattle.replay_session.specs.Replies.{is_over};
     ghost use Rattle.replay_session.specs.Session.{HasScenario, IsWithin, Carried, Meets, room_in, trail_of};
 
@@ -68,7 +68,8 @@ impl<'a> Session<'a> {
         suppressions: Vec<Suppression>,
     ) -> Result<Self, BeginFault>
         ensures ok { IfOk result (λ session. HasScenario session (begun image.entry input.items suppressions.items)) }
-        ensures work { IfOk result (λ session. (last_held (trail_of session) ≡ 0) × (meter_of (trail_of session) ≡ 0)) }
+        ensures work { IfOk result (λ session. work_on (trail_of session) ≡ no_work) }
+        ensures whole { IfOk result (λ session. is_short (trail_of session) ≡ false) }
         ensures large { (result ≡ Err BeginFault.InputTooLarge) ↔ (longest_input < length input.items) }
     {
         if input.len() > LONGEST_INPUT {
@@ -127,7 +128,8 @@ impl<'a> Session<'a> {
         ensures has { (sc : Scenario) → HasScenario self.old sc → HasScenario self.new sc }
         ensures ok { OnOk result ((sc : Scenario) → HasScenario self.old sc → AppendsReport (IsReportOf sc) out.old.items out.new.items) }
         ensures err { OnErr result (out.new.items ≡ out.old.items) }
-        ensures work { OnOk result ((sc : Scenario) → HasScenario self.old sc → MovesWork sc Command.Report (trail_of self.old) (trail_of self.new)) }
+        ensures work { OnOk result ((sc : Scenario) → HasScenario self.old sc → MovesTrail sc Command.Report (trail_of self.old) (trail_of self.new)) }
+        ensures short { is_short (trail_of self.new) ≡ is_short (trail_of self.old) }
     {
         let machine = self.trail.at(self.step, &self.setup, &self.marks)?;
         let input_len = self.setup.input.len() as u64;
@@ -150,6 +152,8 @@ impl<'a> Session<'a> {
         ensures meets { (sc : Scenario) → HasScenario self.old sc → Meets self.new sc line.now result out.old.items out.new.items }
         // Unless memory was wanting or the trail is short: the steps made are those that the line asks for, by its first effect.
         ensures work { WorksLine self.old self.new line.now result }
+        // No line but a patch makes the trail short.
+        ensures whole { StaysWholeAfter self.old self.new line.now }
     {
         let accepted = self.accept(line);
         self.count();

@@ -75,6 +75,7 @@ mod endings;
 pub mod fakes;
 mod fault;
 mod keeper;
+pub mod laws;
 mod numbers;
 mod parsing;
 mod reply;

@@ -21,6 +21,8 @@ pub(crate) struct Case {
     pub(crate) answers: Vec<u8>,
     /// How many lines there are.
     pub(crate) count: u64,
+    /// Edits that are made in each order.
+    pub(crate) edits: Vec<String>,
 }
 
 impl Case {
@@ -36,11 +38,12 @@ impl Case {
             lines: Vec::new(alloc),
             answers: Vec::new(alloc),
             count: 0,
+            edits: Vec::new(alloc),
         }
     }
 
-    /// Takes a line of the file: one of the session begins with `>`, a comment with `#`; others are what comes before the session, or
-    /// answers.
+    /// Takes a line of the file: one of the session begins with `>`, an edit with `edit`, a comment with `#`; others are what comes before
+    /// the session, or answers.
     pub(crate) fn take(&mut self, line: &str) -> Result<()> {
         if line.starts_with('#') {
             return Ok(());
@@ -50,6 +53,9 @@ impl Case {
         }
         if line == ">" {
             return self.take_command("");
+        }
+        if let Some(edit) = line.strip_prefix("edit ") {
+            return Ok(self.edits.push(edit.to_string(self.alloc)?)?);
         }
         if self.count == 0 {
             self.take_setting(line)

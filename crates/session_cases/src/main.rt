@@ -1,14 +1,17 @@
-//! Runs worked sessions: each file that is named is a program, and the lines of a session with every byte that they are answered.
+//! Runs worked sessions: each file that is named is a program, and the lines of a session with every byte that they are answered, or with
+//! edits that are made in each order.
 //!
 //! `data/README.md` tells of the form of such a file. Prints a line for each, and ends with 1 where an answer differs.
 #![tactic(auto)]
 
 mod case;
 mod comparing;
+mod orders;
 mod playing;
 
 use crate::case::Case;
 use crate::comparing::{Outcome, compared};
+use crate::orders::differing;
 use crate::playing::played;
 use anyhow::Result;
 use std::process::ExitCode;
@@ -22,7 +25,16 @@ fn run(rt: &HostRuntime, name: &str) -> Result<bool> {
         case.take(line)?;
     }
     case.read_program(rt)?;
-    let answers = played(rt.alloc(), &case)?;
+    if case.edits.is_empty() {
+        compare(rt, name, &case)
+    } else {
+        try_orders(rt, name, &case)
+    }
+}
+
+/// Serves the lines of a session, and prints whether they are answered as written.
+fn compare(rt: &HostRuntime, name: &str, case: &Case) -> Result<bool> {
+    let answers = played(rt.alloc(), case)?;
     match compared(&answers, &case.answers) {
         Outcome::Same => {
             let count = case.count;
@@ -31,6 +43,21 @@ fn run(rt: &HostRuntime, name: &str) -> Result<bool> {
         }
         Outcome::Differs { line } => {
             println!(rt; "{name}: line {line} of the answers differs")?;
+            Ok(false)
+        }
+    }
+}
+
+/// Makes each edit after each, and prints whether what is reported is what new sessions report.
+fn try_orders(rt: &HostRuntime, name: &str, case: &Case) -> Result<bool> {
+    let count = case.edits.len();
+    match differing(rt.alloc(), case)? {
+        None => {
+            println!(rt; "{name}: {count} edits, each after each, reported as in new sessions")?;
+            Ok(true)
+        }
+        Some((first, second)) => {
+            println!(rt; "{name}: reports differ where {first} is followed by {second}")?;
             Ok(false)
         }
     }

@@ -6,8 +6,8 @@ use replay_session::{Session, serve};
 use std::alloc::Global;
 use suppressions::{TEXT_LIMIT, parse};
 
-/// Every byte that the lines of a session are answered.
-pub(crate) fn played(alloc: Global, case: &Case) -> Result<Vec<u8>> {
+/// A session of the program of a case, which was given no line.
+pub(crate) fn begun<'a>(alloc: Global, case: &'a Case) -> Result<Session<'a>> {
     let Ok(image) = read(alloc, &case.file) else {
         bail!("the program is refused");
     };
@@ -17,9 +17,15 @@ pub(crate) fn played(alloc: Global, case: &Case) -> Result<Vec<u8>> {
     let Ok(suppressions) = parse(alloc, &case.suppressions) else {
         bail!("the suppressions are refused");
     };
-    let Ok(session) = Session::begin(alloc, image, case.input.clone()?, suppressions) else {
-        bail!("the session does not begin");
-    };
+    match Session::begin(alloc, image, case.input.clone()?, suppressions) {
+        Ok(session) => Ok(session),
+        Err(_) => bail!("the session does not begin"),
+    }
+}
+
+/// Every byte that the lines of a session are answered.
+pub(crate) fn played(alloc: Global, case: &Case) -> Result<Vec<u8>> {
+    let session = begun(alloc, case)?;
     let mut lines = case.lines.as_slice();
     let mut answers = Vec::new(alloc);
     match serve(session, &mut lines, &mut answers) {

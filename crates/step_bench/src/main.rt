@@ -6,11 +6,13 @@ mod errors;
 mod files;
 mod guests;
 mod heap;
+mod process;
 mod shares;
 mod starts;
 mod steps;
 mod trails;
 
+use crate::trails::Guest;
 use std::rt::Env;
 use std::{env, io};
 
@@ -22,15 +24,16 @@ enum Measurement {
     Share,
     Start,
     Elf,
-    Trail,
+    /// A run of a program with held machines.
+    Trail(Guest),
     /// An error among so many groups.
     Errors(u32),
     /// So many calls of the heap, of each kind.
     Heap(u32),
 }
 
-/// What a word asks for, with the number that follows it.
-fn measurement_of(word: &str, number: Option<u32>) -> Option<Measurement> {
+/// What a word asks for, with the word that follows it.
+fn measurement_of(word: &str, next: Option<&str>) -> Option<Measurement> {
     if word == "share" {
         return Some(Measurement::Share);
     }
@@ -40,10 +43,11 @@ fn measurement_of(word: &str, number: Option<u32>) -> Option<Measurement> {
     if word == "elf" {
         return Some(Measurement::Elf);
     }
+    let next = next?;
     if word == "trail" {
-        return Some(Measurement::Trail);
+        return Some(Measurement::Trail(Guest::named(next)?));
     }
-    let number = number?;
+    let number = next.parse().ok()?;
     if word == "steps" {
         return Some(Measurement::Steps(number));
     }
@@ -62,11 +66,11 @@ fn asked<R: Env + AllocGlobal>(rt: &R) -> io::Result<Option<Measurement>> {
     let Some(word) = words.next() else {
         return Ok(None);
     };
-    let number = match words.next() {
-        Some(text) => text.as_str().parse().ok(),
-        None => None,
-    };
-    Ok(measurement_of(word.as_str(), number))
+    let next = words.next();
+    Ok(measurement_of(
+        word.as_str(),
+        next.as_ref().map(|text| text.as_str()),
+    ))
 }
 
 fn main(rt: HostRuntime) -> io::Result<()> {
@@ -75,12 +79,12 @@ fn main(rt: HostRuntime) -> io::Result<()> {
         Some(Measurement::Share) => shares::measure(&rt),
         Some(Measurement::Start) => starts::measure(&rt),
         Some(Measurement::Elf) => files::measure(&rt),
-        Some(Measurement::Trail) => trails::measure(&rt),
+        Some(Measurement::Trail(guest)) => trails::measure(&rt, guest),
         Some(Measurement::Errors(groups)) => errors::measure(&rt, groups),
         Some(Measurement::Heap(count)) => heap::measure(&rt, count),
         None => {
             println!(rt;
-                "usage: step_bench steps N | share | start | trail | elf | errors G | heap N"
+                "usage: step_bench steps N | share | start | trail loop|pages|blocks | elf | errors G | heap N"
             )
         }
     }

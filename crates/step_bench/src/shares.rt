@@ -1,11 +1,12 @@
 //! Shares of a machine that has touched much memory.
 
 use crate::guests::{PROGRAM_START, loop_program, print_each};
+use crate::process::held_bytes;
 use guest_elf::read;
 use guest_machine::Machine;
 use std::alloc::{AllocError, Global};
+use std::io;
 use std::time::Instant;
-use std::{fs, io};
 
 // How many bytes of memory the program has: 16 MiB.
 const MEMORY: u32 = 0x0100_0000;
@@ -17,11 +18,6 @@ const PAGE: u32 = 4096;
 
 const SHARES: u32 = 1000;
 
-// Where Linux tells how many pages a process holds, and a page's size on x86-64 (proc(5)).
-const HELD_PAGES: &str = "/proc/self/statm";
-
-const HELD_PAGE: u64 = 4096;
-
 /// A word is poked in each page, so that its bytes are held.
 fn touch(machine: Machine) -> Result<Machine, AllocError> {
     let mut machine = machine;
@@ -30,14 +26,6 @@ fn touch(machine: Machine) -> Result<Machine, AllocError> {
         machine = machine.poke_word(at.wrapping_add(256), page)?;
     }
     Ok(machine)
-}
-
-/// The bytes of memory that the process holds: the second number of the file, in pages; 0 where it can't be read.
-fn held_bytes(rt: &HostRuntime) -> io::Result<u64> {
-    let text = fs::read_to_string(rt, HELD_PAGES)?;
-    let pages = text.as_str().split(' ').nth(1);
-    let held: u64 = pages.and_then(|word| word.parse().ok()).unwrap_or(0);
-    Ok(held.saturating_mul(HELD_PAGE))
 }
 
 /// So many shares, all kept.

@@ -1,10 +1,11 @@
 //! Runs with held machines.
 
 use crate::guests::{loop_program, print_each};
+use crate::process::held_bytes;
 use checkpoints::{Trail, run_to};
 use guest_elf::{Image, read};
 use guest_machine::{Input, Machine, Meter, Setup};
-use guest_programs::sized_program;
+use guest_programs::{program, sized_program};
 use std::alloc::{AllocError, Global};
 use std::io;
 use std::time::Instant;
@@ -24,26 +25,100 @@ const WRITES_EVERYWHERE: [u32; 7] = [
     0xFE9F_F06F,
 ];
 
-/// No input, and Memcheck's options.
-fn plain_setup(alloc: Global) -> Setup {
-    Setup {
-        input: Input::new(Vec::new(alloc)),
-        redzone: 16,
-        volume: 20_000_000,
+/// Allocates 10,000 blocks of 8 bytes; then, block after block, writes into each, frees it and allocates it again.
+const KEEPS_BLOCKS: [u32; 23] = [
+    // lui x7,2; addi x7,x7,1808; addi x17,x0,2001
+    0x0000_23B7,
+    0x7103_8393,
+    0x7D10_0893,
+    // addi x10,x0,8; ecall; addi x7,x7,-1; bne x7,x0,-12
+    0x0080_0513,
+    0x0000_0073,
+    0xFFF3_8393,
+    0xFE03_9AE3,
+    // lui x8,0x40000; addi x8,x8,16; lui x7,2; addi x7,x7,1808
+    0x4000_0437,
+    0x0104_0413,
+    0x0000_23B7,
+    0x7103_8393,
+    // addi x6,x6,1; sw x6,0(x8); addi x10,x8,0; addi x17,x0,2002; ecall; addi x10,x0,8; addi x17,x0,2001; ecall
+    0x0013_0313,
+    0x0064_2023,
+    0x0004_0513,
+    0x7D20_0893,
+    0x0000_0073,
+    0x0080_0513,
+    0x7D10_0893,
+    0x0000_0073,
+    // addi x8,x8,48; addi x7,x7,-1; bne x7,x0,-40; jal x0,-60
+    0x0304_0413,
+    0xFFF3_8393,
+    0xFC03_9CE3,
+    0xFC5F_F06F,
+];
+
+/// The programs that are run.
+#[derive(Clone, Copy)]
+pub(crate) enum Guest {
+    /// A small loop.
+    Loop,
+    /// One that changes 64 KiB everywhere.
+    Pages,
+    /// One that keeps 10,000 blocks of the heap.
+    Blocks,
+}
+
+impl Guest {
+    /// The program of this name.
+    pub(crate) fn named(name: &str) -> Option<Guest> {
+        if name == "loop" {
+            return Some(Guest::Loop);
+        }
+        if name == "pages" {
+            return Some(Guest::Pages);
+        }
+        if name == "blocks" {
+            return Some(Guest::Blocks);
+        }
+        None
+    }
+
+    fn file(self, alloc: Global) -> Result<Vec<u8>, AllocError> {
+        match self {
+            Guest::Loop => loop_program(alloc, 0x2000),
+            Guest::Pages => sized_program(alloc, &WRITES_EVERYWHERE, 0x2_0000),
+            Guest::Blocks => program(alloc, &KEEPS_BLOCKS),
+        }
+    }
+
+    /// No input, and Memcheck's options; but the heap gives a freed block's place out again at once where no more are to be kept.
+    fn setup(self, alloc: Global) -> Setup {
+        Setup {
+            input: Input::new(Vec::new(alloc)),
+            redzone: 16,
+            volume: match self {
+                Guest::Blocks => 0,
+                Guest::Loop | Guest::Pages => 20_000_000,
+            },
+        }
     }
 }
 
 /// Times a run of a program without held machines and with them, and an edit at its last step with the machine that follows.
-fn compare(rt: &HostRuntime, file: &[u8]) -> io::Result<()> {
-    let Ok(image) = read(rt.alloc(), file) else {
+pub(crate) fn measure(rt: &HostRuntime, guest: Guest) -> io::Result<()> {
+    let file = guest.file(rt.alloc())?;
+    let Ok(image) = read(rt.alloc(), &file) else {
         return println!(rt; "the program is refused");
     };
-    let setup = plain_setup(rt.alloc());
+    let setup = guest.setup(rt.alloc());
     alone(rt, &image, &setup)?;
     let mut trail = Trail::begin(rt.alloc(), &image)?;
+    let before = held_bytes(rt)?;
     let began = Instant::now(rt)?;
     let _machine = trail.at(STEPS, &setup, &[])?;
     print_each(rt, "on a trail", STEPS, began.elapsed(rt)?.as_secs_f64())?;
+    let grown = held_bytes(rt)?.saturating_sub(before);
+    println!(rt; "on a trail: {grown} bytes more")?;
     let began = Instant::now(rt)?;
     trail.cut_mark(STEPS - 1);
     let _machine = trail.at(STEPS, &setup, &[])?;
@@ -62,15 +137,4 @@ fn alone(rt: &HostRuntime, image: &Image, setup: &Setup) -> io::Result<()> {
         STEPS,
         began.elapsed(rt)?.as_secs_f64(),
     )
-}
-
-/// Compares runs of a small loop and of a program that changes 64 KiB everywhere.
-pub(crate) fn measure(rt: &HostRuntime) -> io::Result<()> {
-    compare(rt, &loop_program(rt.alloc(), 0x2000)?)?;
-    compare(rt, &writing_program(rt.alloc())?)
-}
-
-/// The file of the program that changes 64 KiB everywhere.
-fn writing_program(alloc: Global) -> Result<Vec<u8>, AllocError> {
-    sized_program(alloc, &WRITES_EVERYWHERE, 0x2_0000)
 }

@@ -1,5 +1,5 @@
-use Rattle.std.proofs.Common.{arith, ap, sym, subst, Ok, ◌≡◌, ◌<◌, ◌^◌, ◌++◌, [], length}
-use Rattle.std.specs.Io.KnownBytes.{Consumes, IsAtEnd}
+use Rattle.std.proofs.Common.{arith, ap, sym, subst, Ok, ◌<◌, ◌^◌, ◌++◌, [], length}
+use Rattle.std.specs.Io.KnownBytes.{IsAtEnd}
 use Rattle.replay_session.specs.Session.{HasScenario}
 use Rattle.replay_session.specs.declared.keeper.Session.{Session}
 use Rattle.replay_session.proofs.Known.{consumes-then, consumes-keeps, consumes-nothing, consumes-none}

@@ -1,4 +1,4 @@
-use Rattle.std.proofs.Common.{ℕ, List, ◌≡◌, length}
+use Rattle.std.proofs.Common.{ℕ, List}
 use Rattle.std.specs.Io.KnownBytes.{Consumes}
 use Rattle.replay_session.specs.Scenario.{Scenario}
 use Rattle.replay_session.specs.Serving.{Fed}

@@ -18,7 +18,8 @@ returns-in-Ok-clause-edits c sc out h =
 
 pub returns-in-Ok-clause-work : goal.returns-in-Ok-clause-work
 unfolding trail_of
-returns-in-Ok-clause-work c wanted whole sc h = (mark-first (MarkShows c.args.mark.step) c.args.mark.step _ _ refl (λ k e. e) c.cut_mark.ensures.lowers, c.cut_mark.ensures.meter)
+returns-in-Ok-clause-work c = (c.cut_mark.ensures.short, λ wanted whole sc h. (mark-first (MarkShows c.args.mark.step) c.args.mark.step _ _ refl (λ k e. e) c.cut_mark.ensures.lowers, c.cut_mark.ensures.meter))
 
 pub returns-in-Err-clause-work : goal.returns-in-Err-clause-work
-returns-in-Err-clause-work c wanted whole sc h = absurd (wanted refl)
+unfolding trail_of
+returns-in-Err-clause-work c = (refl, λ wanted whole sc h. absurd (wanted refl))

@@ -19,4 +19,8 @@ returns-clause-ok c =
 
 pub returns-clause-work : goal.returns-clause-work
 unfolding trail_of
-returns-clause-work c = (c.in-Ok.ensures.first, c.in-Ok.ensures.meter)
+returns-clause-work c = λ i. record { last = c.in-Ok.ensures.first i; made = c.in-Ok.ensures.meter i }
+
+pub returns-clause-whole : goal.returns-clause-whole
+unfolding trail_of
+returns-clause-whole c = c.in-Ok.ensures.whole

@@ -1,7 +1,7 @@
 use Rattle.std.proofs.Common.{◌∙◌, ap, Err}
 use Rattle.replay_session.proofs.SessionSteps.{accepted-has, read-ok, meets-carried, meets-refused}
 use Rattle.replay_session.specs.Scenario.{counted}
-use Rattle.replay_session.proofs.WorkSteps.{line-moves, line-stays}
+use Rattle.replay_session.proofs.WorkSteps.{line-moves, line-whole, line-stays, as-short}
 use Rattle.replay_session.proofs.keeper.Session.command.Goals as goal
 
 pub returns-in-Ok-clause-meets : goal.returns-in-Ok-clause-meets
@@ -20,8 +20,18 @@ returns-in-Ok-clause-work c wanted whole sc h =
     line-moves sc c.args.line.now c.in-Ok.command _ _ _
     (accepted-has c.args.self.now sc c.args.line.now h ∙ read-ok _ _ _ c.accept-accepted.ensures.accepted c.in-Ok.is)
     c.count.ensures.trail
-    (c.carry_out.ensures.work wanted whole (counted sc) (c.count.ensures.counted sc h))
+    (c.carry_out.ensures.work.1 wanted whole (counted sc) (c.count.ensures.counted sc h))
 
 pub returns-in-Err-clause-work : goal.returns-in-Err-clause-work
 returns-in-Err-clause-work c wanted whole sc h =
     line-stays sc c.args.line.now c.in-Err.fault _ _ _ _ (accepted-has c.args.self.now sc c.args.line.now h) c.accept-accepted.ensures.accepted c.in-Err.is (λ e. wanted (ap Err e)) c.count.ensures.trail
+
+pub returns-in-Ok-clause-whole : goal.returns-in-Ok-clause-whole
+returns-in-Ok-clause-whole c sc h =
+    line-whole sc c.args.line.now c.in-Ok.command _ _ _
+    (accepted-has c.args.self.now sc c.args.line.now h ∙ read-ok _ _ _ c.accept-accepted.ensures.accepted c.in-Ok.is)
+    c.count.ensures.trail
+    c.carry_out.ensures.work.0
+
+pub returns-in-Err-clause-whole : goal.returns-in-Err-clause-whole
+returns-in-Err-clause-whole c sc h = as-short _ _ _ c.count.ensures.trail

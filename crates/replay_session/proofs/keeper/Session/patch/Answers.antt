@@ -20,7 +20,8 @@ patch-requires c = let small : c.args.addr < 2 ^ 32 = omega arith in word_in c.a
 
 pub returns-in-Ok-clause-work : goal.returns-in-Ok-clause-work
 unfolding trail_of
-returns-in-Ok-clause-work c wanted whole sc h = (c.in-Ok.ensures.lowers whole (first_state sc) sc.setup sc.marks (right-of c.args.self.now sc h), c.patch.ensures.meter)
+returns-in-Ok-clause-work c = (c.patch.ensures.short, λ wanted whole sc h. (c.in-Ok.ensures.lowers whole (first_state sc) sc.setup sc.marks (right-of c.args.self.now sc h), c.patch.ensures.meter))
 
 pub returns-in-Err-clause-work : goal.returns-in-Err-clause-work
-returns-in-Err-clause-work c wanted whole sc h = absurd (wanted refl)
+unfolding trail_of
+returns-in-Err-clause-work c = (c.patch.ensures.short, λ wanted whole sc h. absurd (wanted refl))

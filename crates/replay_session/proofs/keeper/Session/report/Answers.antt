@@ -34,3 +34,15 @@ returns-clause-has c sc h =
 pub returns-clause-work : goal.returns-clause-work
 unfolding trail_of
 returns-clause-work c sc h = (c.in_ok-machine.ensures.held ∙ ap (reached _) h.step, c.in_ok-machine.ensures.meter ∙ ap (λ n. min (meter_of c.args.self.now.trail + steps_made (last_held c.args.self.now.trail) n) 18446744073709551615) h.step)
+
+pub returns-in_err-machine-clause-short : goal.returns-in_err-machine-clause-short
+unfolding trail_of
+returns-in_err-machine-clause-short c = c.at.ensures.short
+
+pub returns-in_err-render-clause-short : goal.returns-in_err-render-clause-short
+unfolding trail_of
+returns-in_err-render-clause-short c = c.at.ensures.short
+
+pub returns-clause-short : goal.returns-clause-short
+unfolding trail_of
+returns-clause-short c = c.at.ensures.short

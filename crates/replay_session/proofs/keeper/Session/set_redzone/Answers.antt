@@ -15,4 +15,4 @@ returns-clause-edits c sc out h =
 
 pub returns-clause-work : goal.returns-clause-work
 unfolding trail_of
-returns-clause-work c wanted whole sc h = (c.cut_heap.ensures.lowers (first_state sc) sc.setup sc.marks (right-of c.args.self.now sc h), c.cut_heap.ensures.meter)
+returns-clause-work c = (c.cut_heap.ensures.short, λ wanted whole sc h. (c.cut_heap.ensures.lowers (first_state sc) sc.setup sc.marks (right-of c.args.self.now sc h), c.cut_heap.ensures.meter))

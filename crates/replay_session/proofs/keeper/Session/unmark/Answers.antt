@@ -21,9 +21,12 @@ returns-clause-edits c sc out h =
 
 pub returns-clause-work : goal.returns-clause-work
 unfolding trail_of
-returns-clause-work c wanted whole sc h =
-    let mark = c.remove-mark.result in
-    let at = ap (λ ms. slice_get ms c.args.index) (sym h.marks) ∙ got c.args.self.now.marks.items c.args.index _ mark (omega arith) c.remove-mark.ensures.value in (
-      mark-first (ShowsAt sc (Unmark c.args.index)) mark.step _ _ (mark, at, refl) (λ k e. e.2 ∙ ap (λ (m : Mark). m.step + 1) (some-one _ _ _ e.1 at)) c.cut_mark.ensures.lowers,
-      c.cut_mark.ensures.meter,
-    )
+returns-clause-work c = (
+  c.cut_mark.ensures.short,
+  λ wanted whole sc h.
+      let mark = c.remove-mark.result in
+      let at = ap (λ ms. slice_get ms c.args.index) (sym h.marks) ∙ got c.args.self.now.marks.items c.args.index _ mark (omega arith) c.remove-mark.ensures.value in (
+        mark-first (ShowsAt sc (Unmark c.args.index)) mark.step _ _ (mark, at, refl) (λ k e. e.2 ∙ ap (λ (m : Mark). m.step + 1) (some-one _ _ _ e.1 at)) c.cut_mark.ensures.lowers,
+        c.cut_mark.ensures.meter,
+      ),
+)

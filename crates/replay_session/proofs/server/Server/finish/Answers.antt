@@ -1,4 +1,4 @@
-use Rattle.std.proofs.Common.{arith, ◌≡◌, ◌==◌, length, true, false, ◌∙◌, sym}
+use Rattle.std.proofs.Common.{arith, ◌≡◌, ◌==◌, length, true, false}
 use Rattle.std.proofs.lemmas.Grind.{common_steps}
 use Rattle.replay_session.proofs.ServeSteps.{answer-ended, answer-broken-end, none-ended}
 use Rattle.replay_session.proofs.server.Server.finish.Goals as goal

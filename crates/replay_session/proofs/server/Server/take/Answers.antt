@@ -1,4 +1,4 @@
-use Rattle.std.proofs.Common.{arith, ◌∙◌, sym, ap, take, ℕ}
+use Rattle.std.proofs.Common.{◌∙◌, sym, ap, take, ℕ}
 use Rattle.std.specs.Str.Lines.{strip_carriage_return}
 use Rattle.replay_session.proofs.ServeSteps.{keep-fed, taken-fed, taken-over, taken-broken}
 use Rattle.replay_session.proofs.server.Server.take.Goals as goal

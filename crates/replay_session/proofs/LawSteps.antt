@@ -1,0 +1,286 @@
+-- The laws of the steps that lines make.
+use Rattle.std.proofs.Common.{◌≡◌, ℕ, zero, suc, ◌+◌, ◌%◌, ◌≤◌, ◌==◌, nat_lt, Bool, true, false, List, [], ◌∷◌, ◌++◌, Option, Some, None, Result, Ok, Err, refl, ap, sym, ◌∙◌, subst, arith, min, inl, inr, append_assoc, append-nil}
+use Rattle.std.specs.Prelude.{◌⊎◌, ◌↔◌, slice_get}
+use Rattle.std.proofs.lemmas.Bool.{cases_lt, false≢true}
+use Rattle.std.proofs.lemmas.Bool.Decides.{Decides-ltb, Decides-eqb}
+use Rattle.std.proofs.lemmas.List.Elements.{All-nil, All-push, All-pop}
+use Rattle.guest_machine.specs.Run.{pre, start_state}
+use Rattle.guest_machine.specs.declared.setup.Mark.{Mark as MarkAt}
+use Rattle.checkpoints.specs.FirstEffects.{IsBelowFirst, MarkShows}
+use Rattle.checkpoints.specs.FirstUses.{uses_word}
+use Rattle.checkpoints.specs.Work.{floor, reached, steps_made, ReportMoves, EditMoves}
+use Rattle.replay_session.specs.Scenario.{Scenario, first_state, accepted, applied}
+use Rattle.replay_session.specs.Work.{ShowsAt, Work, MovesWork, LineMoves, no_work}
+use Rattle.replay_session.specs.LinesWork.{Given, outcome_of, given_from, Reaches, Spares, IsKept, IsHeldAfter, IsLastHeld, Adds, AddUp, LinesMove, HeldByLines, MadeByLines, WorkIsOne}
+use Rattle.replay_session.specs.declared.fault.Fault.{Fault}
+use Rattle.replay_session.specs.declared.command.Command.{Command}
+use Rattle.replay_session.specs.declared.command.Command.TheVariants.{Report, Input, Patch, Mark, Unmark, Redzone, Queue}
+use Rattle.replay_session.proofs.LeastSteps.{DecidesEach, kept-by}
+
+nowhere : DecidesEach (λ k. false) (λ k. ⊥)
+nowhere k = (λ e. absurd (false≢true e), λ x. absurd x)
+
+-- where a patch may show
+patch_test : (ℕ → Bool) → ℕ → Bool
+patch_test uses zero = false
+patch_test uses (suc j) = uses j
+
+patch-decided : (uses : ℕ → Bool) → DecidesEach (patch_test uses) (λ k. (j : ℕ) × (k ≡ j + 1) × (uses j ≡ true))
+unfolding patch_test
+patch-decided uses zero = (λ e. absurd (false≢true e), λ x. absurd (let e = x.1 in omega arith))
+patch-decided uses (suc j) = (λ e. (j, omega arith, e), λ x. let e = x.1 in let same : j ≡ x.0 = omega arith in ap uses same ∙ x.2)
+
+-- where a mark that is taken out showed
+unmark_test : Option MarkAt → ℕ → Bool
+unmark_test None k = false
+unmark_test (Some mark) k = k == mark.step + 1
+
+unmark-decided : (found : Option MarkAt) → DecidesEach (unmark_test found) (λ k. (mark : MarkAt) × (found ≡ Some mark) × MarkShows mark.step k)
+unfolding unmark_test
+unmark-decided None k = (λ e. absurd (false≢true e), λ x. absurd (let e : ◌≡◌ {A = Option MarkAt} None (Some x.0) = x.1 in cc))
+unmark-decided (Some mark) k = (
+  λ e. (mark, refl, (Decides-eqb k (mark.step + 1)).0 e),
+  λ x.
+      let e : ◌≡◌ {A = Option MarkAt} (Some mark) (Some x.0) = x.1 in
+      let same : mark ≡ x.0 = cc in
+      (Decides-eqb k (mark.step + 1)).1 (x.2 ∙ ap (λ (m : MarkAt). m.step + 1) (sym same)),
+)
+
+-- where a command shows is decided step by step, and it never shows at step 0
+record Tested (sc : Scenario) (command : Command) : Type 0 where
+  test : ℕ → Bool
+  decides : DecidesEach test (ShowsAt sc command)
+  later : ShowsAt sc command 0 → ⊥
+
+tested : (sc : Scenario) (command : Command) → Tested sc command
+unfolding first_state pre start_state
+tested sc (Input offset value) = record {
+  test = λ k. nat_lt offset (pre (first_state sc) sc.setup sc.marks k).position;
+  decides = λ k. Decides-ltb offset _;
+  later = λ x. absurd (omega arith);
+}
+tested sc (Patch addr word) = record {
+  test = patch_test (uses_word (first_state sc) sc.setup sc.marks addr);
+  decides = patch-decided _;
+  later = λ x. absurd (let e = x.1 in omega arith);
+}
+tested sc (Mark mark) = record {
+  test = λ k. k == mark.step + 1;
+  decides = λ k. Decides-eqb k (mark.step + 1);
+  later = λ x. absurd (omega arith);
+}
+tested sc (Unmark i) = record {
+  test = unmark_test (slice_get sc.marks i);
+  decides = unmark-decided (slice_get sc.marks i);
+  later = λ x. absurd (let e = x.2 in omega arith);
+}
+tested sc (Redzone n) = record {
+  test = λ k. nat_lt 0 (pre (first_state sc) sc.setup sc.marks k).heap_calls;
+  decides = λ k. Decides-ltb 0 _;
+  later = λ x. absurd (omega arith);
+}
+tested sc (Queue n) = record {
+  test = λ k. nat_lt 0 (pre (first_state sc) sc.setup sc.marks k).heap_calls;
+  decides = λ k. Decides-ltb 0 _;
+  later = λ x. absurd (omega arith);
+}
+tested sc _ = record { test = λ k. false; decides = nowhere; later = λ x. absurd x }
+
+-- a report moves the work as a report does, all else by where it shows
+by-kind : (sc : Scenario) (command : Command) (old new : Work) → MovesWork sc command old new
+    → ((command ≡ Report) × ReportMoves sc.step old.last old.made new.last new.made)
+    ⊎ ((command ≡ Report → ⊥) × EditMoves (ShowsAt sc command) old.last old.made new.last new.made)
+by-kind sc Report old new h = inl (refl, h)
+by-kind sc _ old new h = inr (λ e. absurd cc, h)
+
+adds-none : (past : List Given) (sc : Scenario) (outcome : Result Command Fault) → (outcome ≡ Ok Report → ⊥) → Adds past sc outcome 0
+adds-none past sc (Ok Report) other = absurd (other refl)
+adds-none past sc (Ok _) other = refl
+adds-none past sc (Err fault) other = refl
+
+-- what one line more keeps
+kept-from : (lines : List Given) (g : Given) (h : ℕ) → IsKept (lines ++ g ∷ []) h → Reaches h g ⊎ (IsKept lines h × Spares h g)
+kept-from [] g h (inl r) = inl r.0
+kept-from [] g h (inr none) = absurd none
+kept-from (x ∷ xs) g h (inl r) = let all = All-pop (Spares h) (xs ++ g ∷ []) xs (Some g) refl r.1 in inr (inl (r.0, all.0), all.1)
+kept-from (x ∷ xs) g h (inr k) = (elim (kept-from xs g h k) [
+  | inl r ↦ inl r
+  | inr both ↦ inr (inr both.0, both.1)
+])
+
+kept-to : (lines : List Given) (g : Given) (h : ℕ) → Reaches h g ⊎ (IsKept lines h × Spares h g) → IsKept (lines ++ g ∷ []) h
+kept-to [] g h (inl r) = inl (r, All-nil (Spares h))
+kept-to [] g h (inr both) = absurd both.0
+kept-to (x ∷ xs) g h (inl r) = inr (kept-to xs g h (inl r))
+kept-to (x ∷ xs) g h (inr both) = (elim both.0 [
+  | inl r ↦ inl (r.0, All-push (Spares h) xs g r.1 both.1)
+  | inr k ↦ inr (kept-to xs g h (inr (k, both.1)))
+])
+
+-- machines are held after lines at the multiples of 1024 up to a step
+abbrev UpTo : List Given → ℕ → Type 0
+UpTo lines last = (last % 1024 ≡ 0) × ((h : ℕ) → h % 1024 ≡ 0 → (h ≤ last) ↔ IsHeldAfter lines h)
+
+up-to-none : UpTo [] 0
+up-to-none = (refl, λ h at. ((λ l. (at, inl (omega arith))), λ held. none h held.1))
+  where
+    none : (h : ℕ) → (h ≡ 0) ⊎ ⊥ → h ≤ 0
+    none h (inl e) = omega arith
+    none h (inr k) = absurd k
+
+-- and one line more
+more : (lines : List Given) (g : Given) (last after : ℕ) → UpTo lines last → after % 1024 ≡ 0
+    → ((h : ℕ) → h % 1024 ≡ 0 → (h ≤ after) ↔ (Reaches h g ⊎ ((h ≤ last) × Spares h g))) → UpTo (lines ++ g ∷ []) after
+more lines g last after up round kept = (round, λ h at. (λ l. to h at ((kept h at).0 l), λ held. from h at held.1))
+  where
+    still : (h : ℕ) → (h ≡ 0) ⊎ IsKept lines h → Spares h g → (h ≡ 0) ⊎ IsKept (lines ++ g ∷ []) h
+    still h (inl e) s = inl e
+    still h (inr k) s = inr (kept-to lines g h (inr (k, s)))
+
+    to : (h : ℕ) → h % 1024 ≡ 0 → Reaches h g ⊎ ((h ≤ last) × Spares h g) → IsHeldAfter (lines ++ g ∷ []) h
+    to h at (inl r) = (at, inr (kept-to lines g h (inl r)))
+    to h at (inr both) = (at, still h ((up.1 h at).0 both.0).1 both.1)
+
+    from : (h : ℕ) → h % 1024 ≡ 0 → (h ≡ 0) ⊎ IsKept (lines ++ g ∷ []) h → h ≤ after
+    from h at (inl e) = omega arith
+    from h at (inr k) = (elim (kept-from lines g h k) [
+      | inl r ↦ (kept h at).1 (inl r)
+      | inr both ↦ (kept h at).1 (inr ((up.1 h at).1 (at, inr both.0), both.1))
+    ])
+
+-- a line that isn't an accepted edit spares each step
+spares-refused : (g : Given) (fault : Fault) (h : ℕ) → outcome_of g ≡ Err fault → Spares h g
+spares-refused g fault h e command told = absurd (let x : ◌≡◌ {A = Result Command Fault} (Err fault) (Ok command) = sym e ∙ told in cc)
+
+same-command : (a b : Command) (r : Result Command Fault) → r ≡ Ok a → r ≡ Ok b → b ≡ a
+same-command a b r p q = let x : ◌≡◌ {A = Result Command Fault} (Ok a) (Ok b) = sym p ∙ q in cc
+
+spares-where : (g : Given) (command : Command) (h : ℕ) → outcome_of g ≡ Ok command → IsBelowFirst (ShowsAt g.scenario command) h → Spares h g
+spares-where g command h e below other told =
+    let P : Command → Type 0 = λ c. IsBelowFirst (ShowsAt g.scenario c) h in subst P (sym (same-command command other (outcome_of g) e told)) below
+
+never-reaches : (g : Given) (h : ℕ) → (outcome_of g ≡ Ok Report → ⊥) → Reaches h g → ⊥
+never-reaches g h other r = other r.0
+
+-- what one line does to where machines are held
+line-holds : (lines : List Given) (g : Given) (old new : Work) → UpTo lines old.last → LineMoves g.scenario (outcome_of g) old new → UpTo (lines ++ g ∷ []) new.last
+line-holds lines g old new up moves = go (outcome_of g) refl moves
+  where
+    stays : (fault : Fault) → outcome_of g ≡ Err fault → new.last ≡ old.last → UpTo (lines ++ g ∷ []) new.last
+    stays fault e same = more lines g old.last new.last up (ap (λ k. k % 1024) same ∙ up.0) (λ h at. (
+      (λ l. inr (omega arith, spares-refused g fault h e)),
+      λ k. (elim k [
+        | inl r ↦ absurd (let x : ◌≡◌ {A = Result Command Fault} (Err fault) (Ok Report) = sym e ∙ r.0 in cc)
+        | inr both ↦ (let l = both.0 in omega arith)
+      ]),
+    ))
+
+    reports : outcome_of g ≡ Ok Report → new.last ≡ reached old.last g.scenario.step → UpTo (lines ++ g ∷ []) new.last
+    reports e is = more lines g old.last new.last up (let r = up.0 in omega arith) (λ h at. (
+      (λ l. (elim (cases_lt old.last h) [
+        | inl above ↦ inl (e, omega arith)
+        | inr under ↦ inr (under, spares-where g Report h e (λ j k x. absurd x))
+      ])),
+      λ k. (elim k [
+        | inl r ↦ (let l = r.1 in omega arith)
+        | inr both ↦ (let l = both.0 in omega arith)
+      ]),
+    ))
+
+    edits : (command : Command) → outcome_of g ≡ Ok command → (command ≡ Report → ⊥) → EditMoves (ShowsAt g.scenario command) old.last old.made new.last new.made → UpTo (lines ++ g ∷ []) new.last
+    edits command e other m =
+        let t = tested g.scenario command in
+        let kept = kept-by (ShowsAt g.scenario command) t.test old.last new.last t.decides t.later up.0 m.0 in
+        more lines g old.last new.last up kept.0 (λ h at. (
+          (λ l. let both = (kept.1 h at).0 l in inr (both.0, spares-where g command h e both.1)),
+          λ k. (elim k [
+            | inl r ↦ absurd (other (same-command Report command (outcome_of g) r.0 e))
+            | inr both ↦ (kept.1 h at).1 (both.0, both.1 command e)
+          ]),
+        ))
+
+    go : (outcome : Result Command Fault) → outcome_of g ≡ outcome → LineMoves g.scenario outcome old new → UpTo (lines ++ g ∷ []) new.last
+    go (Err fault) e m = stays fault e m.0
+    go (Ok command) e m = (elim (by-kind g.scenario command old new m) [
+      | inl report ↦ reports (e ∙ ap Ok report.0) report.1.0
+      | inr edit ↦ edits command e edit.0 edit.1
+    ])
+
+-- and how many steps it adds
+line-adds : (lines : List Given) (sc : Scenario) (outcome : Result Command Fault) (old new : Work) → UpTo lines old.last → LineMoves sc outcome old new → old.made ≤ 18446744073709551615
+    → (steps : ℕ) × Adds lines sc outcome steps × (new.made ≡ min (old.made + steps) 18446744073709551615)
+line-adds lines sc (Err fault) old new up moves low = (0, refl, (let e = moves.1 in omega arith))
+line-adds lines sc (Ok command) old new up moves low = (elim (by-kind sc command old new moves) [
+  | inl report ↦ reports report.0 report.1.1
+  | inr edit ↦ (0, adds-none lines sc (Ok command) (λ e. edit.0 cc), (let e = edit.1.1 in omega arith))
+])
+  where
+    last-held : (n : ℕ) → IsLastHeld lines n (min old.last (floor n))
+    last-held n =
+        let r = up.0 in
+        let at : min old.last (floor n) % 1024 ≡ 0 = omega arith in
+        ((up.1 _ at).0 (omega arith), omega arith, λ k held l. let low = (up.1 k held.0).1 held in let at = held.0 in omega arith)
+
+    reports : command ≡ Report → new.made ≡ min (old.made + steps_made old.last sc.step) 18446744073709551615
+        → (steps : ℕ) × Adds lines sc (Ok command) steps × (new.made ≡ min (old.made + steps) 18446744073709551615)
+    reports e is =
+        let P : Command → Type 0 = λ c. Adds lines sc (Ok c) (steps_made old.last sc.step) in
+        (steps_made old.last sc.step, subst P (sym e) (min old.last (floor sc.step), last-held sc.step, refl), is)
+
+-- what lines do to both, one after another
+abbrev Comes : List Given → List Given → Work → Work → Type 0
+Comes past lines old new = UpTo (past ++ lines) new.last × ((steps : ℕ) × AddUp past lines steps × (new.made ≡ min (old.made + steps) 18446744073709551615))
+
+comes-none : (past : List Given) (old new : Work) → UpTo past old.last → old.made ≤ 18446744073709551615 → new ≡ old → Comes past [] old new
+comes-none past old new up low e =
+    let made : new.made ≡ old.made = ap (λ (w : Work). w.made) e in
+    let P : List Given → Type 0 = λ gs. UpTo gs new.last in
+    (subst P (sym (append-nil past)) (let Q : ℕ → Type 0 = λ l. UpTo past l in subst Q (sym (ap (λ (w : Work). w.last) e)) up), (0, refl, omega arith))
+
+comes : (sc : Scenario) (lines : List (List ℕ)) (past : List Given) (old new : Work) → UpTo past old.last → old.made ≤ 18446744073709551615 → LinesMove sc lines old new
+    → Comes past (given_from sc lines) old new
+comes sc [] past old new up low e = comes-none past old new up low e
+comes sc (line ∷ lines) past old new up low h =
+    let g : Given = record { scenario = sc; line = line } in
+    let next = h.0 in
+    let first = line-adds past sc (accepted sc line) old next up h.1 low in
+    let made = first.2 in
+    let under : next.made ≤ 18446744073709551615 = omega arith in
+    let rest = comes (applied sc line) lines (past ++ g ∷ []) next new (line-holds past g old next up h.1) under h.2 in
+    let P : List Given → Type 0 = λ gs. UpTo gs new.last in
+    let last = rest.1.2 in (
+      subst P (append_assoc past (g ∷ []) (given_from (applied sc line) lines)) rest.0,
+      (first.0 + rest.1.0, (first.0, rest.1.0, first.1, rest.1.1, refl), omega arith),
+    )
+
+from-none : (sc : Scenario) (lines : List (List ℕ)) (work : Work) → LinesMove sc lines no_work work → Comes [] (given_from sc lines) no_work work
+from-none sc lines work h = comes sc lines [] no_work work up-to-none (omega arith) h
+
+pub held_by_lines : HeldByLines
+held_by_lines sc lines work h = (from-none sc lines work h).0.1
+
+pub made_by_lines : MadeByLines
+made_by_lines sc lines work h =
+    let made = (from-none sc lines work h).1 in
+    let same = made.2 in
+    (made.0, made.1, omega arith)
+
+-- a line adds one number of steps
+adds-one : (past : List Given) (sc : Scenario) (outcome : Result Command Fault) (m n : ℕ) → Adds past sc outcome m → Adds past sc outcome n → m ≡ n
+adds-one past sc (Ok Report) m n g h =
+    let up = h.1.2 g.0 g.1.0 g.1.1 in
+    let down = g.1.2 h.0 h.1.0 h.1.1 in
+    let a = g.2 in
+    let b = h.2 in
+    omega arith
+adds-one past sc (Ok _) m n g h = g ∙ sym h
+adds-one past sc (Err fault) m n g h = g ∙ sym h
+
+pub work_is_one : WorkIsOne
+work_is_one past [] m n g h = g ∙ sym h
+work_is_one past (line ∷ lines) m n g h =
+    let first = adds-one past line.scenario (outcome_of line) g.0 h.0 g.2 h.2 in
+    let rest = work_is_one (past ++ line ∷ []) lines g.1 h.1 g.3 h.3 in
+    let a = g.4 in
+    let b = h.4 in
+    omega arith

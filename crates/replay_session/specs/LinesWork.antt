@@ -1,0 +1,74 @@
+-- What lines cost in steps, said of the list of lines alone: where machines are held when a line is given, and from which of them a report
+-- goes on. No trail is in it.
+use Rattle.std.specs.Prelude.{◌≡◌, ℕ, ◌+◌, ◌-◌, ◌%◌, ◌≤◌, ◌⊎◌, ◌↔◌, List, [], ◌∷◌, ◌++◌, Result, Ok, min}
+use Rattle.std.specs.List.{All}
+use Rattle.checkpoints.specs.FirstEffects.{IsBelowFirst}
+use Rattle.replay_session.specs.Scenario.{Scenario, accepted, applied}
+use Rattle.replay_session.specs.Work.{ShowsAt, Work, LineMoves, no_work}
+use Rattle.replay_session.specs.declared.fault.Fault.{Fault}
+use Rattle.replay_session.specs.declared.command.Command.{Command}
+use Rattle.replay_session.specs.declared.command.Command.TheVariants.{Report}
+
+-- a line that was given, and the scenario that it met
+pub record Given : Type 0 where
+  pub scenario : Scenario
+  pub line : List ℕ
+
+abbrev pub outcome_of : Given → Result Command Fault
+outcome_of given = accepted given.scenario given.line
+
+-- lines from a scenario on, each with the scenario that those before it leave
+abbrev pub given_from : Scenario → List (List ℕ) → List Given
+given_from sc [] = []
+given_from sc (line ∷ lines) = record { scenario = sc; line = line } ∷ given_from (applied sc line) lines
+
+-- a line is a report at step h or later
+abbrev pub Reaches : ℕ → Given → Type 0
+Reaches h given = (outcome_of given ≡ Ok Report) × (h ≤ given.scenario.step)
+
+-- a line is no edit with a first effect at or below h
+abbrev pub Spares : ℕ → Given → Type 0
+Spares h given = (command : Command) → outcome_of given ≡ Ok command → IsBelowFirst (ShowsAt given.scenario command) h
+
+-- some report was at step h or later, and no edit since has a first effect at or below h
+abbrev pub IsKept : List Given → ℕ → Type 0
+IsKept [] h = ⊥
+IsKept (line ∷ later) h = (Reaches h line × All (Spares h) later) ⊎ IsKept later h
+
+-- a machine is held at a step after these lines: at 0, and at each multiple of 1024 that was reached and kept
+abbrev pub IsHeldAfter : List Given → ℕ → Type 0
+IsHeldAfter lines h = (h % 1024 ≡ 0) × ((h ≡ 0) ⊎ IsKept lines h)
+
+-- the last of them that isn't above n
+abbrev pub IsLastHeld : List Given → ℕ → ℕ → Type 0
+IsLastHeld lines n h = IsHeldAfter lines h × (h ≤ n) × ((k : ℕ) → IsHeldAfter lines k → k ≤ n → k ≤ h)
+
+-- how many steps an outcome adds after some lines: a report at step n those from the last held step that isn't above n, all else none
+abbrev pub Adds : List Given → Scenario → Result Command Fault → ℕ → Type 0
+Adds past sc (Ok Report) steps = (h : ℕ) × IsLastHeld past sc.step h × (steps ≡ sc.step - h)
+Adds past sc outcome steps = steps ≡ 0
+
+-- how many steps lines add, one after another, after those before them
+abbrev pub AddUp : List Given → List Given → ℕ → Type 0
+AddUp past [] steps = steps ≡ 0
+AddUp past (given ∷ later) steps =
+    (first rest : ℕ) × Adds past given.scenario (outcome_of given) first × AddUp (past ++ given ∷ []) later rest × (steps ≡ first + rest)
+
+-- lines move the work, one after another
+abbrev pub LinesMove : Scenario → List (List ℕ) → Work → Work → Type 0
+LinesMove sc [] old new = new ≡ old
+LinesMove sc (line ∷ lines) old new = (next : Work) × LineMoves sc (accepted sc line) old next × LinesMove (applied sc line) lines next new
+
+-- the law of held machines: after any lines, they are held up to the last step that the work tells, at each step that the list of lines says and
+-- at no other
+abbrev pub HeldByLines : Type 0
+HeldByLines = (sc : Scenario) (lines : List (List ℕ)) (work : Work) → LinesMove sc lines no_work work
+    → (h : ℕ) → h % 1024 ≡ 0 → (h ≤ work.last) ↔ IsHeldAfter (given_from sc lines) h
+
+-- the law of work: the steps made are those that the list of lines says, and it says one number
+abbrev pub MadeByLines : Type 0
+MadeByLines = (sc : Scenario) (lines : List (List ℕ)) (work : Work) → LinesMove sc lines no_work work
+    → (steps : ℕ) × AddUp [] (given_from sc lines) steps × (work.made ≡ min steps 18446744073709551615)
+
+abbrev pub WorkIsOne : Type 0
+WorkIsOne = (past lines : List Given) (m n : ℕ) → AddUp past lines m → AddUp past lines n → m ≡ n

@@ -1,0 +1,11 @@
+//! What the lines of a session cost. Each law is the contract of a function that does nothing; a caller has it after the call.
+ghost use Rattle.replay_session.specs.LinesWork.{HeldByLines, MadeByLines, WorkIsOne};
+
+/// If each line moves the work as [`crate::Session::command`] says of it, from a session that was just begun, then machines are held at just
+/// the steps that the list of lines says, and the steps made are the one number that it says.
+#[tactic(auto, using(crate::proofs::LawSteps::held_by_lines, crate::proofs::LawSteps::made_by_lines, crate::proofs::LawSteps::work_is_one))]
+pub fn work_of_lines()
+    ensures held { HeldByLines }
+    ensures made { MadeByLines }
+    ensures one { WorkIsOne }
+{}
