@@ -48,8 +48,12 @@ pub struct Room {
 }
 
 impl Room {
+    ghost use Rattle.std.specs.Prelude.{◌≡◌, []};
+
     /// A writer with room for so many bytes.
-    pub fn new(alloc: Global, left: usize) -> Self {
+    pub fn new(alloc: Global, left: usize) -> Self
+        ensures { (result.left ≡ left) × (result.taken.items ≡ []) }
+    {
         Room {
             left,
             taken: Vec::new(alloc),
@@ -58,6 +62,10 @@ impl Room {
 }
 
 impl Write for Room {
+    ghost use Rattle.std.specs.Prelude.{Some};
+
+    ghost contents = { λ s. Some s.taken.items };
+
     fn write(&mut self, bytes: &[u8]) -> io::Result<usize> {
         let n = bytes.len().min(self.left);
         if n == 0 && !bytes.is_empty() {

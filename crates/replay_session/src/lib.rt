@@ -14,6 +14,7 @@
 //! | [`serve`] | answers each line of any reader to any writer, or stops with a [`ServeFault`] |
 //! | [`setup_with`] | an input and Memcheck's settings of the heap |
 //! | [`send`] | writes all of some bytes and flushes |
+//! | [`laws::work_of_lines`] | nothing: its contract says what any lines cost in steps |
 //! | [`fakes`] | a reader and a writer over memory that fail where a test wants them to |
 //!
 //! # The lines
@@ -48,7 +49,10 @@
 //! - [`Session::command`]: for each scenario that the session has, the answer and the bytes appended are those of the line, and the
 //!   session then has the scenario that the line leaves (`Answered`); or memory was wanting where it may be, at a report, a patch, a mark
 //!   or a new suppression that isn't refused, and the line only counts (`Wanting`). A refused line changes the number of lines alone.
-//!   What the line costs in steps is that of its command by its first effect (`WorksLine`).
+//!   What the line costs in steps is that of its command by its first effect (`WorksLine`), as long as the trail isn't short; no line but
+//!   a patch makes it short (`StaysWholeAfter`).
+//! - [`laws::work_of_lines`]: if each of any lines costs that, then after them machines are held at just the steps that the list of lines
+//!   says (`IsHeldAfter`), and the steps made are the one sum that it says (`AddUp`). Neither speaks of a trail.
 //! - [`serve`]: to the end, what was written is the replies to the lines of all bytes read, up to and with the first `refused 12`, and
 //!   nothing else (`Served`); on a fault, a front of that, with the stated numbers of whole replies and bytes (`StopsBy`).
 //! - A report is the text of one run from step zero over the scenario (`IsReportOf`); a state has one report (`replay_report::laws`).
@@ -60,7 +64,7 @@
 //! - `Commands`: the language, a definition for each command over the fields of a line; `Faults`: the numbers of the refusals.
 //! - `Scenario`: the scenario, which lines are refused, and what an accepted command changes; `Setups`: the heap's defaults.
 //! - `Session`: that a session has a scenario, and one line of it.
-//! - `Work`: how a line moves the last held step and the number of steps made.
+//! - `Work`: how a line moves the last held step and the number of steps made; `LinesWork`: the same of any lines, said of their list alone.
 //! - `Replies`: the text of each reply, and the replies to one line after another (`Answers`).
 //! - `Served`, over `Lines`: what was written for the bytes read.
 //! - `Serving` is for this crate's proofs.

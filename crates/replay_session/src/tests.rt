@@ -1,5 +1,6 @@
 //! Lines and their answers, and readers and writers that fail.
 use crate::fakes::{Room, Script};
+use crate::laws::work_of_lines;
 use crate::{BeginFault, LONGEST_INPUT, Reply, ServeFault, Session, serve};
 use guest_elf::read;
 use guest_programs::program;
@@ -112,9 +113,11 @@ fn lines_and_refusals(rt: HostRuntime) -> Result<(), Fail> {
     Ok(())
 }
 
-/// An input byte, a suppression and its switch, and a refused line between two reports.
+/// An input byte, a suppression and its switch, and a refused line between two reports. By the law of work, three reports at step 3, with no
+/// machine held but that at step 0, cost 9 steps.
 #[test]
 fn edits_show(rt: HostRuntime) -> Result<(), Fail> {
+    work_of_lines();
     let alloc = rt.alloc();
     let (taken, end) = served(
         alloc,
