@@ -67,10 +67,7 @@ fn asked<R: Env + AllocGlobal>(rt: &R) -> io::Result<Option<Measurement>> {
         return Ok(None);
     };
     let next = words.next();
-    Ok(measurement_of(
-        word.as_str(),
-        next.as_ref().map(|text| text.as_str()),
-    ))
+    Ok(measurement_of(word.as_str(), next.as_ref().map(|text| text.as_str())))
 }
 
 fn main(rt: HostRuntime) -> io::Result<()> {
