@@ -159,9 +159,6 @@ spares-where : (g : Given) (command : Command) (h : ℕ) → outcome_of g ≡ Ok
 spares-where g command h e below other told =
     let P : Command → Type 0 = λ c. IsBelowFirst (ShowsAt g.scenario c) h in subst P (sym (same-command command other (outcome_of g) e told)) below
 
-never-reaches : (g : Given) (h : ℕ) → (outcome_of g ≡ Ok Report → ⊥) → Reaches h g → ⊥
-never-reaches g h other r = other r.0
-
 -- what one line does to where machines are held
 line-holds : (lines : List Given) (g : Given) (old new : Work) → UpTo lines old.last → LineMoves g.scenario (outcome_of g) old new → UpTo (lines ++ g ∷ []) new.last
 line-holds lines g old new up moves = go (outcome_of g) refl moves
