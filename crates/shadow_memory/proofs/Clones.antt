@@ -1,8 +1,8 @@
 -- Tables whose slots show the same show the same.
-use Rattle.std.proofs.Common.{◌≡◌, ℕ, zero, suc, List, [], ◌∷◌, ◌++◌, slice_index_or, refl, ap, ◌/◌, ◌%◌}
+use Rattle.std.proofs.Common.{◌≡◌, ℕ, zero, suc, List, [], ◌∷◌, ◌++◌, Bool, true, false, cond, nat_lt, slice_index_or, refl, ap, ◌∙◌, ◌-◌, ◌/◌, ◌%◌}
 use Rattle.std.proofs.Math.Path.{fun_ext}
 use Rattle.std.specs.List.{AllZip}
-use Rattle.shadow_memory.specs.Directories.{cells_at, cells_under}
+use Rattle.shadow_memory.specs.Directories.{cells_at, cells_under, page_at, page_of}
 use Rattle.shadow_memory.specs.Memories.{cells_below, cells_of}
 use Rattle.shadow_memory.specs.declared.cells.Cell.{Cell}
 use Rattle.shadow_memory.specs.declared.cells.RangeKind.TheVariants.{NoAccess}
@@ -19,9 +19,15 @@ same_slots shown d (x ∷ xs) [] h i = absurd h
 same_slots shown d (x ∷ xs) (y ∷ ys) h zero = h.0
 same_slots shown d (x ∷ xs) (y ∷ ys) h (suc i) = same_slots shown d xs ys h.1 i
 
-pub same_under : (a b : Directory) → ((i : ℕ) → cells_at (slice_index_or b.pages.items i (At.Blank NoAccess)) ≡ cells_at (slice_index_or a.pages.items i (At.Blank NoAccess))) → cells_under b ≡ cells_under a
-unfolding cells_under
-same_under a b h = fun_ext (λ n. ap (λ f. f (n % 4096)) (h (n / 4096)))
+either_slot : {S : Type 0} (shown : S → ℕ → Cell) (c : Bool) (d x y : S) → shown y ≡ shown x → shown (cond c d y) ≡ shown (cond c d x)
+either_slot shown true d x y h = refl
+either_slot shown false d x y h = h
+
+pub same_under : (a b : Directory) → b.first ≡ a.first → ((i : ℕ) → cells_at (slice_index_or b.pages.items i (At.Blank NoAccess)) ≡ cells_at (slice_index_or a.pages.items i (At.Blank NoAccess))) → cells_under b ≡ cells_under a
+unfolding cells_under page_at
+same_under a b e h = fun_ext (λ n.
+    ap (λ first. cells_at (page_of first b.pages.items (n / 4096)) (n % 4096)) e
+    ∙ ap (λ f. f (n % 4096)) (either_slot cells_at (nat_lt (n / 4096) a.first) (At.Blank NoAccess) _ _ (h (n / 4096 - a.first))))
 
 pub same_of : (a b : Memory) → ((i : ℕ) → cells_below (slice_index_or b.directories.items i Below.Blank) ≡ cells_below (slice_index_or a.directories.items i Below.Blank)) → cells_of b ≡ cells_of a
 unfolding cells_of

@@ -1,6 +1,7 @@
 pub mod Between
 pub mod Clones
 pub mod Tables
+pub mod Kept
 pub mod Growing
 pub mod Seen
 pub mod Parts

@@ -1,5 +1,5 @@
 -- The cells of 1,024 pages in a row.
-use Rattle.std.specs.Prelude.{ℕ, ◌/◌, ◌%◌, slice_index_or}
+use Rattle.std.specs.Prelude.{ℕ, List, ◌-◌, ◌/◌, ◌%◌, nat_lt, if◌then◌else◌, slice_index_or}
 use Rattle.shadow_memory.specs.Cells.{blank}
 use Rattle.shadow_memory.specs.Pages.{cells_in}
 use Rattle.shadow_memory.specs.declared.cells.Cell.{Cell}
@@ -12,5 +12,12 @@ unfoldable pub cells_at : PageSlot → ℕ → Cell
 cells_at (Blank kind) = λ at. blank kind
 cells_at (Held page) = cells_in page.value
 
+-- the page with a number, where those from a first one on are kept, and the others are inaccessible zeros
+abbrev pub page_of : ℕ → List PageSlot → ℕ → PageSlot
+page_of first pages number = if nat_lt number first then Blank NoAccess else slice_index_or pages (number - first) (Blank NoAccess)
+
+unfoldable pub page_at : Directory → ℕ → PageSlot
+page_at directory number = page_of directory.first directory.pages.items number
+
 unfoldable pub cells_under : Directory → ℕ → Cell
-cells_under directory = λ a. cells_at (slice_index_or directory.pages.items (a / 4096) (Blank NoAccess)) (a % 4096)
+cells_under directory = λ a. cells_at (page_at directory (a / 4096)) (a % 4096)

@@ -54,7 +54,8 @@
 //! # How it is kept
 //!
 //! Up to 1,024 directories of 1,024 pages of 4,096 bytes, each directory and page behind an `Rc`. The table reaches as far as the
-//! last directory that was changed, and one that was not changed is blank. So is a page of zeros of one kind:
+//! last directory that was changed, and one that was not changed is blank; a directory keeps its pages from the first to the last
+//! that was changed, so that a copy of it is no longer than what a program uses there. A page of zeros of one kind is blank too:
 //! it has no bytes at all, so a range of whole pages that were not written to costs a step a page. The marks of a page
 //! are of one kind, or two bits a byte with an ordered map for the bytes that are defined in part (as in N.
 //! Nethercote and J. Seward, "How to shadow every byte of memory used by a program", VEE 2007); a range that makes

@@ -88,7 +88,7 @@ impl DirectorySlot {
                 own.change(alloc, at, edit)
             }
             DirectorySlot::Blank => {
-                let mut directory = Directory::new(alloc, RangeKind::NoAccess)?;
+                let mut directory = Directory::new(alloc);
                 directory.change(alloc, at, edit)?;
                 *self = DirectorySlot::Held(Rc::new(alloc, directory)?);
                 Ok(())
