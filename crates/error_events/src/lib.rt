@@ -56,8 +56,6 @@ mod layered_map;
 mod leak_kind;
 mod parameter;
 mod shared_map;
-#[cfg(test)]
-mod tests;
 
 pub use event::{Event, Group, Note};
 pub use groups::Groups;

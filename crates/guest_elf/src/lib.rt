@@ -61,8 +61,6 @@ mod sections;
 mod segment;
 mod segments;
 mod symbols;
-#[cfg(test)]
-mod tests;
 
 pub use fault::ElfFault;
 pub use image::Image;

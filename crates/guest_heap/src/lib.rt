@@ -50,8 +50,6 @@ mod queue;
 mod region;
 mod released;
 mod table;
-#[cfg(test)]
-mod tests;
 
 pub use heap::Heap;
 pub use released::Released;

@@ -76,8 +76,6 @@ mod register;
 mod setup;
 mod span;
 mod status;
-#[cfg(test)]
-mod tests;
 mod width;
 
 pub use input::Input;

@@ -56,8 +56,6 @@ mod leaks;
 mod lines;
 mod options;
 mod rendering;
-#[cfg(test)]
-mod tests;
 mod text;
 
 pub use options::Options;

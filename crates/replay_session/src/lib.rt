@@ -86,8 +86,6 @@ mod reply;
 mod sending;
 mod server;
 mod serving;
-#[cfg(test)]
-mod tests;
 mod texts;
 
 pub use fault::{BeginFault, Fault};

@@ -67,6 +67,3 @@ pub(crate) fn one_number(mut fields: Parts<'_>) -> Option<u32>
     }
     number(field)
 }
-
-#[cfg(test)]
-mod tests;

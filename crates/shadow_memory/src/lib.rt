@@ -86,6 +86,3 @@ mod words;
 
 pub use cells::{Bad, Cell, Loaded, RangeKind};
 pub use memory::Memory;
-
-#[cfg(test)]
-mod tests;

@@ -58,8 +58,6 @@ mod places;
 mod subject;
 mod suppression;
 mod target;
-#[cfg(test)]
-mod tests;
 mod text;
 mod words;
 

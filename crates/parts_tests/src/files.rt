@@ -1,6 +1,6 @@
 //! Files by hand, and what becomes of them.
-use crate::read;
 use byteorder::{ByteOrder, LittleEndian};
+use guest_elf::read;
 use std::alloc::{AllocError, Global};
 use std::test::Fail;
 

@@ -1,9 +1,9 @@
 //! Lines and their answers, and readers and writers that fail.
-use crate::fakes::{Room, Script};
-use crate::laws::work_of_lines;
-use crate::{BeginFault, LONGEST_INPUT, Reply, ServeFault, Session, serve};
 use guest_elf::read;
 use guest_programs::program;
+use replay_session::fakes::{Room, Script};
+use replay_session::laws::work_of_lines;
+use replay_session::{BeginFault, LONGEST_INPUT, Reply, ServeFault, Session, serve};
 use std::alloc::Global;
 use std::process::Abort;
 use std::test::Fail;
@@ -69,6 +69,24 @@ fn lines_and_refusals(rt: HostRuntime) -> Result<(), Fail> {
         (b" goto 1", b"refused 2\n"),
         (b"goto 1 2", b"refused 2\n"),
         (b"Goto 1", b"refused 2\n"),
+        (b"goto 0000000001", b"ok\n"),
+        (b"goto 00000000001", b"refused 2\n"),
+        (b"goto 0x00000010", b"ok\n"),
+        (b"goto 0x000000001", b"refused 2\n"),
+        (b"goto 0xFf", b"ok\n"),
+        (b"goto 0x", b"refused 2\n"),
+        (b"goto 0X10", b"refused 2\n"),
+        (b"goto 0x1g", b"refused 2\n"),
+        (b"goto 0x/", b"refused 2\n"),
+        (b"goto 0x`", b"refused 2\n"),
+        (b"goto 1f", b"refused 2\n"),
+        (b"goto +1", b"refused 2\n"),
+        (b"goto -1", b"refused 2\n"),
+        (b"goto ", b"refused 2\n"),
+        (b"goto 4294967296", b"refused 2\n"),
+        (b"goto 4294967295", b"refused 5\n"),
+        (b"mark 0 0xabcdef01 1 defined", b"ok\n"),
+        (b"mark 0 9999999999 1 defined", b"refused 2\n"),
         (b"report now", b"refused 2\n"),
         (b"\n", b"refused 2\n"),
         (b"worked", b"worked 0\n"),

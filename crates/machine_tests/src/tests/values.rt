@@ -1,6 +1,6 @@
 //! What instructions compute, by the rules of the RISC-V Unprivileged ISA 20191213, chapters 2 and 7.
-use crate::Machine;
 use crate::tests::{bits_of, run};
+use guest_machine::Machine;
 use std::alloc::Global;
 use std::process::Abort;
 use std::test::Fail;

@@ -1,8 +1,8 @@
 //! Reports of programs by hand, against texts written down from the format of a report.
-use crate::{Options, render};
 use guest_elf::read;
 use guest_machine::{Input, Machine, Mark, Meter, Setup};
 use guest_programs::program;
+use replay_report::{Options, render};
 use shadow_memory::RangeKind;
 use std::alloc::{AllocError, Global};
 use std::test::Fail;

@@ -1,8 +1,8 @@
 //! Errors one by one: what each is, which address it is about, and where it was met.
 use crate::tests::{bits_of, marked, run, started, stepped};
-use crate::{Machine, Status, Stop};
 use definedness::Bits;
 use error_events::{Fault3, Kind, Note, Parameter};
+use guest_machine::{Machine, Status, Stop};
 use shadow_memory::RangeKind;
 use std::alloc::{AllocError, Global};
 use std::process::Abort;

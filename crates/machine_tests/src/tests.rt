@@ -3,11 +3,11 @@ mod errors;
 mod heap;
 mod values;
 
-use crate::laws::{keeps_heap, keeps_input, keeps_pokes, keeps_words, reads_on};
-use crate::{Input, Machine, Mark, Meter, Register, Setup, Span, Status, Stop, Touched};
 use definedness::Bits;
 use error_events::Kind;
 use guest_elf::read;
+use guest_machine::laws::{keeps_heap, keeps_input, keeps_pokes, keeps_words, reads_on};
+use guest_machine::{Input, Machine, Mark, Meter, Register, Setup, Span, Status, Stop, Touched};
 use guest_programs::program;
 use shadow_memory::RangeKind;
 use std::alloc::{AllocError, Global};

@@ -2,7 +2,7 @@
 //! an edit first shows: a trail that is asked for step n makes those from the last multiple of 1024 that it holds, or n has.
 ghost use Rattle.checkpoints.specs.Trails.{LoadsAs};
 
-use crate::{Trail, run_to};
+use checkpoints::{Trail, run_to};
 use guest_elf::{Image, read};
 use guest_machine::{Input, Machine, Mark, Meter, Setup, Status, Stop};
 use guest_programs::{program, sized_program};

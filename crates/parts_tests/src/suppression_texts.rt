@@ -1,10 +1,10 @@
 //! Texts and words with their answers, from outside.
 ghost use Rattle.std.specs.Prelude.{◌≤◌, length};
 
-use super::{SuppFault, Suppression, TEXT_LIMIT, TRACE_LIMIT, Target, is_suppressed, parse};
 use error_events::{Fault3, Kind, LeakKind, Parameter};
 use std::alloc::Global;
 use std::process::Abort;
+use suppressions::{SuppFault, Suppression, TEXT_LIMIT, TRACE_LIMIT, Target, is_suppressed, parse};
 
 /// Asserts that a text has so many suppressions.
 fn reads(rt: &impl Abort, alloc: Global, text: &[u8], count: usize)

@@ -1,5 +1,5 @@
-use crate::{Heap, Released};
 use call_stacks::{Block, Place, Trace};
+use guest_heap::{Heap, Released};
 use std::alloc::{AllocError, Global};
 use std::test::Fail;
 

@@ -1,8 +1,8 @@
 //! Each call on its happy path, and ranges across the end of a page and of the address space. Expected values are worked out by
 //! hand from the definitions.
-use crate::laws::{all_are, first_not};
-use crate::{Bad, Cell, Memory, RangeKind};
 use definedness::Bits;
+use shadow_memory::laws::{all_are, first_not};
+use shadow_memory::{Bad, Cell, Memory, RangeKind};
 use std::test::Fail;
 
 // A cell.

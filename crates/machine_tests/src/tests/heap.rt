@@ -1,8 +1,8 @@
 //! Calls of the heap under other red zones and volumes of freed blocks, and at the ends of what they take.
 use crate::tests::errors::raised;
 use crate::tests::{ECALL, EIGHT, FREE, MALLOC, REALLOC, TO_SIXTEEN, bits_of, started};
-use crate::{Input, Machine, Meter, Setup};
 use error_events::Kind;
+use guest_machine::{Input, Machine, Meter, Setup};
 use std::alloc::Global;
 use std::test::Fail;
 

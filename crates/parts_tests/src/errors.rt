@@ -1,6 +1,6 @@
 //! Errors with their groups, by hand.
-use super::{Event, Fault3, Group, Groups, Kind, Note, Parameter};
 use call_stacks::Trace;
+use error_events::{Event, Fault3, Group, Groups, Kind, Note, Parameter};
 use std::process::Abort;
 use std::test::Fail;
 

@@ -1,0 +1,9 @@
+//! Tests of reports and of held machines, by the public calls of their crates.
+//!
+//! They stand apart from the crates that they test, since a crate with tests is proved a second time with them.
+#![tactic(auto)]
+
+#[cfg(test)]
+mod reports;
+#[cfg(test)]
+mod trails;

@@ -1,0 +1,7 @@
+//! Tests of sessions, by the public calls of their crate.
+//!
+//! They stand apart from the crate that they test, since a crate with tests is proved a second time with them.
+#![tactic(auto)]
+
+#[cfg(test)]
+mod sessions;
