@@ -1,4 +1,4 @@
--- Pages from a first one on, of which one changes, or more of which are kept.
+-- Pages from a first one on, of which one changes, or after which more are kept.
 use Rattle.std.proofs.Common.{◌≡◌, ◌≢◌, ℕ, Bool, true, false, List, ◌++◌, length, replicate, set, slice_index_or, nat_lt, refl, ap, sym, ◌∙◌, ◌+◌, ◌-◌, ◌/◌, ◌%◌, ◌<◌, ◌≤◌, inl, inr, cond, arith}
 use Rattle.std.proofs.Math.Path.{fun_ext}
 use Rattle.std.proofs.lemmas.Bool.{cases_lt}
@@ -14,22 +14,12 @@ use Rattle.shadow_memory.specs.declared.slots.PageSlot.{PageSlot}
 use Rattle.shadow_memory.specs.declared.slots.PageSlot.TheVariants.{Blank}
 use Rattle.shadow_memory.proofs.Tables.{from-there, slot-changed, slot-kept}
 
-choose-first : {X : Type 0} (b : Bool) (x y : X) → b ≡ true → cond b x y ≡ x
-choose-first b x y e = rw e refl
-
 choose-second : {X : Type 0} (b : Bool) (x y : X) → b ≡ false → cond b x y ≡ y
 choose-second b x y e = rw e refl
-
-choose-alike : {X : Type 0} (b : Bool) (x y : X) → y ≡ x → cond b x y ≡ x
-choose-alike true x y h = refl
-choose-alike false x y h = h
 
 choose-later : {X : Type 0} (b : Bool) (x y z : X) → (b ≡ false → y ≡ z) → cond b x y ≡ cond b x z
 choose-later true x y z h = refl
 choose-later false x y z h = h refl
-
-is-before : (k first : ℕ) → k < first → nat_lt k first ≡ true
-is-before k first h = grind (arith, nat_tests)
 
 is-from : (k first : ℕ) → first ≤ k → nat_lt k first ≡ false
 is-from k first h = grind (arith, nat_tests)
@@ -42,12 +32,6 @@ page-from : (first k place : ℕ) (pages : List PageSlot) → k ≡ first + plac
 page-from first k place pages e =
     let at : k - first ≡ place = omega arith in
     choose-second (nat_lt k first) (Blank NoAccess) (slice_index_or pages (k - first) (Blank NoAccess)) (is-from k first (omega arith)) ∙ ap (λ i. slice_index_or pages i (Blank NoAccess)) at
-
-page-before : (first k : ℕ) (pages : List PageSlot) → k < first → page_of first pages k ≡ Blank NoAccess
-page-before first k pages h = choose-first (nat_lt k first) (Blank NoAccess) (slice_index_or pages (k - first) (Blank NoAccess)) (is-before k first h)
-
-pub page-past : (first k : ℕ) (pages : List PageSlot) → first + length pages ≤ k → page_of first pages k ≡ Blank NoAccess
-page-past first k pages h = choose-alike (nat_lt k first) (Blank NoAccess) (slice_index_or pages (k - first) (Blank NoAccess)) (get_or_past pages (k - first) (Blank NoAccess) (omega arith))
 
 other-pages : (first place number k : ℕ) (pages : List PageSlot) (made : PageSlot) → number ≡ first + place → k ≢ number → page_of first (set pages place made) k ≡ page_of first pages k
 other-pages first place number k pages made e away = choose-later (nat_lt k first) (Blank NoAccess) _ _ (λ later.
@@ -85,26 +69,12 @@ only-blank count i = elim (cases_lt i count) [
   | inr far ↦ let long = length-replicate count (Blank NoAccess) in get_or_past (replicate count (Blank NoAccess)) i (Blank NoAccess) (omega arith)
 ]
 
--- more pages are kept after the last, or before the first
+-- more pages are kept after the last
 pub more-after : (first count k : ℕ) (pages : List PageSlot) → page_of first (pages ++ replicate count (Blank NoAccess)) k ≡ page_of first pages k
 more-after first count k pages = choose-later (nat_lt k first) (Blank NoAccess) _ _ (λ later. elim (cases_lt (k - first) (length pages)) [
   | inl near ↦ get_or_append_left pages (replicate count (Blank NoAccess)) (Blank NoAccess) (k - first) near
   | inr far ↦ get_or-append_right pages (replicate count (Blank NoAccess)) (length pages) (k - first) (Blank NoAccess) refl far ∙ only-blank count (k - first - length pages) ∙ sym (get_or_past pages (k - first) (Blank NoAccess) far)
 ])
-
-pub more-before : (first number k : ℕ) (pages : List PageSlot) → number ≤ first → page_of number (replicate (first - number) (Blank NoAccess) ++ pages) k ≡ page_of first pages k
-more-before first number k pages below =
-    let blanks = replicate (first - number) (Blank NoAccess) in
-    let long : length blanks ≡ first - number = length-replicate (first - number) (Blank NoAccess) in
-    elim (cases_lt k number) [
-      | inl early ↦ page-before number k (blanks ++ pages) early ∙ sym (page-before first k pages (omega arith))
-      | inr from ↦ page-from number k (k - number) (blanks ++ pages) (omega arith) ∙ elim (cases_lt k first) [
-        | inl new ↦ get_or_append_left blanks pages (Blank NoAccess) (k - number) (omega arith) ∙ only-blank (first - number) (k - number) ∙ sym (page-before first k pages new)
-        | inr old ↦
-            let same : k - number - (first - number) ≡ k - first = omega arith in
-            get_or-append_right blanks pages (first - number) (k - number) (Blank NoAccess) long (omega arith) ∙ ap (λ i. slice_index_or pages i (Blank NoAccess)) same ∙ sym (page-from first k (k - first) pages (omega arith))
-      ]
-    ]
 
 -- directories that have the same pages show the same
 pub same-pages : (a b : Directory) → ((k : ℕ) → page_at b k ≡ page_at a k) → cells_under b ≡ cells_under a
