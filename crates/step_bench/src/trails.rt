@@ -13,17 +13,22 @@ use std::time::Instant;
 /// How many steps are made.
 const STEPS: u32 = 1_048_576;
 
-/// lui x5,0x20; lui x7,0x30; sw x6,0(x5); addi x5,x5,260; addi x6,x6,1; bltu x5,x7,-12; jal x0,-24: about once in 1,024 steps it
-/// writes to each page of 64 KiB.
-const WRITES_EVERYWHERE: [u32; 7] = [
-    0x0002_02B7,
-    0x0003_03B7,
-    0x0062_A023,
-    0x1042_8293,
-    0x0013_0313,
-    0xFE72_EAE3,
-    0xFE9F_F06F,
-];
+// addi x5,x5,0, whose immediate stands in the upper twelve bits.
+const ADVANCE: u32 = 0x0002_8293;
+
+/// lui x5,0x20; lui x7,0x30; sw x6,0(x5); addi x5,x5,APART; addi x6,x6,1; bltu x5,x7,-12; jal x0,-24: writes words so many bytes
+/// apart over 64 KiB, again and again.
+fn writes(apart: u32) -> [u32; 7] {
+    [
+        0x0002_02B7,
+        0x0003_03B7,
+        0x0062_A023,
+        ADVANCE | apart << 20,
+        0x0013_0313,
+        0xFE72_EAE3,
+        0xFE9F_F06F,
+    ]
+}
 
 /// Allocates 10,000 blocks of 8 bytes; then, block after block, writes into each, frees it and allocates it again.
 const KEEPS_BLOCKS: [u32; 23] = [
@@ -62,7 +67,9 @@ const KEEPS_BLOCKS: [u32; 23] = [
 pub(crate) enum Guest {
     /// A small loop.
     Loop,
-    /// One that changes 64 KiB everywhere.
+    /// One that changes 64 KiB everywhere, word after word.
+    Sweep,
+    /// One that changes each page of 64 KiB about once in 1,024 steps.
     Pages,
     /// One that keeps 10,000 blocks of the heap.
     Blocks,
@@ -73,6 +80,9 @@ impl Guest {
     pub(crate) fn named(name: &str) -> Option<Guest> {
         if name == "loop" {
             return Some(Guest::Loop);
+        }
+        if name == "sweep" {
+            return Some(Guest::Sweep);
         }
         if name == "pages" {
             return Some(Guest::Pages);
@@ -86,7 +96,8 @@ impl Guest {
     fn file(self, alloc: Global) -> Result<Vec<u8>, AllocError> {
         match self {
             Guest::Loop => loop_program(alloc, 0x2000),
-            Guest::Pages => sized_program(alloc, &WRITES_EVERYWHERE, 0x2_0000),
+            Guest::Sweep => sized_program(alloc, &writes(4), 0x2_0000),
+            Guest::Pages => sized_program(alloc, &writes(260), 0x2_0000),
             Guest::Blocks => program(alloc, &KEEPS_BLOCKS),
         }
     }
@@ -98,7 +109,7 @@ impl Guest {
             redzone: 16,
             volume: match self {
                 Guest::Blocks => 0,
-                Guest::Loop | Guest::Pages => 20_000_000,
+                Guest::Loop | Guest::Sweep | Guest::Pages => 20_000_000,
             },
         }
     }
