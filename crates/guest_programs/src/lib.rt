@@ -12,9 +12,6 @@
 ghost use Rattle.std.specs.Prelude.{◌≡◌, ◌++◌, IfOk, OnOk, length};
 ghost use Rattle.guest_programs.specs.Files.{words_size, file_of, bytes_of};
 
-#[cfg(test)]
-mod tests;
-
 use std::alloc::{AllocError, Global};
 
 /// The ELF header, and the program header up to p_filesz: one segment at 0x10000, whose bytes stand at offset 84.

@@ -37,6 +37,3 @@ mod spread;
 
 pub use graph::Pointer;
 pub use kinds::leak_kinds;
-
-#[cfg(test)]
-mod tests;

@@ -1,3 +1,4 @@
+//! Blocks that are allocated, released and found.
 use call_stacks::{Block, Place, Trace};
 use guest_heap::{Heap, Released};
 use std::alloc::{AllocError, Global};

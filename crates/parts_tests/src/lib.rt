@@ -1,8 +1,11 @@
-//! Tests of the crates below the machine, by their public calls: program files, memory, the heap, errors and suppressions.
+//! Tests of the crates below the machine, by their public calls: undefined bits, instructions, program files, memory, call stacks, the
+//! heap, errors, kinds of leaks and suppressions.
 //!
 //! They stand apart from the crates that they test, since a crate with tests is proved a second time with them.
 #![tactic(auto)]
 
+#[cfg(test)]
+mod decoding;
 #[cfg(test)]
 mod errors;
 #[cfg(test)]
@@ -10,6 +13,14 @@ mod files;
 #[cfg(test)]
 mod heap;
 #[cfg(test)]
+mod leak_kinds;
+#[cfg(test)]
 mod memory;
 #[cfg(test)]
+mod program_files;
+#[cfg(test)]
+mod stacks;
+#[cfg(test)]
 mod suppression_texts;
+#[cfg(test)]
+mod undefined_bits;

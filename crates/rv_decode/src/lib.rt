@@ -51,8 +51,6 @@ ghost use Rattle.rv_decode.specs.Table.{insn, insn_of, rows, HasFixedBits, IsOfR
 
 mod fields;
 mod forms;
-#[cfg(test)]
-mod tests;
 
 use forms::{b_form, bare, i_form, j_form, r_form, s_form, shift_form, u_form};
 

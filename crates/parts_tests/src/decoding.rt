@@ -1,5 +1,5 @@
 //! Words of the manual and of an assembler, and the whole table against a slow search.
-use crate::{Insn, Op, decode, one_row};
+use rv_decode::{Insn, Op, decode, one_row};
 
 /// A word, and the operation, `rd`, `rs1`, `rs2` and immediate that an assembler made it from.
 const ASSEMBLED: [(u32, Op, u8, u8, u8, u32); 55] = [

@@ -1,5 +1,5 @@
 //! A file byte for byte, as written down by hand.
-use crate::{program, sized_program};
+use guest_programs::{program, sized_program};
 use std::test::Fail;
 
 /// Three words at 0x10000: `addi a7, x0, 93`, `addi a0, x0, 0`, `ecall`.

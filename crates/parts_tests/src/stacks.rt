@@ -1,4 +1,5 @@
-use crate::{CallStack, Trace};
+//! Calls, returns and traces.
+use call_stacks::{CallStack, Trace};
 use std::test::Fail;
 
 // Calls from 0x1000, 0x1010, 0x1020 and on, each of which returns to the next instruction.

@@ -2,9 +2,9 @@
 ghost use Rattle.std.specs.Prelude.{IsTrue};
 ghost use Rattle.leak_graph.specs.Graphs.{GoWithin, AllGoWithin};
 
-use crate::{Pointer, leak_kinds};
 use error_events::LeakKind;
 use error_events::LeakKind::{Definite, Indirect, Possible, Reachable};
+use leak_graph::{Pointer, leak_kinds};
 use std::alloc::{AllocError, Global};
 use std::test::Fail;
 

@@ -3,7 +3,7 @@ use Rattle.std.proofs.lemmas.Bool.{cases_lt}
 use Rattle.std.proofs.lemmas.Option.{same_Some, slice_get-get_or, slice_get_read}
 use Rattle.leak_graph.specs.declared.graph.Pointer.{Pointer}
 use Rattle.leak_graph.specs.Graphs.{GoWithin}
-use Rattle.leak_graph.proofs.tests.all_go_within.Goals as goal
+use Rattle.parts_tests.proofs.leak_kinds.all_go_within.Goals as goal
 
 pub loop-row-preserved : goal.loop-row-preserved
 loop-row-preserved c k row less at =
