@@ -41,6 +41,110 @@ const RUNS: Status = Status::Running;
 
 const ENDS: Status = Status::Stopped(Stop::Break);
 
+/// What is done to a trail.
+#[derive(Clone, Copy)]
+enum Act {
+    /// The machine at a step is asked for.
+    Ask(u32),
+    /// A word is patched.
+    Patch(u32, u32),
+    /// A mark of four bytes, with its step and address, is put at the end of the list.
+    AddMark(u32, u32, RangeKind),
+    /// The first mark is taken away.
+    TakeMark,
+    /// The input is another, from an offset on.
+    ReplaceInput(u32, &'static [u8]),
+    /// The red zone is another.
+    SetRedZone(u32),
+}
+
+/// A program, with what is done to its trail, and what is told of each machine that was asked for.
+type Case = (&'static [u32], &'static [Act], &'static [Told]);
+
+const CASES: [Case; 4] = [
+    // A word that isn't read by the step asked for, and one that is read in step 1201.
+    (
+        &READS_ON,
+        &[
+            Act::Ask(3000),
+            Act::Patch(0x112D4, 1),
+            Act::Ask(3000),
+            Act::Ask(4000),
+            Act::Patch(0x10654, 1),
+            Act::Ask(4000),
+            Act::Ask(1204),
+        ],
+        &[
+            (3000, RUNS, 0x1000C, 0),
+            (3952, RUNS, 0x1000C, 0),
+            (5904, ENDS, 0x10010, 0),
+            (8880, ENDS, 0x10010, 0),
+            (9060, RUNS, 0x10010, 0),
+        ],
+    ),
+    // A word that is read in step 4, there and back; and one that is read in step 1024: the machine at 1024 is kept and has the word.
+    (
+        &READS_ON,
+        &[
+            Act::Ask(3000),
+            Act::Patch(0x10018, 1),
+            Act::Ask(3000),
+            Act::Patch(0x10018, 0),
+            Act::Ask(3000),
+            Act::Patch(0x10568, 1),
+            Act::Ask(3000),
+        ],
+        &[
+            (3000, RUNS, 0x1000C, 0),
+            (6000, ENDS, 0x10010, 0),
+            (9000, RUNS, 0x1000C, 0),
+            (10976, ENDS, 0x10010, 0),
+        ],
+    ),
+    // Marks at steps 2500, 1024 and 1023, of which the first is taken away; and another red zone, where no heap call was made. The one
+    // error is that of the branch on the word that is read in step 2500.
+    (
+        &READS_ON,
+        &[
+            Act::Ask(3000),
+            Act::AddMark(2500, 0x10D18, RangeKind::Undefined),
+            Act::Ask(3000),
+            Act::AddMark(1024, 0x20000, RangeKind::Defined),
+            Act::Ask(3000),
+            Act::AddMark(1023, 0x20000, RangeKind::Defined),
+            Act::Ask(3000),
+            Act::TakeMark,
+            Act::Ask(3000),
+            Act::SetRedZone(0),
+            Act::Ask(3000),
+        ],
+        &[
+            (3000, RUNS, 0x1000C, 0),
+            (3952, RUNS, 0x1000C, 1),
+            (5928, RUNS, 0x1000C, 1),
+            (8928, RUNS, 0x1000C, 1),
+            (9880, RUNS, 0x1000C, 0),
+            (10832, RUNS, 0x1000C, 0),
+        ],
+    ),
+    // An input, another second byte of it, and an earlier step.
+    (
+        &EXITS_WITH_INPUT,
+        &[
+            Act::ReplaceInput(0, b"ab"),
+            Act::Ask(10),
+            Act::ReplaceInput(1, b"a\x07"),
+            Act::Ask(10),
+            Act::Ask(5),
+        ],
+        &[
+            (10, Status::Exited(98), 0x10024, 0),
+            (20, Status::Exited(7), 0x10024, 0),
+            (25, RUNS, 0x10014, 0),
+        ],
+    ),
+];
+
 /// Memcheck's red zone and volume of freed blocks, and an input.
 fn setup(alloc: Global, input: &[u8]) -> Result<Setup, AllocError> {
     let input = Input::new(input.to_vec(alloc)?);
@@ -51,160 +155,115 @@ fn setup(alloc: Global, input: &[u8]) -> Result<Setup, AllocError> {
     })
 }
 
-/// A mark of four bytes.
-fn mark(step: u32, addr: u32, kind: RangeKind) -> Mark {
-    Mark {
-        step,
-        addr,
-        len: 4,
-        kind,
+/// A trail, with the input, the heap's settings and the marks that are edited.
+#[derive(Drop)]
+struct Edited<'a> {
+    alloc: Global,
+    image: Image<'a>,
+    trail: Trail,
+    ghost loads: { LoadsAs trail image },
+    setup: Setup,
+    marks: Vec<Mark>,
+}
+
+impl<'a> Edited<'a> {
+    /// The trail of a program with no input, no marks and the settings of Memcheck.
+    fn begin(alloc: Global, image: Image<'a>) -> Result<Self, AllocError> {
+        let trail = Trail::begin(alloc, &image)?;
+        Ok(Edited {
+            alloc,
+            image,
+            trail,
+            setup: setup(alloc, b"")?,
+            marks: Vec::new(alloc),
+        })
+    }
+
+    /// What is told of the machine at a step.
+    fn ask(&mut self, step: u32) -> Result<Told, AllocError> {
+        let machine = self.trail.at(step, &self.setup, &self.marks)?;
+        let worked = self.trail.meter().read();
+        Ok((
+            worked,
+            machine.status(),
+            machine.pc(),
+            machine.groups().len(),
+        ))
+    }
+
+    /// Patches a word whose bytes are loaded.
+    fn patch(&mut self, addr: u32, word: u32) -> Result<(), AllocError> {
+        if addr % 4 == 0 && self.image.patchable(addr) {
+            self.trail.patch(addr, word)?;
+        }
+        Ok(())
+    }
+
+    /// Takes the first mark away, if there is one.
+    fn take_mark(&mut self) {
+        if !self.marks.is_empty() {
+            let mark = self.marks.remove(0);
+            self.trail.cut_mark(mark.step);
+        }
+    }
+
+    /// Does what is to be done, and tells of the machine, if one was asked for.
+    fn carry_out(&mut self, act: Act) -> Result<Option<Told>, AllocError> {
+        match act {
+            Act::Ask(step) => return Ok(Some(self.ask(step)?)),
+            Act::Patch(addr, word) => self.patch(addr, word)?,
+            Act::AddMark(step, addr, kind) => {
+                self.marks.push(Mark {
+                    step,
+                    addr,
+                    len: 4,
+                    kind,
+                })?;
+                self.trail.cut_mark(step);
+            }
+            Act::TakeMark => self.take_mark(),
+            Act::ReplaceInput(offset, bytes) => {
+                self.setup.input = Input::new(bytes.to_vec(self.alloc)?);
+                self.trail.cut_input(offset);
+            }
+            Act::SetRedZone(len) => {
+                self.setup.redzone = len;
+                self.trail.cut_heap();
+            }
+        }
+        Ok(None)
     }
 }
 
-/// What is told of the machine at a step.
-fn asked(
-    trail: &mut Trail,
-    image: &Image,
-    step: u32,
-    setup: &Setup,
-    marks: &[Mark],
-) -> Result<Told, AllocError>
-    requires { LoadsAs trail.old image.now }
-    ensures { LoadsAs trail.new image.now }
-{
-    let machine = trail.at(step, setup, marks)?;
-    let worked = trail.meter().read();
-    Ok((
-        worked,
-        machine.status(),
-        machine.pc(),
-        machine.groups().len(),
-    ))
+/// What is told of each machine that is asked for.
+fn told(alloc: Global, words: &[u32], acts: &[Act]) -> Result<Vec<Told>, Fail> {
+    let file = sized_program(alloc, words, 0x2000)?;
+    let mut edited = Edited::begin(alloc, read(alloc, &file)?)?;
+    let mut told = Vec::new(alloc);
+    for act in acts {
+        if let Some(one) = edited.carry_out(*act)? {
+            told.push(one)?;
+        }
+    }
+    Ok(told)
 }
 
-/// Patches a word whose bytes are loaded.
-fn patch(trail: &mut Trail, image: &Image, addr: u32, word: u32) -> Result<(), AllocError>
-    requires { LoadsAs trail.old image.now }
-    ensures { LoadsAs trail.new image.now }
-{
-    if addr % 4 == 0 && image.patchable(addr) {
-        trail.patch(addr, word)?;
+#[test]
+fn edits_cost_what_follows_them(rt: HostRuntime) -> Result<(), Fail> {
+    for (words, acts, wanted) in CASES {
+        assert_eq!(rt; told(rt.alloc(), words, acts)?.as_slice(), wanted);
     }
     Ok(())
 }
 
-/// The image of a program's file.
-fn image_of(alloc: Global, file: &[u8]) -> Result<Image<'_>, Fail> {
-    Ok(read(alloc, file)?)
-}
-
-// A word that isn't read by the step asked for, and one that is read in step 1201.
 #[test]
-fn a_patch_keeps_what_comes_before_its_use(rt: HostRuntime) -> Result<(), Fail> {
-    let file = sized_program(rt.alloc(), &READS_ON, 0x2000)?;
-    let image = image_of(rt.alloc(), &file)?;
-    let setup = setup(rt.alloc(), b"")?;
-    let mut trail = Trail::begin(rt.alloc(), &image)?;
-    let first = asked(&mut trail, &image, 3000, &setup, &[])?;
-    patch(&mut trail, &image, 0x112D4, 1)?;
-    let second = asked(&mut trail, &image, 3000, &setup, &[])?;
-    let third = asked(&mut trail, &image, 4000, &setup, &[])?;
-    patch(&mut trail, &image, 0x10654, 1)?;
-    let fourth = asked(&mut trail, &image, 4000, &setup, &[])?;
-    let fifth = asked(&mut trail, &image, 1204, &setup, &[])?;
-    assert_eq!(rt;
-        [first, second],
-        [(3000, RUNS, 0x1000C, 0), (3952, RUNS, 0x1000C, 0)]
-    );
-    assert_eq!(rt;
-        [third, fourth],
-        [(5904, ENDS, 0x10010, 0), (8880, ENDS, 0x10010, 0)]
-    );
-    assert_eq!(rt; fifth, (9060, RUNS, 0x10010, 0));
-    Ok(())
-}
-
-// A word that is read in step 4, there and back; and one that is read in step 1024: the machine at 1024 is kept and has the word.
-#[test]
-fn a_kept_machine_has_the_word(rt: HostRuntime) -> Result<(), Fail> {
-    let file = sized_program(rt.alloc(), &READS_ON, 0x2000)?;
-    let image = image_of(rt.alloc(), &file)?;
-    let setup = setup(rt.alloc(), b"")?;
-    let mut trail = Trail::begin(rt.alloc(), &image)?;
-    let first = asked(&mut trail, &image, 3000, &setup, &[])?;
-    patch(&mut trail, &image, 0x10018, 1)?;
-    let second = asked(&mut trail, &image, 3000, &setup, &[])?;
-    patch(&mut trail, &image, 0x10018, 0)?;
-    let third = asked(&mut trail, &image, 3000, &setup, &[])?;
-    patch(&mut trail, &image, 0x10568, 1)?;
-    let fourth = asked(&mut trail, &image, 3000, &setup, &[])?;
-    assert_eq!(rt;
-        [first, second],
-        [(3000, RUNS, 0x1000C, 0), (6000, ENDS, 0x10010, 0)]
-    );
-    assert_eq!(rt;
-        [third, fourth],
-        [(9000, RUNS, 0x1000C, 0), (10976, ENDS, 0x10010, 0)]
-    );
-    Ok(())
-}
-
-// Marks at steps 2500, 1024 and 1023, of which the first is taken away; and another red zone, where no heap call was made. The one
-// error is that of the branch on the word that is read in step 2500.
-#[test]
-fn marks_are_set_and_taken_away(rt: HostRuntime) -> Result<(), Fail> {
-    let file = sized_program(rt.alloc(), &READS_ON, 0x2000)?;
-    let image = image_of(rt.alloc(), &file)?;
-    let mut setup = setup(rt.alloc(), b"")?;
-    let late = mark(2500, 0x10D18, RangeKind::Undefined);
-    let held = mark(1024, 0x20000, RangeKind::Defined);
-    let early = mark(1023, 0x20000, RangeKind::Defined);
-    let mut trail = Trail::begin(rt.alloc(), &image)?;
-    let first = asked(&mut trail, &image, 3000, &setup, &[])?;
-    trail.cut_mark(2500);
-    let second = asked(&mut trail, &image, 3000, &setup, &[late])?;
-    trail.cut_mark(1024);
-    let third = asked(&mut trail, &image, 3000, &setup, &[late, held])?;
-    trail.cut_mark(1023);
-    let fourth = asked(&mut trail, &image, 3000, &setup, &[late, held, early])?;
-    trail.cut_mark(2500);
-    let fifth = asked(&mut trail, &image, 3000, &setup, &[held, early])?;
-    trail.cut_heap();
-    setup.redzone = 0;
-    let sixth = asked(&mut trail, &image, 3000, &setup, &[held, early])?;
-    assert_eq!(rt;
-        [first, second],
-        [(3000, RUNS, 0x1000C, 0), (3952, RUNS, 0x1000C, 1)]
-    );
-    assert_eq!(rt;
-        [third, fourth],
-        [(5928, RUNS, 0x1000C, 1), (8928, RUNS, 0x1000C, 1)]
-    );
-    assert_eq!(rt;
-        [fifth, sixth],
-        [(9880, RUNS, 0x1000C, 0), (10832, RUNS, 0x1000C, 0)]
-    );
-    Ok(())
-}
-
-// Another second byte of the input, and an earlier step.
-#[test]
-fn input_is_replaced(rt: HostRuntime) -> Result<(), Fail> {
+fn a_run_has_no_need_of_a_trail(rt: HostRuntime) -> Result<(), Fail> {
     let file = program(rt.alloc(), &EXITS_WITH_INPUT)?;
-    let image = image_of(rt.alloc(), &file)?;
-    let before = setup(rt.alloc(), b"ab")?;
-    let after = setup(rt.alloc(), b"a\x07")?;
-    let mut trail = Trail::begin(rt.alloc(), &image)?;
-    let first = asked(&mut trail, &image, 10, &before, &[])?;
-    trail.cut_input(1);
-    let second = asked(&mut trail, &image, 10, &after, &[])?;
-    let third = asked(&mut trail, &image, 5, &after, &[])?;
-    assert_eq!(rt; first, (10, Status::Exited(98), 0x10024, 0));
-    assert_eq!(rt; second, (20, Status::Exited(7), 0x10024, 0));
-    assert_eq!(rt; third, (25, RUNS, 0x10014, 0));
+    let image = read(rt.alloc(), &file)?;
+    let setup = setup(rt.alloc(), b"a\x07")?;
     let mut meter = Meter::new();
-    let alone = Machine::start(rt.alloc(), &image)?;
-    let alone = run_to(alone, &after, &[], 10, &mut meter)?;
-    assert_eq!(rt; (meter.read(), alone.status()), (10, Status::Exited(7)));
+    let start = Machine::start(rt.alloc(), &image)?;
+    let machine = run_to(start, &setup, &[], 10, &mut meter)?;
+    assert_eq!(rt; (meter.read(), machine.status()), (10, Status::Exited(7)));
     Ok(())
 }
