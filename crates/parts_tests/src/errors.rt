@@ -108,6 +108,7 @@ fn grouped_by_the_first_address(rt: HostRuntime) -> Result<(), Fail> {
         shows(&rt, Some(*group), kind, addresses, count, at);
     }
     let some = groups.regroup(1, &[false, false, true])?;
+    assert_eq!(rt; some.len(), 1);
     shows(&rt, some.first().copied(), READ, &[8], 1, 3);
     Ok(())
 }

@@ -1,6 +1,6 @@
 -- Bytes that are served one after another.
-use Rattle.std.proofs.Common.{◌≡◌, ◌≢◌, ℕ, List, [], ◌∷◌, ◌++◌, Bool, true, false, not, Option, refl, sym, ap, ◌∙◌, subst, cond, arith, ◌+◌, ◌-◌, ◌≤◌, ◌<◌, ◌==◌, length, length-append, append_assoc, take, ne_eqb, nat_lt, lt-ltb, slice_index, if◌then◌else◌, None, Some, append-nil, Result, Ok, add-zero, ⊎_elim, length-take, get_or, drop}
-use Rattle.std.proofs.lemmas.List.{take-append-drop, take_more}
+use Rattle.std.proofs.Common.{◌≡◌, ◌≢◌, ℕ, zero, suc, List, [], ◌∷◌, ◌++◌, Bool, true, false, not, Option, refl, sym, ap, ◌∙◌, subst, cond, arith, ◌+◌, ◌-◌, ◌≤◌, ◌<◌, ◌==◌, length, length-append, append_assoc, take, ne_eqb, nat_lt, lt-ltb, slice_index, if◌then◌else◌, None, Some, append-nil, Result, Ok, add-zero, ⊎_elim, length-take, get_or, drop}
+use Rattle.std.proofs.lemmas.List.{take-append-drop, take_more, take_all}
 use Rattle.std.specs.Bool.{MatchBool}
 use Rattle.std.specs.Io.KnownBytes.{Appends}
 use Rattle.std.specs.Str.Lines.{strip_carriage_return}
@@ -25,9 +25,11 @@ long-alike : (sc : Scenario) (a b : List ℕ) → is_long a ≡ true → is_long
 unfolding accepted_in
 long-alike sc a b f g = rw (f, g) refl
 
-first-alike : (s : Scenario) (a b : List ℕ) (lines replies : List (List ℕ)) → is_long a ≡ true → is_long b ≡ true → Answers s (a ∷ lines) replies → Answers s (b ∷ lines) replies
-first-alike s a b lines [] f g h = h
-first-alike s a b lines (r ∷ rs) f g h = (h.0, replies-alike s h.0 a b r (long-alike s a b f g) h.1, h.2)
+-- of the first lines, the first may be another that is too long
+first-alike : (n : ℕ) (s : Scenario) (a b : List ℕ) (lines replies : List (List ℕ)) → is_long a ≡ true → is_long b ≡ true → Answers s (take n (a ∷ lines)) replies → Answers s (take n (b ∷ lines)) replies
+first-alike zero s a b lines replies f g h = h
+first-alike (suc n) s a b lines [] f g h = h
+first-alike (suc n) s a b lines (r ∷ rs) f g h = (h.0, replies-alike s h.0 a b r (long-alike s a b f g) h.1, h.2)
 
 is_long-of : (a : List ℕ) → 4097 ≤ length a → is_long a ≡ true
 is_long-of a h = lt-ltb 4096 (length a) (omega arith)
@@ -45,22 +47,24 @@ strip-long a h =
 more-long : (a : List ℕ) (b : ℕ) → 4098 ≤ length a → 4098 ≤ length (a ++ b ∷ [])
 more-long a b h = rw length-append (omega arith)
 
-either : (t : Bool) (s : Scenario) (rs A A' B B' : List (List ℕ)) → (Answers s A rs → Answers s B rs) → (Answers s A' rs → Answers s B' rs) → Answers s (cond t A A') rs → Answers s (cond t B B') rs
-either true s rs A A' B B' f g h = f h
-either false s rs A A' B B' f g h = g h
+either : (t : Bool) (n : ℕ) (s : Scenario) (rs A A' B B' : List (List ℕ)) → (Answers s (take n A) rs → Answers s (take n B) rs) → (Answers s (take n A') rs → Answers s (take n B') rs)
+    → Answers s (take n (cond t A A')) rs → Answers s (take n (cond t B B')) rs
+either true n s rs A A' B B' f g h = f h
+either false n s rs A A' B B' f g h = g h
 
-lines-alike : (last : Bool) (bytes a b : List ℕ) (s : Scenario) (rs : List (List ℕ)) → 4098 ≤ length a → 4098 ≤ length b → Answers s (lines_by last a bytes) rs → Answers s (lines_by last b bytes) rs
-lines-alike false [] a b s rs f g h = h
-lines-alike true [] a b s rs f g h =
+lines-alike : (last : Bool) (bytes a b : List ℕ) (n : ℕ) (s : Scenario) (rs : List (List ℕ)) → 4098 ≤ length a → 4098 ≤ length b
+    → Answers s (take n (lines_by last a bytes)) rs → Answers s (take n (lines_by last b bytes)) rs
+lines-alike false [] a b n s rs f g h = h
+lines-alike true [] a b n s rs f g h =
     let e : (length a == 0) ≡ false = ne_eqb _ _ (omega arith) in
     let e' : (length b == 0) ≡ false = ne_eqb _ _ (omega arith) in
     let whole : 4097 ≤ length a = omega arith in
     let whole' : 4097 ≤ length b = omega arith in
-    let ha : Answers s (a ∷ []) rs = subst (λ t. Answers s (cond (not t) (a ∷ []) []) rs) e h in
-    subst (λ t. Answers s (cond (not t) (b ∷ []) []) rs) (sym e') (first-alike s a b [] rs (is_long-of a whole) (is_long-of b whole') ha)
-lines-alike last (x ∷ bytes) a b s rs f g h =
-    either (x == 10) s rs _ _ _ _ (first-alike s _ _ _ rs (strip-long a f) (strip-long b g))
-    (lines-alike last bytes (a ++ x ∷ []) (b ++ x ∷ []) s rs (more-long a x f) (more-long b x g)) h
+    let ha : Answers s (take n (a ∷ [])) rs = subst (λ t. Answers s (take n (cond (not t) (a ∷ []) [])) rs) e h in
+    subst (λ t. Answers s (take n (cond (not t) (b ∷ []) [])) rs) (sym e') (first-alike n s a b [] rs (is_long-of a whole) (is_long-of b whole') ha)
+lines-alike last (x ∷ bytes) a b n s rs f g h =
+    either (x == 10) n s rs _ _ _ _ (first-alike n s _ _ _ rs (strip-long a f) (strip-long b g))
+    (lines-alike last bytes (a ++ x ∷ []) (b ++ x ∷ []) n s rs (more-long a x f) (more-long b x g)) h
 
 no-newline : (last : Bool) (kept more : List ℕ) (byte : ℕ) → byte ≢ 10 → lines_by last kept (byte ∷ more) ≡ lines_by last (kept ++ byte ∷ []) more
 no-newline last kept more byte other = rw (ne_eqb byte 10 other) refl
@@ -78,13 +82,15 @@ keep-fed sc old new held byte other session counts kept has = record {
   appended = appends-none held;
   replies = rw (counts, add-zero) refl;
   written = rw (counts, add-zero) refl;
-  goes = λ last more rs h.
-      let next : Answers sc (lines_by last (old.kept.items ++ byte ∷ []) more) rs = ⊎_elim
-      (λ e. subst (λ (ks : List ℕ). Answers sc (lines_by last ks more) rs) e h)
-      (λ full. lines-alike last more old.kept.items (old.kept.items ++ byte ∷ []) sc rs full.0 (more-long old.kept.items byte full.0)
-      (subst (λ (ks : List ℕ). Answers sc (lines_by last ks more) rs) full.1 h))
+  goes = λ last more n all rs e h.
+      let from-none : all ≡ n + 0 = e in
+      let same : n ≡ all = omega (arith, from-none) in
+      let next : Answers sc (take n (lines_by last (old.kept.items ++ byte ∷ []) more)) rs = ⊎_elim
+      (λ e. subst (λ (ks : List ℕ). Answers sc (take n (lines_by last ks more)) rs) e h)
+      (λ full. lines-alike last more old.kept.items (old.kept.items ++ byte ∷ []) n sc rs full.0 (more-long old.kept.items byte full.0)
+      (subst (λ (ks : List ℕ). Answers sc (take n (lines_by last ks more)) rs) full.1 h))
       kept in
-      rw (no-newline last old.kept.items more byte other) next;
+      subst (λ (k : ℕ). Answers sc (take k (lines_by last old.kept.items (byte ∷ more))) rs) same (rw (no-newline last old.kept.items more byte other) next);
 }
 
 joined-one : (reply : List ℕ) → joined (reply ∷ []) ≡ reply
@@ -112,11 +118,14 @@ answer-fed sc old new held held' line a whole going empty = record {
   appended = subst (Appends held held') (sym (joined-one a.reply)) a.appended;
   replies = let e = a.replies in grind (arith, e);
   written = let e = a.bytes in rw (joined-one a.reply) (grind (arith, e));
-  goes = λ last more rs h. (
-    a.after,
-    subst (λ (l : List ℕ). Replies sc l a.reply a.after) whole a.replies_to,
-    under-false (is_over sc) _ _ going (subst (λ (ks : List ℕ). Answers a.after (lines_by last ks more) rs) empty h),
-  );
+  goes = λ last more n all rs e h.
+      let from-one : all ≡ n + 1 = e in
+      let one-more : suc n ≡ all = omega (arith, from-one) in
+      subst (λ (k : ℕ). Answers sc (take k (strip_carriage_return old.kept.items ∷ lines_by last [] more)) (a.reply ∷ rs)) one-more (
+        a.after,
+        subst (λ (l : List ℕ). Replies sc l a.reply a.after) whole a.replies_to,
+        under-false (is_over sc) _ _ going (subst (λ (ks : List ℕ). Answers a.after (take n (lines_by last ks more)) rs) empty h),
+      );
 }
 
 -- a line was answered that tells that the session is over
@@ -132,8 +141,9 @@ answer-over sc session old new counts held held' line a whole over = record {
 }
 
 -- a reply was cut off
-pub answer-broken : (sc : Scenario) (old new : Server) (held held' : Option (List ℕ)) (line : List ℕ) → Cut sc old.counts new.counts held held' line → line ≡ strip_carriage_return old.kept.items → Broken sc old new held held' (10 ∷ [])
-answer-broken sc old new held held' line a whole = record {
+pub answer-broken : (sc : Scenario) (old new : Server) (held held' : Option (List ℕ)) (line : List ℕ) → Cut sc old.counts new.counts held held' line
+    → (lines : List (List ℕ)) → Broken sc old new held held' (line ∷ lines)
+answer-broken sc old new held held' line a lines = record {
   done = [];
   last = a.reply;
   sent = a.sent;
@@ -141,14 +151,7 @@ answer-broken sc old new held held' line a whole = record {
   appended = a.appended;
   replies = let e = a.replies in rw (a.replies, add-zero) (omega arith);
   written = let e = a.bytes in rw (a.bytes, add-zero) (omega arith);
-  front = 10 ∷ [];
-  rest = [];
-  split = refl;
-  answers = (
-    a.after,
-    subst (λ (l : List ℕ). Replies sc l a.reply a.after) whole a.replies_to,
-    under-both (is_over sc) _ _ refl refl,
-  );
+  answers = (a.after, a.replies_to, under-both (is_over sc) _ _ refl refl);
 }
 
 ok_is : (E : Type 0) (x y : Bool) → ◌≡◌ {A = Result Bool E} (Ok x) (Ok y) → x ≡ y
@@ -163,8 +166,10 @@ module _ (E : Type 0) (sc : Scenario) (old new : Server) (held held' : Option (L
   taken-over over says a e =
       subst (λ (b : ℕ). Over sc old new held held' (b ∷ [])) (sym newline) (answer-over sc new.session old new new.counts held held' line a whole (sym says ∙ ok_is E over true e))
 
-  pub taken-broken : Cut sc old.counts new.counts held held' line → Broken sc old new held held' (byte ∷ [])
-  taken-broken a = subst (λ (b : ℕ). Broken sc old new held held' (b ∷ [])) (sym newline) (answer-broken sc old new held held' line a whole)
+  pub taken-broken : Cut sc old.counts new.counts held held' line → (more : List ℕ) → Broken sc old new held held' (lines_by true old.kept.items (byte ∷ more))
+  taken-broken a more =
+      subst (λ (b : ℕ). Broken sc old new held held' (lines_by true old.kept.items (b ∷ more))) (sym newline)
+      (subst (λ (l : List ℕ). Broken sc old new held held' (l ∷ lines_by true [] more)) whole (answer-broken sc old new held held' line a (lines_by true [] more)))
 
 joined-append : (xs ys : List (List ℕ)) → joined (xs ++ ys) ≡ joined xs ++ joined ys
 joined-append [] ys = refl
@@ -185,8 +190,23 @@ fed-none sc server held has = record {
   appended = appends-none held;
   replies = rw add-zero refl;
   written = rw add-zero refl;
-  goes = λ last more rs h. h;
+  goes = λ last more n all rs e h.
+      let from-none : all ≡ n + 0 = e in
+      let same : n ≡ all = omega (arith, from-none) in
+      subst (λ (k : ℕ). Answers sc (take k (lines_by last server.kept.items more)) rs) same h;
 }
+
+-- all lines are the first of them
+pub goes-whole : (sc : Scenario) (a b : Server) (h0 h1 : Option (List ℕ)) (bytes : List ℕ) (f : Fed sc a b h0 h1 bytes) (last : Bool) (more : List ℕ) (rs : List (List ℕ))
+    → Answers f.after (lines_by last b.kept.items more) rs → Answers sc (lines_by last a.kept.items (bytes ++ more)) (f.done ++ rs)
+goes-whole sc a b h0 h1 bytes f last more rs h =
+    let now = lines_by last b.kept.items more in
+    let all = lines_by last a.kept.items (bytes ++ more) in
+    let n = length now + length all in
+    let within : length now ≤ n = omega arith in
+    let within' : length all ≤ n + length f.done = omega arith in
+    subst (λ (ls : List (List ℕ)). Answers sc ls (f.done ++ rs)) (take_all (n + length f.done) all within')
+    (f.goes last more n (n + length f.done) rs refl (subst (λ (ls : List (List ℕ)). Answers f.after ls rs) (sym (take_all n now within)) h))
 
 module _ (sc : Scenario) (a b c : Server) (h0 h1 h2 : Option (List ℕ)) (xs ys : List ℕ) (f : Fed sc a b h0 h1 xs) where
   appended-then : (zs : List ℕ) → Appends h1 h2 zs → Appends h0 h2 (joined f.done ++ zs)
@@ -206,17 +226,20 @@ module _ (sc : Scenario) (a b c : Server) (h0 h1 h2 : Option (List ℕ)) (xs ys 
     appended = rw joined-append (appended-then (joined g.done) g.appended);
     replies = rw length-append (replies-then (length g.done) g.replies);
     written = rw (joined-append, length-append) (bytes-then (length (joined g.done)) g.written);
-    goes = λ last more rs h. rw (append_assoc xs ys more, append_assoc f.done g.done rs) (f.goes last (ys ++ more) (g.done ++ rs) (g.goes last more rs h));
+    goes = λ last more n all rs e h.
+        let both : all ≡ (n + length g.done) + length f.done = e ∙ rw length-append (omega arith) in
+        rw (append_assoc xs ys more, append_assoc f.done g.done rs)
+        (f.goes last (ys ++ more) (n + length g.done) all (g.done ++ rs) both (g.goes last more n (n + length g.done) rs refl h));
   }
 
   pub over-then : Over f.after b c h1 h2 ys → Over sc a c h0 h2 (xs ++ ys)
   over-then g = record {
     done = f.done ++ g.done;
     appended = rw joined-append (appended-then (joined g.done) g.appended);
-    answers = λ last more. rw (append_assoc xs ys more) (f.goes last (ys ++ more) g.done (g.answers last more));
+    answers = λ last more. rw (append_assoc xs ys more) (goes-whole sc a b h0 h1 xs f last (ys ++ more) g.done (g.answers last more));
   }
 
-  pub broken-then : Broken f.after b c h1 h2 ys → Broken sc a c h0 h2 (xs ++ ys)
+  pub broken-then : Broken f.after b c h1 h2 (lines_by true b.kept.items ys) → Broken sc a c h0 h2 (lines_by true a.kept.items (xs ++ ys))
   broken-then g = record {
     done = f.done ++ g.done;
     last = g.last;
@@ -225,16 +248,15 @@ module _ (sc : Scenario) (a b c : Server) (h0 h1 h2 : Option (List ℕ)) (xs ys 
     appended = rw (joined-append, append_assoc (joined f.done) (joined g.done) (take g.sent g.last)) (appended-then (joined g.done ++ take g.sent g.last) g.appended);
     replies = rw length-append (standing-thrice a.counts.replies b.counts.replies c.counts.replies (length f.done) (length g.done) (if g.sent == length g.last then 1 else 0) f.replies g.replies);
     written = rw (joined-append, length-append) (standing-thrice a.counts.bytes b.counts.bytes c.counts.bytes (length (joined f.done)) (length (joined g.done)) g.sent f.written g.written);
-    front = xs ++ g.front;
-    rest = g.rest;
-    split = ap (λ (zs : List ℕ). xs ++ zs) g.split ∙ sym (append_assoc xs g.front g.rest);
-    answers = rw (append_assoc f.done g.done (g.last ∷ [])) (f.goes true g.front (g.done ++ g.last ∷ []) g.answers);
+    answers =
+        let both : length (f.done ++ g.done) + 1 ≡ (length g.done + 1) + length f.done = rw length-append (omega arith) in
+        rw (append_assoc f.done g.done (g.last ∷ [])) (f.goes true ys (length g.done + 1) (length (f.done ++ g.done) + 1) (g.done ++ g.last ∷ []) both g.answers);
   }
 
   pub ended-then : Ended f.after b h1 h2 → xs ≡ ys → (done : List (List ℕ)) × Answers sc (lines_by true a.kept.items ys) done × Appends h0 h2 (joined done)
   ended-then g e = (
     f.done ++ g.done,
-    subst (λ (zs : List ℕ). Answers sc (lines_by true a.kept.items zs) (f.done ++ g.done)) (append-nil xs ∙ e) (f.goes true [] g.done g.answers),
+    subst (λ (zs : List ℕ). Answers sc (lines_by true a.kept.items zs) (f.done ++ g.done)) (append-nil xs ∙ e) (goes-whole sc a b h0 h1 xs f true [] g.done g.answers),
     rw joined-append (appended-then (joined g.done) g.appended),
   )
 
@@ -243,21 +265,6 @@ over-more sc a b h0 h1 xs zs g = record {
   done = g.done;
   appended = g.appended;
   answers = λ last more. rw (append_assoc xs zs more) (g.answers last (zs ++ more));
-}
-
-pub broken-more : (sc : Scenario) (a b : Server) (h0 h1 : Option (List ℕ)) (xs zs : List ℕ) → Broken sc a b h0 h1 xs → Broken sc a b h0 h1 (xs ++ zs)
-broken-more sc a b h0 h1 xs zs g = record {
-  done = g.done;
-  last = g.last;
-  sent = g.sent;
-  within = g.within;
-  appended = g.appended;
-  replies = g.replies;
-  written = g.written;
-  front = g.front;
-  rest = g.rest ++ zs;
-  split = ap (λ (ws : List ℕ). ws ++ zs) g.split ∙ append_assoc g.front g.rest zs;
-  answers = g.answers;
 }
 
 -- a last line with no newline
@@ -279,24 +286,12 @@ none-ended sc old held none = record {
   answers = subst (λ t. Answers sc (cond (not t) (old.kept.items ∷ []) []) []) (sym none) refl;
 }
 
-pub answer-broken-end : (sc : Scenario) (old new : Server) (held held' : Option (List ℕ)) (line : List ℕ) → Cut sc old.counts new.counts held held' line → line ≡ old.kept.items → (length old.kept.items == 0) ≡ false → Broken sc old new held held' []
-answer-broken-end sc old new held held' line a whole some = record {
-  done = [];
-  last = a.reply;
-  sent = a.sent;
-  within = a.within;
-  appended = a.appended;
-  replies = rw (a.replies, add-zero) (omega arith);
-  written = rw (a.bytes, add-zero) (omega arith);
-  front = [];
-  rest = [];
-  split = refl;
-  answers = subst (λ t. Answers sc (cond (not t) (old.kept.items ∷ []) []) (a.reply ∷ [])) (sym some) (
-    a.after,
-    subst (λ (l : List ℕ). Replies sc l a.reply a.after) whole a.replies_to,
-    under-both (is_over sc) _ _ refl refl,
-  );
-}
+-- a last line with no newline, of whose reply a front was written
+pub answer-broken-end : (sc : Scenario) (old new : Server) (held held' : Option (List ℕ)) (line : List ℕ) → Cut sc old.counts new.counts held held' line → line ≡ old.kept.items
+    → (length old.kept.items == 0) ≡ false → Broken sc old new held held' (lines_by true old.kept.items [])
+answer-broken-end sc old new held held' line a whole some =
+    subst (λ t. Broken sc old new held held' (cond (not t) (old.kept.items ∷ []) [])) (sym some)
+    (subst (λ (l : List ℕ). Broken sc old new held held' (l ∷ [])) whole (answer-broken sc old new held held' line a []))
 
 -- the bytes up to a place, the one there, and the rest
 cut-at : (bytes : List ℕ) (i : ℕ) → i < length bytes → (take i bytes ++ (get_or bytes i 0 ∷ [])) ++ drop (i + 1) bytes ≡ bytes
@@ -309,5 +304,8 @@ module _ (sc : Scenario) (a b c : Server) (h0 h1 h2 : Option (List ℕ)) (bytes 
   pub over-in : Over f.after b c h1 h2 (get_or bytes i 0 ∷ []) → Over sc a c h0 h2 bytes
   over-in g = subst (Over sc a c h0 h2) (cut-at bytes i inside) (over-more sc a c h0 h2 _ (drop (i + 1) bytes) (over-then sc a b c h0 h1 h2 (take i bytes) (get_or bytes i 0 ∷ []) f g))
 
-  pub broken-in : Broken f.after b c h1 h2 (get_or bytes i 0 ∷ []) → Broken sc a c h0 h2 bytes
-  broken-in g = subst (Broken sc a c h0 h2) (cut-at bytes i inside) (broken-more sc a c h0 h2 _ (drop (i + 1) bytes) (broken-then sc a b c h0 h1 h2 (take i bytes) (get_or bytes i 0 ∷ []) f g))
+  pub broken-in : ((more : List ℕ) → Broken f.after b c h1 h2 (lines_by true b.kept.items (get_or bytes i 0 ∷ more))) → Broken sc a c h0 h2 (lines_by true a.kept.items bytes)
+  broken-in g =
+      let rest = drop (i + 1) bytes in
+      let e : take i bytes ++ get_or bytes i 0 ∷ rest ≡ bytes = sym (append_assoc (take i bytes) (get_or bytes i 0 ∷ []) rest) ∙ cut-at bytes i inside in
+      subst (λ (xs : List ℕ). Broken sc a c h0 h2 (lines_by true a.kept.items xs)) e (broken-then sc a b c h0 h1 h2 (take i bytes) (get_or bytes i 0 ∷ rest) f (g rest))

@@ -1,5 +1,5 @@
 -- From what is served between two reads to what `serve` ensures.
-use Rattle.std.proofs.Common.{◌≡◌, ℕ, List, [], ◌∷◌, ◌++◌, Bool, true, false, Option, None, Some, refl, sym, ap, ◌∙◌, subst, append-nil, arith, ◌+◌, ◌<◌, ◌^◌, length, if◌then◌else◌, ◌==◌}
+use Rattle.std.proofs.Common.{◌≡◌, ℕ, List, [], ◌∷◌, ◌++◌, Bool, true, false, Option, None, Some, refl, sym, ap, ◌∙◌, subst, append-nil, arith, ◌+◌, ◌<◌, ◌^◌, length, take, if◌then◌else◌, ◌==◌}
 use Rattle.std.specs.Io.KnownBytes.{Appends, Consumes, IsAtEnd}
 use Rattle.std.specs.Str.Lines.{lines}
 use Rattle.replay_session.specs.Lines.{lines_by, closed_lines}
@@ -10,7 +10,7 @@ use Rattle.replay_session.specs.Serving.{Fed, Over, Broken, Ended}
 use Rattle.replay_session.specs.declared.server.Server.{Server}
 use Rattle.replay_session.proofs.Known.{consumes-then}
 use Rattle.replay_session.proofs.LineSteps.{lines-is, closed_lines-is}
-use Rattle.replay_session.proofs.ServeSteps.{over-then, ended-then, broken-then}
+use Rattle.replay_session.proofs.ServeSteps.{goes-whole, over-then, ended-then, broken-then}
 
 -- a count from 0 on
 from-zero : (a b n : ℕ) → a ≡ 0 → b < 2 ^ 64 → standing b ≡ standing (a + n) → b ≡ standing n
@@ -74,13 +74,13 @@ module _ (sc : Scenario) (a : Server) (kept : a.kept.items ≡ []) where
       replies = fed.done;
       answers = as-closed seen fed.done (
           subst (λ (xs : List ℕ). Answers sc (lines_by false a.kept.items xs) fed.done) (append-nil seen)
-          (subst (λ (rs : List (List ℕ)). Answers sc (lines_by false a.kept.items (seen ++ [])) rs) (append-nil fed.done) (fed.goes false [] [] refl)));
+          (subst (λ (rs : List (List ℕ)). Answers sc (lines_by false a.kept.items (seen ++ [])) rs) (append-nil fed.done) (goes-whole sc a b h0 h1 seen fed false [] [] refl)));
       appended = fed.appended;
       count_is = from-zero a.counts.replies r (length fed.done) replies r-small (ap standing r-is ∙ fed.replies);
       bytes_is = from-zero a.counts.bytes n (length (joined fed.done)) bytes n-small (ap standing n-is ∙ fed.written);
     }
 
-    pub stops-cut : (b c : Server) (h0 h1 h2 : Option (List ℕ)) (seen more : List ℕ) (r n : ℕ) → r ≡ c.counts.replies → n ≡ c.counts.bytes → r < 2 ^ 64 → n < 2 ^ 64 → (fed : Fed sc a b h0 h1 seen) → Broken fed.after b c h1 h2 more → CutReplies sc (seen ++ more) h0 h2 r n
+    pub stops-cut : (b c : Server) (h0 h1 h2 : Option (List ℕ)) (seen more : List ℕ) (r n : ℕ) → r ≡ c.counts.replies → n ≡ c.counts.bytes → r < 2 ^ 64 → n < 2 ^ 64 → (fed : Fed sc a b h0 h1 seen) → Broken fed.after b c h1 h2 (lines_by true b.kept.items more) → CutReplies sc (seen ++ more) h0 h2 r n
     stops-cut b c h0 h1 h2 seen more r n r-is n-is r-small n-small fed broken =
         let k = broken-then sc a b c h0 h1 h2 seen more fed broken in
         record {
@@ -88,10 +88,8 @@ module _ (sc : Scenario) (a : Server) (kept : a.kept.items ≡ []) where
           next = k.last;
           sent = k.sent;
           within = k.within;
-          front = k.front;
-          rest = k.rest;
-          split = k.split;
-          answers = as-lines k.front (k.done ++ k.last ∷ []) k.answers;
+          answers = subst (λ (ls : List (List ℕ)). Answers sc (take (length k.done + 1) ls) (k.done ++ k.last ∷ [])) (lines-is (seen ++ more))
+              (subst (λ (ks : List ℕ). Answers sc (take (length k.done + 1) (lines_by true ks (seen ++ more))) (k.done ++ k.last ∷ [])) kept k.answers);
           appended = k.appended;
           count_is = from-zero-and a.counts.replies r (length k.done) (if k.sent == length k.last then 1 else 0) replies r-small (ap standing r-is ∙ k.replies);
           bytes_is = from-zero-and a.counts.bytes n (length (joined k.done)) k.sent bytes n-small (ap standing n-is ∙ k.written);

@@ -32,16 +32,13 @@ pub record WholeReplies (sc : Scenario) (seen : List ℕ) (held-old held-new : O
   pub count_is : count ≡ standing (length replies)
   pub bytes_is : bytes ≡ standing (length (joined replies))
 
--- whole replies to lines that were read were written, and a front of the next, this many whole ones and bytes
+-- whole replies to the first lines that were read were written, and a front of the reply to the next, this many whole ones and bytes
 pub record CutReplies (sc : Scenario) (seen : List ℕ) (held-old held-new : Option (List ℕ)) (count bytes : ℕ) : Type 0 where
   pub whole : List (List ℕ)
   pub next : List ℕ
   pub sent : ℕ
   pub within : sent ≤ length next
-  pub front : List ℕ
-  pub rest : List ℕ
-  pub split : seen ≡ front ++ rest
-  pub answers : Answers sc (lines front) (whole ++ next ∷ [])
+  pub answers : Answers sc (take (length whole + 1) (lines seen)) (whole ++ next ∷ [])
   pub appended : Appends held-old held-new (joined whole ++ take sent next)
   pub count_is : count ≡ standing (length whole + (if sent == length next then 1 else 0))
   pub bytes_is : bytes ≡ standing (length (joined whole) + sent)

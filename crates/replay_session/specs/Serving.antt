@@ -31,7 +31,7 @@ pub record Cut (sc : Scenario) (old new : Counts) (held-old held-new : Option (L
   pub replies : new.replies ≡ standing (old.replies + (if sent == length reply then 1 else 0))
   pub bytes : new.bytes ≡ standing (old.bytes + sent)
 
--- the bytes are served, and more may come: replies were written, to which those to what comes are joined
+-- the bytes are served, and more may come: replies were written, to which those to the first lines of what comes are joined
 pub record Fed (sc : Scenario) (old new : Server) (held-old held-new : Option (List ℕ)) (bytes : List ℕ) : Type 0 where
   pub done : List (List ℕ)
   pub after : Scenario
@@ -39,8 +39,8 @@ pub record Fed (sc : Scenario) (old new : Server) (held-old held-new : Option (L
   pub appended : Appends held-old held-new (joined done)
   pub replies : standing new.counts.replies ≡ standing (old.counts.replies + length done)
   pub written : standing new.counts.bytes ≡ standing (old.counts.bytes + length (joined done))
-  pub goes : (last : Bool) (more : List ℕ) (rs : List (List ℕ)) → Answers after (lines_by last new.kept.items more) rs
-      → Answers sc (lines_by last old.kept.items (bytes ++ more)) (done ++ rs)
+  pub goes : (last : Bool) (more : List ℕ) (n all : ℕ) (rs : List (List ℕ)) → all ≡ n + length done → Answers after (take n (lines_by last new.kept.items more)) rs
+      → Answers sc (take all (lines_by last old.kept.items (bytes ++ more))) (done ++ rs)
 
 -- the session is over: whatever comes, these are all the replies
 pub record Over (sc : Scenario) (old new : Server) (held-old held-new : Option (List ℕ)) (bytes : List ℕ) : Type 0 where
@@ -48,8 +48,8 @@ pub record Over (sc : Scenario) (old new : Server) (held-old held-new : Option (
   pub appended : Appends held-old held-new (joined done)
   pub answers : (last : Bool) (more : List ℕ) → Answers sc (lines_by last old.kept.items (bytes ++ more)) done
 
--- a write failed: whole replies were written, and a front of one more
-pub record Broken (sc : Scenario) (old new : Server) (held-old held-new : Option (List ℕ)) (bytes : List ℕ) : Type 0 where
+-- a write failed: whole replies to the first of the lines were written, and a front of the reply to the next
+pub record Broken (sc : Scenario) (old new : Server) (held-old held-new : Option (List ℕ)) (lines : List (List ℕ)) : Type 0 where
   pub done : List (List ℕ)
   pub last : List ℕ
   pub sent : ℕ
@@ -57,10 +57,7 @@ pub record Broken (sc : Scenario) (old new : Server) (held-old held-new : Option
   pub appended : Appends held-old held-new (joined done ++ take sent last)
   pub replies : standing new.counts.replies ≡ standing (old.counts.replies + length done + (if sent == length last then 1 else 0))
   pub written : standing new.counts.bytes ≡ standing (old.counts.bytes + length (joined done) + sent)
-  pub front : List ℕ
-  pub rest : List ℕ
-  pub split : bytes ≡ front ++ rest
-  pub answers : Answers sc (lines_by true old.kept.items front) (done ++ last ∷ [])
+  pub answers : Answers sc (take (length done + 1) lines) (done ++ last ∷ [])
 
 -- the bytes end here: these are all the replies
 pub record Ended (sc : Scenario) (old : Server) (held-old held-new : Option (List ℕ)) : Type 0 where

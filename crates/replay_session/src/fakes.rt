@@ -1,4 +1,4 @@
-//! A reader and a writer over memory that fail where they are told to, for tests.
+//! For tests: a reader and a writer over memory that fail where they are told to.
 use std::alloc::Global;
 use std::io;
 use std::io::{Error, ErrorKind, Read, Write};
@@ -38,25 +38,31 @@ impl Read for Script<'_> {
     }
 }
 
-/// A writer that takes so many bytes, and then fails.
+/// A writer with room for so many bytes, which fails once they are taken, and of which so many flushes succeed.
 #[derive(Drop)]
 pub struct Room {
     /// How many bytes are still taken.
     pub left: usize,
+    /// How many flushes still succeed.
+    pub flushes: usize,
     /// The bytes that were taken.
     pub taken: Vec<u8>,
+    /// How many of them were flushed; the others would be lost.
+    pub flushed: usize,
 }
 
 impl Room {
     ghost use Rattle.std.specs.Prelude.{◌≡◌, []};
 
-    /// A writer with room for so many bytes.
+    /// A writer with room for so many bytes, of which each flush succeeds.
     pub fn new(alloc: Global, left: usize) -> Self
         ensures { (result.left ≡ left) × (result.taken.items ≡ []) }
     {
         Room {
             left,
+            flushes: usize::MAX,
             taken: Vec::new(alloc),
+            flushed: 0,
         }
     }
 }
@@ -77,6 +83,11 @@ impl Write for Room {
     }
 
     fn flush(&mut self) -> io::Result<()> {
+        if self.flushes == 0 {
+            return Err(Error::from(ErrorKind::BrokenPipe));
+        }
+        self.flushes -= 1;
+        self.flushed = self.taken.len();
         Ok(())
     }
 }

@@ -15,7 +15,7 @@
 //! | [`setup_with`] | an input and Memcheck's settings of the heap |
 //! | [`send`] | writes all of some bytes and flushes |
 //! | [`laws::work_of_lines`] | nothing: its contract says what any lines cost in steps |
-//! | [`fakes`] | a reader and a writer over memory that fail where a test wants them to |
+//! | [`fakes`] | for tests: a reader and a writer over memory that fail where they are told to |
 //!
 //! # The lines
 //!
@@ -54,7 +54,8 @@
 //! - [`laws::work_of_lines`]: if each of any lines costs that, then after them machines are held at just the steps that the list of lines
 //!   says (`IsHeldAfter`), and the steps made are the one sum that it says (`AddUp`). Neither speaks of a trail.
 //! - [`serve`]: to the end, what was written is the replies to the lines of all bytes read, up to and with the first `refused 12`, and
-//!   nothing else (`Served`); on a fault, a front of that, with the stated numbers of whole replies and bytes (`StopsBy`).
+//!   nothing else (`Served`); on a fault, the whole replies to the first lines, and after a failed write a front of the next, with the
+//!   stated numbers of whole replies and bytes (`StopsBy`).
 //! - A report is the text of one run from step zero over the scenario (`IsReportOf`); a state has one report (`replay_report::laws`).
 //!
 //! # Where the definitions stand

@@ -23,8 +23,8 @@ pub(crate) struct Server<'a> {
 }
 
 impl<'a> Server<'a> {
-    ghost use Rattle.std.specs.Prelude.{◌≡◌, ◌≢◌, ◌∷◌, [], IfOk, OnOk, OnErr, true, false};
-    ghost use Rattle.replay_session.specs.Lines.{KeepsByte};
+    ghost use Rattle.std.specs.Prelude.{◌≡◌, ◌≢◌, ◌∷◌, [], ℕ, List, IfOk, OnOk, OnErr, true, false};
+    ghost use Rattle.replay_session.specs.Lines.{KeepsByte, lines_by};
     ghost use Rattle.replay_session.specs.Scenario.{Scenario};
     ghost use Rattle.replay_session.specs.Serving.{Fed, Over, Broken, Ended};
     ghost use Rattle.replay_session.specs.Session.{HasScenario};
@@ -70,7 +70,8 @@ impl<'a> Server<'a> {
         ensures over { result ≡ Ok true → (sc : Scenario) → HasScenario self.old.session sc →
             Over sc self.old self.new (W.contents writer.old) (W.contents writer.new) (byte ∷ []) }
         ensures broken { OnErr result ((sc : Scenario) → HasScenario self.old.session sc →
-            Broken sc self.old self.new (W.contents writer.old) (W.contents writer.new) (byte ∷ [])) }
+            (more : List ℕ) → Broken sc self.old self.new (W.contents writer.old) (W.contents writer.new)
+            (lines_by true self.old.kept.items (byte ∷ more))) }
     {
         if byte != b'\n' {
             self.keep(byte);
@@ -99,7 +100,8 @@ impl<'a> Server<'a> {
         ensures over { result ≡ Ok true → (sc : Scenario) → HasScenario self.old.session sc →
             Over sc self.old self.new (W.contents writer.old) (W.contents writer.new) bytes.now }
         ensures broken { OnErr result ((sc : Scenario) → HasScenario self.old.session sc →
-            Broken sc self.old self.new (W.contents writer.old) (W.contents writer.new) bytes.now) }
+            Broken sc self.old self.new (W.contents writer.old) (W.contents writer.new)
+            (lines_by true self.old.kept.items bytes.now)) }
     {
         for byte in bytes {
             match self.take(writer, *byte) {
@@ -116,7 +118,8 @@ impl<'a> Server<'a> {
         ensures ended { OnOk result ((sc : Scenario) → HasScenario self.old.session sc →
             Ended sc self.old (W.contents writer.old) (W.contents writer.new)) }
         ensures broken { OnErr result ((sc : Scenario) → HasScenario self.old.session sc →
-            Broken sc self.old self.new (W.contents writer.old) (W.contents writer.new) []) }
+            Broken sc self.old self.new (W.contents writer.old) (W.contents writer.new)
+            (lines_by true self.old.kept.items [])) }
     {
         if self.kept.is_empty() {
             return Ok(());

@@ -26,19 +26,35 @@ suppressed: 0 bytes in 0 blocks
 ERROR SUMMARY: 0 errors from 0 contexts (suppressed: 0 from 0)
 ";
 
-/// What the lines of a script are answered, served with a reader and a writer, and how it ended.
+/// Serves the lines of a script to a writer, and tells how it ended.
+fn served_to(
+    alloc: Global,
+    words: &[u32],
+    script: &mut Script<'_>,
+    writer: &mut Room,
+) -> Result<Result<(), ServeFault>, Fail> {
+    let file = program(alloc, words)?;
+    let image = read(alloc, &file).map_err(|_| Fail::from("the image is refused"))?;
+    let input = b"ab".to_vec(alloc)?;
+    let session = Session::begin(alloc, image, input, Vec::new(alloc))?;
+    Ok(serve(session, script, writer))
+}
+
+/// How `goto 3` and `report` are answered, at first.
+const BEGINNING: &[u8] = b"ok\nstep 3\nstate exited 0\ninput 0 of 2\n";
+
+/// What the lines of a script are answered, as far as it was flushed, and how it ended.
 fn served(
     alloc: Global,
     words: &[u32],
     script: &mut Script<'_>,
     room: usize,
 ) -> Result<(Vec<u8>, Result<(), ServeFault>), Fail> {
-    let file = program(alloc, words)?;
-    let image = read(alloc, &file).map_err(|_| Fail::from("the image is refused"))?;
-    let input = b"ab".to_vec(alloc)?;
-    let session = Session::begin(alloc, image, input, Vec::new(alloc))?;
     let mut writer = Room::new(alloc, room);
-    let end = serve(session, script, &mut writer);
+    let end = served_to(alloc, words, script, &mut writer)?;
+    if end.is_ok() {
+        writer.taken.truncate(writer.flushed);
+    }
     Ok((writer.taken, end))
 }
 
@@ -126,7 +142,7 @@ fn lines_and_refusals(rt: HostRuntime) -> Result<(), Fail> {
         (b"option colour ", b"refused 2\n"),
     ];
     for (line, want) in cases {
-        assert!(rt; answers(rt.alloc(), &EXITS, line, want)?);
+        assert!(rt; answers(rt.alloc(), &EXITS, line, want)?, "{line:?}");
     }
     Ok(())
 }
@@ -184,26 +200,53 @@ fn any_reader(rt: HostRuntime) -> Result<(), Fail> {
 #[test]
 fn faults_tell_what_was_written(rt: HostRuntime) -> Result<(), Fail> {
     let alloc = rt.alloc();
-    let mut failing = script(b"goto 3\nreport\nunm");
-    failing.fails = true;
-    let (taken, end) = served(alloc, &EXITS, &mut failing, 1 << 20)?;
-    assert_eq!(rt;
-        end,
-        Err(ServeFault::ReadFailed {
-            replies: 2,
-            bytes: 288
-        })
-    );
-    assert!(rt; taken.starts_with(b"ok\nstep 3\nstate exited 0\ninput 0 of 2\n"));
-    let (taken, end) = served(alloc, &EXITS, &mut script(b"goto 3\nreport\n"), 100)?;
-    assert_eq!(rt;
-        end,
-        Err(ServeFault::WriteFailed {
-            replies: 1,
-            bytes: 100
-        })
-    );
-    assert_eq!(rt; taken.len(), 100);
+    let read_failed = ServeFault::ReadFailed {
+        replies: 2,
+        bytes: 288,
+    };
+    let write_failed = |replies, bytes| ServeFault::WriteFailed { replies, bytes };
+    // how many bytes are taken, how many flushes succeed; the fault, how many bytes were flushed
+    let cases = [
+        ("a read fails", 1 << 20, usize::MAX, read_failed, 288),
+        ("a write fails", 100, usize::MAX, write_failed(1, 100), 3),
+        ("the first flush fails", 1 << 20, 0, write_failed(1, 3), 0),
+        (
+            "the second flush fails",
+            1 << 20,
+            1,
+            write_failed(2, 288),
+            3,
+        ),
+    ];
+    for (label, left, flushes, fault, flushed) in cases {
+        let mut failing = script(b"goto 3\nreport\nunm");
+        failing.fails = true;
+        let mut writer = Room::new(alloc, left);
+        writer.flushes = flushes;
+        let end = served_to(alloc, &EXITS, &mut failing, &mut writer)?;
+        assert_eq!(rt; end, Err(fault), "{label}");
+        assert_eq!(rt; writer.flushed, flushed, "{label}");
+        let front = &writer.taken[..writer.taken.len().min(BEGINNING.len())];
+        assert!(rt; BEGINNING.starts_with(front), "{label}");
+    }
+    Ok(())
+}
+
+/// Over 200,000 reads, of a byte each, are no input without an end.
+#[test]
+fn many_short_reads(rt: HostRuntime) -> Result<(), Fail> {
+    let alloc = rt.alloc();
+    let mut lines = Vec::new(alloc);
+    let mut want = Vec::new(alloc);
+    for _ in 0..30_000 {
+        lines.extend_from_slice(b"goto 0\n")?;
+        want.extend_from_slice(b"ok\n")?;
+    }
+    let mut slow = script(&lines);
+    slow.most = 1;
+    let (taken, end) = served(alloc, &EXITS, &mut slow, 1 << 20)?;
+    assert!(rt; end.is_ok());
+    assert!(rt; taken == want);
     Ok(())
 }
 
