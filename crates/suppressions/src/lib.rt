@@ -17,8 +17,9 @@
 //! | [`Parts::new`], [`Parts::next`], [`Parts::fork`] | the parts of a text, as words between spaces |
 //!
 //! [`Target`] is an error's or a leak's kind, [`SuppFault`] a refusal. `matches`, `is_suppressed`, `is_on` and `switch` take no
-//! memory and always answer. A walk over a pattern goes back to its last star alone, and frame lines lead from a set of places to
-//! the next: the time is a pattern's length times a name's, whatever the number of stars.
+//! memory and always answer, for any number of names. One walk fits the bytes of a name to a pattern and the names of a trace to
+//! frame lines, where `...` is the star. It goes back to the last star alone: the time is the length of the pattern times that of
+//! what it is fitted to, whatever the number of stars.
 //!
 //! # What a caller relies on
 //!
@@ -38,7 +39,7 @@
 //! - `Subjects`, `Rules`: which kinds a suppression is for, and what it matches.
 //! - `Words`, `Added`: the words of a suppression, and those of a session's command.
 //! - `Lines`, `Blocks`, `Texts`: the lines of a text that count, one block, and the whole text with its faults.
-//! - `Parts` and `Places` are for this crate's proofs.
+//! - `Parts` is for this crate's proofs.
 //!
 //! Each relation stands beside a function that says the same: the relation to be read, the function for filters.
 //!
@@ -54,7 +55,7 @@ mod leak_kinds;
 mod lines;
 mod parsing;
 mod parts;
-mod places;
+mod pieces;
 mod subject;
 mod suppression;
 mod target;
@@ -62,7 +63,6 @@ mod text;
 mod words;
 
 pub use fault::SuppFault;
-pub use frames::TRACE_LIMIT;
 pub use leak_kinds::LeakKinds;
 pub use lines::TEXT_LIMIT;
 pub use parsing::parse;
