@@ -1,5 +1,5 @@
 -- A suppression text: blocks, and what stands outside of them (Valgrind user manual, section 2.5).
-use Rattle.std.specs.Prelude.{◌≤◌, ℕ, Bool, true, false, List, [], ◌∷◌, Option, Some, None, if◌then◌else◌, All, Contains}
+use Rattle.std.specs.Prelude.{◌≡◌, ◌≤◌, ℕ, Bool, true, IsTrue, false, List, [], ◌∷◌, Option, Some, None, if◌then◌else◌, All, Contains}
 use Rattle.std.specs.List.{flat_map}
 use Rattle.suppressions.specs.Lines.{Line, lines_of, opens, closes}
 use Rattle.suppressions.specs.Rules.{Rule}
@@ -63,3 +63,12 @@ rules text = rules_in (lines_of text)
 -- the least of some numbers
 abbrev pub IsLeast : ℕ → List ℕ → Type 0
 IsLeast n ns = Contains ns n × All (λ m. n ≤ m) ns
+
+-- the lines begin with a block that has an end
+abbrev pub BeginsWithBlock : List Line → Type 0
+BeginsWithBlock [] = ⊥
+BeginsWithBlock (line ∷ lines) = (close : ℕ) × IsTrue (opens line) × (closing lines ≡ Some close)
+
+-- a text of which something has to be kept
+unfoldable pub NeedsMemory : List ℕ → Type 0
+NeedsMemory text = BeginsWithBlock (lines_of text)
