@@ -25,7 +25,8 @@
 //!
 //! A suppression is seen as a `Rule` (`specs/Rules.antt`): what it is for, its frame lines, its switch.
 //!
-//! - [`parse`]: the suppressions are `rules` of the text, where it has no `faults`; a refusal names the least of these.
+//! - [`parse`]: the suppressions are `rules` of the text, where it has no `faults`; a refusal names the least of these. Want of
+//!   memory is answered only where the text `NeedsMemory`, something of it being kept before its first fault.
 //! - [`Suppression::from_words`]: `added` of the words, if they are a suppression's, and else a refusal.
 //! - [`Suppression::matches`]: the function `matches`, which holds just where the relation `Matches` does: the kind is one that the
 //!   suppression is for, and some frames at the front of the trace fit the frame lines one by one.
