@@ -2,9 +2,9 @@
 ghost use Rattle.std.specs.Prelude.{◌≤◌, length};
 
 use error_events::{Fault3, Kind, LeakKind, Parameter};
-use std::alloc::Global;
+use std::alloc::{AllocError, Global};
 use std::process::Abort;
-use suppressions::{SuppFault, Suppression, TEXT_LIMIT, TRACE_LIMIT, Target, is_suppressed, parse};
+use suppressions::{SuppFault, Suppression, TEXT_LIMIT, Target, is_suppressed, parse};
 
 /// Asserts that a text has so many suppressions.
 fn reads(rt: &impl Abort, alloc: Global, text: &[u8], count: usize)
@@ -34,9 +34,7 @@ fn added(
     target: Target,
     names: &[&[u8]],
     wanted: bool,
-)
-    requires { length names.now ≤ TRACE_LIMIT }
-{
+) {
     match Suppression::from_words(alloc, words) {
         Ok(suppression) => {
             assert!(rt; suppression.is_on());
@@ -128,6 +126,46 @@ fn added_by_words(rt: HostRuntime) {
         &names,
         false,
     );
+}
+
+/// The names of a deep recursion: `max`, so many times `walk`, and `main`.
+fn recursion(alloc: Global, depth: usize) -> Result<Vec<&'static [u8]>, AllocError> {
+    let mut names: Vec<&'static [u8]> = Vec::new(alloc);
+    names.push(b"max")?;
+    for _ in 0..depth {
+        names.push(b"walk")?;
+    }
+    names.push(b"main")?;
+    Ok(names)
+}
+
+#[test]
+fn frame_lines_on_200_names(rt: HostRuntime) {
+    let alloc = rt.alloc();
+    let cond = Target::Error(Kind::Cond);
+    match recursion(alloc, 198) {
+        Ok(names) => {
+            assert_eq!(rt; names.len(), 200);
+            added(&rt, alloc, b"Cond fun:max ... fun:ma?n", cond, &names, true);
+            added(
+                &rt,
+                alloc,
+                b"Cond fun:max ... fun:main obj:*",
+                cond,
+                &names,
+                false,
+            );
+            added(
+                &rt,
+                alloc,
+                b"Cond ... fun:walk ... fun:max",
+                cond,
+                &names,
+                false,
+            );
+        }
+        Err(_) => assert!(rt; false),
+    }
 }
 
 #[test]

@@ -1,5 +1,5 @@
 //! Which errors are shown, and their groups.
-ghost use Rattle.std.specs.Prelude.{◌≡◌, ◌<◌, ◌≤◌, IfOk, Some, length, map, not};
+ghost use Rattle.std.specs.Prelude.{◌≡◌, ◌<◌, IfOk, Some, map, not};
 ghost use Rattle.error_events.specs.declared.event.Group.{Group};
 ghost use Rattle.error_events.specs.Shown.{groups_of};
 ghost use Rattle.guest_machine.specs.State.{State};

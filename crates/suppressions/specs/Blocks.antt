@@ -1,6 +1,6 @@
 -- One block of a suppression text: the lines between `{` and `}` (Valgrind user manual, section 2.5; Memcheck manual, section 4.4,
 -- for the lines that Param and Leak take).
-use Rattle.std.specs.Prelude.{◌≡◌, ℕ, ◌==◌, ◌+◌, Bool, true, nat_eq, List, [], ◌∷◌, take, drop, Option, Some, None, is_some, position, Result, MatchResult, if◌then◌else◌, codes}
+use Rattle.std.specs.Prelude.{◌≡◌, ℕ, ◌==◌, ◌+◌, ◌⊎◌, Bool, true, false, IsTrue, nat_eq, List, [], ◌∷◌, take, drop, Option, Some, None, is_some, position, Result, MatchResult, if◌then◌else◌, codes}
 use Rattle.std.specs.List.{starts_with, list_any, filter_map}
 use Rattle.std.specs.Str.{bytes_eq}
 use Rattle.suppressions.specs.declared.fault.SuppFault.{SuppFault}
@@ -14,9 +14,11 @@ use Rattle.suppressions.specs.Parts.{parts}
 use Rattle.suppressions.specs.Rules.{Rule}
 use Rattle.suppressions.specs.Words.{frame_of, plain_subject, leak_kinds, each_kind}
 
--- what a block is read as: the numbers of the lines at fault, and the suppression, which counts if there are none
+-- what a block is read as: the numbers of the lines at fault, whether a parameter or a frame line stands before the first of them,
+-- and the suppression, which counts if there are none
 pub record Reading : Type 0 where
   pub faults : List ℕ
+  pub kept : Bool
   pub rule : Rule
 
 -- a suppression that matches nothing
@@ -25,11 +27,11 @@ nothing = record { subject = Nothing; frames = []; on = true }
 
 -- a block whose lines aren't looked at
 abbrev pub skipped : Reading
-skipped = record { faults = []; rule = nothing }
+skipped = record { faults = []; kept = false; rule = nothing }
 
 -- a block that can't be read from some line on
 abbrev pub fault_at : ℕ → Reading
-fault_at number = record { faults = number ∷ []; rule = nothing }
+fault_at number = record { faults = number ∷ []; kept = false; rule = nothing }
 
 -- a line that is no frame line is at fault
 abbrev pub frame_fault : Line → Option ℕ
@@ -41,17 +43,23 @@ frame_faults lines = filter_map frame_fault lines
 abbrev pub frame_lines : List Line → List Frame
 frame_lines lines = filter_map (λ line. frame_of line.text) lines
 
+-- does a frame line stand first?
+abbrev pub begins_framed : List Line → Bool
+begins_framed [] = false
+begins_framed (line ∷ lines) = is_some (frame_of line.text)
+
 -- a subject and frame lines
 unfoldable pub framed_block : Subject → List Line → Reading
 framed_block subject lines = record {
   faults = frame_faults lines;
+  kept = begins_framed lines;
   rule = record { subject = subject; frames = frame_lines lines; on = true };
 }
 
 -- the parameter, and frame lines
 abbrev pub parameter_block : List Line → ℕ → Reading
 parameter_block [] close = fault_at close
-parameter_block (line ∷ lines) close = framed_block (Parameter line.text) lines
+parameter_block (line ∷ lines) close = record (framed_block (Parameter line.text) lines) { kept = true }
 
 abbrev pub without_spaces : List ℕ → List ℕ
 without_spaces [] = []
@@ -59,7 +67,7 @@ without_spaces (b ∷ bs) = if b == 32 then without_spaces bs else b ∷ bs
 
 -- a list of leak kinds, where it is one, and frame lines
 abbrev pub listed_block : ℕ → Option LeakKinds → List Line → Reading
-listed_block number None lines = record { faults = number ∷ frame_faults lines; rule = nothing }
+listed_block number None lines = record { faults = number ∷ frame_faults lines; kept = false; rule = nothing }
 listed_block number (Some kinds) lines = framed_block (Leak kinds) lines
 
 -- the leak kinds, if they are given, and frame lines
@@ -104,6 +112,15 @@ abbrev pub IsFirstFault : List ℕ → SuppFault → Type 0
 IsFirstFault faults Memory = Unit {0}
 IsFirstFault faults (BadSuppression number) = (more : List ℕ) × (faults ≡ number ∷ more)
 
--- a result is a reading's: its suppression where it has no fault, and else its first fault
+-- a block's refusal names its first fault; or memory was wanting for what stands before that
+abbrev pub Refuses : Reading → SuppFault → Type 0
+Refuses reading Memory = IsTrue reading.kept
+Refuses reading (BadSuppression number) = IsFirstFault reading.faults (BadSuppression number)
+
+-- a result is a reading's: its suppression where it has no fault, and else a refusal
 abbrev pub Reads : Reading → Result Rule SuppFault → Type 0
-Reads reading result = MatchResult result (λ rule. (reading.faults ≡ []) × (reading.rule ≡ rule)) (IsFirstFault reading.faults)
+Reads reading result = MatchResult result (λ rule. (reading.faults ≡ []) × (reading.rule ≡ rule)) (Refuses reading)
+
+-- something of a block is kept: all of it, where it has no fault, or what stands before its first one
+abbrev pub KeepsSome : Reading → Type 0
+KeepsSome reading = (reading.faults ≡ []) ⊎ IsTrue reading.kept

@@ -1,9 +1,9 @@
 -- A suppression text: blocks, and what stands outside of them (Valgrind user manual, section 2.5).
-use Rattle.std.specs.Prelude.{◌≤◌, ℕ, Bool, true, false, List, [], ◌∷◌, Option, Some, None, if◌then◌else◌, All, Contains}
+use Rattle.std.specs.Prelude.{◌≡◌, ◌≤◌, ℕ, Bool, true, IsTrue, false, List, [], ◌∷◌, Option, Some, None, if◌then◌else◌, All, Contains}
 use Rattle.std.specs.List.{flat_map}
 use Rattle.suppressions.specs.Lines.{Line, lines_of, opens, closes}
 use Rattle.suppressions.specs.Rules.{Rule}
-use Rattle.suppressions.specs.Blocks.{block}
+use Rattle.suppressions.specs.Blocks.{block, KeepsSome}
 
 -- a block's lines, up to the next line `}`
 abbrev pub body : List Line → List Line
@@ -63,3 +63,12 @@ rules text = rules_in (lines_of text)
 -- the least of some numbers
 abbrev pub IsLeast : ℕ → List ℕ → Type 0
 IsLeast n ns = Contains ns n × All (λ m. n ≤ m) ns
+
+-- of the first part of the lines something is kept: it is a block with an end
+abbrev pub KeepsFirst : List Line → Type 0
+KeepsFirst [] = ⊥
+KeepsFirst (line ∷ lines) = (close : ℕ) × IsTrue (opens line) × (closing lines ≡ Some close) × KeepsSome (block (body lines) close)
+
+-- a text of which something is kept before its first fault
+unfoldable pub NeedsMemory : List ℕ → Type 0
+NeedsMemory text = KeepsFirst (lines_of text)

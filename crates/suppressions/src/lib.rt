@@ -17,14 +17,16 @@
 //! | [`Parts::new`], [`Parts::next`], [`Parts::fork`] | the parts of a text, as words between spaces |
 //!
 //! [`Target`] is an error's or a leak's kind, [`SuppFault`] a refusal. `matches`, `is_suppressed`, `is_on` and `switch` take no
-//! memory and always answer. A walk over a pattern goes back to its last star alone, and frame lines lead from a set of places to
-//! the next: the time is a pattern's length times a name's, whatever the number of stars.
+//! memory and always answer, for any number of names. One walk fits the bytes of a name to a pattern and the names of a trace to
+//! frame lines, where `...` is the star. It goes back to the last star alone: the time is the length of the pattern times that of
+//! what it is fitted to, whatever the number of stars.
 //!
 //! # What a caller relies on
 //!
 //! A suppression is seen as a `Rule` (`specs/Rules.antt`): what it is for, its frame lines, its switch.
 //!
-//! - [`parse`]: the suppressions are `rules` of the text, where it has no `faults`; a refusal names the least of these.
+//! - [`parse`]: the suppressions are `rules` of the text, where it has no `faults`; a refusal names the least of these. Want of
+//!   memory is answered only where the text `NeedsMemory`, something of it being kept before its first fault.
 //! - [`Suppression::from_words`]: `added` of the words, if they are a suppression's, and else a refusal.
 //! - [`Suppression::matches`]: the function `matches`, which holds just where the relation `Matches` does: the kind is one that the
 //!   suppression is for, and some frames at the front of the trace fit the frame lines one by one.
@@ -38,7 +40,7 @@
 //! - `Subjects`, `Rules`: which kinds a suppression is for, and what it matches.
 //! - `Words`, `Added`: the words of a suppression, and those of a session's command.
 //! - `Lines`, `Blocks`, `Texts`: the lines of a text that count, one block, and the whole text with its faults.
-//! - `Parts` and `Places` are for this crate's proofs.
+//! - `Parts` is for this crate's proofs.
 //!
 //! Each relation stands beside a function that says the same: the relation to be read, the function for filters.
 //!
@@ -54,7 +56,7 @@ mod leak_kinds;
 mod lines;
 mod parsing;
 mod parts;
-mod places;
+mod pieces;
 mod subject;
 mod suppression;
 mod target;
@@ -62,7 +64,6 @@ mod text;
 mod words;
 
 pub use fault::SuppFault;
-pub use frames::TRACE_LIMIT;
 pub use leak_kinds::LeakKinds;
 pub use lines::TEXT_LIMIT;
 pub use parsing::parse;

@@ -1,7 +1,7 @@
 //! A suppression text.
 ghost use Rattle.std.specs.Prelude.{◌≡◌, ◌≤◌, ℕ, [], IfOk, MatchResult, length};
 ghost use Rattle.suppressions.specs.Blocks.{IsFirstFault};
-ghost use Rattle.suppressions.specs.Texts.{faults_in, rules_in, faults, rules, IsLeast};
+ghost use Rattle.suppressions.specs.Texts.{KeepsFirst, NeedsMemory, faults_in, rules_in, faults, rules, IsLeast};
 
 use crate::blocks::{Body, block};
 use crate::fault::SuppFault;
@@ -14,7 +14,8 @@ const OPEN: &[u8] = b"{";
 
 /// The suppressions of some lines, or the first line at fault.
 fn read_lines(alloc: Global, mut lines: Lines<'_>) -> Result<Vec<Suppression>, SuppFault>
-    ensures { MatchResult result (λ list. (faults_in lines.entry ≡ []) × (list.items ≡ rules_in lines.entry)) (IsFirstFault (faults_in lines.entry)) }
+    ensures read { MatchResult result (λ list. (faults_in lines.entry ≡ []) × (list.items ≡ rules_in lines.entry)) (IsFirstFault (faults_in lines.entry)) }
+    ensures memory { result ≡ Err SuppFault.Memory → KeepsFirst lines.entry }
 {
     let mut list = Vec::new(alloc);
     while let Some(open) = lines.next() {
@@ -32,12 +33,14 @@ fn read_lines(alloc: Global, mut lines: Lines<'_>) -> Result<Vec<Suppression>, S
 }
 
 /// The suppressions of a text of at most [`TEXT_LIMIT`] bytes, each switched on, in order; or the least number of a line at fault, the
-/// first being 1. Where memory fails, that may be answered in place of a fault. The text's form is that of Valgrind's suppression
-/// files (user manual, section 2.5).
+/// first being 1. Where memory fails, that may be answered in place of a fault, but not of one that comes before all that is kept:
+/// before the first block's end, where it has none, and before its parameter or its first frame line. The text's form is that of
+/// Valgrind's suppression files (user manual, section 2.5).
 pub fn parse(alloc: Global, text: &[u8]) -> Result<Vec<Suppression>, SuppFault>
     requires { length text.now ≤ TEXT_LIMIT }
     ensures read { IfOk result (λ list. (faults text.now ≡ []) × (list.items ≡ rules text.now)) }
     ensures refused { (line : ℕ) → result ≡ Err (SuppFault.BadSuppression line) → IsLeast line (faults text.now) }
+    ensures memory { result ≡ Err SuppFault.Memory → NeedsMemory text.now }
 {
     read_lines(alloc, Lines::new(text))
 }

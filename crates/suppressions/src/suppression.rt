@@ -1,10 +1,10 @@
-ghost use Rattle.std.specs.Prelude.{◌≡◌, ◌≤◌, ◌↔◌, IsTrue, length, map};
+ghost use Rattle.std.specs.Prelude.{◌≡◌, ◌↔◌, IsTrue, map};
 ghost use Rattle.suppressions.specs.Rules.{IsSuppressed, Matches, is_suppressed, matches};
 ghost use Rattle.suppressions.specs.Added.{Gives, added};
 
 use crate::adding;
 use crate::fault::SuppFault;
-use crate::frames::{Frame, TRACE_LIMIT, matches_trace};
+use crate::frames::{Frame, matches_trace};
 use crate::subject::Subject;
 use crate::target::Target;
 use std::alloc::Global;
@@ -37,7 +37,6 @@ impl Suppression {
 
     /// Whether it matches an error or a leak with a trace, given by the names of its frames; whatever its switch.
     pub fn matches(&self, target: &Target, names: &[&[u8]]) -> bool
-        requires { length names.now ≤ TRACE_LIMIT }
         ensures value { result ≡ matches self.now target.now (map (λ name. name.now) names.now) }
         ensures meaning { IsTrue result ↔ Matches self.now target.now (map (λ name. name.now) names.now) }
     {
@@ -62,7 +61,6 @@ impl Suppression {
 /// Whether an error or a leak with a trace, given by the names of its frames, is left out of a report: some suppression that is
 /// switched on matches it.
 pub fn is_suppressed(suppressions: &[Suppression], target: &Target, names: &[&[u8]]) -> bool
-    requires { length names.now ≤ TRACE_LIMIT }
     ensures value { result ≡ is_suppressed suppressions.now target.now (map (λ name. name.now) names.now) }
     ensures meaning { IsTrue result ↔ IsSuppressed suppressions.now target.now (map (λ name. name.now) names.now) }
 {
