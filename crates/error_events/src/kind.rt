@@ -18,7 +18,7 @@ pub enum Kind {
     Read(u8),
     /// A write, of so many bytes, of which one may not be accessed.
     Write(u8),
-    /// A use of undefined bits as an address.
+    /// A use of undefined bits as an address, or an instruction word that has an undefined bit.
     Value,
     /// A conditional jump that depends on undefined bits.
     Cond,

@@ -1,6 +1,6 @@
 -- An ELF32 file as a list of bytes: its fields, the reasons to refuse it, and what it loads.
 -- Sources: System V ABI, edition 4.1, chapters 4 and 5 (ELF-32 object file format); RISC-V ELF psABI 1.0 (e_machine).
-use Rattle.std.specs.Prelude.{◌≡◌, ℕ, ◌+◌, ◌-◌, ◌*◌, ◌^◌, ◌<◌, ◌≤◌, min, max, Bool, false, not, ◌&&◌, ◌||◌, ◌==◌, nat_eq, nat_lt, if◌then◌else◌, List, [], ◌∷◌, length, map, filter, sum_by, Option, Some, None}
+use Rattle.std.specs.Prelude.{◌≡◌, ℕ, ◌+◌, ◌-◌, ◌*◌, ◌^◌, ◌<◌, ◌≤◌, min, max, Bool, false, not, ◌&&◌, ◌||◌, ◌==◌, nat_eq, nat_lt, if◌then◌else◌, List, [], ◌∷◌, length, take, drop, map, filter, sum_by, Option, Some, None}
 use Rattle.std.specs.List.{list_any, range_with_len, starts_with}
 use Rattle.std.specs.Option.{option_or}
 use Rattle.guest_elf.specs.declared.fault.ElfFault.{ElfFault}
@@ -8,9 +8,10 @@ use Rattle.guest_elf.specs.declared.fault.ElfFault.TheVariants.{NotElf, NotClass
 use Rattle.guest_elf.specs.declared.image.Image.{Image}
 use Rattle.guest_elf.specs.declared.program.ProgramHeader.{ProgramHeader}
 use Rattle.guest_elf.specs.Fields.{byte_at, half_at, word_at}
-use Rattle.guest_elf.specs.Images.{loaded_at, entry_of, name_at}
+use Rattle.guest_elf.specs.Images.{contents_of, loaded_at, entry_of, name_at}
 use Rattle.guest_elf.specs.Names.{name_by, nearest}
 use Rattle.guest_elf.specs.Sections.{has_bad_section_table, is_bad_table, naming_in, strings_of, symbol_table}
+use Rattle.guest_elf.specs.Segments.{SegmentContent}
 
 -- e_entry: the address of the first instruction
 abbrev pub entry_in : List ℕ → ℕ
@@ -168,6 +169,18 @@ late_refusal file =
 unfoldable pub refusal : List ℕ → Option ElfFault
 refusal file = option_or (early_refusal file) (late_refusal file)
 
+-- the bytes of a program header in the file: p_filesz of them from p_offset on
+abbrev pub bytes_in : List ℕ → ProgramHeader → List ℕ
+bytes_in file header = take header.filesz (drop header.offset file)
+
+-- the segment of a program header: its bytes from the file at p_vaddr, and zeros after them up to p_memsz
+unfoldable pub content_in : List ℕ → ProgramHeader → SegmentContent
+content_in file header = record { vaddr = header.vaddr; memsz = header.memsz; bytes = bytes_in file header }
+
+-- the segments of the file: one for each loaded program header, in the order of the table
+unfoldable pub contents_in : List ℕ → List SegmentContent
+contents_in file = map (content_in file) (loads_of file)
+
 -- the byte that a program header loads at an address: the file's up to p_filesz, 0 from there up to p_memsz
 unfoldable pub loaded_from : List ℕ → ProgramHeader → ℕ → Option ℕ
 loaded_from file header address =
@@ -204,10 +217,11 @@ unfoldable pub name_in : List ℕ → ℕ → List ℕ
 name_in file address =
     name_by (strings_of file (symbol_table file)) address (nearest (naming_in file (symbol_table file)) address)
 
--- the image is the file's: it is not refused, and the image loads what the file does, begins where it does and
--- names what it does
+-- the image is the file's: it is not refused, and the image has its segments in its order, loads what the file
+-- does, begins where it does and names what it does
 pub record IsImageOf (file : List ℕ) (image : Image) : Type 0 where
   pub accepted : refusal file ≡ None
+  pub segments : contents_of image ≡ contents_in file
   pub loads : (address : ℕ) → loaded_at image address ≡ loaded_in file address
   pub entry : entry_of image ≡ entry_in file
   pub names : (address : ℕ) → name_at image address ≡ name_in file address

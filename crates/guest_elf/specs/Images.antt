@@ -1,13 +1,17 @@
 -- What callers see of an image.
-use Rattle.std.specs.Prelude.{ℕ, List, Option}
+use Rattle.std.specs.Prelude.{ℕ, List, map, Option}
 use Rattle.guest_elf.specs.Names.{named_by}
-use Rattle.guest_elf.specs.Segments.{loaded}
+use Rattle.guest_elf.specs.Segments.{SegmentContent, content_of, loaded}
 use Rattle.guest_elf.specs.declared.image.Image.{Image}
 use Rattle.guest_elf.specs.declared.segment.Segment.{Segment}
 
 -- the loaded segments, in the order of the program headers
 unfoldable pub segments_of : Image → List Segment
 segments_of image = image.segments.items
+
+-- what a caller sees of them
+unfoldable pub contents_of : Image → List SegmentContent
+contents_of image = map content_of (segments_of image)
 
 -- the address of the first instruction (ELF header, e_entry)
 unfoldable pub entry_of : Image → ℕ

@@ -3,6 +3,15 @@ use Rattle.std.specs.Prelude.{ℕ, Bool, ◌+◌, ◌-◌, ◌^◌, ◌≤◌, �
 use Rattle.std.specs.Option.{option_or}
 use Rattle.guest_elf.specs.declared.segment.Segment.{Segment}
 
+-- what a segment is to a caller: its first address, its number of bytes in memory, and its bytes from the file
+pub record SegmentContent : Type 0 where
+  pub vaddr : ℕ
+  pub memsz : ℕ
+  pub bytes : List ℕ
+
+unfoldable pub content_of : Segment → SegmentContent
+content_of segment = record { vaddr = segment.vaddr; memsz = segment.memsz; bytes = segment.bytes.now }
+
 -- an address is among those of a segment
 abbrev pub has_address : Segment → ℕ → Bool
 has_address segment address = nat_le segment.vaddr address && nat_lt address (segment.vaddr + segment.memsz)

@@ -32,7 +32,7 @@ pub enum ElfFault {
     NotRiscV,
     /// e_phnum is PN_XNUM; or there are program headers and e_phentsize is not 32 or their table ends past
     /// the file; or there are sections and e_shentsize is not 40 or their table ends past the file.
-    #[error("bad program header table")]
+    #[error("bad table of program or section headers")]
     BadTable,
     /// A program header of type PT_INTERP.
     #[error("the file asks for an interpreter")]

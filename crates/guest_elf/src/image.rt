@@ -52,10 +52,10 @@ impl<'a> Image<'a> {
         self.entry
     }
 
-    /// The name of the function at an address, a slice of the file; `???` where no symbol names one. Takes
-    /// no memory.
+    /// The name of the function at an address, a slice of the file; `???` where no symbol names one. It may
+    /// outlive the image. Takes no memory.
     #[tactic(auto, unfolding(crate::specs::Images::name_at))]
-    pub fn name_of(&self, addr: u32) -> &[u8]
+    pub fn name_of(&self, addr: u32) -> &'a [u8]
         ensures { result.now ≡ name_at self.now addr }
     {
         self.names.name_of(addr)

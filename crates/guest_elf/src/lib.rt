@@ -29,16 +29,17 @@
 //! and a name by two binary searches among symbols that `read` sorted once.
 //!
 //! The layer above uses one contract, that of [`read`]: an image is the file's (`IsImageOf`), which says
-//! that the file is not refused, that at each address the image loads what the file does and has the
-//! file's name, and that it begins at e_entry; an error but `Memory` is the file's refusal, and a refusal
-//! from 20 to 28 is answered whatever memory there is. What callers see of an image are the words
-//! `segments_of`, `entry_of`, `loaded_at` and `name_at`.
+//! that the file is not refused, that the image's segments are those of the loadable program headers in the
+//! order of their table, that at each address it loads what the file does and has the file's name, and that
+//! it begins at e_entry; an error but `Memory` is the file's refusal, and a refusal from 20 to 28 is answered
+//! whatever memory there is. What callers see of an image are the words `segments_of`, `contents_of`,
+//! `entry_of`, `loaded_at` and `name_at`.
 //!
 //! Where the definitions stand, in `specs/`:
 //!
 //! - `Fields`: a number in the file, which is a list of bytes.
 //! - `File`: each reason to refuse it (`is_not_elf` to `has_bad_symbols`), the first of them (`refusal`), and
-//!   what the file loads and names (`loaded_in`, `entry_in`, `name_in`).
+//!   what the file loads and names (`contents_in`, `loaded_in`, `entry_in`, `name_in`).
 //! - `Sections`: the section headers, the symbol table, its symbols and their names.
 //! - `Names`: the symbol that is nearest to an address, and the name by it (`nearest`, `name_by`).
 //! - `Images` and `Segments`: what an image loads and names, and a list of segments (`loaded`).

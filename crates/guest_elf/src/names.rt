@@ -47,7 +47,7 @@ impl<'a> FunctionNames<'a> {
 
     /// The name of the function at an address.
     #[tactic(auto, unfolding(crate::specs::Names::named_by, crate::specs::Names::name_by))]
-    pub(crate) fn name_of(&self, addr: u32) -> &[u8]
+    pub(crate) fn name_of(&self, addr: u32) -> &'a [u8]
         ensures { result.now ≡ named_by self.now addr }
     {
         match nearest(&self.symbols, addr) {

@@ -1,9 +1,8 @@
 //! From a file's bytes to an image.
-ghost use Rattle.std.specs.Prelude.{◌≡◌, ℕ, ◌+◌, ◌<◌, ◌⊎◌, false, length, slice_index, IfOk, IfErr, IfNone};
-ghost use Rattle.guest_elf.specs.Fields.{byte_at};
-ghost use Rattle.guest_elf.specs.File.{early_refusal, late_refusal, refusal, is_bad_segment, first_loaded, loads_of, loaded_from, HasHeader, HasTable, HasSegments, IsImageOf};
+ghost use Rattle.std.specs.Prelude.{◌≡◌, ℕ, ◌⊎◌, false, length, map, IfOk, IfErr, IfNone};
+ghost use Rattle.guest_elf.specs.File.{early_refusal, late_refusal, refusal, is_bad_segment, bytes_in, content_in, contents_in, first_loaded, loads_of, HasHeader, HasTable, HasSegments, IsImageOf};
 ghost use Rattle.guest_elf.specs.Sections.{symbol_table, HasNames, HasSections};
-ghost use Rattle.guest_elf.specs.Segments.{loaded, loaded_by};
+ghost use Rattle.guest_elf.specs.Segments.{content_of, loaded};
 ghost use Rattle.guest_elf.specs.declared.fault.ElfFault.{ElfFault};
 
 use crate::fault::ElfFault;
@@ -78,9 +77,7 @@ fn late_refusal(alloc: Global, file: &[u8]) -> Result<Option<ElfFault>, AllocErr
 /// The bytes in the file of a program header that is not bad. Without any, p_offset may be anywhere.
 fn bytes_of(file: &[u8], header: ProgramHeader) -> &[u8]
     requires { is_bad_segment (length file.now) header ≡ false }
-    ensures count { length result.now ≡ header.filesz }
-    ensures each { (i : ℕ) → i < header.filesz →
-        slice_index result.now i ≡ byte_at file.now (header.offset + i) }
+    ensures { result.now ≡ bytes_in file.now header }
 {
     if header.filesz == 0 {
         return &[];
@@ -90,9 +87,10 @@ fn bytes_of(file: &[u8], header: ProgramHeader) -> &[u8]
 }
 
 /// The segment of a program header that is not bad.
+#[tactic(auto, unfolding(crate::specs::File::content_in, crate::specs::Segments::content_of))]
 fn segment_of<'a>(file: &'a [u8], header: ProgramHeader) -> Segment<'a>
     requires { is_bad_segment (length file.now) header ≡ false }
-    ensures { (address : ℕ) → loaded_by result address ≡ loaded_from file.now header address }
+    ensures { content_of result ≡ content_in file.now header }
 {
     Segment {
         vaddr: header.vaddr,
@@ -105,7 +103,8 @@ fn segment_of<'a>(file: &'a [u8], header: ProgramHeader) -> Segment<'a>
 fn segments_of<'a>(alloc: Global, file: &'a [u8]) -> Result<Vec<Segment<'a>>, AllocError>
     requires table { HasTable file.now }
     requires good { HasSegments file.now }
-    ensures { IfOk result (λ segments. (address : ℕ) →
+    ensures contents { IfOk result (λ segments. map content_of segments.items ≡ contents_in file.now) }
+    ensures loads { IfOk result (λ segments. (address : ℕ) →
         loaded segments.items address ≡ first_loaded file.now (loads_of file.now) address) }
 {
     let mut segments = Vec::new(alloc);

@@ -43,14 +43,14 @@ impl Heap {
     ghost use Rattle.guest_heap.specs.Steps.{AreInRegion, AreApart};
 
     /// A heap with no blocks, which takes no memory.
-    pub fn new(alloc: Global) -> Result<Heap, AllocError>
-        ensures { IfOk result (λ heap. blocks_of heap ≡ no_blocks) }
+    pub fn new(alloc: Global) -> Heap
+        ensures { blocks_of result ≡ no_blocks }
     {
         let live = Table::new(alloc);
         let freed = Table::new(alloc);
         let queue = Queue::new(alloc);
         let bounds = Bounds::new(alloc);
-        Ok(Heap {
+        Heap {
             live,
             freed,
             queue,
@@ -59,7 +59,7 @@ impl Heap {
             held: 0,
             redzone: 0,
             bounds,
-        })
+        }
     }
 
     /// A heap that holds the same. Changes of one of the two don't reach the other. It takes memory for references, and none for blocks.

@@ -17,7 +17,7 @@
 //! | [`Heap::in_region`], [`Heap::apart`] | nothing: their contracts say what the laws ask of a heap's blocks |
 //! | [`laws`] | nothing: their contracts say what the functions of the definitions mean |
 //!
-//! `new`, `allocate`, `release` and `share` take memory; where there is none a heap holds what it held. The other calls are total.
+//! `allocate`, `release` and `share` take memory; where there is none a heap holds what it held. The other calls are total.
 //!
 //! # What a caller relies on
 //!

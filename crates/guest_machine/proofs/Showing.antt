@@ -12,7 +12,8 @@ use Rattle.guest_machine.specs.Run.{marked, poked}
 use Rattle.error_events.specs.Adding.{add_event, add_events, GroupsGrowBy}
 use Rattle.error_events.specs.declared.event.Event.{Event}
 use Rattle.error_events.specs.declared.event.Group.{Group}
-use Rattle.guest_machine.specs.Shows.{core_of, bytes_of, touched_by, Holds, DoesStep}
+use Rattle.guest_machine.specs.Shows.{core_of, bytes_of, Holds}
+use Rattle.guest_machine.specs.Doing.{touched_by, DoesStep}
 use Rattle.shadow_memory.specs.declared.memory.Memory.{Memory}
 use Rattle.guest_machine.specs.declared.machine.Guest.{Guest}
 use Rattle.guest_machine.specs.declared.setup.Setup.{Setup}

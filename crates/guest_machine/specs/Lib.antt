@@ -14,4 +14,5 @@ pub mod Exec
 pub mod Loading
 pub mod Run
 pub mod Shows
+pub mod Doing
 pub mod Laws

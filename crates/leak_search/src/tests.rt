@@ -123,7 +123,7 @@ fn memory(alloc: Global, words: &[(u32, u32, u32)]) -> Result<Memory, AllocError
 
 /// A heap with live blocks of these sizes.
 fn heap(alloc: Global, sizes: &[u32]) -> Result<Heap, AllocError> {
-    let mut heap = Heap::new(alloc)?;
+    let mut heap = Heap::new(alloc);
     for size in sizes {
         let _place = heap.allocate(alloc, *size, Trace::of(0x10008), 0)?;
     }

@@ -40,7 +40,7 @@ const AFTER_RELEASE: [(u32, Option<u32>); 3] = [
 #[test]
 fn places_one_after_another(rt: HostRuntime) -> Result<(), Fail> {
     let trace = Trace::new(&TRACE).ok_or("no trace")?;
-    let mut heap = Heap::new(rt.alloc())?;
+    let mut heap = Heap::new(rt.alloc());
     for (size, redzone, place) in PLACES {
         assert_eq!(rt; heap.allocate(rt.alloc(), size, trace, redzone)?, place);
     }
@@ -50,7 +50,7 @@ fn places_one_after_another(rt: HostRuntime) -> Result<(), Fail> {
 #[test]
 fn frees_what_is_live(rt: HostRuntime) -> Result<(), Fail> {
     let trace = Trace::new(&TRACE).ok_or("no trace")?;
-    let mut heap = Heap::new(rt.alloc())?;
+    let mut heap = Heap::new(rt.alloc());
     assert_eq!(rt; heap.allocate(rt.alloc(), 8, trace, 16)?, Some(0x4000_0010));
     assert!(rt; is_nothing(&heap.release(rt.alloc(), 0, trace, 8)?));
     assert!(rt; is_invalid(&heap.release(rt.alloc(), 0x4000_0011, trace, 8)?));
@@ -77,7 +77,7 @@ fn forgets_beyond_the_volume(rt: HostRuntime) -> Result<(), Fail> {
 #[test]
 fn tells_what_is_near(rt: HostRuntime) -> Result<(), Fail> {
     let trace = Trace::new(&TRACE).ok_or("no trace")?;
-    let mut heap = Heap::new(rt.alloc())?;
+    let mut heap = Heap::new(rt.alloc());
     assert_eq!(rt; heap.allocate(rt.alloc(), 8, trace, 16)?, Some(0x4000_0010));
     let copy = heap.share()?;
     for (address, near) in NEAR {
@@ -94,7 +94,7 @@ fn placed_after_release(
     trace: Trace,
     volume: u32,
 ) -> Result<Option<u32>, AllocError> {
-    let mut heap = Heap::new(alloc)?;
+    let mut heap = Heap::new(alloc);
     let _placed = heap.allocate(alloc, 8, trace, 16)?;
     let start = start_of(heap.live(0)).unwrap_or(0);
     let _freed = freed_start(&heap.release(alloc, start, trace, volume)?);

@@ -125,9 +125,8 @@ fn bytes_come_and_go(rt: HostRuntime) -> Result<(), Fail> {
     assert_eq!(rt; memory.byte(0x9000), cell(b'r', true, 0));
     assert_eq!(rt; memory.byte(0x9001), cell(b's', false, 0));
     memory.poke_word(0x8FFF, 0x0403_0201)?;
-    let mut bytes = [0u8; 6];
-    memory.read_bytes(0x8FFD, &mut bytes);
-    assert_eq!(rt; bytes, [0, b'p', 1, 2, 3, 4]);
+    assert_eq!(rt; memory.byte(0x8FFE).byte, b'p');
+    assert_eq!(rt; memory.load(0x8FFF, 4).value, 0x0403_0201);
     assert_eq!(rt; memory.byte(0x9001), cell(3, false, 0));
     Ok(())
 }

@@ -2,7 +2,8 @@
 use Rattle.std.proofs.Common.{◌≡◌, ◌≢◌, ℕ, Bool, true, false, refl, ap, sym, ◌∙◌, ◌+◌, ◌≤◌, inl, inr, cond, arith}
 use Rattle.std.proofs.lemmas.Bool.{cases_Bool, cases_eq}
 use Rattle.std.proofs.lemmas.Bool.Decides.{nat_tests}
-use Rattle.shadow_memory.specs.Cells.{Agree, is_between, mark_of}
+use Rattle.shadow_memory.specs.Marks.{mark_of}
+use Rattle.shadow_memory.specs.Places.{Agree, is_between}
 use Rattle.shadow_memory.specs.Parts.{code_of, mark_by}
 use Rattle.shadow_memory.specs.declared.cells.Mark.{Mark}
 use Rattle.shadow_memory.specs.declared.cells.RangeKind.{RangeKind}

@@ -1,7 +1,8 @@
 -- The step of a copy to a range that is apart.
 use Rattle.std.proofs.Common.{◌≡◌, ℕ, false, refl, ap, ◌∙◌, ◌+◌, ◌^◌, ◌<◌, ◌≤◌, if◌then◌else◌, arith}
 use Rattle.std.proofs.lemmas.Bool.Decides.{nat_tests}
-use Rattle.shadow_memory.specs.Cells.{changed_from, shadow_in}
+use Rattle.shadow_memory.specs.Cells.{shadow_in}
+use Rattle.shadow_memory.specs.Places.{changed_from}
 use Rattle.shadow_memory.specs.Changes.{copied_cell}
 use Rattle.shadow_memory.specs.Ranges.{above, changed_in, is_in}
 use Rattle.shadow_memory.specs.Shadows.{loaded_undef}

@@ -3,7 +3,8 @@ use Rattle.std.proofs.Common.{◌≡◌, ℕ, Bool, true, false, refl, ap, ap₂
 use Rattle.std.proofs.Math.Path.{fun_ext}
 use Rattle.std.proofs.lemmas.Bool.{cases_Bool, cases_eq}
 use Rattle.std.proofs.lemmas.Bool.Decides.{nat_tests}
-use Rattle.shadow_memory.specs.Cells.{changed_from, is_between, set_at}
+use Rattle.shadow_memory.specs.Cells.{set_at}
+use Rattle.shadow_memory.specs.Places.{changed_from, is_between}
 use Rattle.shadow_memory.specs.Ranges.{above, changed_in, is_in, offset, written}
 
 is-inside : (start d n at a : ℕ) → start < 2 ^ 32 → at ≡ above start d → at + n ≤ 2 ^ 32 → d + n ≤ 2 ^ 32 → is_between at (at + n) a ≡ true → is_in start (d + n) a ≡ true

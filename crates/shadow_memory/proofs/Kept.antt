@@ -5,7 +5,7 @@ use Rattle.std.proofs.lemmas.Bool.{cases_lt}
 use Rattle.std.proofs.lemmas.Bool.Decides.{nat_tests}
 use Rattle.std.proofs.lemmas.Grind.{get_or-set_at}
 use Rattle.std.proofs.lemmas.List.{get_or-append_right, get_or-replicate, get_or-set_other, get_or_append_left, get_or_default, get_or_past, length-replicate}
-use Rattle.shadow_memory.specs.Cells.{AgreeInPage, changed_from, is_between}
+use Rattle.shadow_memory.specs.Places.{AgreeInPage, changed_from, is_between}
 use Rattle.shadow_memory.specs.Directories.{cells_at, cells_under, page_at, page_of}
 use Rattle.shadow_memory.specs.declared.cells.Cell.{Cell}
 use Rattle.shadow_memory.specs.declared.cells.RangeKind.TheVariants.{NoAccess}

@@ -1,6 +1,6 @@
 -- A load takes no more of cells than it says.
 use Rattle.std.proofs.Common.{◌≡◌, ℕ, None, refl, subst, sym, lit<, inl, inr, ◌<◌, ◌∙◌, if◌then◌else◌, nat_lt}
-use Rattle.shadow_memory.specs.Cells.{marked, mark_of}
+use Rattle.shadow_memory.specs.Marks.{marked, mark_of}
 use Rattle.shadow_memory.specs.Changes.{IsWidth}
 use Rattle.shadow_memory.specs.Loads.{loaded_at}
 use Rattle.shadow_memory.specs.Ranges.{first_from, little_word}

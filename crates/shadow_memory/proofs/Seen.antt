@@ -2,7 +2,8 @@
 use Rattle.std.proofs.Common.{◌≡◌, ℕ, Bool, true, false, refl, ap, sym, ◌∙◌, ◌==◌, ◌≢◌, ◌⊎◌, inl, inr, eq-eqb, ne_eqb, Result, Ok, Err, OnOk, OnErr, List, slice_index, rules, if◌then◌else◌}
 use Rattle.std.proofs.Math.Path.{fun_ext}
 use Rattle.std.proofs.lemmas.Bool.{cases_eq}
-use Rattle.shadow_memory.specs.Cells.{changed_from, set_at, shadow_in}
+use Rattle.shadow_memory.specs.Cells.{set_at, shadow_in}
+use Rattle.shadow_memory.specs.Places.{changed_from}
 use Rattle.shadow_memory.specs.Changes.{copied_cell, filled, ranged, received, stored, SomeFront}
 use Rattle.shadow_memory.specs.Fronts.{HasCopied, HasFilled, HasReceived, HasStored}
 use Rattle.shadow_memory.specs.Memories.{bytes_in, shadows_in, cells_of}

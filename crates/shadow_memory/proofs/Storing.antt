@@ -1,7 +1,7 @@
 -- A word stored in one page is a range of stored bytes.
 use Rattle.std.proofs.Common.{◌≡◌, ℕ, List, length, take, slice_index, ap, sym, ◌∙◌, ◌+◌, ◌%◌, ◌^◌, ◌<◌, ◌≤◌, if◌then◌else◌, arith}
 use Rattle.std.proofs.lemmas.List.{get_or-take, length-take-le}
-use Rattle.shadow_memory.specs.Cells.{changed_from}
+use Rattle.shadow_memory.specs.Places.{changed_from}
 use Rattle.shadow_memory.specs.Changes.{received, stored}
 use Rattle.shadow_memory.specs.Ranges.{above, byte_of, changed_in}
 use Rattle.shadow_memory.specs.declared.cells.Cell.{Cell}

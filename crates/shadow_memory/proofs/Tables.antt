@@ -5,7 +5,7 @@ use Rattle.std.proofs.lemmas.Bool.{cases_eq}
 use Rattle.std.proofs.lemmas.Bool.Decides.{nat_tests}
 use Rattle.std.proofs.lemmas.Grind.{get_or-set_at}
 use Rattle.std.proofs.lemmas.List.{get_or_default, get_or-set_other}
-use Rattle.shadow_memory.specs.Cells.{AgreeInDirectory, changed_from, is_between}
+use Rattle.shadow_memory.specs.Places.{AgreeInDirectory, changed_from, is_between}
 use Rattle.shadow_memory.specs.declared.cells.Cell.{Cell}
 
 choose-same : (b c : Bool) (i j : ℕ) (x y : Cell) (change : ℕ → Cell → Cell) → b ≡ c → i ≡ j → x ≡ y → cond b (change i x) x ≡ cond c (change j y) y

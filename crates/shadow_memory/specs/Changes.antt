@@ -1,6 +1,8 @@
 -- What each call of a memory makes of the cells of its range.
 use Rattle.std.specs.Prelude.{ℕ, List, length, slice_index, ◌+◌, ◌-◌, ◌<◌, ◌≡◌, ◌⊎◌, true, false, if◌then◌else◌}
-use Rattle.shadow_memory.specs.Cells.{is_between, marked, mark_of, shadow_in}
+use Rattle.shadow_memory.specs.Cells.{shadow_in}
+use Rattle.shadow_memory.specs.Marks.{marked, mark_of}
+use Rattle.shadow_memory.specs.Places.{is_between}
 use Rattle.shadow_memory.specs.Ranges.{above, byte_of, is_in}
 use Rattle.shadow_memory.specs.Shadows.{loaded_undef}
 use Rattle.shadow_memory.specs.declared.cells.Cell.{Cell}

@@ -1,6 +1,6 @@
 -- The cells of 1,024 pages in a row.
 use Rattle.std.specs.Prelude.{ℕ, List, ◌-◌, ◌/◌, ◌%◌, nat_lt, if◌then◌else◌, slice_index_or}
-use Rattle.shadow_memory.specs.Cells.{blank}
+use Rattle.shadow_memory.specs.Marks.{blank}
 use Rattle.shadow_memory.specs.Pages.{cells_in}
 use Rattle.shadow_memory.specs.declared.cells.Cell.{Cell}
 use Rattle.shadow_memory.specs.declared.cells.RangeKind.TheVariants.{NoAccess}

@@ -1,6 +1,8 @@
 -- What one change does to cells that lie one after another in a page.
 use Rattle.std.specs.Prelude.{ℕ, length, slice_index, ◌+◌, ◌<◌, ◌≤◌, ◌≡◌}
-use Rattle.shadow_memory.specs.Cells.{blank, changed_from, IsClean}
+use Rattle.shadow_memory.specs.Cells.{IsClean}
+use Rattle.shadow_memory.specs.Marks.{blank}
+use Rattle.shadow_memory.specs.Places.{changed_from}
 use Rattle.shadow_memory.specs.Changes.{filled, ranged, received}
 use Rattle.shadow_memory.specs.declared.cells.Cell.{Cell}
 use Rattle.shadow_memory.specs.declared.cells.RangeKind.{RangeKind}

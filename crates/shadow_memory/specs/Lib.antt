@@ -1,6 +1,8 @@
 pub mod Ranges
 pub mod Shadows
 pub mod Cells
+pub mod Places
+pub mod Marks
 pub mod Parts
 pub mod Firsts
 pub mod Codes

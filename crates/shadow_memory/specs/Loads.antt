@@ -1,23 +1,14 @@
 -- What a load takes of cells, which are given by their offsets.
-use Rattle.std.specs.Prelude.{ℕ, Option, Some, None, ◌+◌, ◌*◌, not, nat_lt, if◌then◌else◌}
+use Rattle.std.specs.Prelude.{ℕ, ◌==◌, not, nat_lt, if◌then◌else◌}
 use Rattle.shadow_memory.specs.Cells.{shadow_in}
-use Rattle.shadow_memory.specs.Ranges.{above, first_from, little_word}
+use Rattle.shadow_memory.specs.Ranges.{first_from, little_word}
 use Rattle.shadow_memory.specs.Shadows.{address_at, loaded_undef}
 use Rattle.shadow_memory.specs.declared.cells.Cell.{Cell}
 use Rattle.shadow_memory.specs.declared.cells.Loaded.{Loaded}
 
--- the number of four bytes, the lowest first
-abbrev pub word_of : ℕ → ℕ → ℕ → ℕ → ℕ
-word_of first second third fourth = first + 256 * second + 65536 * third + 16777216 * fourth
-
--- the undefined bits that a load takes of a cell
-abbrev pub undef_of : Cell → ℕ
-undef_of cell = loaded_undef (shadow_in cell)
-
--- the first inaccessible one of four cells from an address on
-abbrev pub inaccessible_of : ℕ → Cell → Cell → Cell → Cell → Option ℕ
-inaccessible_of addr first second third fourth =
-    if not first.accessible then Some (above addr 0) else if not second.accessible then Some (above addr 1) else if not third.accessible then Some (above addr 2) else if not fourth.accessible then Some (above addr 3) else None
+-- four values by their numbers, the last at each greater number too
+abbrev pub four : {X : Type 0} → X → X → X → X → ℕ → X
+four first second third fourth i = if i == 0 then first else if i == 1 then second else if i == 2 then third else fourth
 
 -- what a load of n bytes takes
 unfoldable pub loaded_at : (ℕ → Cell) → ℕ → ℕ → Loaded

@@ -2,7 +2,7 @@
 use Rattle.std.specs.Prelude.{ℕ, slice_index, unwrap_or}
 use Rattle.std.specs.BTreeMap.{get}
 use Rattle.std.specs.Ordering.{nat_cmp}
-use Rattle.shadow_memory.specs.Cells.{marked, mark_of}
+use Rattle.shadow_memory.specs.Marks.{marked, mark_of}
 use Rattle.shadow_memory.specs.Codes.{code_at}
 use Rattle.shadow_memory.specs.Parts.{mark_by}
 use Rattle.shadow_memory.specs.declared.cells.Cell.{Cell}

@@ -1,6 +1,6 @@
 -- The two bits of a byte of a page: four numbers below four in a byte, and what each number says.
 use Rattle.std.specs.Prelude.{ℕ, true, ◌/◌, ◌%◌, ◌==◌, if◌then◌else◌}
-use Rattle.shadow_memory.specs.Cells.{mark_of}
+use Rattle.shadow_memory.specs.Marks.{mark_of}
 use Rattle.shadow_memory.specs.declared.cells.Mark.{Mark}
 use Rattle.shadow_memory.specs.declared.cells.RangeKind.{RangeKind}
 use Rattle.shadow_memory.specs.declared.cells.RangeKind.TheVariants.{NoAccess, Undefined, Defined}

@@ -1,6 +1,6 @@
 -- What is seen of one page of a memory.
 use Rattle.std.specs.Prelude.{ℕ}
-use Rattle.shadow_memory.specs.Cells.{blank}
+use Rattle.shadow_memory.specs.Marks.{blank}
 use Rattle.shadow_memory.specs.Pages.{cells_in}
 use Rattle.shadow_memory.specs.declared.cells.Cell.{Cell}
 use Rattle.shadow_memory.specs.declared.views.View.{View}

@@ -1,6 +1,7 @@
 //! What one address holds, and what the calls of a memory take and answer.
 ghost use Rattle.std.specs.Prelude.{◌≡◌};
-ghost use Rattle.shadow_memory.specs.Cells.{blank, mark_of, marked, shadow_of_mark, IsClean, IsCleanMark};
+ghost use Rattle.shadow_memory.specs.Cells.{IsClean};
+ghost use Rattle.shadow_memory.specs.Marks.{blank, mark_of, marked, shadow_of_mark, IsCleanMark};
 ghost use Rattle.shadow_memory.specs.Shadows.{is_bad};
 
 /// The byte at an address, whether it may be accessed, and which of its bits are undefined (a set bit is undefined). An

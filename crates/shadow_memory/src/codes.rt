@@ -1,6 +1,7 @@
 //! Two bits for each byte of a page.
 ghost use Rattle.std.specs.Prelude.{◌≡◌, ℕ, ◌+◌, ◌%◌, ◌<◌, ◌≤◌, ◌==◌, if◌then◌else◌, vec_len, IfOk, IsTrue};
-ghost use Rattle.shadow_memory.specs.Cells.{defined, is_between};
+ghost use Rattle.shadow_memory.specs.Marks.{defined};
+ghost use Rattle.shadow_memory.specs.Places.{is_between};
 ghost use Rattle.shadow_memory.specs.Parts.{code_of, mark_by, part_of};
 
 use crate::cells::RangeKind;

@@ -1,6 +1,6 @@
-//! Copies within memory, and out of it.
-ghost use Rattle.std.specs.Prelude.{◌≡◌, ◌^◌, ◌<◌, OnOk, OnErr, EachIndex, length, slice_index};
-ghost use Rattle.shadow_memory.specs.Ranges.{above, changed_in, copied};
+//! Copies within memory.
+ghost use Rattle.std.specs.Prelude.{◌≡◌, OnOk, OnErr};
+ghost use Rattle.shadow_memory.specs.Ranges.{changed_in, copied};
 ghost use Rattle.shadow_memory.specs.Shadows.{copied_undef};
 ghost use Rattle.shadow_memory.specs.Changes.{copied_cell, AreApart, SomeFront};
 ghost use Rattle.shadow_memory.specs.Fronts.{HasCopied};
@@ -37,15 +37,5 @@ impl Memory {
             self.change(at, &Edit::Set(copied_from(source, target)))?;
         }
         Ok(())
-    }
-
-    /// The bytes from an address on, whatever is known of them.
-    pub fn read_bytes(&self, addr: u32, bytes: &mut [u8])
-        requires { length bytes.old < 2 ^ 32 }
-        ensures { EachIndex bytes.new (λ i. slice_index bytes.new i ≡ bytes_in self.now (above addr i)) }
-    {
-        for i in 0..bytes.len() {
-            bytes[i] = self.byte(addr.wrapping_add(i as u32)).byte;
-        }
     }
 }

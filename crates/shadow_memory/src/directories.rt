@@ -30,7 +30,8 @@ fn untouched(alloc: Global, count: usize) -> Result<Vec<PageSlot>, AllocError>
 
 #[tactic(auto, unfolding(crate::specs::Directories::cells_under, crate::specs::Directories::cells_at, crate::specs::Directories::page_at))]
 impl Directory {
-    ghost use Rattle.shadow_memory.specs.Cells.{blank, changed_from};
+    ghost use Rattle.shadow_memory.specs.Marks.{blank};
+    ghost use Rattle.shadow_memory.specs.Places.{changed_from};
     ghost use Rattle.shadow_memory.specs.Directories.{cells_under, page_at};
     ghost use Rattle.shadow_memory.specs.Views.{cells_seen};
     ghost use Rattle.shadow_memory.specs.Edits.{change_of, count_of, Fits};

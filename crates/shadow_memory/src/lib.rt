@@ -16,7 +16,6 @@
 //! | [`Memory::fill`] | makes a range defined, with these bytes and zeros after them | yes |
 //! | [`Memory::poke`], [`Memory::poke_word`] | change a byte or four; what else is known of them stays | yes |
 //! | [`Memory::store_bytes`] | stores bytes that are all defined, as input is | yes |
-//! | [`Memory::read_bytes`] | takes the bytes of a range out, as output is | no |
 //! | [`Memory::copy_with_shadow`] | copies a range, with what is known of it, to one that is apart | yes |
 //! | [`Memory::first_bad`] | the first byte of a range that is inaccessible or, where asked, not defined | no |
 //! | [`Memory::next_word`] | the next multiple of 4 whose four bytes are accessible and defined | no |
@@ -48,8 +47,8 @@
 //! - `Memories`: `bytes_in` and `shadows_in`. `Fronts` and `Changes`: what a refused call leaves, `IsWidth`, `AreApart`.
 //!   `Cells`: `shadow_in`, `set_at`, `IsClean`.
 //!
-//! For this crate's own proofs: `Edits` (one change of cells in a page), `Loads` (what a load takes of cells), `Directories`,
-//! `Pages`, `Views`, `Codes` and `Parts` (what each level of the table holds), `Firsts`.
+//! For this crate's own proofs: `Marks` (what a page keeps of a byte), `Edits` (one change of cells in a page), `Loads` (what a load
+//! takes of cells), `Directories`, `Pages`, `Views`, `Codes` and `Parts` (what each level of the table holds), `Places`, `Firsts`.
 //!
 //! # How it is kept
 //!

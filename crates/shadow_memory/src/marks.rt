@@ -2,7 +2,9 @@
 ghost use Rattle.std.specs.Prelude.{◌≡◌, ◌+◌, ◌%◌, ◌<◌, ◌≤◌, ℕ, OnOk, OnErr, IfOk, IfNone, IfSome, IsTrue, not};
 ghost use Rattle.shadow_memory.specs.Firsts.{IsFirst, NonePass};
 ghost use Rattle.shadow_memory.specs.Shadows.{holds_word, is_bad, HoldNoWord, IsNextWord};
-ghost use Rattle.shadow_memory.specs.Cells.{defined, mark_of, set_at, shadow_of_mark, is_between, IsCleanMark};
+ghost use Rattle.shadow_memory.specs.Cells.{set_at};
+ghost use Rattle.shadow_memory.specs.Marks.{defined, mark_of, shadow_of_mark, IsCleanMark};
+ghost use Rattle.shadow_memory.specs.Places.{is_between};
 
 use crate::cells::{Mark, RangeKind, is_bad_mark, mark_of_kind};
 use crate::codes::{Codes, DEFINED, NO_ACCESS, PARTLY, UNDEFINED, code_of_kind, defined_code};
@@ -61,7 +63,7 @@ pub(crate) fn first_bad_of(
 impl Mixed {
     ghost use Rattle.std.specs.Prelude.{if◌then◌else◌};
     ghost use Rattle.shadow_memory.specs.Pages.{marks_mixed};
-    ghost use Rattle.shadow_memory.specs.Cells.{Agree, AgreeInPage};
+    ghost use Rattle.shadow_memory.specs.Places.{Agree, AgreeInPage};
 
     fn filled(alloc: Global, kind: RangeKind) -> Result<Mixed, AllocError>
         ensures { IfOk result (λ mixed. (at : ℕ) → at < 4096 → marks_mixed mixed at ≡ mark_of kind) }
@@ -209,7 +211,7 @@ impl Mixed {
 #[tactic(auto, unfolding(crate::specs::Pages::marks_mixed))]
 impl Clone for Mixed {
     ghost use Rattle.shadow_memory.specs.Pages.{marks_mixed};
-    ghost use Rattle.shadow_memory.specs.Cells.{Agree};
+    ghost use Rattle.shadow_memory.specs.Places.{Agree};
 
     ghost is_clone = { λ mixed copy. Agree (marks_mixed copy) (marks_mixed mixed) };
 
@@ -223,7 +225,7 @@ impl Clone for Mixed {
 #[tactic(auto, unfolding(crate::specs::Pages::marks_in))]
 impl Clone for Marks {
     ghost use Rattle.shadow_memory.specs.Pages.{marks_in};
-    ghost use Rattle.shadow_memory.specs.Cells.{Agree};
+    ghost use Rattle.shadow_memory.specs.Places.{Agree};
 
     ghost is_clone = { λ marks copy. Agree (marks_in copy) (marks_in marks) };
 
@@ -239,7 +241,7 @@ impl Clone for Marks {
 impl Marks {
     ghost use Rattle.std.specs.Prelude.{if◌then◌else◌};
     ghost use Rattle.shadow_memory.specs.Pages.{marks_in};
-    ghost use Rattle.shadow_memory.specs.Cells.{AgreeInPage};
+    ghost use Rattle.shadow_memory.specs.Places.{AgreeInPage};
 
     pub(crate) fn mark(&self, at: usize) -> Mark
         requires { at < 4096 }

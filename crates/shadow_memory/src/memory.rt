@@ -3,7 +3,8 @@ ghost use Rattle.std.specs.Prelude.{◌≡◌, ℕ, ◌+◌, ◌/◌, ◌%◌, �
 ghost use Rattle.shadow_memory.specs.Changes.{received};
 ghost use Rattle.shadow_memory.specs.Shadows.{is_bad, shadow_of};
 ghost use Rattle.shadow_memory.specs.Edits.{change_of, count_of, Fits};
-ghost use Rattle.shadow_memory.specs.Cells.{changed_from, shadow_in, AgreeInDirectory, IsClean};
+ghost use Rattle.shadow_memory.specs.Cells.{shadow_in, IsClean};
+ghost use Rattle.shadow_memory.specs.Places.{changed_from, AgreeInDirectory};
 ghost use Rattle.shadow_memory.specs.Views.{cells_seen};
 ghost use Rattle.shadow_memory.specs.Memories.{bytes_in, shadows_in, cells_of, cells_below};
 

@@ -1,6 +1,8 @@
 //! One page of 4,096 bytes.
 ghost use Rattle.std.specs.Prelude.{◌≡◌, ◌+◌, ◌*◌, ◌%◌, ◌^◌, ◌<◌, ◌≤◌, OnOk, OnErr, IfOk, IfNone, IfSome, IsTrue, IsFalse, length, nat_lt, slice_index, vec_len};
-ghost use Rattle.shadow_memory.specs.Cells.{blank, changed_from, set_at, shadow_in, IsClean, AgreeInPage};
+ghost use Rattle.shadow_memory.specs.Cells.{set_at, shadow_in, IsClean};
+ghost use Rattle.shadow_memory.specs.Marks.{blank};
+ghost use Rattle.shadow_memory.specs.Places.{changed_from, AgreeInPage};
 ghost use Rattle.shadow_memory.specs.Edits.{change_of, count_of, Fits};
 ghost use Rattle.shadow_memory.specs.Changes.{IsWidth};
 ghost use Rattle.shadow_memory.specs.Loads.{loaded_at};
@@ -29,7 +31,7 @@ pub(crate) struct Page {
 #[tactic(auto, unfolding(crate::specs::Pages::cells_in, crate::specs::Pages::marks_in, crate::specs::Edits::count_of, crate::specs::Edits::change_of, crate::specs::Edits::Fits, crate::specs::Loads::loaded_at, crate::specs::Ranges::little_word, crate::specs::Ranges::first_from))]
 impl Page {
     ghost use Rattle.std.specs.Prelude.{if◌then◌else◌};
-    ghost use Rattle.shadow_memory.specs.Cells.{is_between};
+    ghost use Rattle.shadow_memory.specs.Places.{is_between};
     ghost use Rattle.shadow_memory.specs.Changes.{filled, ranged, received};
     ghost use Rattle.shadow_memory.specs.Pages.{cells_in};
 
@@ -225,7 +227,7 @@ impl Page {
 
 #[tactic(auto, unfolding(crate::specs::Pages::cells_in))]
 impl Clone for Page {
-    ghost use Rattle.shadow_memory.specs.Cells.{Agree};
+    ghost use Rattle.shadow_memory.specs.Places.{Agree};
     ghost use Rattle.shadow_memory.specs.Pages.{cells_in};
 
     ghost is_clone = { λ page copy. Agree (cells_in copy) (cells_in page) };

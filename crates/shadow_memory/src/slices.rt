@@ -1,6 +1,6 @@
 //! Parts of slices of bytes, written as a whole.
 ghost use Rattle.std.specs.Prelude.{◌≡◌, ℕ, ◌+◌, ◌≤◌, if◌then◌else◌, length, slice_index};
-ghost use Rattle.shadow_memory.specs.Cells.{is_between};
+ghost use Rattle.shadow_memory.specs.Places.{is_between};
 ghost use Rattle.shadow_memory.specs.Changes.{overwritten};
 
 /// Sets the bytes from one place up to, not with, another.

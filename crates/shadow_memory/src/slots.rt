@@ -1,7 +1,7 @@
 //! A page that may be blank, or shared.
 ghost use Rattle.std.specs.Prelude.{◌≡◌, ◌+◌, ◌<◌, ◌≤◌, IfSome, IsTrue, IsFalse, OnOk, OnErr, length, slice_index};
 ghost use Rattle.shadow_memory.specs.Changes.{received};
-ghost use Rattle.shadow_memory.specs.Cells.{changed_from, AgreeInPage};
+ghost use Rattle.shadow_memory.specs.Places.{changed_from, AgreeInPage};
 ghost use Rattle.shadow_memory.specs.Directories.{cells_at};
 ghost use Rattle.shadow_memory.specs.Views.{cells_seen};
 ghost use Rattle.shadow_memory.specs.Edits.{change_of, count_of, Fits, LeavesBlank};

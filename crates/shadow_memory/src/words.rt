@@ -1,8 +1,9 @@
 //! The bytes of words, and the cells that they are stored in or loaded from.
 ghost use Rattle.std.specs.Prelude.{◌≡◌, ℕ, ◌<◌, slice_index, if◌then◌else◌};
-ghost use Rattle.shadow_memory.specs.Ranges.{byte_of};
-ghost use Rattle.shadow_memory.specs.Cells.{IsClean};
-ghost use Rattle.shadow_memory.specs.Loads.{inaccessible_of, undef_of, word_of};
+ghost use Rattle.shadow_memory.specs.Ranges.{byte_of, little_word};
+ghost use Rattle.shadow_memory.specs.Cells.{shadow_in, IsClean};
+ghost use Rattle.shadow_memory.specs.Shadows.{loaded_undef};
+ghost use Rattle.shadow_memory.specs.Loads.{four, loaded_at};
 ghost use Rattle.shadow_memory.specs.Changes.{stored};
 
 use crate::cells::{Cell, Loaded};
@@ -43,15 +44,16 @@ pub(crate) fn word_bytes(word: u32) -> [u8; 4]
 }
 
 /// The number of four bytes, the lowest first.
+#[tactic(auto, unfolding(crate::specs::Ranges::little_word))]
 pub(crate) fn word(first: u8, second: u8, third: u8, fourth: u8) -> u32
-    ensures { result ≡ word_of first second third fourth }
+    ensures { result ≡ little_word (four first second third fourth) }
 {
     u32::from_le_bytes([first, second, third, fourth])
 }
 
 // The undefined bits that a load takes of a cell.
 fn loaded_undef(cell: Cell) -> u8
-    ensures { result ≡ undef_of cell }
+    ensures { result ≡ loaded_undef (shadow_in cell) }
 {
     if cell.accessible { cell.undef } else { 0 }
 }
@@ -80,7 +82,7 @@ pub(crate) fn copied_from(source: Cell, target: Cell) -> Cell
     requires target { IsClean target }
     ensures byte { result.byte ≡ source.byte }
     ensures accessible { result.accessible ≡ target.accessible }
-    ensures undef { result.undef ≡ (if target.accessible then undef_of source else target.undef) }
+    ensures undef { result.undef ≡ (if target.accessible then loaded_undef (shadow_in source) else target.undef) }
     ensures clean { IsClean result }
 {
     Cell {
@@ -95,10 +97,9 @@ pub(crate) fn copied_from(source: Cell, target: Cell) -> Cell
 }
 
 /// What a load takes of four cells from an address on.
+#[tactic(auto, unfolding(crate::specs::Loads::loaded_at, crate::specs::Ranges::little_word, crate::specs::Ranges::first_from))]
 pub(crate) fn loaded_from(addr: u32, first: Cell, second: Cell, third: Cell, fourth: Cell) -> Loaded
-    ensures value { result.value ≡ word_of first.byte second.byte third.byte fourth.byte }
-    ensures undef { result.undef ≡ word_of (undef_of first) (undef_of second) (undef_of third) (undef_of fourth) }
-    ensures bad { result.bad ≡ inaccessible_of addr first second third fourth }
+    ensures { result ≡ loaded_at (four first second third fourth) addr 4 }
 {
     let bad = if !first.accessible {
         Some(addr.wrapping_add(0))

@@ -165,7 +165,7 @@ fn two_at_a_time(
 
 fn measure_one_size(rt: &HostRuntime, trace: Trace, count: u32) -> io::Result<()> {
     let alloc = rt.alloc();
-    let mut heap = Heap::new(alloc)?;
+    let mut heap = Heap::new(alloc);
     let began = Instant::now(rt)?;
     let _last = allocate_only(alloc, &mut heap, trace, 8, count)?;
     print_each(rt, "allocate 8", count, began.elapsed(rt)?.as_secs_f64())?;
@@ -193,7 +193,7 @@ fn measure_pairs(
     size: u32,
     count: u32,
 ) -> io::Result<()> {
-    let mut heap = Heap::new(rt.alloc())?;
+    let mut heap = Heap::new(rt.alloc());
     let began = Instant::now(rt)?;
     let freed = in_turn(rt.alloc(), &mut heap, trace, size, count)?;
     print_each(rt, name, freed, began.elapsed(rt)?.as_secs_f64())
@@ -202,10 +202,10 @@ fn measure_pairs(
 /// Requests of all sizes, in a heap where every second block left a gap: blocks of 8 bytes first, then of all sizes.
 fn measure_gaps(rt: &HostRuntime, trace: Trace, count: u32) -> io::Result<()> {
     let alloc = rt.alloc();
-    let mut small = Heap::new(alloc)?;
+    let mut small = Heap::new(alloc);
     let _last = allocate_only(alloc, &mut small, trace, 8, count)?;
     measure_sizes(rt, "sizes to 4096, gaps of 8", &mut small, trace, count)?;
-    let mut mixed = Heap::new(alloc)?;
+    let mut mixed = Heap::new(alloc);
     let _made = allocate_sizes(alloc, &mut mixed, trace, count)?;
     measure_sizes(
         rt,
@@ -232,7 +232,7 @@ fn measure_sizes(
 /// One gap at the front of many blocks.
 fn measure_one_gap(rt: &HostRuntime, trace: Trace, count: u32) -> io::Result<()> {
     let alloc = rt.alloc();
-    let mut heap = Heap::new(alloc)?;
+    let mut heap = Heap::new(alloc);
     let _last = allocate_only(alloc, &mut heap, trace, 8, count)?;
     if let Released::Done(_first) = heap.release(alloc, FIRST, trace, 0)? {}
     let began = Instant::now(rt)?;

@@ -38,7 +38,7 @@ impl Guest {
             pc: image.entry(),
             status: Status::Running,
             frames: CallStack::new(alloc)?,
-            heap: Heap::new(alloc)?,
+            heap: Heap::new(alloc),
             counts: Counts {
                 position: 0,
                 output_len: 0,

@@ -5,7 +5,8 @@ ghost use Rattle.guest_machine.specs.Errors.{fault_of, buffer_errors};
 ghost use Rattle.shadow_memory.specs.Ranges.{written};
 ghost use Rattle.guest_machine.specs.Effects.{stored_core};
 ghost use Rattle.guest_machine.specs.Exec.{nothing, given_at, read_uses, write_uses};
-ghost use Rattle.guest_machine.specs.Shows.{core_of, bytes_of, input_left, uses_by, Raises, Does, DoesRow, DoesRead, DoesWrite};
+ghost use Rattle.guest_machine.specs.Shows.{core_of, bytes_of};
+ghost use Rattle.guest_machine.specs.Doing.{input_left, uses_by, Raises, Does, DoesRow, DoesRead, DoesWrite};
 
 use crate::call::Call;
 use crate::instruction::Instruction;

@@ -3,7 +3,8 @@ ghost use Rattle.std.specs.Prelude.{◌≡◌, ◌∷◌, ◌<◌, [], OnOk};
 ghost use Rattle.guest_machine.specs.Registers.{tested};
 ghost use Rattle.guest_machine.specs.Effects.{branch_tested, branch_errors};
 ghost use Rattle.guest_machine.specs.Errors.{here, event_of, event_unless, event_about, note_at, region_note, register_errors, value_errors, parameter_errors};
-ghost use Rattle.guest_machine.specs.Shows.{core_of, Raises};
+ghost use Rattle.guest_machine.specs.Shows.{core_of};
+ghost use Rattle.guest_machine.specs.Doing.{Raises};
 
 use crate::alu::is_undecided;
 use crate::instruction::Test;

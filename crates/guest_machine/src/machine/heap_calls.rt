@@ -9,7 +9,8 @@ ghost use Rattle.guest_machine.specs.HeapCalls.{placed, closed, carved, copied, 
 ghost use Rattle.guest_machine.specs.Effects.{no_bytes};
 ghost use Rattle.guest_machine.specs.Exec.{heap_uses, calling_heap, calloc_uses, realloc_uses, moved_from, moved_into, taken_from, written_to};
 ghost use Rattle.guest_machine.specs.Spans.{span_at};
-ghost use Rattle.guest_machine.specs.Shows.{core_of, bytes_of, Raises, Does, DoesRealloc};
+ghost use Rattle.guest_machine.specs.Shows.{core_of, bytes_of};
+ghost use Rattle.guest_machine.specs.Doing.{Raises, Does, DoesRealloc};
 
 use crate::call::Call;
 use crate::machine::Guest;

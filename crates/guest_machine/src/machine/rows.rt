@@ -8,7 +8,8 @@ ghost use Rattle.guest_machine.specs.Errors.{access_errors, taken_undef};
 ghost use Rattle.guest_machine.specs.Widths.{width_len, width_limit};
 ghost use Rattle.guest_machine.specs.Effects.{results_in, load, store, branch, jump, jump_register, branched, stored_core};
 ghost use Rattle.guest_machine.specs.Exec.{nothing, accessed, writing, taken_from};
-ghost use Rattle.guest_machine.specs.Shows.{core_of, bytes_of, Raises, Does};
+ghost use Rattle.guest_machine.specs.Shows.{core_of, bytes_of};
+ghost use Rattle.guest_machine.specs.Doing.{Raises, Does};
 
 use crate::alu::{extended, passes};
 use crate::hint::StackHint;

@@ -4,7 +4,8 @@ ghost use Rattle.guest_machine.specs.State.{State};
 ghost use Rattle.guest_machine.specs.Errors.{fetch_undef};
 ghost use Rattle.guest_machine.specs.Instructions.{row_of};
 ghost use Rattle.guest_machine.specs.Exec.{nothing, fetches, unfetched, jump_fault, exec, touches, has_touched, IsFetched};
-ghost use Rattle.guest_machine.specs.Shows.{core_of, bytes_of, uses_by, touched_by, Holds, Shows, Does, DoesRow, DoesRound, DoesStep};
+ghost use Rattle.guest_machine.specs.Shows.{core_of, bytes_of, Holds, Shows};
+ghost use Rattle.guest_machine.specs.Doing.{uses_by, touched_by, Does, DoesRow, DoesRound, DoesStep};
 
 use crate::alu::computed;
 use crate::instruction::{Instruction, row_of};

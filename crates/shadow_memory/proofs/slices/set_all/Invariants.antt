@@ -1,5 +1,5 @@
 use Rattle.std.proofs.Common.{ℕ, ◌≡◌, if◌then◌else◌, slice_index}
-use Rattle.shadow_memory.specs.Cells.{is_between}
+use Rattle.shadow_memory.specs.Places.{is_between}
 use Rattle.shadow_memory.proofs.slices.set_all.Given as goal
 
 abbrev pub invariant-loop-i : goal.invariant-loop-i

@@ -1,5 +1,5 @@
 use Rattle.std.proofs.Common.{ℕ, ◌≡◌, ◌≤◌, ◌-◌, if◌then◌else◌}
-use Rattle.shadow_memory.specs.Cells.{is_between}
+use Rattle.shadow_memory.specs.Places.{is_between}
 use Rattle.shadow_memory.specs.Codes.{code_at}
 use Rattle.shadow_memory.proofs.codes.Codes.make.Given as goal
 

@@ -1,6 +1,6 @@
 use Rattle.std.proofs.Common.{◌≡◌, ◌∙◌, ◌+◌, ◌-◌, ◌<◌, ◌/◌, ℕ, ap, arith, length}
 use Rattle.std.proofs.lemmas.Result.{on_err_weaker, on_ok_weaker}
-use Rattle.shadow_memory.specs.Cells.{changed_from}
+use Rattle.shadow_memory.specs.Places.{changed_from}
 use Rattle.shadow_memory.specs.Directories.{cells_under, page_at}
 use Rattle.shadow_memory.specs.Edits.{change_of, count_of}
 use Rattle.shadow_memory.specs.declared.cells.Cell.{Cell}

@@ -1,7 +1,7 @@
 use Rattle.std.proofs.Common.{◌∙◌, ap, arith, eq-eqb, ne_eqb, refl, unwrap_or}
 use Rattle.std.specs.BTreeMap.{get}
 use Rattle.std.specs.Ordering.{nat_cmp}
-use Rattle.shadow_memory.specs.Cells.{defined}
+use Rattle.shadow_memory.specs.Marks.{defined}
 use Rattle.shadow_memory.specs.Parts.{mark_by}
 use Rattle.shadow_memory.specs.Pages.{marks_mixed}
 use Rattle.shadow_memory.proofs.Between.{after-between, between-more}

@@ -1,5 +1,6 @@
 use Rattle.std.proofs.Common.{if◌then◌else◌}
-use Rattle.shadow_memory.specs.Cells.{Agree, defined, is_between}
+use Rattle.shadow_memory.specs.Marks.{defined}
+use Rattle.shadow_memory.specs.Places.{Agree, is_between}
 use Rattle.shadow_memory.specs.Pages.{marks_mixed}
 use Rattle.shadow_memory.proofs.marks.Mixed.define.Given as goal
 

@@ -1,4 +1,4 @@
-use Rattle.shadow_memory.specs.Cells.{shadow_of_mark}
+use Rattle.shadow_memory.specs.Marks.{shadow_of_mark}
 use Rattle.shadow_memory.specs.Firsts.{NonePass}
 use Rattle.shadow_memory.specs.Pages.{marks_mixed}
 use Rattle.shadow_memory.specs.Shadows.{is_bad}

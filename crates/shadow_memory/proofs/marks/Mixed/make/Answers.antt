@@ -1,7 +1,7 @@
 use Rattle.std.proofs.Common.{ℕ, ◌∙◌, ap, cond, unwrap_or}
 use Rattle.std.specs.BTreeMap.{get}
 use Rattle.std.specs.Ordering.{nat_cmp}
-use Rattle.shadow_memory.specs.Cells.{is_between}
+use Rattle.shadow_memory.specs.Places.{is_between}
 use Rattle.shadow_memory.specs.Codes.{code_at}
 use Rattle.shadow_memory.specs.Pages.{marks_mixed}
 use Rattle.shadow_memory.proofs.Between.{made-mark}

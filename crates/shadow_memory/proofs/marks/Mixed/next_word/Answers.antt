@@ -1,5 +1,5 @@
 use Rattle.std.proofs.Common.{◌∙◌, sym}
-use Rattle.shadow_memory.specs.Cells.{shadow_of_mark}
+use Rattle.shadow_memory.specs.Marks.{shadow_of_mark}
 use Rattle.shadow_memory.specs.Pages.{marks_mixed}
 use Rattle.shadow_memory.proofs.Searching.{word-more}
 use Rattle.shadow_memory.proofs.marks.Mixed.next_word.Goals as goal

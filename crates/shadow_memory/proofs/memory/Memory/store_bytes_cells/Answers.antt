@@ -1,5 +1,5 @@
 use Rattle.std.proofs.Common.{◌≡◌, ◌∙◌, ◌+◌, ◌<◌, ◌≤◌, ◌^◌, ap, arith, refl, sym, slice_index, length, take, drop, ◌-◌, if◌then◌else◌}
-use Rattle.shadow_memory.specs.Cells.{changed_from}
+use Rattle.shadow_memory.specs.Places.{changed_from}
 use Rattle.shadow_memory.specs.Changes.{received}
 use Rattle.shadow_memory.specs.Edits.{change_of, count_of}
 use Rattle.shadow_memory.specs.Memories.{cells_of}

@@ -1,6 +1,6 @@
 use Rattle.std.proofs.Common.{◌≡◌, ◌∙◌, ◌<◌, ◌^◌, ℕ, ap, arith, length, slice_index, take}
 use Rattle.std.proofs.lemmas.Result.{on_ok_weaker, on_err_weaker}
-use Rattle.shadow_memory.specs.Cells.{changed_from}
+use Rattle.shadow_memory.specs.Places.{changed_from}
 use Rattle.shadow_memory.specs.Changes.{received}
 use Rattle.shadow_memory.specs.Edits.{change_of, count_of}
 use Rattle.shadow_memory.specs.Memories.{cells_of}

@@ -1,0 +1,30 @@
+-- What a page keeps of each byte beside its value.
+use Rattle.std.specs.Prelude.{ℕ, IsTrue, not, ◌≡◌, if◌then◌else◌}
+use Rattle.shadow_memory.specs.Shadows.{Shadow, shadow_of}
+use Rattle.shadow_memory.specs.declared.cells.Cell.{Cell}
+use Rattle.shadow_memory.specs.declared.cells.Mark.{Mark}
+use Rattle.shadow_memory.specs.declared.cells.RangeKind.{RangeKind}
+use Rattle.shadow_memory.specs.declared.cells.RangeKind.TheVariants.{Defined}
+
+-- what a mark says
+abbrev pub shadow_of_mark : Mark → Shadow
+shadow_of_mark mark = record { accessible = mark.accessible; undef = mark.undef }
+
+-- the mark of a byte of a kind
+abbrev pub mark_of : RangeKind → Mark
+mark_of kind = record { accessible = (shadow_of kind).accessible; undef = (shadow_of kind).undef }
+
+-- the mark of a byte that is stored with all bits defined: an inaccessible one stays inaccessible
+abbrev pub defined : Mark → Mark
+defined mark = if mark.accessible then mark_of Defined else mark
+
+-- a cell of a byte and a mark
+abbrev pub marked : ℕ → Mark → Cell
+marked byte mark = record { byte = byte; accessible = mark.accessible; undef = mark.undef }
+
+-- byte 0, of a kind
+abbrev pub blank : RangeKind → Cell
+blank kind = marked 0 (mark_of kind)
+
+abbrev pub IsCleanMark : Mark → Type 0
+IsCleanMark mark = IsTrue (not mark.accessible) → mark.undef ≡ 0
