@@ -81,7 +81,7 @@ fn main(rt: HostRuntime) -> io::Result<()> {
         Some(Measurement::Heap(count)) => heap::measure(&rt, count),
         None => {
             println!(rt;
-                "usage: step_bench steps N | share | start | trail loop|sweep|pages|blocks | elf | errors G | heap N"
+                "usage: step_bench steps N | share | start | trail loop|sweep|pages|blocks|ended | elf | errors G | heap N"
             )
         }
     }

@@ -62,6 +62,9 @@ const KEEPS_BLOCKS: [u32; 23] = [
     0xFC5F_F06F,
 ];
 
+/// addi x17,x0,93; addi x10,x0,0; ecall
+const EXITS: [u32; 3] = [0x05D0_0893, 0x0000_0513, 0x0000_0073];
+
 /// The programs that are run.
 #[derive(Clone, Copy)]
 pub(crate) enum Guest {
@@ -73,6 +76,8 @@ pub(crate) enum Guest {
     Pages,
     /// One that keeps 10,000 blocks of the heap.
     Blocks,
+    /// One that exits in its third step.
+    Ended,
 }
 
 impl Guest {
@@ -90,6 +95,9 @@ impl Guest {
         if name == "blocks" {
             return Some(Guest::Blocks);
         }
+        if name == "ended" {
+            return Some(Guest::Ended);
+        }
         None
     }
 
@@ -99,6 +107,7 @@ impl Guest {
             Guest::Sweep => sized_program(alloc, &writes(4), 0x2_0000),
             Guest::Pages => sized_program(alloc, &writes(260), 0x2_0000),
             Guest::Blocks => program(alloc, &KEEPS_BLOCKS),
+            Guest::Ended => program(alloc, &EXITS),
         }
     }
 
@@ -109,7 +118,7 @@ impl Guest {
             redzone: 16,
             volume: match self {
                 Guest::Blocks => 0,
-                Guest::Loop | Guest::Sweep | Guest::Pages => 20_000_000,
+                Guest::Loop | Guest::Sweep | Guest::Pages | Guest::Ended => 20_000_000,
             },
         }
     }

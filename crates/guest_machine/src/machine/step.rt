@@ -130,6 +130,8 @@ impl Guest {
     }
 
     /// A fetch that meets an inaccessible byte.
+    #[cold]
+    #[inline(never)]
     #[tactic(auto, unfolding(crate::specs::Errors::event_about, error_events::specs::Adding::add_events))]
     fn jump_fault(&mut self, fault: Option<u32>) -> Result<(), AllocError>
         ensures { OnOk result (Does self.old self.new (jump_fault (core_of self.old) fault) nothing) }
@@ -142,6 +144,7 @@ impl Guest {
     }
 
     /// The word at pc with its undefined bits, where it is taken.
+    #[inline(always)]
     #[tactic(auto, unfolding(crate::specs::Exec::fetches))]
     fn fetch(&self) -> Option<Bits>
         ensures none { IfNone result (fetches (core_of self.now) ≡ false) }
@@ -162,6 +165,7 @@ impl Guest {
     }
 
     /// A step that takes no word.
+    #[inline(always)]
     #[tactic(auto, unfolding(crate::specs::Exec::unfetched, error_events::specs::Adding::add_events))]
     fn halt(&mut self) -> Result<(), AllocError>
         ensures { OnOk result (Does self.old self.new (unfetched (core_of self.old)) nothing) }
@@ -178,6 +182,7 @@ impl Guest {
     }
 
     /// Carries a word out, between the test of the word and the stack pointer rule.
+    #[inline(never)]
     #[tactic(auto, using(crate::proofs::Showing::add_events_append))]
     fn round(&mut self, setup: &Setup, word: Bits) -> Result<Used, AllocError>
         requires { word.undef ≡ fetch_undef (core_of self.old) }
@@ -193,6 +198,7 @@ impl Guest {
     }
 
     /// One step, and the bytes that it took or wrote.
+    #[inline(always)]
     #[tactic(auto, unfolding(crate::specs::Exec::fetched, crate::specs::Exec::uses_at, crate::specs::Exec::effect_at, crate::specs::Exec::touched_at))]
     fn act(&mut self, setup: &Setup) -> Result<Touched, AllocError>
         ensures does { OnOk result (DoesStep self.old self.new setup.now) }
@@ -220,6 +226,7 @@ impl Guest {
     }
 
     /// One step, and the bytes that it took or wrote.
+    #[inline(always)]
     #[tactic(auto, using(crate::proofs::Showing::holds_exec, crate::proofs::Showing::touched_exec))]
     fn step(&mut self, setup: &Setup) -> Result<Touched, AllocError>
         ensures holds { OnOk result ((s : State) → Holds self.old s → Holds self.new (exec s setup.now)) }
@@ -233,6 +240,7 @@ impl Guest {
 impl Machine {
     /// One step, and the addresses whose bytes it took or wrote. The meter rises by one. A machine for which memory fails is
     /// dropped, and the meter stays.
+    #[inline(always)]
     #[tactic(auto, unfolding(crate::specs::Shows::Shows))]
     pub fn step(self, setup: &Setup, meter: &mut Meter) -> Result<(Machine, Touched), AllocError>
         ensures shows { IfOk result (λ r. (s : State) → Shows self s → Shows r.0 (exec s setup.now)) }
