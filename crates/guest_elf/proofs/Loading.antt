@@ -54,13 +54,13 @@ count_of_bytes file header fine =
     ∙ ap (min header.filesz) (length-drop header.offset file)
     ∙ all_of_them (length file) header.offset header.filesz (good_from_test (length file) header fine).in_file
 
-pub byte_of_bytes : (file : List ℕ) (header : ProgramHeader) (i : ℕ) → i < header.filesz →
+byte_of_bytes : (file : List ℕ) (header : ProgramHeader) (i : ℕ) → i < header.filesz →
     slice_index (bytes_in file header) i ≡ byte_at file (header.offset + i)
 unfolding byte_at
 byte_of_bytes file header i below =
     get_or-take header.filesz (drop header.offset file) i 0 below ∙ get_or-drop header.offset file i 0
 
-pub loaded_by_is : (file : List ℕ) (header : ProgramHeader) (segment : Segment) → content_of segment ≡ content_in file header →
+loaded_by_is : (file : List ℕ) (header : ProgramHeader) (segment : Segment) → content_of segment ≡ content_in file header →
     is_bad_segment (length file) header ≡ false → (address : ℕ) → loaded_by segment address ≡ loaded_from file header address
 unfolding content_of content_in loaded_by loaded_from
 loaded_by_is file header segment same fine address =

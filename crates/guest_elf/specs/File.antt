@@ -177,7 +177,7 @@ bytes_in file header = take header.filesz (drop header.offset file)
 unfoldable pub content_in : List ℕ → ProgramHeader → SegmentContent
 content_in file header = record { vaddr = header.vaddr; memsz = header.memsz; bytes = bytes_in file header }
 
--- the segments of the file: one for each loaded program header, in the order of the table
+-- the segments of the file: one for each PT_LOAD that is not empty, in the order of the table
 unfoldable pub contents_in : List ℕ → List SegmentContent
 contents_in file = map (content_in file) (loads_of file)
 

@@ -10,7 +10,7 @@ unfoldable pub segments_of : Image → List Segment
 segments_of image = image.segments.items
 
 -- what a caller sees of them
-unfoldable pub contents_of : Image → List SegmentContent
+abbrev pub contents_of : Image → List SegmentContent
 contents_of image = map content_of (segments_of image)
 
 -- the address of the first instruction (ELF header, e_entry)

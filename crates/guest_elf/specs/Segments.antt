@@ -3,7 +3,7 @@ use Rattle.std.specs.Prelude.{ℕ, Bool, ◌+◌, ◌-◌, ◌^◌, ◌≤◌, �
 use Rattle.std.specs.Option.{option_or}
 use Rattle.guest_elf.specs.declared.segment.Segment.{Segment}
 
--- what a segment is to a caller: its first address, its number of bytes in memory, and its bytes from the file
+-- what a caller sees of a segment: its first address, its number of bytes in memory, and its bytes from the file
 pub record SegmentContent : Type 0 where
   pub vaddr : ℕ
   pub memsz : ℕ

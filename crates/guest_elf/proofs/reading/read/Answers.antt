@@ -1,7 +1,7 @@
 use Rattle.std.proofs.Common.{◌≡◌, ◌∙◌, ap, sym, ℕ, List, map, None}
 use Rattle.std.specs.Option.{option_or}
 use Rattle.guest_elf.specs.File.{early_refusal, late_refusal, loaded_in, refusal}
-use Rattle.guest_elf.specs.Images.{contents_of, loaded_at}
+use Rattle.guest_elf.specs.Images.{loaded_at}
 use Rattle.guest_elf.specs.Segments.{content_of, loaded}
 use Rattle.guest_elf.specs.declared.segment.Segment.{Segment}
 use Rattle.guest_elf.proofs.reading.read.Goals as goal
@@ -11,7 +11,7 @@ unfolding refusal
 not_refused file early late = ap (λ o. option_or o (late_refusal file)) early ∙ late
 
 pub returns-clause-image : goal.returns-clause-image
-unfolding contents_of loaded_in loaded_at
+unfolding loaded_in loaded_at
 returns-clause-image c = record {
   accepted = not_refused c.args.file.now (sym c.early_refusal.ensures.value ∙ c.in_default.is) (sym c.in_ok-fault.ensures.value ∙ c.in_default-2.is);
   segments = ap (λ (segments : List Segment). map content_of segments) c.new.ensures.segments ∙ c.in_ok-segments.ensures.contents;
