@@ -1,4 +1,10 @@
 //! The command line.
+ghost use Rattle.std.specs.Prelude.{IfSome, codes};
+ghost use Rattle.std.specs.Str.{bytes_eq};
+ghost use Rattle.clap.specs.Words.{found_of, rows_of, subcommand_rows_of};
+ghost use Rattle.replaycheck.specs.Orders.{IsOrderOf, IsStepOf};
+
+use crate::help::{ABOUT, AFTER_RUN, AFTER_SESSION, RUN, SESSION};
 use clap::{Arg, ArgMatches, Command, Error, value_parser};
 use std::alloc::{AllocError, Global};
 
@@ -12,15 +18,12 @@ pub(crate) struct Order<'a> {
     pub(crate) step: Option<u32>,
 }
 
-const ABOUT: &str =
-    "Finds memory errors in static RV32IM programs, and shows what an edit of the run would change. \
-    It is this program that was proved, not each of its reports";
-
 /// A command on a program, with an input and suppressions.
 fn program_command<'a>(
     alloc: Global,
     name: &'a str,
     about: &'a str,
+    after: &'a str,
 ) -> Result<Command<'a>, AllocError> {
     let file = Arg::new(alloc, "FILE")
         .required(true)
@@ -34,6 +37,7 @@ fn program_command<'a>(
         .help("A file of suppressions, in Valgrind's form");
     Command::new(alloc, name)
         .about(about)
+        .after_help(after)
         .arg(file)?
         .arg(input)?
         .arg(supp)
@@ -46,12 +50,8 @@ fn make_command<'a>(alloc: Global) -> Result<Command<'a>, AllocError> {
         .value_parser(value_parser!(u32).range(0..=1_048_576))
         .default_value("1048576")
         .help("The step to report at, from 0 to 1048576");
-    let run = program_command(alloc, "run", "Prints the report of a program at a step")?.arg(step)?;
-    let session = program_command(
-        alloc,
-        "session",
-        "Answers lines of standard input that edit a run or ask for its report",
-    )?;
+    let run = program_command(alloc, "run", RUN, AFTER_RUN)?.arg(step)?;
+    let session = program_command(alloc, "session", SESSION, AFTER_SESSION)?;
     Command::new(alloc, "replaycheck")
         .version("0.1.0")
         .about(ABOUT)
@@ -69,18 +69,30 @@ pub(crate) fn read_order<'a>(
     Ok(order_of(&matches))
 }
 
-fn order_of<'a>(matches: &ArgMatches<'a>) -> Option<Order<'a>> {
-    let (name, chosen) = matches.subcommand()?;
-    let file = chosen.get_str("FILE")?;
-    let step = if name == "run" {
-        Some(chosen.get_one::<u32>("step")?)
-    } else {
-        None
-    };
+/// The step of what was found for the arguments of `run`.
+fn step_of(chosen: &ArgMatches<'_>) -> Option<u32>
+    ensures { IfSome result (IsStepOf (rows_of (found_of chosen.now))) }
+{
+    chosen.get_one::<u32>("step")
+}
+
+/// The order of what was found for the arguments of a command.
+fn order_within<'a>(is_run: bool, chosen: &ArgMatches<'a>) -> Option<Order<'a>>
+    ensures { IfSome result (IsOrderOf is_run (rows_of (found_of chosen.now))) }
+{
+    let step = if is_run { Some(step_of(chosen)?) } else { None };
     Some(Order {
-        file,
+        file: chosen.get_str("FILE")?,
         input: chosen.get_str("input"),
         suppressions: chosen.get_str("supp"),
         step,
     })
+}
+
+/// The order of what was found for a whole command line.
+fn order_of<'a>(matches: &ArgMatches<'a>) -> Option<Order<'a>>
+    ensures { IfSome result (λ order. IfSome (subcommand_rows_of matches.now) (λ found. IsOrderOf (bytes_eq found.0 (codes "run")) found.1 order)) }
+{
+    let (name, chosen) = matches.subcommand()?;
+    order_within(name == "run", chosen)
 }
