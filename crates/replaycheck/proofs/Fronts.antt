@@ -3,7 +3,6 @@ use Rattle.std.proofs.Common.{◌≡◌, ◌∙◌, ℕ, ◌+◌, ◌<◌, ◌�
 use Rattle.std.proofs.lemmas.List.{length-take, take_all}
 use Rattle.replay_session.specs.Setups.{longest_input}
 use Rattle.replaycheck.specs.Carried.{Giving, IsFront, HasInput, HasRules, NoInput, NoRules, longest_text}
-use Rattle.replaycheck.specs.declared.ends.End.{End}
 use Rattle.replaycheck.specs.declared.ends.End.TheVariants.{InputTooLarge, Suppressions, SuppressionsTooLong}
 use Rattle.suppressions.specs.Rules.{Rule}
 use Rattle.suppressions.specs.Texts.{faults, rules, IsLeast}

@@ -1,9 +1,9 @@
 -- The step that a command line gives.
-use Rattle.std.proofs.Common.{◌≡◌, ◌∙◌, ℕ, List, Option, Some, None, Result, Ok, IfSome, codes, refl}
+use Rattle.std.proofs.Common.{◌≡◌, ◌∙◌, ℕ, List, Option, Some, None, Result, Ok, Err, IfErr, IfSome, IsErrAnd, codes, refl, subst, sym}
 use Rattle.std.specs.Str.Parse.{digits_value, without_leading_plus, ParsesUnsigned, ExplainsUnsignedError, HasUnsignedDigitsIfOk}
 use Rattle.std.specs.declared.num.ParseIntError.{ParseIntError}
 use Rattle.clap.proofs.WalkLemmas.{one_text-rows}
-use Rattle.clap.specs.Words.{ReadsOne, Row, Text, one_of, one_text, rows_of}
+use Rattle.clap.specs.Words.{ReadsOne, Text, one_of, one_text, rows_of}
 use Rattle.clap.specs.declared.parser.matches.Found.{Found}
 use Rattle.replaycheck.specs.Orders.{IsStepOf}
 
@@ -18,3 +18,8 @@ read (Some t) (Some n) reads = (reads t refl).0.1
 
 pub is-step : (f : Found) (result : Option ℕ) → ((t : List ℕ) → one_text f (codes "step") ≡ Some t → ReadsOne from_text t result) → IfSome result (IsStepOf (rows_of f))
 is-step f result reads = read (one_of (codes "step") (rows_of f)) result (λ t e. reads t (one_text-rows f (codes "step") ∙ e))
+
+-- what holds of the error that was passed on
+pub same-error : {T E : Type 0} (result : Result T E) (error : E) (P : E → Type 0) → IsErrAnd result (λ e. e ≡ error) → P error → IfErr result P
+same-error (Ok x) error P is holds = tt
+same-error (Err e) error P is holds = subst P (sym is) holds

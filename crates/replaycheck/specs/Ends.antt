@@ -4,7 +4,8 @@ use Rattle.clap.specs.declared.error.kind.ErrorKind.{ErrorKind}
 use Rattle.clap.specs.declared.error.kind.ErrorKind.TheVariants.{DisplayHelp, DisplayVersion, OutOfMemory}
 use Rattle.guest_elf.specs.declared.fault.ElfFault.TheVariants.{Memory}
 use Rattle.replaycheck.specs.declared.ends.End.{End}
-use Rattle.replaycheck.specs.declared.ends.End.TheVariants.{Done, CannotRead, CannotReadInput, CannotWrite, Usage, NotText, Image, Suppressions, SuppressionsTooLong, InputTooLarge, NoMemory}
+use Rattle.replaycheck.specs.declared.ends.End.TheVariants.{Done, CannotRead, CannotReadInput, CannotWrite, Usage, NotText}
+use Rattle.replaycheck.specs.declared.ends.End.TheVariants.{Image, Suppressions, SuppressionsTooLong, InputTooLarge, NoMemory}
 use Rattle.suppressions.specs.declared.fault.SuppFault.TheVariants as Supp
 
 -- 0: done, 1: a file or standard input cannot be read, or the output written, 2: the command line, 3: the program, the suppressions or the input is refused, 4: no memory

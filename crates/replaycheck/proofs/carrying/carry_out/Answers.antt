@@ -1,4 +1,4 @@
-use Rattle.std.proofs.Common.{inl, inr, List, ◌≡◌, subst}
+use Rattle.std.proofs.Common.{inl, inr, List, subst}
 use Rattle.replaycheck.proofs.Stages.{does-report, does-session, has-image, no-image, untouched}
 use Rattle.replaycheck.specs.Carried.{Reports}
 use Rattle.replaycheck.specs.Once.{IsReportOnce}
