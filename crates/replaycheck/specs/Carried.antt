@@ -23,7 +23,7 @@ use Rattle.suppressions.specs.declared.fault.SuppFault.TheVariants as Supp
 abbrev pub Giving : Type 1
 Giving = List ℕ → Option (List ℕ) → Type 0
 
--- the most bytes of a program's file, and of a text of suppressions
+-- the most bytes of a program's file, and of a text of suppressions (this project's limits)
 abbrev pub greatest_program : ℕ
 greatest_program = 16777216
 

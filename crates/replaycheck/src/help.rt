@@ -28,7 +28,7 @@ Exit status:
 `replaycheck: image refused N`, by the least N that holds:
   20 no ELF file, 21 not of 32 bits, 22 not little-endian, 23 bad version, 24 no executable,
   25 not RISC-V, 26 bad table, 27 asks for an interpreter, 28 bad segment, 29 overlap,
-  30 too large (16777216 bytes), 31 bad symbols
+  30 too large (more than 16777216 bytes), 31 bad symbols
 `replaycheck: suppressions refused N`:
   13 at line L: a fault of the text, 15: more than 1048576 bytes
 `replaycheck: input refused 14`:
