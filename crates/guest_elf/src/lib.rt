@@ -67,3 +67,4 @@ pub use fault::ElfFault;
 pub use image::Image;
 pub use reading::read;
 pub use segment::Segment;
+pub use segments::MOST_BYTES;

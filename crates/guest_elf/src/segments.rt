@@ -7,7 +7,7 @@ ghost use Rattle.guest_elf.specs.File.{has_interpreter, has_bad_segment, is_too_
 use crate::program::{header_at, header_count};
 
 /// The most bytes of a file, and of its segments in memory: 16 MiB.
-const MOST_BYTES: usize = 16_777_216;
+pub const MOST_BYTES: usize = 16_777_216;
 
 /// A program header of type PT_INTERP.
 #[tactic(auto, unfolding(crate::specs::File::has_interpreter))]

@@ -1,2 +1,4 @@
 pub mod Once
 pub mod Ends
+pub mod Carried
+pub mod Orders

@@ -1,4 +1,12 @@
 //! The command line.
+ghost use Rattle.std.specs.Prelude.{◌≡◌, IfErr, IfOk, IfSome, IsSomeAnd, codes, false, map, string_bytes, true};
+ghost use Rattle.std.specs.Str.{bytes_eq};
+ghost use Rattle.clap.specs.Words.{app_of, found_of, kind_of, rows_of, rule_of, subcommand_rows_of, takes};
+ghost use Rattle.clap.specs.declared.builder.command.Command.TheViews.{out-Command};
+ghost use Rattle.replaycheck.specs.Orders.{IsOrderFor, IsOrderOf, command_line, program_command, step_option, IsStepOf};
+
+use crate::help::{ABOUT, AFTER_RUN, AFTER_SESSION, RUN, SESSION};
+use clap::error::ErrorKind;
 use clap::{Arg, ArgMatches, Command, Error, value_parser};
 use std::alloc::{AllocError, Global};
 
@@ -12,16 +20,16 @@ pub(crate) struct Order<'a> {
     pub(crate) step: Option<u32>,
 }
 
-const ABOUT: &str =
-    "Finds memory errors in static RV32IM programs, and shows what an edit of the run would change. \
-    It is this program that was proved, not each of its reports";
-
 /// A command on a program, with an input and suppressions.
 fn program_command<'a>(
     alloc: Global,
     name: &'a str,
     about: &'a str,
-) -> Result<Command<'a>, AllocError> {
+    after: &'a str,
+) -> Result<Command<'a>, AllocError>
+    ensures shape { IfOk result (λ command. app_of command ≡ program_command name.entry.now) }
+    ensures globals { IfOk result (λ command. (out-Command command).has_globals ≡ false) }
+{
     let file = Arg::new(alloc, "FILE")
         .required(true)
         .help("A static ELF32 program for RV32IM");
@@ -34,24 +42,31 @@ fn program_command<'a>(
         .help("A file of suppressions, in Valgrind's form");
     Command::new(alloc, name)
         .about(about)
+        .after_help(after)
         .arg(file)?
         .arg(input)?
         .arg(supp)
 }
 
-fn make_command<'a>(alloc: Global) -> Result<Command<'a>, AllocError> {
-    let step = Arg::new(alloc, "step")
+/// The step of `run`.
+fn step_argument<'a>(alloc: Global) -> Arg<'a>
+    ensures rule { rule_of result ≡ step_option }
+    ensures local { result.global ≡ false }
+{
+    Arg::new(alloc, "step")
         .long("step")
         .value_name("N")
         .value_parser(value_parser!(u32).range(0..=1_048_576))
         .default_value("1048576")
-        .help("The step to report at, from 0 to 1048576");
-    let run = program_command(alloc, "run", "Prints the report of a program at a step")?.arg(step)?;
-    let session = program_command(
-        alloc,
-        "session",
-        "Answers lines of standard input that edit a run or ask for its report",
-    )?;
+        .help("The step to report at, from 0 to 1048576")
+}
+
+/// The whole command line.
+fn make_command<'a>(alloc: Global) -> Result<Command<'a>, AllocError>
+    ensures { IfOk result (λ command. app_of command ≡ command_line) }
+{
+    let run = program_command(alloc, "run", RUN, AFTER_RUN)?.arg(step_argument(alloc))?;
+    let session = program_command(alloc, "session", SESSION, AFTER_SESSION)?;
     Command::new(alloc, "replaycheck")
         .version("0.1.0")
         .about(ABOUT)
@@ -61,26 +76,39 @@ fn make_command<'a>(alloc: Global) -> Result<Command<'a>, AllocError> {
 }
 
 /// Reads the words of a command line, the program's name first. Help is an error whose text goes to standard output.
-pub(crate) fn read_order<'a>(
-    alloc: Global,
-    words: &'a [String],
-) -> Result<Option<Order<'a>>, Error> {
+pub(crate) fn read_order<'a>(alloc: Global, words: &'a [String]) -> Result<Option<Order<'a>>, Error>
+    ensures order { IfOk result (λ found. IfSome found (IsOrderFor (map string_bytes words.entry.now))) }
+    // A command line that is well formed is refused for want of memory alone.
+    ensures taken { IfErr result (λ error. takes command_line (map string_bytes words.entry.now) ≡ true → kind_of error ≡ ErrorKind.OutOfMemory) }
+{
     let matches = make_command(alloc)?.try_get_matches_from(words)?;
     Ok(order_of(&matches))
 }
 
-fn order_of<'a>(matches: &ArgMatches<'a>) -> Option<Order<'a>> {
-    let (name, chosen) = matches.subcommand()?;
-    let file = chosen.get_str("FILE")?;
-    let step = if name == "run" {
-        Some(chosen.get_one::<u32>("step")?)
-    } else {
-        None
-    };
+/// The step of what was found for the arguments of `run`.
+fn step_of(chosen: &ArgMatches<'_>) -> Option<u32>
+    ensures { IfSome result (IsStepOf (rows_of (found_of chosen.now))) }
+{
+    chosen.get_one::<u32>("step")
+}
+
+/// The order of what was found for the arguments of a command.
+fn order_within<'a>(is_run: bool, chosen: &ArgMatches<'a>) -> Option<Order<'a>>
+    ensures { IfSome result (IsOrderOf is_run (rows_of (found_of chosen.now))) }
+{
+    let step = if is_run { Some(step_of(chosen)?) } else { None };
     Some(Order {
-        file,
+        file: chosen.get_str("FILE")?,
         input: chosen.get_str("input"),
         suppressions: chosen.get_str("supp"),
         step,
     })
+}
+
+/// The order of what was found for a whole command line.
+fn order_of<'a>(matches: &ArgMatches<'a>) -> Option<Order<'a>>
+    ensures { IfSome result (λ order. IsSomeAnd (subcommand_rows_of matches.now) (λ found. IsOrderOf (bytes_eq found.0 (codes "run")) found.1 order)) }
+{
+    let (name, chosen) = matches.subcommand()?;
+    order_within(name == "run", chosen)
 }

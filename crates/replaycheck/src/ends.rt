@@ -17,6 +17,8 @@ pub enum End<'a> {
     CannotReadInput,
     CannotWrite,
     Usage,
+    /// A word of the command line is no UTF-8.
+    NotText,
     Image(ElfFault),
     Suppressions(SuppFault),
     /// A text of more than 1,048,576 bytes.
@@ -34,7 +36,7 @@ pub fn tell<W: Write>(end: &End, writer: &mut W) -> u8
     match end {
         End::Done => 0,
         End::CannotRead(_) | End::CannotReadInput | End::CannotWrite => 1,
-        End::Usage => 2,
+        End::Usage | End::NotText => 2,
         End::Image(ElfFault::Memory) | End::Suppressions(SuppFault::Memory) | End::NoMemory => 4,
         End::Image(_)
         | End::Suppressions(SuppFault::BadSuppression(_))
@@ -49,6 +51,10 @@ fn write_line<W: Write>(end: &End, writer: &mut W) -> std::io::Result<()> {
         End::CannotRead(path) => writeln!(writer, "replaycheck: cannot read {path}"),
         End::CannotReadInput => writeln!(writer, "replaycheck: cannot read standard input"),
         End::CannotWrite => writeln!(writer, "replaycheck: cannot write"),
+        End::NotText => writeln!(
+            writer,
+            "error: invalid UTF-8 was detected in one or more arguments"
+        ),
         End::Image(ElfFault::Memory) | End::Suppressions(SuppFault::Memory) | End::NoMemory => {
             writeln!(writer, "replaycheck: out of memory")
         }

@@ -1,4 +1,4 @@
-use Rattle.std.proofs.Common.{◌≡◌, subst, sym}
+use Rattle.std.proofs.Common.{subst, sym}
 use Rattle.replaycheck.specs.Once.{IsReportOnce}
 use Rattle.replaycheck.proofs.run_once.run_once.Goals as goal
 

@@ -1,0 +1,39 @@
+-- The stages of a command on a program.
+use Rattle.std.proofs.Common.{◌≡◌, ◌⊎◌, ℕ, List, Option, Some, None, Result, Err, sym, subst}
+use Rattle.std.proofs.KnownBytes.{Appends-nil, Consumes-nil}
+use Rattle.guest_elf.specs.File.{IsImageOf, early_refusal, refusal}
+use Rattle.guest_elf.specs.declared.fault.ElfFault.{ElfFault}
+use Rattle.guest_elf.specs.declared.fault.ElfFault.TheVariants.{Memory}
+use Rattle.guest_elf.specs.declared.image.Image.{Image as ProgramImage}
+use Rattle.replay_session.specs.Scenario.{begun}
+use Rattle.replaycheck.specs.Carried.{Does, Giving, HasImage, IsFront, NoImage, Reports, Serves, Streams, Untouched, greatest_program, streams}
+use Rattle.replaycheck.specs.Once.{IsReportOnce}
+use Rattle.replaycheck.specs.declared.ends.End.{End}
+use Rattle.replaycheck.specs.declared.ends.End.TheVariants.{Image}
+use Rattle.suppressions.specs.Rules.{Rule}
+
+pub untouched : (left held : Option (List ℕ)) → Untouched (streams left held) (streams left held)
+untouched left held = (Consumes-nil left, Appends-nil held)
+
+pub has-image : (gives : Giving) (path front bytes : List ℕ) (image : ProgramImage) → IsFront gives path greatest_program front → bytes ≡ front → IsImageOf bytes image → HasImage gives path image
+has-image gives path front bytes image read same is = (front, read, subst (λ (xs : List ℕ). IsImageOf xs image) same is)
+
+pub no-image : {T : Type 0} (gives : Giving) (path front bytes : List ℕ) (fault : ElfFault) → IsFront gives path greatest_program front → bytes ≡ front
+    → ((fault ≡ Memory) ⊎ (refusal bytes ≡ Some fault)) → ((early : ElfFault) → early_refusal bytes ≡ Some early → ◌≡◌ {A = Result T ElfFault} (Err fault) (Err early)) → NoImage gives path (Image fault)
+no-image gives path front bytes fault read same refused least = (
+  front,
+  read,
+  (
+    subst (λ (xs : List ℕ). (fault ≡ Memory) ⊎ (refusal xs ≡ Some fault)) same refused,
+    λ early e. let told = least early (subst (λ (xs : List ℕ). early_refusal xs ≡ Some early) (sym same) e) in cc,
+  ),
+)
+
+pub does-report : (chosen : Option ℕ) (step : ℕ) (image : ProgramImage) (list : List Rule) (input : List ℕ) (left held-old held-new : Option (List ℕ)) (end : End) → chosen ≡ Some step
+    → Reports (IsReportOnce image input list step) held-old held-new end → Does chosen image list input (streams left held-old) (streams left held-new) end
+does-report chosen step image list input left held-old held-new end is reports =
+    subst (λ (option : Option ℕ). Does option image list input (streams left held-old) (streams left held-new) end) (sym is) (Consumes-nil left, reports)
+
+pub does-session : (chosen : Option ℕ) (image : ProgramImage) (list : List Rule) (input : List ℕ) (old new : Streams) (end : End) → chosen ≡ None
+    → Serves (begun image input list) old new end → Does chosen image list input old new end
+does-session chosen image list input old new end is serves = subst (λ (option : Option ℕ). Does option image list input old new end) (sym is) serves

@@ -1,0 +1,25 @@
+-- The step that a command line gives.
+use Rattle.std.proofs.Common.{◌≡◌, ◌∙◌, ℕ, List, Option, Some, None, Result, Ok, Err, IfErr, IfSome, IsErrAnd, codes, refl, subst, sym}
+use Rattle.std.specs.Str.Parse.{digits_value, without_leading_plus, ParsesUnsigned, ExplainsUnsignedError, HasUnsignedDigitsIfOk}
+use Rattle.std.specs.declared.num.ParseIntError.{ParseIntError}
+use Rattle.clap.proofs.WalkLemmas.{one_text-rows}
+use Rattle.clap.specs.Words.{ReadsOne, Text, one_of, one_text, rows_of}
+use Rattle.clap.specs.declared.parser.matches.Found.{Found}
+use Rattle.replaycheck.specs.Orders.{IsStepOf}
+
+-- what `u32::from_str` says
+abbrev from_text : List ℕ → Result ℕ ParseIntError → Type 0
+from_text text result = ParsesUnsigned 32 10 text result × ExplainsUnsignedError 10 text result × HasUnsignedDigitsIfOk text result
+
+read : (found : Option Text) (result : Option ℕ) → ((t : List ℕ) → found ≡ Some t → ReadsOne from_text t result) → IfSome result (λ n. IfSome found (λ text. n ≡ digits_value 10 (without_leading_plus text)))
+read found None reads = tt
+read None (Some n) reads = tt
+read (Some t) (Some n) reads = (reads t refl).0.1
+
+pub is-step : (f : Found) (result : Option ℕ) → ((t : List ℕ) → one_text f (codes "step") ≡ Some t → ReadsOne from_text t result) → IfSome result (IsStepOf (rows_of f))
+is-step f result reads = read (one_of (codes "step") (rows_of f)) result (λ t e. reads t (one_text-rows f (codes "step") ∙ e))
+
+-- what holds of the error that was passed on
+pub same-error : {T E : Type 0} (result : Result T E) (error : E) (P : E → Type 0) → IsErrAnd result (λ e. e ≡ error) → P error → IfErr result P
+same-error (Ok x) error P is holds = tt
+same-error (Err e) error P is holds = subst P (sym is) holds

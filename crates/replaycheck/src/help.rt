@@ -1,0 +1,87 @@
+//! The texts of help.
+
+/// What the program is for.
+pub(crate) const ABOUT: &str =
+    "Finds memory errors in static RV32IM programs, and shows what an edit of the run would change. \
+    It is this program that was proved, not each of its reports";
+
+/// What `run` does.
+pub(crate) const RUN: &str = "Prints the report of a program at a step";
+
+/// What `session` does.
+pub(crate) const SESSION: &str =
+    "Answers lines of standard input that edit a run or ask for its report";
+
+/// A text with what ends the help of both commands: statuses and refusals.
+macro_rules! with_refusals {
+    ($text:literal) => {
+        concat!(
+            $text,
+            "
+Exit status:
+  0  the report or the replies were written, or help or the version was asked for
+  1  a file or standard input can't be read, or standard output can't be written
+  2  a fault of the command line
+  3  the program, the suppressions or the input is refused, as below
+  4  out of memory
+
+`replaycheck: image refused N`, by the least N that holds:
+  20 no ELF file, 21 not of 32 bits, 22 not little-endian, 23 bad version, 24 no executable,
+  25 not RISC-V, 26 bad table, 27 asks for an interpreter, 28 bad segment, 29 overlap,
+  30 too large (more than 16777216 bytes), 31 bad symbols
+`replaycheck: suppressions refused N`:
+  13 at line L: a fault of the text, 15: more than 1048576 bytes
+`replaycheck: input refused 14`:
+  more than 1048576 bytes"
+        )
+    };
+}
+
+/// What ends the help of `run`.
+pub(crate) const AFTER_RUN: &str = with_refusals!(
+    "\
+Example, the report after 5000 steps:
+  replaycheck run program.elf --input bytes --supp known.supp --step 5000
+"
+);
+
+/// What ends the help of `session`: its lines, and the numbers of its refusals.
+pub(crate) const AFTER_SESSION: &str = with_refusals!(
+    "\
+Lines, with one space between fields; a number is decimal, or hexadecimal after 0x:
+  goto N                   chooses step N: 0 to 1048576, 0 at first
+  report                   answers the report at the chosen step
+  input OFFSET BYTE        replaces a byte of the input
+  patch ADDR WORD          replaces a loaded word, the lowest byte first
+  mark STEP ADDR LEN KIND  makes a range defined, undefined or noaccess just before a step
+  unmark I                 takes mark I out, counted from 0; later ones move down
+  supp on I, supp off I    switches suppression I, counted from 0
+  supp add KIND WORDS..    adds one: a kind, what Param and Leak take, and frame lines as words
+  option callers N         shows and groups by N addresses of a trace: 1 to 24, 12 at first
+  option redzone N         inaccessible bytes beside each block: 0 to 4096, 16 at first
+  option queue N           bytes of freed blocks that are kept: 0 to 1000000000, 20000000 at first
+  option show LIST         leak kinds that are shown, between commas: definite, indirect, possible,
+                           reachable, all, none; definite,possible at first
+  worked                   answers how many steps were made so far
+
+Each is answered `ok`, the report, `worked N` or `refused N`. A refused line changes nothing but the
+count of lines:
+  1   out of memory
+  2   no command, or a field that is missing, too many, empty or of the wrong form
+  3   no such byte of the input
+  4   no word of the loaded program
+  5   a step above 1048576
+  6   a mark of 0 or of more than 1048576 bytes, or one that ends above 2^32
+  7   no such mark
+  8   no such suppression
+  9   an option that isn't there, or whose value is out of range
+  10  there are 4096 marks already
+  11  a line of more than 4096 bytes
+  12  the 100001st line; it ends the session
+  13  a suppression that can't be read
+
+Example, what another first byte of the input would have changed:
+  printf 'goto 5000\\nreport\\ninput 0 8\\nreport\\n' |
+    replaycheck session program.elf --input bytes
+"
+);
