@@ -1,9 +1,9 @@
 //! The texts of help.
 
 /// What the program is for.
-pub(crate) const ABOUT: &str =
-    "Finds memory errors in static RV32IM programs, and shows what an edit of the run would change. \
-    It is this program that was proved, not each of its reports";
+pub(crate) const ABOUT: &str = "\
+Finds memory errors in static RV32IM programs, and shows what an edit of the run would change.
+It is this program that was proved, not each of its reports";
 
 /// What `run` does.
 pub(crate) const RUN: &str = "Prints the report of a program at a step";
@@ -64,8 +64,8 @@ Lines, with one space between fields; a number is decimal, or hexadecimal after 
                            reachable, all, none; definite,possible at first
   worked                   answers how many steps were made so far
 
-Each is answered `ok`, the report, `worked N` or `refused N`. A refused line changes nothing but the
-count of lines:
+Each is answered `ok`, the report, `worked N` or `refused N`. A refused line changes nothing but
+the count of lines:
   1   out of memory
   2   no command, or a field that is missing, too many, empty or of the wrong form
   3   no such byte of the input
