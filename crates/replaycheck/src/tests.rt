@@ -175,7 +175,7 @@ fn one_report(rt: HostRuntime) -> Result<(), Fail> {
         run_once(alloc, &image, Vec::new(alloc), &[], 3, &mut all),
         Ok(())
     );
-    assert_eq!(rt; all.taken.len(), 285);
+    assert_eq!(rt; all.flushed, 285);
     assert!(rt;
         all.taken
             .starts_with(b"step 3\nstate exited 0\ninput 0 of 0\n")
@@ -184,6 +184,10 @@ fn one_report(rt: HostRuntime) -> Result<(), Fail> {
     let stopped = run_once(alloc, &image, Vec::new(alloc), &[], 3, &mut some);
     assert_eq!(rt; stopped, Err(RunFault::WriteFailed { bytes: 100 }));
     assert!(rt; all.taken.starts_with(some.taken.as_slice()));
+    let mut unflushed = Room::new(alloc, 1000);
+    unflushed.flushes = 0;
+    let stopped = run_once(alloc, &image, Vec::new(alloc), &[], 3, &mut unflushed);
+    assert_eq!(rt; stopped, Err(RunFault::WriteFailed { bytes: 285 }));
     Ok(())
 }
 
