@@ -3,6 +3,7 @@ pub mod KeySteps
 pub mod GroupSteps
 pub mod EntrySteps
 pub mod LayerSteps
+pub mod ApartSteps
 pub mod ShownSteps
 pub mod AddSteps
 pub mod MergeSteps

@@ -3,5 +3,6 @@ pub mod Groups
 pub mod Adding
 pub mod Regrouping
 pub mod Entries
+pub mod Layers
 pub mod Merging
 pub mod Shown

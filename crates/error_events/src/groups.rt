@@ -53,7 +53,7 @@ impl Groups {
         ensures { groups_of result ≡ [] }
     {
         Groups {
-            known: LayeredMap::new(),
+            known: LayeredMap::new(alloc),
             counts: Vec::new(alloc),
         }
     }

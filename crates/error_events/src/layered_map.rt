@@ -1,20 +1,23 @@
 //! A map in order of insertion that is copied at little cost, and takes new keys at little cost after it was copied.
 //!
-//! The entries lie in two maps, one after the other, that copies share. A new key goes into the second one, which a copy's
-//! owner has to copy first; when that has grown to about the square root of the first one's length, the two become one. So a
-//! copy and the next new key cost the square root of the number of keys, and the number itself once in as many copies.
+//! The entries lie in layers and then in one young map, all of which copies share. A new key goes into the young map, which a
+//! copy's owner has to copy first; once it has 64 entries, it is put among the layers instead.
 ghost use Rattle.std.specs.Prelude.{◌≡◌, ◌<◌, ◌^◌, [], ◌∷◌, ◌++◌, None, length, map, position, slice_get, OnOk, OnErr, IfOk};
 ghost use Rattle.error_events.specs.Entries.{IsSameClone};
 
+use crate::layers::Layers;
 use crate::shared_map::SharedMap;
 use std::alloc::{AllocError, Global};
 use std::hash::Hash;
 use std::marker::Model;
 
+/// From how many entries on a shared young map isn't copied for a new key.
+const COPIED: usize = 64;
+
 /// The map. Contracts see it as the list of its entries.
 #[derive(Drop)]
 pub(crate) struct LayeredMap<K: Eq + Hash, V> {
-    settled: SharedMap<K, V>,
+    settled: Layers<K, V>,
     recent: SharedMap<K, V>,
 }
 
@@ -31,11 +34,11 @@ impl<K: Eq + Hash, V> Model for LayeredMap<K, V> {
 
 impl<K: Eq + Hash + Copy + Drop, V: Copy + Drop> LayeredMap<K, V> {
     /// The empty map, which takes no memory.
-    pub(crate) fn new() -> Self
+    pub(crate) fn new(alloc: Global) -> Self
         ensures { result ≡ [] }
     {
         LayeredMap {
-            settled: SharedMap::new(),
+            settled: Layers::new(alloc),
             recent: SharedMap::new(),
         }
     }
@@ -78,31 +81,25 @@ impl<K: Eq + Hash + Copy + Drop, V: Copy + Drop> LayeredMap<K, V> {
         self.recent.push(alloc, key, value)
     }
 
-    /// Makes one map of the two where that is worth it.
+    /// Empties the young map where a new key would copy too much of it.
     fn prepare(&mut self, alloc: Global) -> Result<(), AllocError>
         requires keys { IsSameClone K.is_clone }
         requires values { IsSameClone V.is_clone }
         ensures { self.new ≡ self.old }
     {
-        if self.is_worth_settling() {
+        if self.recent.len() >= COPIED && self.recent.is_shared() {
             self.settle(alloc)?;
         }
         Ok(())
     }
 
-    /// Whether the second map would be copied for a new key, and is no longer small against the first one.
-    fn is_worth_settling(&self) -> bool {
-        let len = self.recent.len();
-        self.recent.is_shared() && len.saturating_mul(len) >= self.settled.len()
-    }
-
-    /// Makes one map of the two.
+    /// Puts the young map among the layers.
     fn settle(&mut self, alloc: Global) -> Result<(), AllocError>
         requires keys { IsSameClone K.is_clone }
         requires values { IsSameClone V.is_clone }
         ensures { self.new ≡ self.old }
     {
-        self.settled = self.settled.joined(alloc, &self.recent)?;
+        self.settled.push(alloc, &self.recent)?;
         self.recent = SharedMap::new();
         Ok(())
     }

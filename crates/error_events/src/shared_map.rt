@@ -171,3 +171,13 @@ impl<K: Eq + Hash + Copy + Drop, V: Copy + Drop> SharedMap<K, V> {
         }
     }
 }
+
+impl<K: Eq + Hash + Copy + Drop, V: Copy + Drop> Clone for SharedMap<K, V> {
+    ghost use Rattle.std.specs.Prelude.{◌≡◌};
+
+    ghost is_clone = { λ source clone. clone ≡ source };
+
+    fn clone(&self) -> Result<SharedMap<K, V>, AllocError> {
+        self.share()
+    }
+}

@@ -1,0 +1,5 @@
+use Rattle.error_events.proofs.ApartSteps.{apart-none}
+use Rattle.error_events.proofs.layers.Layers.new.Goals as goal
+
+pub invariant_of-result : goal.invariant_of-result
+invariant_of-result g c = apart-none g.K.PartialEq.eq c.new.result.items c.new.ensures.items

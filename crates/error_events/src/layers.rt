@@ -1,0 +1,149 @@
+//! Maps in order of age, each with at least twice the entries of the next, as the levels of a log-structured merge tree are. A
+//! map that is added takes up the smaller ones before it, so an entry is copied about as many times as the number of entries
+//! can be halved. Copies share each map.
+ghost use Rattle.std.specs.Prelude.{◌≡◌, ◌≤◌, ◌<◌, ◌^◌, ◌∷◌, [], ◌++◌, length, map, position, slice_get, take, OnOk, OnErr, IfOk};
+ghost use Rattle.std.specs.List.{flat_map};
+ghost use Rattle.error_events.specs.Entries.{AreNew, IsSameClone};
+ghost use Rattle.error_events.specs.Layers.{AreApart, entries_in};
+
+use crate::shared_map::SharedMap;
+use std::alloc::{AllocError, Global};
+use std::hash::Hash;
+use std::marker::Model;
+
+/// The maps, oldest entries first. Contracts see the list of all entries.
+#[derive(Drop)]
+pub(crate) struct Layers<K: Eq + Hash, V> {
+    maps: Vec<SharedMap<K, V>>,
+    len: usize,
+}
+
+impl<K: Eq + Hash, V> Model for Layers<K, V> {
+    ghost use Rattle.std.specs.Prelude.{List, ◌≡◌, length};
+    ghost use Rattle.error_events.specs.Layers.{AreApart, entries_in};
+
+    ghost Value = { List (K × V) };
+
+    ghost view = { λ layers. entries_in layers.maps.items };
+
+    ghost invariant = { λ layers. AreApart K.eq layers.maps.items × (layers.len ≡ length (entries_in layers.maps.items)) };
+}
+
+/// The index of a key among the entries of some maps.
+fn position_in<K: Eq + Hash + Copy + Drop, V: Copy + Drop>(
+    maps: &[SharedMap<K, V>],
+    key: &K,
+) -> Option<usize>
+    requires { length (entries_in maps.now) < 2 ^ 64 }
+    ensures { result ≡ position (K.eq key.now) (map (λ e. e.0) (entries_in maps.now)) }
+{
+    let (oldest, later) = maps.split_first()?;
+    match oldest.position(key) {
+        Some(index) => Some(index),
+        None => match position_in(later, key) {
+            Some(index) => Some(oldest.len() + index),
+            None => None,
+        },
+    }
+}
+
+/// The entry at an index among those of some maps.
+fn entry_in<K: Eq + Hash + Copy + Drop, V: Copy + Drop>(
+    maps: &[SharedMap<K, V>],
+    index: usize,
+) -> Option<(K, V)>
+    ensures { result ≡ slice_get (entries_in maps.now) index }
+{
+    let (oldest, later) = maps.split_first()?;
+    let len = oldest.len();
+    if index < len {
+        oldest.get(index)
+    } else {
+        entry_in(later, index - len)
+    }
+}
+
+/// How many of some maps stay as a new one comes, and the map that takes up the others and the new one's entries.
+fn taken_up<K: Eq + Hash + Copy + Drop, V: Copy + Drop>(
+    alloc: Global,
+    maps: &[SharedMap<K, V>],
+    young: SharedMap<K, V>,
+) -> Result<(usize, SharedMap<K, V>), AllocError>
+    requires keys { IsSameClone K.is_clone }
+    requires values { IsSameClone V.is_clone }
+    requires apart { AreApart K.eq (maps.now ++ young ∷ []) }
+    ensures count { IfOk result (λ r. r.0 ≤ length maps.now) }
+    ensures entries { IfOk result (λ r. entries_in (take r.0 maps.now ++ r.1 ∷ []) ≡ entries_in (maps.now ++ young ∷ [])) }
+    ensures apart { IfOk result (λ r. AreApart K.eq (take r.0 maps.now ++ r.1 ∷ [])) }
+{
+    match maps.split_last() {
+        Some((last, before)) if last.len() / 2 < young.len() => {
+            let whole = last.joined(alloc, &young)?;
+            taken_up(alloc, before, whole)
+        }
+        _ => Ok((maps.len(), young)),
+    }
+}
+
+impl<K: Eq + Hash + Copy + Drop, V: Copy + Drop> Layers<K, V> {
+    /// No maps, which take no memory.
+    pub(crate) fn new(alloc: Global) -> Self
+        ensures { result ≡ [] }
+    {
+        Layers {
+            maps: Vec::new(alloc),
+            len: 0,
+        }
+    }
+
+    /// The index of a key.
+    pub(crate) fn position(&self, key: &K) -> Option<usize>
+        requires { length self.now < 2 ^ 64 }
+        ensures { result ≡ position (K.eq key.now) (map (λ e. e.0) self.now) }
+    {
+        position_in(&self.maps, key)
+    }
+
+    /// The entry at an index.
+    pub(crate) fn get(&self, index: usize) -> Option<(K, V)>
+        ensures { result ≡ slice_get self.now index }
+    {
+        entry_in(&self.maps, index)
+    }
+
+    /// How many entries there are.
+    pub(crate) fn len(&self) -> usize
+        ensures { result ≡ length self.now }
+    {
+        self.len
+    }
+
+    /// Adds the entries of a map, whose keys are not there, as the last.
+    pub(crate) fn push(&mut self, alloc: Global, young: &SharedMap<K, V>) -> Result<(), AllocError>
+        requires keys { IsSameClone K.is_clone }
+        requires values { IsSameClone V.is_clone }
+        requires apart { AreNew K.eq self.old young.now }
+        ensures ok { OnOk result (self.new ≡ self.old ++ young.now) }
+        ensures err { OnErr result (self.new ≡ self.old) }
+    {
+        let Some(len) = self.len.checked_add(young.len()) else {
+            return Err(AllocError);
+        };
+        self.maps.reserve(1)?;
+        let (kept, whole) = taken_up(alloc, &self.maps, young.share()?)?;
+        self.maps.truncate(kept);
+        self.maps.push(whole)?;
+        self.len = len;
+        Ok(())
+    }
+
+    /// A copy, which shares the maps.
+    pub(crate) fn share(&self) -> Result<Self, AllocError>
+        ensures { IfOk result (λ copy. copy ≡ self.now) }
+    {
+        Ok(Layers {
+            maps: self.maps.clone()?,
+            len: self.len,
+        })
+    }
+}
