@@ -59,7 +59,12 @@ const ROOTS: [Case; 16] = [
         &[Reachable, Reachable],
     ),
     // Words with the last byte of the last block, one past it, and one before the first.
-    (&[8, 8], (10, 0, 0), &[(STACK, B + 7, 0)], &[Definite, Possible]),
+    (
+        &[8, 8],
+        (10, 0, 0),
+        &[(STACK, B + 7, 0)],
+        &[Definite, Possible],
+    ),
     (
         &[8, 8],
         (10, 0, 0),
@@ -67,7 +72,12 @@ const ROOTS: [Case; 16] = [
         &[Definite, Definite],
     ),
     // A last block of no bytes: its start points to it.
-    (&[8, 0], (10, 0, 0), &[(STACK, B, 0)], &[Definite, Reachable]),
+    (
+        &[8, 0],
+        (10, 0, 0),
+        &[(STACK, B, 0)],
+        &[Definite, Reachable],
+    ),
     // Half a pointer in each of two words.
     (
         &[8],
