@@ -65,7 +65,7 @@ impl Memory {
         ensures some { IfSome result (IsNextInRange (bytes_in self.now) (shadows_in self.now) low high addr) }
     {
         let mut page = addr / PAGE_LEN;
-        let mut from = (addr % PAGE_LEN + 3) / 4 * 4;
+        let mut from = 4 * ((addr % PAGE_LEN + 3) / 4);
         while page < PAGES {
             if self.has_no_word(page / DIRECTORY_PAGES) {
                 page = (page / DIRECTORY_PAGES + 1) * DIRECTORY_PAGES;
