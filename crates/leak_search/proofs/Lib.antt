@@ -6,3 +6,4 @@ pub mod SameKinds
 pub mod Joining
 pub mod RegisterSteps
 pub mod OneAnswer
+pub mod ReachSteps

@@ -99,6 +99,7 @@ found_ordered blocks found from region apart s = record {
         | inr clear ↦ elim clear [ inl h ↦ clear_below a b low h | inr h ↦ absurd (clear_above a b low h) ]
       ]);
   aligned = λ k b at. (let multiple = (region.live b.start b (s.there k b at)).multiple in omega arith);
+  positive = λ k b at. (let low = (region.live b.start b (s.there k b at)).above in omega arith);
 }
 
 -- the address after a live block's first is one

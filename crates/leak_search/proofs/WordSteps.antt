@@ -4,8 +4,9 @@ use Rattle.std.proofs.lemmas.Bool.{false≢true}
 use Rattle.std.proofs.lemmas.Bool.Decides.{nat_tests}
 use Rattle.std.proofs.lemmas.Option.{none-some}
 use Rattle.shadow_memory.specs.Ranges.{little_word, window}
-use Rattle.shadow_memory.specs.Shadows.{Shadow, holds_word, HoldNoWord, IsNextWord}
-use Rattle.leak_search.specs.Words.{word_at}
+use Rattle.shadow_memory.specs.Shadows.{Shadow}
+use Rattle.shadow_memory.specs.Values.{value_at, holds_in_range, HoldNoneInRange, IsNextInRange}
+use Rattle.leak_search.specs.Gathering.{word_within}
 
 none_when : (a b c : Bool) (x : ℕ) → (a ≡ true → b ≡ true → c ≡ false) → (if a && (b && c) then Some x else None) ≡ None
 none_when false b c x h = refl
@@ -37,18 +38,18 @@ true_eq : (m : ℕ) → (m == 0) ≡ true → m ≡ 0
 true_eq m h = grind (arith, nat_tests)
 
 -- a word is at a multiple of 4
-pub word_place : (bytes : ℕ → ℕ) (shadows : ℕ → Shadow) (w v : ℕ) → word_at bytes shadows w ≡ Some v → (w % 4 ≡ 0) × (w < 2 ^ 32)
-unfolding word_at
-word_place bytes shadows w v e =
-    let p = parts_when (nat_lt w (2 ^ 32)) (w % 4 == 0) (holds_word shadows w) (little_word (λ i. bytes (w + i))) v e in
+pub word_place : (bytes : ℕ → ℕ) (shadows : ℕ → Shadow) (low high w v : ℕ) → word_within bytes shadows low high w ≡ Some v → (w % 4 ≡ 0) × (w < 2 ^ 32)
+unfolding word_within
+word_place bytes shadows low high w v e =
+    let p = parts_when (nat_lt w (2 ^ 32)) (w % 4 == 0) (holds_in_range bytes shadows low high w) (value_at bytes w) v e in
     (true_eq (w % 4) p.1, true_lt w (2 ^ 32) p.0)
 
-pub word_none : (bytes : ℕ → ℕ) (shadows : ℕ → Shadow) (from to : ℕ) → HoldNoWord shadows from to → (w : ℕ) → from ≤ w → (w < 2 ^ 32 → w < to)
-    → word_at bytes shadows w ≡ None
-unfolding word_at
-word_none bytes shadows from to none w low high =
-    none_when (nat_lt w (2 ^ 32)) (w % 4 == 0) (holds_word shadows w) (little_word (λ i. bytes (w + i)))
-    (λ less multiple. none w low (high (true_lt w (2 ^ 32) less)) (true_eq (w % 4) multiple))
+pub word_none : (bytes : ℕ → ℕ) (shadows : ℕ → Shadow) (low high from to : ℕ) → HoldNoneInRange bytes shadows low high from to → (w : ℕ) → from ≤ w → (w < 2 ^ 32 → w < to)
+    → word_within bytes shadows low high w ≡ None
+unfolding word_within
+word_none bytes shadows low high from to none w start below =
+    none_when (nat_lt w (2 ^ 32)) (w % 4 == 0) (holds_in_range bytes shadows low high w) (value_at bytes w)
+    (λ less multiple. none w start (below (true_lt w (2 ^ 32) less)) (true_eq (w % 4) multiple))
 
 -- below the end of the address space four bytes from a multiple of 4 on don't go round it
 pub word_value : (bytes : ℕ → ℕ) (a : ℕ) → a < 2 ^ 32 → a % 4 ≡ 0 → little_word (window bytes a 4) ≡ little_word (λ i. bytes (a + i))
@@ -60,10 +61,10 @@ word_value bytes a h m =
     let e3 : (a + 3) % 4294967296 ≡ a + 3 = omega arith in
     λ i. bytes (e0 i) + 256 * bytes (e1 i) + 65536 * bytes (e2 i) + 16777216 * bytes (e3 i)
 
-pub word_here : (bytes : ℕ → ℕ) (shadows : ℕ → Shadow) (from a value : ℕ) → a < 2 ^ 32 → IsNextWord shadows from a
-    → value ≡ little_word (window bytes a 4) → word_at bytes shadows a ≡ Some value
-unfolding word_at
-word_here bytes shadows from a value h next e =
-    some_when (nat_lt a (2 ^ 32)) (a % 4 == 0) (holds_word shadows a) (little_word (λ i. bytes (a + i)))
+pub word_here : (bytes : ℕ → ℕ) (shadows : ℕ → Shadow) (low high from a value : ℕ) → a < 2 ^ 32 → IsNextInRange bytes shadows low high from a
+    → value ≡ little_word (window bytes a 4) → word_within bytes shadows low high a ≡ Some value
+unfolding word_within
+word_here bytes shadows low high from a value h next e =
+    some_when (nat_lt a (2 ^ 32)) (a % 4 == 0) (holds_in_range bytes shadows low high a) (value_at bytes a)
     (lt_true a (2 ^ 32) h) (eq_true (a % 4) next.aligned) next.holds
     ∙ ap Some (sym (e ∙ word_value bytes a h next.aligned))

@@ -1,5 +1,5 @@
 -- What the private functions say of the pointers that they gather.
-use Rattle.std.specs.Prelude.{◌≡◌, ℕ, ◌<◌, ◌+◌, ◌≤◌, ◌%◌, ◌⊎◌, Bool, List, [], ◌∷◌, ◌++◌, Option, Some, None, slice_get, slice_index_or, length}
+use Rattle.std.specs.Prelude.{◌≡◌, ℕ, ◌<◌, ◌+◌, ◌≤◌, ◌%◌, ◌^◌, ◌==◌, ◌&&◌, ◌⊎◌, nat_lt, if◌then◌else◌, Bool, List, [], ◌∷◌, ◌++◌, Option, Some, None, slice_get, slice_index_or, length}
 use Rattle.std.specs.declared.vec.Vec.{Vec}
 use Rattle.std.specs.declared.alloc.Global.{Global}
 use Rattle.call_stacks.specs.declared.block.Block.{Block}
@@ -7,6 +7,8 @@ use Rattle.guest_heap.specs.Blocks.{Blocks, IsFirstLive}
 use Rattle.guest_heap.specs.Steps.{live_from}
 use Rattle.definedness.specs.declared.Bits.{Bits}
 use Rattle.shadow_memory.specs.Memories.{bytes_in, shadows_in}
+use Rattle.shadow_memory.specs.Shadows.{Shadow}
+use Rattle.shadow_memory.specs.Values.{value_at, holds_in_range}
 use Rattle.shadow_memory.specs.declared.memory.Memory.{Memory}
 use Rattle.leak_graph.specs.declared.graph.Pointer.{Pointer}
 use Rattle.error_events.specs.declared.leak_kind.LeakKind.{LeakKind}
@@ -19,11 +21,12 @@ use Rattle.leak_search.specs.Words.{word_at}
 use Rattle.leak_search.specs.Search.{Scene, IsWordRoot, IsHeldIn}
 use Rattle.leak_search.specs.Pointing.{PointsTo, IsInNoBlock, IsWordIn}
 
--- of two blocks the one of lower number lies wholly below, and each starts at a multiple of 4
+-- of two blocks the one of lower number lies wholly below, and each starts at a multiple of 4 above 0
 pub record AreOrdered (blocks : List Block) : Type 0 where
   pub lower : (j k : ℕ) (a b : Block) → j < k → slice_get blocks j ≡ Some a → slice_get blocks k ≡ Some b → a.start < b.start
   pub below : (j k : ℕ) (a b : Block) → j < k → slice_get blocks j ≡ Some a → slice_get blocks k ≡ Some b → a.start + a.size ≤ b.start
   pub aligned : (k : ℕ) (b : Block) → slice_get blocks k ≡ Some b → b.start % 4 ≡ 0
+  pub positive : (k : ℕ) (b : Block) → slice_get blocks k ≡ Some b → 0 < b.start
 
 -- a list of blocks goes on by the first live one at an address or above, and then from the address after its first byte
 abbrev pub GoesOn : Blocks → ℕ → Option ℕ → List Block → List Block → Type 0
@@ -34,6 +37,15 @@ GoesOn blocks from (Some next) old new =
 -- the words of a memory
 abbrev pub words_in : Memory → ℕ → Option ℕ
 words_in memory = word_at (bytes_in memory) (shadows_in memory)
+
+-- the words whose values lie from low up to, not with, high
+unfoldable pub word_within : (ℕ → ℕ) → (ℕ → Shadow) → ℕ → ℕ → ℕ → Option ℕ
+word_within bytes shadows low high w =
+    if nat_lt w (2 ^ 32) && (w % 4 == 0 && holds_in_range bytes shadows low high w) then Some (value_at bytes w) else None
+
+-- those of a memory
+abbrev pub words_within : Memory → ℕ → ℕ → ℕ → Option ℕ
+words_within memory low high = word_within (bytes_in memory) (shadows_in memory) low high
 
 -- the first word at an address or above
 pub record IsNextIn (words : ℕ → Option ℕ) (from : ℕ) (word : Word) : Type 0 where

@@ -14,6 +14,34 @@ pub(crate) enum Owner {
     Across,
 }
 
+/// A range of values: from low up to, not with, high.
+#[derive(Clone, Copy)]
+pub(crate) struct Reach {
+    pub(crate) low: u32,
+    pub(crate) high: u64,
+}
+
+/// A range in which all values lie that point to a block: from the first one's start up to the last one's end.
+#[tactic(auto, using(crate::proofs::ReachSteps::from_first, crate::proofs::ReachSteps::to_last, crate::proofs::ReachSteps::to_nothing))]
+pub(crate) fn reach_of(blocks: &[Block]) -> Option<Reach>
+    requires { AreOrdered blocks.now }
+    ensures none { IfNone result ((starts : Bool) (value b : ℕ) → PointsTo starts blocks.now value b → ⊥) }
+    ensures low { IfSome result (λ reach. (starts : Bool) (value b : ℕ) → PointsTo starts blocks.now value b → reach.low ≤ value) }
+    ensures high { IfSome result (λ reach. (starts : Bool) (value b : ℕ) → PointsTo starts blocks.now value b → value < reach.high) }
+    ensures positive { IfSome result (λ reach. 0 < reach.low) }
+{
+    if blocks.is_empty() {
+        return None;
+    }
+    let first = &blocks[0];
+    let last = &blocks[blocks.len() - 1];
+    // The start of a block of no bytes points to it too.
+    Some(Reach {
+        low: first.start,
+        high: last.start as u64 + last.size as u64 + 1,
+    })
+}
+
 // How many of the blocks start at an address or below.
 fn up_to(blocks: &[Block], addr: u32) -> usize
     requires { IsPartitionedBy (λ b. nat_le b.start addr) blocks.now }

@@ -1,9 +1,9 @@
 ghost use Rattle.std.specs.Prelude.{◌≡◌, ℕ, ◌<◌, ◌≤◌, ◌%◌, ◌^◌, OnOk, IfOk, Some, slice_get, length, true, false, Bool};
 ghost use Rattle.leak_graph.specs.Graphs.{LeadsTo, GoWithin, AllGoWithin, HasEdge};
 ghost use Rattle.leak_search.specs.Pointing.{PointsTo, IsInNoBlock, IsWordIn};
-ghost use Rattle.leak_search.specs.Gathering.{AreOrdered, words_in, listed, Gains, EdgesGain, RootAny, EdgeAny, RegisterBelow};
+ghost use Rattle.leak_search.specs.Gathering.{AreOrdered, words_in, words_within, listed, Gains, EdgesGain, RootAny, EdgeAny, RegisterBelow};
 
-use crate::finding::{Owner, owner_of, pointer_to};
+use crate::finding::{Owner, Reach, owner_of, pointer_to, reach_of};
 use crate::words::next_word;
 use call_stacks::Block;
 use definedness::Bits;
@@ -54,7 +54,32 @@ fn place(
     }
 }
 
-// Adds what all words point to, in one pass.
+// Adds what the words with values in a range point to, in one pass.
+fn gather_within(
+    memory: &Memory,
+    blocks: &[Block],
+    reach: Reach,
+    roots: &mut Vec<Pointer>,
+    edges: &mut [Vec<Pointer>],
+) -> Result<(), AllocError>
+    requires ordered { AreOrdered blocks.now }
+    requires len { length edges.old ≡ length blocks.now }
+    requires positive { 0 < reach.low }
+    ensures roots { OnOk result (Gains (RootAny (words_within memory.now reach.low reach.high) blocks.now) roots.old.items roots.new.items) }
+    ensures edges { OnOk result (EdgesGain (EdgeAny (words_within memory.now reach.low reach.high) blocks.now) edges.old edges.new) }
+{
+    let mut from = 0;
+    while let Some(word) = next_word(memory, from, reach.low, reach.high) {
+        place(blocks, word.address, word.value, roots, edges)?;
+        match word.address.checked_add(4) {
+            Some(next) => from = next,
+            None => return Ok(()),
+        }
+    }
+    Ok(())
+}
+
+// Adds what all words point to; those that can't point to a block are passed over.
 pub(crate) fn gather_words(
     memory: &Memory,
     blocks: &[Block],
@@ -66,15 +91,10 @@ pub(crate) fn gather_words(
     ensures roots { OnOk result (Gains (RootAny (words_in memory.now) blocks.now) roots.old.items roots.new.items) }
     ensures edges { OnOk result (EdgesGain (EdgeAny (words_in memory.now) blocks.now) edges.old edges.new) }
 {
-    let mut from = 0;
-    while let Some(word) = next_word(memory, from) {
-        place(blocks, word.address, word.value, roots, edges)?;
-        match word.address.checked_add(4) {
-            Some(next) => from = next,
-            None => return Ok(()),
-        }
+    match reach_of(blocks) {
+        None => Ok(()),
+        Some(reach) => gather_within(memory, blocks, reach, roots, edges),
     }
-    Ok(())
 }
 
 // Adds what a register points to, if it is wholly defined.

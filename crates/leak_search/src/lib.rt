@@ -27,8 +27,8 @@
 //!
 //! # Costs
 //!
-//! Each word is looked at once, and a block is found by binary search; so the time grows with the words and the live blocks, times the
-//! logarithm of the number of live blocks. Nothing recurses.
+//! Each word is looked at once, blank pages and directories are passed at a step each, and for a value from the first live block's start
+//! up to the last one's end a block is found by binary search. Without a live block no word is looked at. Nothing recurses.
 #![tactic(auto)]
 
 mod blocks;

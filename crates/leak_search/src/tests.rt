@@ -35,7 +35,7 @@ type Case = (
 );
 
 // What holds a block.
-const ROOTS: [Case; 10] = [
+const ROOTS: [Case; 16] = [
     // A register; one with an undefined bit; x31; x0, which holds no value.
     (&[8], (10, A, 0), &[], &[Reachable]),
     (&[8], (10, A, 1), &[], &[Definite]),
@@ -50,6 +50,41 @@ const ROOTS: [Case; 10] = [
     (&[8], (10, A - 1, 0), &[], &[Definite]),
     // Both sorts of pointers.
     (&[8], (10, A + 1, 0), &[(STACK, A, 0)], &[Reachable]),
+    // The last word of the address space; the last one of a page and the first of the next, with zeros between.
+    (&[8], (10, 0, 0), &[(0xFFFF_FFFC, A, 0)], &[Reachable]),
+    (
+        &[8, 8],
+        (10, 0, 0),
+        &[(0x1FFC, A, 0), (0x2000, 0, 0), (0x3000, B, 0)],
+        &[Reachable, Reachable],
+    ),
+    // Words with the last byte of the last block, one past it, and one before the first.
+    (
+        &[8, 8],
+        (10, 0, 0),
+        &[(STACK, B + 7, 0)],
+        &[Definite, Possible],
+    ),
+    (
+        &[8, 8],
+        (10, 0, 0),
+        &[(STACK, B + 8, 0), (STACK + 4, A - 1, 0)],
+        &[Definite, Definite],
+    ),
+    // A last block of no bytes: its start points to it.
+    (
+        &[8, 0],
+        (10, 0, 0),
+        &[(STACK, B, 0)],
+        &[Definite, Reachable],
+    ),
+    // Half a pointer in each of two words.
+    (
+        &[8],
+        (10, 0, 0),
+        &[(STACK, A << 16, 0), (STACK + 4, A >> 16, 0)],
+        &[Definite],
+    ),
 ];
 
 // What leads from block to block.

@@ -1,6 +1,6 @@
 // The words of a memory.
-ghost use Rattle.std.specs.Prelude.{◌≡◌, ℕ, ◌≤◌, IfNone, IfSome, None};
-ghost use Rattle.leak_search.specs.Gathering.{words_in, IsNextIn};
+ghost use Rattle.std.specs.Prelude.{◌≡◌, ℕ, ◌<◌, ◌≤◌, IfNone, IfSome, None};
+ghost use Rattle.leak_search.specs.Gathering.{words_within, IsNextIn};
 
 use shadow_memory::Memory;
 
@@ -11,12 +11,13 @@ pub(crate) struct Word {
     pub(crate) value: u32,
 }
 
-/// The first word at an address or above.
-pub(crate) fn next_word(memory: &Memory, from: u32) -> Option<Word>
-    ensures none { IfNone result ((w : ℕ) → from ≤ w → words_in memory.now w ≡ None) }
-    ensures some { IfSome result (λ word. IsNextIn (words_in memory.now) from word) }
+/// The first word at an address or above whose value is from low up to, not with, high.
+pub(crate) fn next_word(memory: &Memory, from: u32, low: u32, high: u64) -> Option<Word>
+    requires { 0 < low }
+    ensures none { IfNone result ((w : ℕ) → from ≤ w → words_within memory.now low high w ≡ None) }
+    ensures some { IfSome result (λ word. IsNextIn (words_within memory.now low high) from word) }
 {
-    match memory.next_word(from) {
+    match memory.next_in_range(from, low, high) {
         None => None,
         Some(address) => Some(Word {
             address,

@@ -141,3 +141,64 @@ fn scans(rt: HostRuntime) -> Result<(), Fail> {
     assert!(rt; !all_are(&bytes, b'a'));
     Ok(())
 }
+
+// What a row shows; from where; the range of values; the word that is found.
+type Search = (&'static str, u32, u32, u64, Option<u32>);
+
+const SEARCHES: [Search; 11] = [
+    ("the first word of a page", 0, 0x40, 0x50, Some(0x4000)),
+    ("the last word of a page", 0x4001, 0x40, 0x50, Some(0x4FFC)),
+    ("the low end of the range", 0, 0x4F, 0x50, Some(0x4FFC)),
+    ("not with its high end", 0x4004, 0x40, 0x4F, None),
+    (
+        "past zeros, blank pages and directories",
+        0x5038,
+        1,
+        0x1_0000_0000,
+        Some(0xFFFF_FFFC),
+    ),
+    (
+        "the greatest value",
+        0,
+        0xFFFF_FFFF,
+        0x1_0000_0000,
+        Some(0xFFFF_FFFC),
+    ),
+    (
+        "not with the greatest value",
+        0,
+        0xFFFF_FFFF,
+        0xFFFF_FFFF,
+        None,
+    ),
+    ("no value at all", 0, 0x50, 0x50, None),
+    ("not a word with an inaccessible byte", 0, 0x60, 0x61, None),
+    ("not a word with an undefined bit", 0, 0x70, 0x71, None),
+    ("not across two words", 0, 0x9090_9090, 0x9090_9091, None),
+];
+
+// Words whose values lie in a range.
+#[test]
+fn values_are_found(rt: HostRuntime) -> Result<(), Fail> {
+    let alloc = rt.alloc();
+    let mut memory = Memory::new(alloc);
+    memory.fill(0x4000, 0x3000, b"\x40")?;
+    memory.fill(0x0080_0000, 0x0100_0000, b"")?;
+    memory.fill(0xFFFF_FFFC, 4, b"\xFF\xFF\xFF\xFF")?;
+    memory.poke(0x4FFC, 0x4F)?;
+    memory.poke(0x5010, 0x60)?;
+    memory.set_range(0x5011, 1, RangeKind::NoAccess)?;
+    let partly = Bits {
+        value: 0x70,
+        undef: 0x100,
+    };
+    assert_eq!(rt; memory.store(0x5020, 4, partly)?, None);
+    memory.store_bytes(0x5032, b"\x90\x90\x90\x90")?;
+    for (shows, from, low, high, found) in SEARCHES {
+        assert_eq!(rt;
+            (shows, memory.next_in_range(from, low, high)),
+            (shows, found)
+        );
+    }
+    Ok(())
+}

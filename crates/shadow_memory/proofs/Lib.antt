@@ -9,3 +9,4 @@ pub mod Searching
 pub mod Copying
 pub mod Loading
 pub mod Storing
+pub mod Ranging

@@ -103,7 +103,7 @@ module _ (cells seen : ℕ → Cell) (start : ℕ) (page : start % 4096 ≡ 0) (
       let e : start + k + i ≡ start + (k + i) = omega arith in
       ap (λ a. is_bad true (shadow_in (cells a))) e ∙ ap (is_bad true) (byte-seen (k + i) below)
 
-  word-seen : (k : ℕ) → k % 4 ≡ 0 → k < 4096 → holds_word (λ a. shadow_in (cells a)) (start + k) ≡ holds_word (λ a. shadow_in (seen a)) k
+  pub word-seen : (k : ℕ) → k % 4 ≡ 0 → k < 4096 → holds_word (λ a. shadow_in (cells a)) (start + k) ≡ holds_word (λ a. shadow_in (seen a)) k
   word-seen k aligned below =
       let whole : k + 4 ≤ 4096 = omega arith in
       same-four _ _ _ _ _ _ _ _ (ap (is_bad true) (byte-seen k below)) (next-seen k 1 (omega arith)) (next-seen k 2 (omega arith)) (next-seen k 3 (omega arith))

@@ -14,3 +14,4 @@ pub mod Memories
 pub mod Changes
 pub mod Loads
 pub mod Fronts
+pub mod Values

@@ -19,6 +19,7 @@
 //! | [`Memory::copy_with_shadow`] | copies a range, with what is known of it, to one that is apart | yes |
 //! | [`Memory::first_bad`] | the first byte of a range that is inaccessible or, where asked, not defined | no |
 //! | [`Memory::next_word`] | the next multiple of 4 whose four bytes are accessible and defined | no |
+//! | [`Memory::next_in_range`] | the next of these whose value lies in a range of numbers above 0 | no |
 //! | [`Memory::share`] | a memory that holds the same; a later change of one of the two doesn't reach the other | yes |
 //! | [`laws::first_not`], [`laws::all_are`] | scans of bytes, sixteen at a time | no |
 //!
@@ -43,7 +44,7 @@
 //!
 //! - `Ranges`: ranges of addresses, a function changed at a range, bytes written and copied.
 //! - `Shadows`: what is known of a byte, and what loads, stores, copies and marks make of it; the first inaccessible or bad
-//!   byte, and the next word.
+//!   byte, and the next word. `Values`: the next word whose value lies in a range.
 //! - `Memories`: `bytes_in` and `shadows_in`. `Fronts` and `Changes`: what a refused call leaves, `IsWidth`, `AreApart`.
 //!   `Cells`: `shadow_in`, `set_at`, `IsClean`.
 //!

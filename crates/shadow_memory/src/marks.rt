@@ -254,6 +254,17 @@ impl Marks {
         }
     }
 
+    /// Are four bytes all accessible and defined?
+    pub(crate) fn holds_word(&self, at: usize) -> bool
+        requires { at + 4 ≤ 4096 }
+        ensures { result ≡ holds_word (λ k. shadow_of_mark (marks_in self.now k)) at }
+    {
+        match self {
+            Marks::Uniform(kind) => !is_bad_mark(mark_of_kind(*kind), true),
+            Marks::Mixed(mixed) => mixed.holds_word(at),
+        }
+    }
+
     /// The first multiple of 4, from one on, that has four accessible and defined bytes.
     pub(crate) fn next_word(&self, from: usize) -> Option<usize>
         requires within { from ≤ 4096 }

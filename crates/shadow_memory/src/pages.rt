@@ -9,6 +9,7 @@ ghost use Rattle.shadow_memory.specs.Loads.{loaded_at};
 ghost use Rattle.shadow_memory.specs.Ranges.{little_word};
 ghost use Rattle.shadow_memory.specs.Firsts.{IsFirst, NonePass};
 ghost use Rattle.shadow_memory.specs.Shadows.{is_bad, HoldNoWord, IsNextWord};
+ghost use Rattle.shadow_memory.specs.Values.{holds_in_range, HoldNoneInRange, IsNextInRange};
 
 use crate::cells::{Cell, Loaded, Mark, RangeKind, marked_cell};
 use crate::edits::Edit;
@@ -120,6 +121,32 @@ impl Page {
         ensures inside { IfSome result (λ at. at < 4096) }
     {
         self.marks.next_word(from)
+    }
+
+    // Are four bytes accessible and defined, with a value from low up to, not with, high?
+    #[inline(always)]
+    fn holds_in_range(&self, at: usize, low: u32, high: u64) -> bool
+        requires { at + 4 ≤ 4096 }
+        ensures { result ≡ holds_in_range (λ k. (cells_in self.now k).byte) (λ k. shadow_in (cells_in self.now k)) low high at }
+    {
+        let value = self.number(at, 4);
+        low <= value && (value as u64) < high && self.marks.holds_word(at)
+    }
+
+    /// The first multiple of 4, from one on, whose four bytes are so.
+    pub(crate) fn next_in_range(&self, from: usize, low: u32, high: u64) -> Option<usize>
+        requires within { from ≤ 4096 }
+        requires aligned { from % 4 ≡ 0 }
+        ensures none { IfNone result (HoldNoneInRange (λ k. (cells_in self.now k).byte) (λ k. shadow_in (cells_in self.now k)) low high from 4096) }
+        ensures some { IfSome result (IsNextInRange (λ k. (cells_in self.now k).byte) (λ k. shadow_in (cells_in self.now k)) low high from) }
+        ensures inside { IfSome result (λ at. at < 4096) }
+    {
+        for word in from / 4..PAGE / 4 {
+            if self.holds_in_range(4 * word, low, high) {
+                return Some(4 * word);
+            }
+        }
+        None
     }
 
     /// The first bad byte from one place up to, not with, another.

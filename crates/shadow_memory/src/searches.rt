@@ -1,7 +1,8 @@
 //! Searches of memory, page by page.
-ghost use Rattle.std.specs.Prelude.{◌≡◌, ◌^◌, IfNone, IfSome};
+ghost use Rattle.std.specs.Prelude.{◌≡◌, ◌<◌, ◌^◌, IfNone, IfSome};
 ghost use Rattle.shadow_memory.specs.Shadows.{first_bad, HoldNoWord, IsNextWord};
-ghost use Rattle.shadow_memory.specs.Memories.{shadows_in};
+ghost use Rattle.shadow_memory.specs.Values.{HoldNoneInRange, IsNextInRange};
+ghost use Rattle.shadow_memory.specs.Memories.{bytes_in, shadows_in};
 
 use crate::cells::Bad;
 use crate::memory::Memory;
@@ -47,6 +48,30 @@ impl Memory {
             } else {
                 let start = page * PAGE_LEN;
                 if let Some(place) = self.view(start).next_word(from as usize) {
+                    return Some(start + place as u32);
+                }
+                page += 1;
+            }
+            from = 0;
+        }
+        None
+    }
+
+    /// The least multiple of 4, at or above an address, whose four bytes are all accessible and defined, with a value from low up to,
+    /// not with, high. Zeros are never such a value: a page that is blank, and a directory, costs a step.
+    pub fn next_in_range(&self, addr: u32, low: u32, high: u64) -> Option<u32>
+        requires { 0 < low }
+        ensures none { IfNone result (HoldNoneInRange (bytes_in self.now) (shadows_in self.now) low high addr (2 ^ 32)) }
+        ensures some { IfSome result (IsNextInRange (bytes_in self.now) (shadows_in self.now) low high addr) }
+    {
+        let mut page = addr / PAGE_LEN;
+        let mut from = 4 * ((addr % PAGE_LEN + 3) / 4);
+        while page < PAGES {
+            if self.has_no_word(page / DIRECTORY_PAGES) {
+                page = (page / DIRECTORY_PAGES + 1) * DIRECTORY_PAGES;
+            } else {
+                let start = page * PAGE_LEN;
+                if let Some(place) = self.view(start).next_in_range(from as usize, low, high) {
                     return Some(start + place as u32);
                 }
                 page += 1;

@@ -5,6 +5,7 @@ ghost use Rattle.shadow_memory.specs.Changes.{IsWidth};
 ghost use Rattle.shadow_memory.specs.Loads.{loaded_at};
 ghost use Rattle.shadow_memory.specs.Firsts.{IsFirst, NonePass};
 ghost use Rattle.shadow_memory.specs.Shadows.{is_bad, HoldNoWord, IsNextWord};
+ghost use Rattle.shadow_memory.specs.Values.{holds_in_range, HoldNoneInRange, IsNextInRange};
 ghost use Rattle.shadow_memory.specs.Views.{cells_seen};
 
 use crate::cells::{Cell, Loaded, RangeKind, blank_cell};
@@ -67,6 +68,21 @@ impl View<'_> {
         match self {
             View::Blank(kind) => next_word_of(kind, from),
             View::Held(page) => page.next_word(from),
+        }
+    }
+
+    /// The first multiple of 4, from one on, whose four bytes are accessible and defined, with a value from low up to, not with, high.
+    pub(crate) fn next_in_range(self, from: usize, low: u32, high: u64) -> Option<usize>
+        requires within { from ≤ 4096 }
+        requires aligned { from % 4 ≡ 0 }
+        requires positive { 0 < low }
+        ensures none { IfNone result (HoldNoneInRange (λ k. (cells_seen self.entry k).byte) (λ k. shadow_in (cells_seen self.entry k)) low high from 4096) }
+        ensures some { IfSome result (IsNextInRange (λ k. (cells_seen self.entry k).byte) (λ k. shadow_in (cells_seen self.entry k)) low high from) }
+        ensures inside { IfSome result (λ at. at < 4096) }
+    {
+        match self {
+            View::Blank(_) => None,
+            View::Held(page) => page.next_in_range(from, low, high),
         }
     }
 

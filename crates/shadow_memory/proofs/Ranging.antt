@@ -1,0 +1,86 @@
+-- Searches for a word whose value lies in a range, from page to page.
+use Rattle.std.proofs.Common.{◌≡◌, ℕ, Bool, true, false, not, ◌&&◌, refl, ap, ap₂, sym, ◌∙◌, ◌+◌, ◌-◌, ◌*◌, ◌/◌, ◌%◌, ◌<◌, ◌≤◌, inl, inr, nat_le, nat_lt, arith}
+use Rattle.std.proofs.lemmas.Bool.{cases_lt, false≢true}
+use Rattle.std.proofs.lemmas.Bool.Decides.{nat_tests}
+use Rattle.shadow_memory.specs.Cells.{shadow_in}
+use Rattle.shadow_memory.specs.Ranges.{little_word}
+use Rattle.shadow_memory.specs.Shadows.{Shadow, holds_word, is_bad}
+use Rattle.shadow_memory.specs.Values.{value_at, holds_in_range, HoldNoneInRange, IsNextInRange}
+use Rattle.shadow_memory.specs.declared.cells.Cell.{Cell}
+use Rattle.shadow_memory.proofs.Searching.{word-seen}
+
+same-number : (f g : ℕ → ℕ) → ((i : ℕ) → i < 4 → f i ≡ g i) → little_word f ≡ little_word g
+unfolding little_word
+same-number f g same =
+    let first = same 0 (omega arith) in
+    let second = same 1 (omega arith) in
+    let third = same 2 (omega arith) in
+    let fourth = same 3 (omega arith) in
+    λ i. first i + 256 * second i + 65536 * third i + 16777216 * fourth i
+
+zero-number : little_word (λ i. 0) ≡ 0
+unfolding little_word
+zero-number = refl
+
+not-from : (low : ℕ) → 0 < low → nat_le low 0 ≡ false
+not-from low positive = grind (arith, nat_tests)
+
+-- zeros have no value above 0
+pub zeros-hold-none : (bytes : ℕ → ℕ) (shadows : ℕ → Shadow) (low high from to : ℕ) → 0 < low → ((k : ℕ) → bytes k ≡ 0) → HoldNoneInRange bytes shadows low high from to
+zeros-hold-none bytes shadows low high from to positive zeros a start below aligned =
+    let value : value_at bytes a ≡ 0 = same-number (λ i. bytes (a + i)) (λ i. 0) (λ i few. zeros (a + i)) ∙ zero-number in
+    ap (λ b. b && nat_lt (value_at bytes a) high && holds_word shadows a) (ap (nat_le low) value ∙ not-from low positive)
+
+-- one more multiple of 4 is looked at
+pub value-more : (bytes : ℕ → ℕ) (shadows : ℕ → Shadow) (low high from word : ℕ) → HoldNoneInRange bytes shadows low high from (4 * word) → holds_in_range bytes shadows low high (4 * word) ≡ false → HoldNoneInRange bytes shadows low high from (4 * (word + 1))
+value-more bytes shadows low high from word before here a start below aligned = elim (cases_lt a (4 * word)) [
+  | inl early ↦ before a start early aligned
+  | inr late ↦ let e : a ≡ 4 * word = omega arith in ap (holds_in_range bytes shadows low high) e ∙ here
+]
+
+bad-first : (b p q r : Bool) → b ≡ true → (not b && p && q && r) ≡ false
+bad-first true p q r h = refl
+bad-first false p q r h = absurd (false≢true h)
+
+last-false : (p q w : Bool) → w ≡ false → (p && q && w) ≡ false
+last-false true true w h = h
+last-false true false w h = refl
+last-false false q w h = refl
+
+-- where the first byte is bad there is no word
+pub bad-holds-none : (bytes : ℕ → ℕ) (shadows : ℕ → Shadow) (low high a : ℕ) → is_bad true (shadows a) ≡ true → holds_in_range bytes shadows low high a ≡ false
+bad-holds-none bytes shadows low high a bad = last-false (nat_le low (value_at bytes a)) (nat_lt (value_at bytes a) high) (holds_word shadows a) (bad-first (is_bad true (shadows a)) _ _ _ bad)
+
+module _ (cells seen : ℕ → Cell) (start low high : ℕ) (page : start % 4096 ≡ 0) (same : (a : ℕ) → a / 4096 ≡ start / 4096 → cells a ≡ seen (a % 4096)) where
+  value-seen : (k : ℕ) → k % 4 ≡ 0 → k < 4096 → value_at (λ a. (cells a).byte) (start + k) ≡ value_at (λ a. (seen a).byte) k
+  value-seen k aligned below = same-number _ _ (λ i few.
+      let there : (start + k + i) / 4096 ≡ start / 4096 = omega arith in
+      let place : (start + k + i) % 4096 ≡ k + i = omega arith in
+      ap (λ (c : Cell). c.byte) (same (start + k + i) there ∙ ap seen place))
+
+  holds-seen : (k : ℕ) → k % 4 ≡ 0 → k < 4096 → holds_in_range (λ a. (cells a).byte) (λ a. shadow_in (cells a)) low high (start + k) ≡ holds_in_range (λ a. (seen a).byte) (λ a. shadow_in (seen a)) low high k
+  holds-seen k aligned below = ap₂ (λ (n : ℕ) (b : Bool). nat_le low n && nat_lt n high && b) (value-seen k aligned below) (word-seen cells seen start page same k aligned below)
+
+  pub page-holds-none : (addr from to : ℕ) → to ≤ 4096 → HoldNoneInRange (λ a. (seen a).byte) (λ a. shadow_in (seen a)) low high from to → HoldNoneInRange (λ a. (cells a).byte) (λ a. shadow_in (cells a)) low high addr (start + from)
+      → HoldNoneInRange (λ a. (cells a).byte) (λ a. shadow_in (cells a)) low high addr (start + to)
+  page-holds-none addr from to within none before a above below aligned = elim (cases_lt a (start + from)) [
+    | inl early ↦ before a above early aligned
+    | inr late ↦
+        let k : ℕ = a - start in
+        let e : start + k ≡ a = omega arith in
+        let near : k < to = omega arith in
+        let four : k % 4 ≡ 0 = omega arith in
+        ap (holds_in_range (λ a. (cells a).byte) (λ a. shadow_in (cells a)) low high) (sym e) ∙ holds-seen k four (omega arith) ∙ none k (omega arith) near four
+  ]
+
+  pub next-in-page : (addr from place : ℕ) → IsNextInRange (λ a. (seen a).byte) (λ a. shadow_in (seen a)) low high from place → place < 4096 → addr ≤ start + from
+      → HoldNoneInRange (λ a. (cells a).byte) (λ a. shadow_in (cells a)) low high addr (start + from) → IsNextInRange (λ a. (cells a).byte) (λ a. shadow_in (cells a)) low high addr (start + place)
+  next-in-page addr from place next inside above before =
+      let later : from ≤ place = next.above in
+      let four : place % 4 ≡ 0 = next.aligned in
+      record {
+        above = omega arith;
+        aligned = omega arith;
+        holds = holds-seen place four inside ∙ next.holds;
+        least = page-holds-none addr from place (omega arith) next.least before;
+      }
