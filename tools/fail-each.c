@@ -1,0 +1,57 @@
+// An allocator that refuses growths, to be loaded before the C library's (LD_PRELOAD). A growth is a call for memory.
+// FAIL_AT=N refuses the Nth, counted from 1, and with FAIL_ON=1 each after it too. At the end of the process the
+// numbers of growths asked for and refused are written to the file that FAIL_TELL names, where it names one.
+#include <errno.h>
+#include <stdio.h>
+#include <stdlib.h>
+
+void *__libc_malloc(size_t);
+void *__libc_calloc(size_t, size_t);
+void *__libc_realloc(void *, size_t);
+void *__libc_memalign(size_t, size_t);
+
+static unsigned long asked, refused, first;
+static int ready, onward;
+
+static void begin(void) {
+  const char *at = getenv("FAIL_AT"), *on = getenv("FAIL_ON");
+  first = at ? strtoul(at, 0, 10) : 0;
+  onward = on && *on == '1';
+  ready = 1;
+}
+
+static int refuse(void) {
+  if (!ready) begin();
+  asked++;
+  if (!first || asked < first || (asked > first && !onward)) return 0;
+  refused++;
+  errno = ENOMEM;
+  return 1;
+}
+
+void *malloc(size_t size) { return refuse() ? 0 : __libc_malloc(size); }
+
+void *calloc(size_t count, size_t size) { return refuse() ? 0 : __libc_calloc(count, size); }
+
+void *realloc(void *old, size_t size) { return refuse() ? 0 : __libc_realloc(old, size); }
+
+void *memalign(size_t align, size_t size) { return refuse() ? 0 : __libc_memalign(align, size); }
+
+void *aligned_alloc(size_t align, size_t size) { return memalign(align, size); }
+
+int posix_memalign(void **place, size_t align, size_t size) {
+  void *got = memalign(align, size);
+  if (!got) return ENOMEM;
+  *place = got;
+  return 0;
+}
+
+__attribute__((destructor)) static void end(void) {
+  unsigned long asked_then = asked, refused_then = refused;
+  const char *path = getenv("FAIL_TELL");
+  first = 0;
+  FILE *file = path ? fopen(path, "w") : 0;
+  if (!file) return;
+  fprintf(file, "%lu %lu\n", asked_then, refused_then);
+  fclose(file);
+}
