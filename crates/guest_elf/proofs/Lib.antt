@@ -1,4 +1,5 @@
 pub mod Counted
+pub mod Hooked
 pub mod Loading
 pub mod Meeting
 pub mod Nearest

@@ -5,10 +5,12 @@ use Rattle.std.specs.List.{list_any, range_with_len, starts_with}
 use Rattle.std.specs.Option.{option_or}
 use Rattle.guest_elf.specs.declared.fault.ElfFault.{ElfFault}
 use Rattle.guest_elf.specs.declared.fault.ElfFault.TheVariants.{NotElf, NotClass32, NotLittleEndian, BadVersion, NotExecutable, NotRiscV, BadTable, Interpreter, BadSegment, Overlap, TooLarge, BadSymbols}
+use Rattle.guest_elf.specs.declared.hook.Hook.{Hook}
 use Rattle.guest_elf.specs.declared.image.Image.{Image}
 use Rattle.guest_elf.specs.declared.program.ProgramHeader.{ProgramHeader}
 use Rattle.guest_elf.specs.Fields.{byte_at, half_at, word_at}
-use Rattle.guest_elf.specs.Images.{contents_of, loaded_at, entry_of, name_at}
+use Rattle.guest_elf.specs.Hooks.{hooks_by}
+use Rattle.guest_elf.specs.Images.{contents_of, loaded_at, entry_of, name_at, hooks_of}
 use Rattle.guest_elf.specs.Names.{name_by, nearest}
 use Rattle.guest_elf.specs.Sections.{has_bad_section_table, is_bad_table, naming_in, strings_of, symbol_table}
 use Rattle.guest_elf.specs.Segments.{SegmentContent}
@@ -217,11 +219,16 @@ unfoldable pub name_in : List ℕ → ℕ → List ℕ
 name_in file address =
     name_by (strings_of file (symbol_table file)) address (nearest (naming_in file (symbol_table file)) address)
 
+-- the functions of the heap that the naming symbols of the file name
+unfoldable pub hooks_in : List ℕ → List (ℕ × Hook)
+hooks_in file = hooks_by (strings_of file (symbol_table file)) (naming_in file (symbol_table file))
+
 -- the image is the file's: it is not refused, and the image has its segments in its order, loads what the file
--- does, begins where it does and names what it does
+-- does, begins where it does, names what it does and has its functions of the heap
 pub record IsImageOf (file : List ℕ) (image : Image) : Type 0 where
   pub accepted : refusal file ≡ None
   pub segments : contents_of image ≡ contents_in file
   pub loads : (address : ℕ) → loaded_at image address ≡ loaded_in file address
   pub entry : entry_of image ≡ entry_in file
   pub names : (address : ℕ) → name_at image address ≡ name_in file address
+  pub hooks : hooks_of image ≡ hooks_in file

@@ -1,7 +1,9 @@
 -- What callers see of an image.
 use Rattle.std.specs.Prelude.{ℕ, List, map, Option}
+use Rattle.guest_elf.specs.Hooks.{hooks_by}
 use Rattle.guest_elf.specs.Names.{named_by}
 use Rattle.guest_elf.specs.Segments.{SegmentContent, content_of, loaded}
+use Rattle.guest_elf.specs.declared.hook.Hook.{Hook}
 use Rattle.guest_elf.specs.declared.image.Image.{Image}
 use Rattle.guest_elf.specs.declared.segment.Segment.{Segment}
 
@@ -24,3 +26,7 @@ loaded_at image address = loaded (segments_of image) address
 -- the name of the function at an address, by the image's symbols
 unfoldable pub name_at : Image → ℕ → List ℕ
 name_at image address = named_by image.names address
+
+-- the functions of the heap that the image's symbols name, by their addresses
+unfoldable pub hooks_of : Image → List (ℕ × Hook)
+hooks_of image = hooks_by image.names.strings.now image.names.symbols.items

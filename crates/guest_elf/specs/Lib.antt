@@ -1,5 +1,6 @@
 pub mod Faults
 pub mod Fields
+pub mod Hooks
 pub mod File
 pub mod Images
 pub mod Names

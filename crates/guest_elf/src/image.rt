@@ -1,12 +1,17 @@
 //! What a file loads.
-ghost use Rattle.std.specs.Prelude.{◌≡◌, ℕ, ◌+◌, ◌%◌, ◌^◌, ◌<◌, ◌↔◌, All, IsSome, IsTrue, is_some};
-ghost use Rattle.guest_elf.specs.Images.{segments_of, entry_of, loaded_at, name_at};
+ghost use Rattle.std.specs.Prelude.{◌≡◌, ℕ, ◌+◌, ◌%◌, ◌^◌, ◌<◌, ◌↔◌, All, IsSome, IsTrue, IfOk, is_some};
+ghost use Rattle.std.specs.List.Sorted.{IsNonDecreasingBy};
+ghost use Rattle.guest_elf.specs.Hooks.{hooks_by, IsRising};
+ghost use Rattle.guest_elf.specs.declared.hook.Hook.{Hook as HookOf};
+ghost use Rattle.guest_elf.specs.Images.{segments_of, entry_of, loaded_at, name_at, hooks_of};
 ghost use Rattle.guest_elf.specs.Names.{named_by};
 ghost use Rattle.guest_elf.specs.Segments.{has_address, Fits};
 ghost use Rattle.std.specs.List.{list_any};
 
+use crate::hook::Hook;
 use crate::names::FunctionNames;
 use crate::segment::Segment;
+use std::alloc::{AllocError, Global};
 
 /// The number of bytes in a word.
 const WORD_SIZE: u32 = 4;
@@ -21,11 +26,12 @@ pub struct Image<'a> {
 
 impl<'a> Image<'a> {
     /// The image of these segments, which begins at `entry`, with these names.
-    #[tactic(auto, unfolding(crate::specs::Images::segments_of, crate::specs::Images::entry_of, crate::specs::Images::name_at))]
+    #[tactic(auto, unfolding(crate::specs::Images::segments_of, crate::specs::Images::entry_of, crate::specs::Images::name_at, crate::specs::Images::hooks_of))]
     pub(crate) fn new(segments: Vec<Segment<'a>>, entry: u32, names: FunctionNames<'a>) -> Self
         ensures segments { segments_of result ≡ segments.entry.items }
         ensures entry { entry_of result ≡ entry }
         ensures names { (address : ℕ) → name_at result address ≡ named_by names.entry address }
+        ensures hooks { hooks_of result ≡ hooks_by names.entry.strings.now names.entry.symbols.items }
     {
         Image {
             segments,
@@ -59,6 +65,18 @@ impl<'a> Image<'a> {
         ensures { result.now ≡ name_at self.now addr }
     {
         self.names.name_of(addr)
+    }
+
+    /// The functions of the heap that the program has by name, with their addresses: those of type STT_FUNC that a section
+    /// defines and that are named exactly `malloc`, `free`, `calloc` or `realloc`. They are in the order of their addresses,
+    /// one at an address: that of the lowest index in the symbol table. The one call on an image that takes memory.
+    #[tactic(auto, unfolding(crate::specs::Images::hooks_of), using(crate::proofs::Hooked::hooks_rise))]
+    pub fn hooks(&self, alloc: Global) -> Result<Vec<(u32, Hook)>, AllocError>
+        ensures list { IfOk result (λ hooks. hooks.items ≡ hooks_of self.now) }
+        ensures rising { IfOk result (λ hooks. IsRising hooks.items) }
+        ensures sorted { IfOk result (λ hooks. IsNonDecreasingBy (λ (entry : ℕ × HookOf). entry.0) hooks.items) }
+    {
+        self.names.hooks(alloc)
     }
 
     /// Whether each byte of the word at an address is loaded. Addresses wrap at 2^32.

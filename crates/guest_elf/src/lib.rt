@@ -4,8 +4,8 @@
 //! [`read`] answers an [`Image`], whose segments and names are slices of the file, or the first of the
 //! reasons to refuse the file, in the order of their numbers. It returns on every file. The conditions 20
 //! to 28 are tested before any memory is taken; then lists grow, of the loaded program headers, of the
-//! segments and of the symbols that name: where one can't grow, it answers `Memory`. The other calls take
-//! no memory.
+//! segments and of the symbols that name: where one can't grow, it answers `Memory`. Of the other calls
+//! `hooks` alone takes memory.
 //!
 //! | Call | What it answers |
 //! |---|---|
@@ -14,6 +14,7 @@
 //! | [`Image::entry`] | the address of the first instruction |
 //! | [`Image::patchable`] | whether each byte of the word at an address is loaded |
 //! | [`Image::name_of`] | the name of the function at an address |
+//! | [`Image::hooks`] | the functions named `malloc`, `free`, `calloc` and `realloc`, by their addresses |
 //! | [`ElfFault::number`] | the number of a refusal: 1, or from 20 to 31 |
 //!
 //! What is taken: a file with any number of PT_LOADs that share no address; one with p_memsz and p_filesz
@@ -30,10 +31,10 @@
 //!
 //! The layer above uses one contract, that of [`read`]: an image is the file's (`IsImageOf`), which says
 //! that the file is not refused, that the image's segments are those of the loadable program headers in the
-//! order of their table, that at each address it loads what the file does and has the file's name, and that
-//! it begins at e_entry; an error but `Memory` is the file's refusal, and a refusal from 20 to 28 is answered
-//! whatever memory there is. What callers see of an image are the words `segments_of`, `contents_of`,
-//! `entry_of`, `loaded_at` and `name_at`.
+//! order of their table, that at each address it loads what the file does and has the file's name, that it has
+//! the file's functions of the heap, and that it begins at e_entry; an error but `Memory` is the file's refusal,
+//! and a refusal from 20 to 28 is answered whatever memory there is. What callers see of an image are the words
+//! `segments_of`, `contents_of`, `entry_of`, `loaded_at`, `name_at` and `hooks_of`.
 //!
 //! Where the definitions stand, in `specs/`:
 //!
@@ -42,6 +43,7 @@
 //!   what the file loads and names (`contents_in`, `loaded_in`, `entry_in`, `name_in`).
 //! - `Sections`: the section headers, the symbol table, its symbols and their names.
 //! - `Names`: the symbol that is nearest to an address, and the name by it (`nearest`, `name_by`).
+//! - `Hooks`: which names are functions of the heap, and those of a symbol table (`hook_named`, `hooks_by`).
 //! - `Images` and `Segments`: what an image loads and names, and a list of segments (`loaded`).
 //! - `Faults`: the numbers of the refusals.
 //!
@@ -51,6 +53,7 @@
 
 mod fault;
 mod fields;
+mod hook;
 mod image;
 mod lookups;
 mod names;
@@ -64,6 +67,7 @@ mod segments;
 mod symbols;
 
 pub use fault::ElfFault;
+pub use hook::Hook;
 pub use image::Image;
 pub use reading::read;
 pub use segment::Segment;

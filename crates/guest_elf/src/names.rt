@@ -3,6 +3,7 @@ ghost use Rattle.std.specs.Prelude.{◌≡◌, ℕ, IfOk};
 ghost use Rattle.std.specs.List.Sorted.{IsNonDecreasingBy};
 ghost use Rattle.guest_elf.specs.declared.symbols.Symbol.{Symbol};
 
+use crate::hook::{Hook, hook_from};
 use crate::lookups::{name_from, nearest};
 use crate::sections::symbol_table;
 use crate::symbols::{Symbol, naming_symbols, strings_in};
@@ -21,7 +22,8 @@ pub(crate) struct FunctionNames<'a> {
 }
 
 impl<'a> FunctionNames<'a> {
-    ghost use Rattle.guest_elf.specs.File.{HasHeader, name_in};
+    ghost use Rattle.guest_elf.specs.File.{HasHeader, name_in, hooks_in};
+    ghost use Rattle.guest_elf.specs.Hooks.{hooks_by};
     ghost use Rattle.guest_elf.specs.Names.{named_by};
     ghost use Rattle.guest_elf.specs.Sections.{symbol_table, HasNames, HasSections};
 
@@ -30,8 +32,10 @@ impl<'a> FunctionNames<'a> {
         requires header { HasHeader file.now }
         requires sections { HasSections file.now }
         requires inside { HasNames file.now (symbol_table file.now) }
-        ensures { IfOk result (λ names. (address : ℕ) →
+        ensures names { IfOk result (λ names. (address : ℕ) →
             named_by names address ≡ name_in file.now address) }
+        ensures hooks { IfOk result (λ names.
+            hooks_by names.strings.now names.symbols.items ≡ hooks_in file.now) }
     {
         let Some(table) = symbol_table(file) else {
             return Ok(FunctionNames {
@@ -54,5 +58,24 @@ impl<'a> FunctionNames<'a> {
             Some(symbol) if symbol.has(addr) => name_from(self.strings, symbol.name),
             _ => UNKNOWN,
         }
+    }
+    /// The functions of the heap that the symbols name, in the order of their addresses: one at an address, that of the
+    /// first symbol of the table.
+    pub(crate) fn hooks(&self, alloc: Global) -> Result<Vec<(u32, Hook)>, AllocError>
+        ensures { IfOk result (λ hooks. hooks.items ≡ hooks_by self.now.strings.now self.now.symbols.items) }
+    {
+        let mut hooks = Vec::new(alloc);
+        // Each address so far is below this one.
+        let mut end = 0;
+        for symbol in self.symbols.iter() {
+            if u64::from(symbol.value) < end {
+                continue;
+            }
+            if let Some(hook) = hook_from(self.strings, symbol.name) {
+                hooks.push((symbol.value, hook))?;
+                end = u64::from(symbol.value) + 1;
+            }
+        }
+        Ok(hooks)
     }
 }

@@ -1,6 +1,6 @@
 //! Files by hand, and what becomes of them.
 use byteorder::{ByteOrder, LittleEndian};
-use guest_elf::read;
+use guest_elf::{Hook, read};
 use std::alloc::{AllocError, Global};
 use std::test::Fail;
 
@@ -342,6 +342,87 @@ fn the_nearest_function_names_an_address(rt: HostRuntime) -> Result<(), Fail> {
         set_word(&mut file, second, two);
         let image = read(rt.alloc(), &file)?;
         assert_eq!(rt; image.name_of(0x10018), want, "{first} set to {one}");
+    }
+    Ok(())
+}
+
+#[test]
+fn functions_of_the_heap_are_known_by_name(rt: HostRuntime) -> Result<(), Fail> {
+    // Names at 1, 8, 13, 20, 28 and 36; `alloc` at 22.
+    let names = b"\0malloc\0free\0calloc\0realloc\0mallocs\0mal\0";
+    let function = 0xFFF1_0012u32;
+    let none: [(u32, Hook); 0] = [];
+    let low = [(0x10000u32, Hook::Free), (0x10018, Hook::Malloc)];
+    let high = [(8u32, Hook::Realloc), (u32::MAX, Hook::Calloc)];
+    let both = [(0x10000u32, Hook::Malloc), (0x10018, Hook::Malloc)];
+    let free = [(0x10000u32, Hook::Free)];
+    let malloc = [(0x10000u32, Hook::Malloc)];
+    // Of each symbol where its name begins, its address and its type with its section.
+    for (label, one, two, want) in [
+        (
+            "in the order of their addresses",
+            (1u32, 0x10018u32, function),
+            (8u32, 0x10000u32, function),
+            low.as_slice(),
+        ),
+        (
+            "at the lowest and the highest",
+            (13, u32::MAX, function),
+            (20, 8, function),
+            high.as_slice(),
+        ),
+        (
+            "one name at two addresses",
+            (1, 0x10000, function),
+            (1, 0x10018, function),
+            both.as_slice(),
+        ),
+        (
+            "two names at one address",
+            (8, 0x10000, function),
+            (1, 0x10000, function),
+            free.as_slice(),
+        ),
+        (
+            "beside another function",
+            (28, 0x10000, function),
+            (1, 0x10000, function),
+            malloc.as_slice(),
+        ),
+        (
+            "longer and shorter names",
+            (28, 0x10000, function),
+            (36, 0x10000, function),
+            none.as_slice(),
+        ),
+        (
+            "the end of a name, and none",
+            (22, 0x10000, function),
+            (0, 0x10000, function),
+            none.as_slice(),
+        ),
+        (
+            "an object, and undefined",
+            (1, 0x10000, 0xFFF1_0011),
+            (8, 0x10000, 0x12),
+            none.as_slice(),
+        ),
+    ] {
+        let mut file = [0; 336];
+        file[..296].copy_from_slice(&NAMED);
+        file[296..].copy_from_slice(names);
+        // Of section 2 sh_offset and sh_size; then of symbols 1 and 2 st_name, st_value and st_info with st_shndx.
+        set_word(&mut file, 272, 296);
+        set_word(&mut file, 276, 40);
+        set_word(&mut file, 132, one.0);
+        set_word(&mut file, 136, one.1);
+        set_word(&mut file, 144, one.2);
+        set_word(&mut file, 148, two.0);
+        set_word(&mut file, 152, two.1);
+        set_word(&mut file, 160, two.2);
+        let image = read(rt.alloc(), &file)?;
+        let hooks = image.hooks(rt.alloc())?;
+        assert_eq!(rt; hooks.as_slice(), want, "{label}");
     }
     Ok(())
 }

@@ -18,5 +18,6 @@ returns-clause-image c = record {
   loads = λ address.
       ap (λ (segments : List Segment). loaded segments address) c.new.ensures.segments ∙ c.in_ok-segments.ensures.loads address;
   entry = c.new.ensures.entry ∙ c.word_at.ensures;
-  names = λ address. c.new.ensures.names address ∙ c.in_ok-names.ensures address;
+  names = λ address. c.new.ensures.names address ∙ c.in_ok-names.ensures.names address;
+  hooks = c.new.ensures.hooks ∙ c.in_ok-names.ensures.hooks;
 }
