@@ -51,6 +51,7 @@
 
 mod fault;
 mod fields;
+mod hook;
 mod image;
 mod lookups;
 mod names;
@@ -64,6 +65,7 @@ mod segments;
 mod symbols;
 
 pub use fault::ElfFault;
+pub use hook::Hook;
 pub use image::Image;
 pub use reading::read;
 pub use segment::Segment;
