@@ -1,5 +1,5 @@
 -- A step goes the same way under setups that differ where it doesn't look.
-use Rattle.std.proofs.Common.{◌≡◌, ℕ, zero, suc, ◌+◌, ◌-◌, ◌<◌, ◌≤◌, List, [], ◌∷◌, ◌++◌, false, cond, refl, ap, ap₂, sym, ◌∙◌, take, drop, length, Option, Some, None, arith}
+use Rattle.std.proofs.Common.{◌≡◌, ℕ, zero, suc, ◌+◌, ◌-◌, ◌<◌, ◌≤◌, List, [], ◌∷◌, ◌++◌, false, cond, refl, ap, ap₂, sym, ◌∙◌, take, drop, length, Some, arith}
 use Rattle.std.specs.Prelude.{slice_get}
 use Rattle.guest_machine.specs.State.{State}
 use Rattle.guest_machine.specs.Exec.{Deed, Terms, exec, plan, outcome, uses_at, effect_at, touches, touched_at, has_touched, deed_at, deed_terms, is_heap_deed, given_at, taken_from, written_to, counted, fetch_span}

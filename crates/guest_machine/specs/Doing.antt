@@ -87,7 +87,14 @@ DoesHeapCall old new function setup =
     let uses = heap_uses function (core_of old) setup.redzone in
     Does old new (heap_call function (core_of old) setup.redzone setup.volume (taken_from (bytes_of old) uses.reads)) uses true
 
+abbrev pub named_terms : Guest → Setup → Terms
+named_terms m setup = terms_of (returns (core_of m)) m.counts.position m.counts.output_len setup
+
+abbrev pub uses_by_name : Guest → Hook → Setup → Uses
+uses_by_name m function setup = named_uses function (core_of m) (named_terms m setup).red_zone
+
 abbrev pub DoesNamed : Guest → Guest → Hook → Setup → Type 0
 DoesNamed old new function setup =
-    let uses = named_uses function (core_of old) setup.redzone in
-    Does old new (named_call function (core_of old) setup.redzone setup.volume (taken_from (bytes_of old) uses.reads)) uses (returns (core_of old))
+    let terms = named_terms old setup in
+    let uses = uses_by_name old function setup in
+    Does old new (named_call function (core_of old) terms.red_zone terms.volume (taken_from (bytes_of old) uses.reads)) uses (returns (core_of old))

@@ -1,6 +1,7 @@
-ghost use Rattle.std.specs.Prelude.{◌≡◌, ◌<◌, ◌≤◌, length, slice_index_or};
+ghost use Rattle.std.specs.Prelude.{◌≡◌, ℕ, ◌<◌, ◌≤◌, length, slice_index_or};
+ghost use Rattle.guest_elf.specs.declared.hook.Hook.{Hook as HookOf};
 ghost use Rattle.std.specs.List.Sorted.{IsNonDecreasingBy};
-ghost use Rattle.guest_machine.specs.Hooks.{hook_at, AreWithin};
+ghost use Rattle.guest_machine.specs.Hooks.{hook_at};
 
 use guest_elf::Hook;
 use std::marker::Model;
@@ -29,9 +30,6 @@ impl Model for Hooks {
 }
 
 impl Hooks {
-    ghost use Rattle.std.specs.Prelude.{ℕ};
-    ghost use Rattle.guest_elf.specs.declared.hook.Hook.{Hook as HookOf};
-
     /// The functions at these addresses, which are in order.
     pub fn new(entries: Vec<(u32, Hook)>) -> Self
         requires { IsNonDecreasingBy (λ (entry : ℕ × HookOf). entry.0) entries.items }
@@ -47,31 +45,36 @@ impl Hooks {
     pub fn at(&self, addr: u32) -> Option<Hook>
         ensures { result ≡ hook_at self.now addr }
     {
-        if addr < self.low || self.high < addr {
-            None
-        } else {
-            self.find(addr)
+        if addr < self.low {
+            return None;
         }
-    }
-
-    #[inline(never)]
-    #[tactic(auto, using(crate::proofs::HookSteps::hook_absent, crate::proofs::HookSteps::hook_found))]
-    fn find(&self, addr: u32) -> Option<Hook>
-        ensures { result ≡ hook_at self.now addr }
-    {
-        let place = self.place(addr);
-        match self.entries.get(place) {
-            Some(entry) if entry.0 == addr => Some(entry.1),
-            _ => None,
+        if self.high < addr {
+            return None;
         }
+        find(&self.entries, addr)
     }
+}
 
-    /// How many entries are below an address.
-    fn place(&self, addr: u32) -> usize
-        ensures within { result ≤ length self.now }
-        ensures before { (k : ℕ) (d : ℕ × HookOf) → k < result → (slice_index_or self.now k d).0 < addr }
-        ensures next { (k : ℕ) (d : ℕ × HookOf) → result ≤ k → k < length self.now → addr ≤ (slice_index_or self.now k d).0 }
-    {
-        self.entries.partition_point(|entry| entry.0 < addr)
+/// How many of the functions begin below an address.
+fn below(entries: &[(u32, Hook)], addr: u32) -> usize
+    requires { IsNonDecreasingBy (λ (entry : ℕ × HookOf). entry.0) entries.now }
+    ensures within { result ≤ length entries.now }
+    ensures before { (k : ℕ) (d : ℕ × HookOf) → k < result → (slice_index_or entries.now k d).0 < addr }
+    ensures next { (k : ℕ) (d : ℕ × HookOf) → result ≤ k → k < length entries.now → addr ≤ (slice_index_or entries.now k d).0 }
+{
+    entries.partition_point(|entry| entry.0 < addr)
+}
+
+/// The function that begins at an address.
+#[inline(never)]
+#[tactic(auto, using(crate::proofs::HookSteps::hook_passed, crate::proofs::HookSteps::hook_past))]
+fn find(entries: &[(u32, Hook)], addr: u32) -> Option<Hook>
+    requires { IsNonDecreasingBy (λ (entry : ℕ × HookOf). entry.0) entries.now }
+    ensures { result ≡ hook_at entries.now addr }
+{
+    let place = below(entries, addr);
+    match entries.get(place) {
+        Some(&(start, function)) if start == addr => Some(function),
+        _ => None,
     }
 }
