@@ -5,3 +5,4 @@ pub mod WordLaw
 pub mod PokeLaw
 pub mod SetupLaw
 pub mod HeapSteps
+pub mod HookSteps

@@ -5,7 +5,7 @@ use Rattle.std.proofs.lemmas.Bool.Decides.{nat_tests}
 use Rattle.shadow_memory.specs.Ranges.{is_in, offset, written, changed_in, byte_of}
 use Rattle.guest_machine.specs.Spans.{covers}
 use Rattle.guest_machine.specs.State.{State}
-use Rattle.guest_machine.specs.Exec.{exec, touches, touched_at, uses_at, effect_at, written_to, fetched, fetch_span}
+use Rattle.guest_machine.specs.Exec.{exec, touches, touched_at, uses_at, effect_at, written_to, deed_at, fetch_span}
 use Rattle.guest_machine.specs.Run.{poked}
 use Rattle.guest_machine.specs.Laws.{DifferWithin, InWord, KeepsPokes, ReadsOn}
 use Rattle.guest_machine.specs.declared.span.Span.{Span}
@@ -22,7 +22,7 @@ stays : (setup : Setup) (s : State) (a : ℕ) → touches s setup a ≡ false �
 unfolding exec touches touched_at
 stays setup s a h =
     let uses = uses_at s.core s.bytes s.position (length s.output) setup in
-    written-elsewhere s.bytes uses.writes (effect_at s.core s.bytes s.position (length s.output) setup).made a (right-false (covers uses.reads a) (covers uses.writes a) (right-false (covers (fetch_span s.core (fetched s.core s.bytes)) a) _ h))
+    written-elsewhere s.bytes uses.writes (effect_at s.core s.bytes s.position (length s.output) setup).made a (right-false (covers uses.reads a) (covers uses.writes a) (right-false (covers (fetch_span s.core (deed_at s.core s.bytes setup.hooks)) a) _ h))
 
 -- the four bytes from a multiple of 4 on are those of its word
 in-word : (addr a : ℕ) → addr % 4 ≡ 0 → addr < 2 ^ 32 → is_in addr 4 a ≡ true → a / 4 ≡ addr / 4

@@ -7,7 +7,7 @@ use Rattle.shadow_memory.specs.Shadows.{made_so}
 use Rattle.shadow_memory.specs.Ranges.{written, byte_of}
 use Rattle.shadow_memory.specs.Memories.{bytes_in, shadows_in}
 use Rattle.guest_heap.specs.Heaps.{blocks_of}
-use Rattle.guest_machine.specs.Exec.{exec, uses_at, effect_at, touches, touched_at, has_touched, written_to, counted}
+use Rattle.guest_machine.specs.Exec.{exec, uses_at, effect_at, touches, touched_at, has_touched, written_to, counted, is_heap_deed, deed_at}
 use Rattle.guest_machine.specs.Run.{marked, poked}
 use Rattle.error_events.specs.Adding.{add_event, add_events, GroupsGrowBy}
 use Rattle.error_events.specs.declared.event.Event.{Event}
@@ -56,7 +56,7 @@ holds_exec grow old new setup d s h =
       core = d.core ∙ ap (λ x. x.core) effects;
       position = d.position ∙ (λ i. h.position i + (usages i).inputs);
       output = d.output ∙ (λ i. h.output i + length (effects i).output) ∙ sym (length-append s.output (effect_at s.core s.bytes s.position (length s.output) setup).output);
-      heap_calls = d.heap_calls ∙ (λ i. counted (h.heap_calls i) (usages i).heap_call);
+      heap_calls = d.heap_calls ∙ (λ i. counted (h.heap_calls i) (is_heap_deed (h.core i) (deed_at (h.core i) (h.bytes i) setup.hooks)));
       groups =
           d.groups
           ∙ (λ i. add_events (h.groups i) (effects i).raised)

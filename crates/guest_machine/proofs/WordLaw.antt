@@ -1,14 +1,15 @@
 -- A step goes the same way on states that differ in bytes that it doesn't touch. No instruction is named here.
-use Rattle.std.proofs.Common.{◌≡◌, ℕ, ◌+◌, ◌<◌, ◌||◌, ◌++◌, Bool, true, false, cond, refl, ap, ap₂, ◌∙◌, Option, Some, None, subst, nat_lt, arith, length}
+use Rattle.std.proofs.Common.{◌≡◌, ℕ, ◌+◌, ◌<◌, ◌||◌, ◌++◌, Bool, true, false, cond, refl, ap, ap₂, ◌∙◌, List, Option, Some, None, subst, nat_lt, arith, length}
 use Rattle.std.proofs.Math.Path.{fun_ext}
 use Rattle.std.proofs.lemmas.Bool.Decides.{nat_tests}
 use Rattle.shadow_memory.specs.Ranges.{above, offset, is_in, window, written, changed_in, little_word}
 use Rattle.guest_machine.specs.Spans.{covers}
 use Rattle.guest_machine.specs.State.{Core, State}
-use Rattle.guest_machine.specs.Exec.{exec, plan, outcome, uses_at, effect_at, touches, touched_at, has_touched, terms_of, row_at, given_at, taken_from, written_to, counted, fetched, fetches, fetch_span}
+use Rattle.guest_machine.specs.Exec.{exec, Takes, plan, outcome, uses_at, effect_at, touches, touched_at, has_touched, called_here, deed_by, deed_at, deed_terms, is_heap_deed, given_at, taken_from, written_to, counted, fetched, fetches, fetch_span}
 use Rattle.guest_machine.specs.Laws.{DifferWithin, TouchesNone, InWord, KeepsWords}
 use Rattle.guest_machine.specs.declared.span.Span.{Span}
 use Rattle.guest_machine.specs.declared.setup.Setup.{Setup}
+use Rattle.guest_elf.specs.declared.hook.Hook.{Hook}
 
 -- two functions are equal outside these addresses
 EqualOutside : (ℕ → Type 0) → (ℕ → ℕ) → (ℕ → ℕ) → Type 0
@@ -50,39 +51,44 @@ unfolding written changed_in EqualOutside
 written-outside W f g None made e a n = e a n
 written-outside W f g (Some span) made e a n = ap (λ x. cond (is_in span.start span.len a) (made (offset span.start a)) x) (e a n)
 
--- the word at pc is the same
-fetched-outside : (W : ℕ → Type 0) (core : Core) (f g : ℕ → ℕ) → EqualOutside W f g → Avoids W (fetch_span core (fetched core f)) → fetched core f ≡ fetched core g
+-- the word at pc, by whether it may be taken
+abbrev word_by : Bool → Core → (ℕ → ℕ) → Option ℕ
+word_by b core f = cond b (Some (little_word (window f core.pc 4))) None
+
+-- what is done is the same: of the bytes it looks at the word at pc alone, and only where no function is called by name
+deed-outside : (W : ℕ → Type 0) (core : Core) (hooks : List (ℕ × Hook)) (f g : ℕ → ℕ) → EqualOutside W f g → Avoids W (fetch_span core (deed_at core f hooks)) → deed_at core f hooks ≡ deed_at core g hooks
 unfolding fetched Avoids
-fetched-outside W core f g e h = go (fetches core) h
+deed-outside W core hooks f g e h = go (called_here core hooks) (fetches core) h
   where
-    go : (b : Bool) → ((a : ℕ) → W a → covers (fetch_span core (cond b (Some (little_word (window f core.pc 4))) None)) a ≡ false)
-        → cond b (Some (little_word (window f core.pc 4))) None ≡ cond b (Some (little_word (window g core.pc 4))) None
-    go true k = ap (λ x. Some (little_word x)) (window-outside W f g core.pc 4 e k)
-    go false k = refl
+    go : (function : Option Hook) (b : Bool) → ((a : ℕ) → W a → covers (fetch_span core (deed_by function (word_by b core f))) a ≡ false)
+        → deed_by function (word_by b core f) ≡ deed_by function (word_by b core g)
+    go (Some function) b k = refl
+    go None true k = ap (λ x. Takes (little_word x)) (window-outside W f g core.pc 4 e k)
+    go None false k = refl
 
 -- the step of a state with these byte values
 module _ (W : ℕ → Type 0) (core : Core) (position output : ℕ) (setup : Setup) (f g : ℕ → ℕ) (e : EqualOutside W f g) (h : (a : ℕ) → W a → has_touched (touched_at core f position output setup) a ≡ false) where
-  word-same : fetched core f ≡ fetched core g
+  deed-same : deed_at core f setup.hooks ≡ deed_at core g setup.hooks
   unfolding touched_at Avoids
-  word-same = fetched-outside W core f g e (λ a w. left-false _ _ (h a w))
+  deed-same = deed-outside W core setup.hooks f g e (λ a w. left-false _ _ (h a w))
 
   uses-same : uses_at core f position output setup ≡ uses_at core g position output setup
   unfolding uses_at
-  uses-same = ap (λ w. plan core (terms_of core (row_at w) position output setup) w) word-same
+  uses-same = ap (λ d. plan core (deed_terms core d position output setup) d) deed-same
 
   reads-avoid : Avoids W (uses_at core f position output setup).reads
   unfolding touched_at Avoids
-  reads-avoid a w = left-false _ _ (right-false (covers (fetch_span core (fetched core f)) a) _ (h a w))
+  reads-avoid a w = left-false _ _ (right-false (covers (fetch_span core (deed_at core f setup.hooks)) a) _ (h a w))
 
   effect-same : effect_at core f position output setup ≡ effect_at core g position output setup
   unfolding effect_at uses_at
   effect-same =
-      ap (λ t. outcome core (terms_of core (row_at (fetched core f)) position output setup) (fetched core f) (given_at position (uses_at core f position output setup).inputs setup) t) (taken-outside W f g _ e reads-avoid)
-      ∙ ap (λ w. let uses = plan core (terms_of core (row_at w) position output setup) w in outcome core (terms_of core (row_at w) position output setup) w (given_at position uses.inputs setup) (taken_from g uses.reads)) word-same
+      ap (λ t. outcome core (deed_terms core (deed_at core f setup.hooks) position output setup) (deed_at core f setup.hooks) (given_at position (uses_at core f position output setup).inputs setup) t) (taken-outside W f g _ e reads-avoid)
+      ∙ ap (λ d. let uses = plan core (deed_terms core d position output setup) d in outcome core (deed_terms core d position output setup) d (given_at position uses.inputs setup) (taken_from g uses.reads)) deed-same
 
   touched-same : touched_at core f position output setup ≡ touched_at core g position output setup
   unfolding touched_at
-  touched-same = ap₂ (λ w u. record { fetch = fetch_span core w; reads = u.reads; writes = u.writes }) word-same uses-same
+  touched-same = ap₂ (λ d u. record { fetch = fetch_span core d; reads = u.reads; writes = u.writes }) deed-same uses-same
 
 module _ (W : ℕ → Type 0) (setup : Setup) (s : State) (g : ℕ → ℕ) (e : EqualOutside W s.bytes g) (h : TouchesNone W s setup) where
   -- the state with the other byte values
@@ -92,6 +98,7 @@ module _ (W : ℕ → Type 0) (setup : Setup) (s : State) (g : ℕ → ℕ) (e :
   law : (touches s setup ≡ touches other setup) × DifferWithin W (exec s setup) (exec other setup)
   unfolding exec touches other EqualOutside
   law =
+      let d = deed-same W s.core s.position (length s.output) setup s.bytes g e h in
       let u = uses-same W s.core s.position (length s.output) setup s.bytes g e h in
       let x = effect-same W s.core s.position (length s.output) setup s.bytes g e h in (
         ap has_touched (touched-same W s.core s.position (length s.output) setup s.bytes g e h),
@@ -100,7 +107,7 @@ module _ (W : ℕ → Type 0) (setup : Setup) (s : State) (g : ℕ → ℕ) (e :
           core = ap (λ y. y.core) x;
           position = ap (λ v. s.position + v.inputs) u;
           output = ap (λ y. s.output ++ y.output) x;
-          heap_calls = ap (λ v. counted s.heap_calls v.heap_call) u;
+          heap_calls = ap (λ d. counted s.heap_calls (is_heap_deed s.core d)) d;
           events = ap (λ y. s.events ++ y.raised) x;
         },
       )

@@ -9,8 +9,10 @@ use Rattle.guest_machine.specs.State.{Core}
 use Rattle.guest_machine.specs.Registers.{known, register, set_register, tested}
 use Rattle.guest_machine.specs.Errors.{parameter_errors, buffer_errors}
 use Rattle.guest_machine.specs.Effects.{Effect, no_bytes, raising, advanced, exited, stored_core}
+use Rattle.guest_elf.specs.declared.hook.Hook.{Hook}
+use Rattle.guest_elf.specs.declared.hook.Hook.TheVariants.{Malloc, Free, Calloc, Realloc}
 use Rattle.guest_machine.specs.declared.call.Call.{Call}
-use Rattle.guest_machine.specs.declared.call.Call.TheVariants.{Read, Write, Exit, ExitGroup, Malloc, Free, Calloc, Realloc, Unknown}
+use Rattle.guest_machine.specs.declared.call.Call.TheVariants.{Read, Write, Exit, ExitGroup, Heap, Unknown}
 
 -- which call --
 
@@ -20,10 +22,10 @@ call_of n =
     else if n == 64 then Write
     else if n == 93 then Exit
     else if n == 94 then ExitGroup
-    else if n == 2001 then Malloc
-    else if n == 2002 then Free
-    else if n == 2003 then Calloc
-    else if n == 2004 then Realloc
+    else if n == 2001 then Heap Malloc
+    else if n == 2002 then Heap Free
+    else if n == 2003 then Heap Calloc
+    else if n == 2004 then Heap Realloc
     else Unknown
 
 -- the value of a register that a call reads
@@ -36,24 +38,25 @@ call_at core = call_of (argument core 17)
 
 -- does a call use the heap?
 abbrev pub is_heap : Call → Bool
-is_heap Malloc = true
-is_heap Free = true
-is_heap Calloc = true
-is_heap Realloc = true
+is_heap (Heap function) = true
 is_heap _ = false
 
 -- tests --
 
--- the names of a call's parameters, which are in a0 and on
+-- the names of a heap call's parameters, which are in a0 and on
+unfoldable pub heap_parameters : Hook → List Parameter
+heap_parameters Malloc = MallocSize ∷ []
+heap_parameters Free = FreePointer ∷ []
+heap_parameters Calloc = CallocMembers ∷ CallocSize ∷ []
+heap_parameters Realloc = ReallocPointer ∷ ReallocSize ∷ []
+
+-- and of any call's
 unfoldable pub parameters_of : Call → List Parameter
 parameters_of Read = ReadFd ∷ ReadBuffer ∷ ReadCount ∷ []
 parameters_of Write = WriteFd ∷ WriteBuffer ∷ WriteCount ∷ []
 parameters_of Exit = ExitStatus ∷ []
 parameters_of ExitGroup = ExitGroupStatus ∷ []
-parameters_of Malloc = MallocSize ∷ []
-parameters_of Free = FreePointer ∷ []
-parameters_of Calloc = CallocMembers ∷ CallocSize ∷ []
-parameters_of Realloc = ReallocPointer ∷ ReallocSize ∷ []
+parameters_of (Heap function) = heap_parameters function
 parameters_of Unknown = []
 
 -- after the tests of registers from one on
@@ -76,7 +79,7 @@ call_errors core call = parameter_errors core 17 SyscallNumber ++ errors_from (t
 -- answers --
 
 abbrev pub answered : Core → ℕ → Core
-answered core n = advanced (set_register core 10 (known n))
+answered core n = set_register core 10 (known n)
 
 -- the answer of a call that fails with an error number, as Linux gives it: the number negated, modulo 2^32
 abbrev pub failure : ℕ → ℕ
@@ -94,7 +97,7 @@ enosys = 38
 
 -- a call that only answers
 abbrev pub answers : Core → Call → ℕ → Effect
-answers core call n = raising (answered (call_tested core call) n) (call_errors core call)
+answers core call n = raising (advanced (answered (call_tested core call) n)) (call_errors core call)
 
 -- read and write: the descriptor is in a0, the buffer in a1, the count in a2 --
 
@@ -114,7 +117,7 @@ read_call core left given =
     (let now = call_tested core Read in
     let n = read_len core left in
     record {
-      core = answered (stored_core now (argument core 11) n 0) n;
+      core = advanced (answered (stored_core now (argument core 11) n 0) n);
       raised = call_errors core Read ++ buffer_errors now ReadBuffer false (argument core 11) (moved_len core);
       made = slice_index given;
       output = [];
@@ -146,7 +149,7 @@ write_call core written taken =
     (let now = call_tested core Write in
     let n = moved_len core in
     record {
-      core = answered now n;
+      core = advanced (answered now n);
       raised = call_errors core Write ++ buffer_errors now WriteBuffer true (argument core 11) n;
       made = no_bytes;
       output = bytes_taken taken n;

@@ -1,6 +1,7 @@
--- One step, in three parts: the word at pc; what the step uses, by what decides it and the word; and what it leaves, by these,
--- the input that it reads and the bytes that it takes. No other byte value and no other part of the setup enters.
-use Rattle.std.specs.Prelude.{◌≡◌, ℕ, ◌+◌, ◌-◌, ◌%◌, ◌==◌, ◌&&◌, ◌||◌, Bool, true, false, if◌then◌else◌, List, ◌++◌, take, drop, length, min, Option, Some, None, is_none}
+-- One step, in three parts: what it does, by the word at pc and the functions that are called by name; what it uses, by this and
+-- what decides the step; and what it leaves, by these, the input that it reads and the bytes that it takes. No other byte value
+-- and no other part of the setup enters.
+use Rattle.std.specs.Prelude.{◌≡◌, ℕ, ◌+◌, ◌-◌, ◌*◌, ◌%◌, ◌==◌, ◌&&◌, ◌||◌, Bool, true, false, if◌then◌else◌, List, ◌++◌, take, drop, length, min, Option, Some, None, is_none}
 use Rattle.shadow_memory.specs.Ranges.{window, little_word, written}
 use Rattle.guest_machine.specs.Spans.{span_at, covers}
 use Rattle.shadow_memory.specs.Shadows.{first_inaccessible}
@@ -9,15 +10,20 @@ use Rattle.guest_machine.specs.State.{Core, State}
 use Rattle.guest_machine.specs.Instructions.{row_of}
 use Rattle.guest_machine.specs.Effects.{Effect, no_bytes, quiet, raising, advanced, stopped, target, load_upper, add_upper, compute_immediate, compute, load, store, branch, jump, jump_register, stops}
 use Rattle.guest_machine.specs.Calls.{argument, call_at, is_heap, moved_len, read_len, appends, read_call, write_call, exit_call, unknown_call}
+use Rattle.guest_machine.specs.Hooks.{hook_at}
+use Rattle.guest_machine.specs.NamedCalls.{returns, named_call}
 use Rattle.guest_machine.specs.Errors.{here, event_about, fetch_undef, fetch_errors}
 use Rattle.guest_machine.specs.StackPointer.{stack_ruled}
 use Rattle.definedness.specs.declared.Bits.{Bits}
 use Rattle.guest_machine.specs.Registers.{register}
 use Rattle.guest_machine.specs.declared.call.Call.{Call}
-use Rattle.guest_machine.specs.declared.call.Call.TheVariants.{Read as ReadCall, Write as WriteCall, Exit as ExitCall, ExitGroup as ExitGroupCall, Malloc as MallocCall, Free as FreeCall, Calloc as CallocCall, Realloc as ReallocCall, Unknown as UnknownCall}
+use Rattle.guest_machine.specs.declared.call.Call.TheVariants.{Read as ReadCall, Write as WriteCall, Exit as ExitCall, ExitGroup as ExitGroupCall, Heap as HeapCall, Unknown as UnknownCall}
 use Rattle.std.specs.Option.{option_map}
+use Rattle.guest_elf.specs.declared.hook.Hook.{Hook}
+use Rattle.guest_elf.specs.declared.hook.Hook.TheVariants.{Malloc, Free, Calloc, Realloc}
+use Rattle.guest_heap.specs.Blocks.{Blocks}
 use Rattle.guest_heap.specs.Steps.{place}
-use Rattle.guest_machine.specs.HeapCalls.{Resizing, Moves, resizing, moved_size, calloc_size, malloc_call, free_call, calloc_call, realloc_call}
+use Rattle.guest_machine.specs.HeapCalls.{Resizing, Moves, resizing, moved_size, heap_call}
 use Rattle.guest_machine.specs.declared.width.Width.{Width}
 use Rattle.guest_machine.specs.declared.span.Span.{Span}
 use Rattle.guest_machine.specs.declared.setup.Setup.{Setup}
@@ -43,29 +49,48 @@ is_aligned a = a % 4 == 0
 abbrev pub fetch_fault : Core → Option ℕ
 fetch_fault core = first_inaccessible core.shadow core.pc 4
 
--- is the word at pc taken?
+-- may the word at pc be taken?
 unfoldable pub fetches : Core → Bool
 fetches core = is_running core.status && (is_aligned core.pc && is_none (fetch_fault core))
 
--- the word at pc, if it is taken
+-- the word at pc, if it may be taken
 unfoldable pub fetched : Core → (ℕ → ℕ) → Option ℕ
 fetched core bytes = if fetches core then Some (little_word (window bytes core.pc 4)) else None
 
--- this is the word that is taken, with its undefined bits
+-- this is the word that may be taken, with its undefined bits
 pub record IsFetched (core : Core) (bytes : ℕ → ℕ) (word : Bits) : Type 0 where
   pub taken : fetches core ≡ true
   pub value : word.value ≡ little_word (window bytes core.pc 4)
   pub undef : word.undef ≡ fetch_undef core
 
+-- what a step does --
+
+-- it takes a word, and carries it out; or it does the heap call in place of a function, which is called by name; or neither
+pub data Deed : Type 0 where
+  Takes : ℕ → Deed
+  CallsByName : Hook → Deed
+  Halts : Deed
+
+-- the function that is called by name: the one that begins at pc
+unfoldable pub called_here : Core → List (ℕ × Hook) → Option Hook
+called_here core hooks = if is_running core.status && is_aligned core.pc then hook_at hooks core.pc else None
+
+-- a function is called before its word is looked at
+abbrev pub deed_by : Option Hook → Option ℕ → Deed
+deed_by (Some function) word = CallsByName function
+deed_by None (Some word) = Takes word
+deed_by None None = Halts
+
+abbrev pub deed_at : Core → (ℕ → ℕ) → List (ℕ × Hook) → Deed
+deed_at core bytes hooks = deed_by (called_here core hooks) (fetched core bytes)
+
 -- what a step uses --
 
--- the range of bytes that it takes and the one that it writes, if any; how many bytes of input it reads; whether it is a heap
--- call
+-- the range of bytes that it takes and the one that it writes, if any; how many bytes of input it reads
 pub record Uses : Type 0 where
   pub reads : Option Span
   pub writes : Option Span
   pub inputs : ℕ
-  pub heap_call : Bool
 
 -- what a step may see of the setup and of what adds up: how much input is left, how much output there is, and, at a heap call
 -- alone, the red zone and the volume
@@ -76,22 +101,14 @@ pub record Terms : Type 0 where
   pub volume : ℕ
 
 abbrev pub nothing : Uses
-nothing = record { reads = None; writes = None; inputs = 0; heap_call = false }
-
--- of a heap call
-abbrev pub calling_heap : Uses → Uses
-calling_heap uses = record uses { heap_call = true }
-
--- that reads and writes no bytes
-abbrev pub heap_uses : Uses
-heap_uses = calling_heap nothing
+nothing = record { reads = None; writes = None; inputs = 0 }
 
 -- a range read, and a range written, alone
 abbrev pub reading : Span → Uses
-reading span = record { reads = Some span; writes = None; inputs = 0; heap_call = false }
+reading span = record { reads = Some span; writes = None; inputs = 0 }
 
 abbrev pub writing : Span → Uses
-writing span = record { reads = None; writes = Some span; inputs = 0; heap_call = false }
+writing span = record { reads = None; writes = Some span; inputs = 0 }
 
 -- the bytes that a load or a store accesses
 abbrev pub accessed : Core → ℕ → ℕ → Width → Span
@@ -104,7 +121,6 @@ read_uses core left =
       reads = None;
       writes = if argument core 10 == 0 then Some (span_at (argument core 11) (read_len core left)) else None;
       inputs = read_len core left;
-      heap_call = false;
     }
 
 -- write takes what it appends
@@ -114,14 +130,12 @@ write_uses core written =
       reads = if appends core written then Some (span_at (argument core 11) (moved_len core)) else None;
       writes = None;
       inputs = 0;
-      heap_call = false;
     }
 
 -- calloc writes its zeros
-abbrev pub calloc_uses : Core → ℕ → Uses
-calloc_uses core redzone =
-    let size = calloc_size core in
-    record { reads = None; writes = option_map (λ p. span_at p size) (place core.blocks size redzone); inputs = 0; heap_call = false }
+abbrev pub calloc_uses : Blocks → ℕ → ℕ → Uses
+calloc_uses blocks size redzone =
+    record { reads = None; writes = option_map (λ p. span_at p size) (place blocks size redzone); inputs = 0 }
 
 -- realloc takes the bytes that go along, and writes them at their new place
 abbrev pub moved_from : Resizing → ℕ → ℕ → Option Span
@@ -132,12 +146,28 @@ abbrev pub moved_into : Resizing → ℕ → Option Span
 moved_into (Moves b q) size = Some (span_at q (moved_size b size))
 moved_into _ size = None
 
-abbrev pub realloc_uses : Core → ℕ → Uses
-realloc_uses core redzone =
-    let p = argument core 10 in
-    let size = argument core 11 in
-    let what = resizing core.blocks p size redzone in
-    record { reads = moved_from what p size; writes = moved_into what size; inputs = 0; heap_call = false }
+abbrev pub realloc_uses : Blocks → ℕ → ℕ → ℕ → Uses
+realloc_uses blocks p size redzone =
+    let what = resizing blocks p size redzone in
+    record { reads = moved_from what p size; writes = moved_into what size; inputs = 0 }
+
+-- a heap call, with the values of a0 and a1
+unfoldable pub work_uses : Hook → Blocks → ℕ → ℕ → ℕ → Uses
+work_uses Malloc blocks x y redzone = nothing
+work_uses Free blocks x y redzone = nothing
+work_uses Calloc blocks x y redzone = calloc_uses blocks (x * y) redzone
+work_uses Realloc blocks x y redzone = realloc_uses blocks x y redzone
+
+abbrev pub heap_uses : Hook → Core → ℕ → Uses
+heap_uses function core redzone = work_uses function core.blocks (argument core 10) (argument core 11) redzone
+
+-- one by name, which does its work only where it returns
+unfoldable pub named_uses_by : Bool → Hook → Core → ℕ → Uses
+named_uses_by true function core redzone = heap_uses function core redzone
+named_uses_by false function core redzone = nothing
+
+abbrev pub named_uses : Hook → Core → ℕ → Uses
+named_uses function core redzone = named_uses_by (returns core) function core redzone
 
 -- what a call uses
 unfoldable pub call_uses : Core → Call → Terms → Uses
@@ -145,10 +175,7 @@ call_uses core ReadCall terms = read_uses core terms.left
 call_uses core WriteCall terms = write_uses core terms.written
 call_uses core ExitCall terms = nothing
 call_uses core ExitGroupCall terms = nothing
-call_uses core MallocCall terms = nothing
-call_uses core FreeCall terms = nothing
-call_uses core CallocCall terms = calloc_uses core terms.red_zone
-call_uses core ReallocCall terms = realloc_uses core terms.red_zone
+call_uses core (HeapCall function) terms = heap_uses function core terms.red_zone
 call_uses core UnknownCall terms = nothing
 
 -- does a row call the heap?
@@ -163,10 +190,6 @@ row_uses core (Some (Store width rs1 rs2 imm)) terms = writing (accessed core rs
 row_uses core (Some CallRow) terms = call_uses core (call_at core) terms
 row_uses core _ terms = nothing
 
--- and it is a heap call where its row says so
-abbrev pub uses_of : Core → Option Instruction → Terms → Uses
-uses_of core row terms = record (row_uses core row terms) { heap_call = calls_heap core row }
-
 -- what a step leaves --
 
 unfoldable pub call_effect : Core → Call → Terms → List ℕ → (ℕ → ℕ) → Effect
@@ -174,10 +197,7 @@ call_effect core ReadCall terms given taken = read_call core terms.left given
 call_effect core WriteCall terms given taken = write_call core terms.written taken
 call_effect core ExitCall terms given taken = exit_call core ExitCall
 call_effect core ExitGroupCall terms given taken = exit_call core ExitGroupCall
-call_effect core MallocCall terms given taken = malloc_call core terms.red_zone
-call_effect core FreeCall terms given taken = free_call core terms.volume
-call_effect core CallocCall terms given taken = calloc_call core terms.red_zone
-call_effect core ReallocCall terms given taken = realloc_call core terms.red_zone terms.volume taken
+call_effect core (HeapCall function) terms given taken = heap_call function core terms.red_zone terms.volume taken
 call_effect core UnknownCall terms given taken = unknown_call core
 
 unfoldable pub row_effect : Core → Option Instruction → Terms → List ℕ → (ℕ → ℕ) → Effect
@@ -200,7 +220,7 @@ abbrev pub jump_fault : Core → Option ℕ → Effect
 jump_fault core None = quiet core
 jump_fault core (Some a) = raising (stopped core JumpStop) (event_about core.blocks (here core) JumpError (Some a))
 
--- what a step leaves that takes no word: a stopped or exited machine is its own successor
+-- what a step leaves that does neither: a stopped or exited machine is its own successor
 unfoldable pub unfetched : Core → Effect
 unfetched core =
     if is_running core.status
@@ -209,14 +229,16 @@ unfetched core =
 
 -- the three parts together --
 
--- the row of the word, if one was taken
-abbrev pub row_at : Option ℕ → Option Instruction
-row_at None = None
-row_at (Some word) = row_of word
+-- is it a heap call? One by name is, where it returns
+abbrev pub is_heap_deed : Core → Deed → Bool
+is_heap_deed core (Takes word) = calls_heap core (row_of word)
+is_heap_deed core (CallsByName function) = returns core
+is_heap_deed core Halts = false
 
-abbrev pub plan : Core → Terms → Option ℕ → Uses
-plan core terms None = nothing
-plan core terms (Some word) = uses_of core (row_of word) terms
+abbrev pub plan : Core → Terms → Deed → Uses
+plan core terms (Takes word) = row_uses core (row_of word) terms
+plan core terms (CallsByName function) = named_uses function core terms.red_zone
+plan core terms Halts = nothing
 
 -- between the test of the word and the stack pointer rule
 abbrev pub rounded : Core → Effect → Effect
@@ -228,19 +250,25 @@ rounded core e =
       output = e.output;
     }
 
-abbrev pub outcome : Core → Terms → Option ℕ → List ℕ → (ℕ → ℕ) → Effect
-outcome core terms None given taken = unfetched core
-outcome core terms (Some word) given taken = rounded core (row_effect core (row_of word) terms given taken)
+-- a call by name leaves the stack pointer, and so needs no rule for it
+abbrev pub outcome : Core → Terms → Deed → List ℕ → (ℕ → ℕ) → Effect
+outcome core terms (Takes word) given taken = rounded core (row_effect core (row_of word) terms given taken)
+outcome core terms (CallsByName function) given taken = named_call function core terms.red_zone terms.volume taken
+outcome core terms Halts given taken = unfetched core
 
--- what a step sees of the setup
-abbrev pub terms_of : Core → Option Instruction → ℕ → ℕ → Setup → Terms
-terms_of core row position written setup =
+-- what a step sees of the setup, by whether it is a heap call
+abbrev pub terms_of : Bool → ℕ → ℕ → Setup → Terms
+terms_of heap position written setup =
     record {
       left = length setup.input - position;
       written = written;
-      red_zone = if calls_heap core row then setup.redzone else 0;
-      volume = if calls_heap core row then setup.volume else 0;
+      red_zone = if heap then setup.redzone else 0;
+      volume = if heap then setup.volume else 0;
     }
+
+-- and by what it does
+abbrev pub deed_terms : Core → Deed → ℕ → ℕ → Setup → Terms
+deed_terms core deed position written setup = terms_of (is_heap_deed core deed) position written setup
 
 -- so much of the input, from a position on
 abbrev pub given_at : ℕ → ℕ → Setup → List ℕ
@@ -259,14 +287,14 @@ written_to bytes (Some span) made = written bytes span.start span.len made
 -- what a step uses, at a core, byte values, a position in the input and a length of output
 unfoldable pub uses_at : Core → (ℕ → ℕ) → ℕ → ℕ → Setup → Uses
 uses_at core bytes position written setup =
-    let word = fetched core bytes in plan core (terms_of core (row_at word) position written setup) word
+    let deed = deed_at core bytes setup.hooks in plan core (deed_terms core deed position written setup) deed
 
 -- and what it leaves
 unfoldable pub effect_at : Core → (ℕ → ℕ) → ℕ → ℕ → Setup → Effect
 effect_at core bytes position written setup =
-    let word = fetched core bytes in
+    let deed = deed_at core bytes setup.hooks in
     let uses = uses_at core bytes position written setup in
-    outcome core (terms_of core (row_at word) position written setup) word (given_at position uses.inputs setup) (taken_from bytes uses.reads)
+    outcome core (deed_terms core deed position written setup) deed (given_at position uses.inputs setup) (taken_from bytes uses.reads)
 
 -- one more of a count, which stands still at the greatest 64-bit number
 abbrev pub counted : ℕ → Bool → ℕ
@@ -283,22 +311,23 @@ exec s setup =
       core = effect.core;
       position = s.position + uses.inputs;
       output = s.output ++ effect.output;
-      heap_calls = counted s.heap_calls uses.heap_call;
+      heap_calls = counted s.heap_calls (is_heap_deed s.core (deed_at s.core s.bytes setup.hooks));
       events = s.events ++ effect.raised;
     }
 
 -- which addresses a step touches --
 
 -- the four addresses at pc, where the word there is taken
-abbrev pub fetch_span : Core → Option ℕ → Option Span
-fetch_span core None = None
-fetch_span core (Some word) = Some (span_at core.pc 4)
+abbrev pub fetch_span : Core → Deed → Option Span
+fetch_span core (Takes word) = Some (span_at core.pc 4)
+fetch_span core (CallsByName function) = None
+fetch_span core Halts = None
 
 -- the ranges whose bytes a step takes or writes
 unfoldable pub touched_at : Core → (ℕ → ℕ) → ℕ → ℕ → Setup → Touched
 touched_at core bytes position written setup =
     let uses = uses_at core bytes position written setup in
-    record { fetch = fetch_span core (fetched core bytes); reads = uses.reads; writes = uses.writes }
+    record { fetch = fetch_span core (deed_at core bytes setup.hooks); reads = uses.reads; writes = uses.writes }
 
 -- is an address among those of three ranges?
 abbrev pub has_touched : Touched → ℕ → Bool

@@ -1,5 +1,6 @@
 -- The calls of the heap: malloc, free, calloc and realloc as the C standard (ISO/IEC 9899, 7.22.3) has them, over blocks that are kept
--- as Memcheck's replacement of malloc keeps them (Memcheck manual, section 4.1): red zones round each, freed ones in a queue.
+-- as Memcheck's replacement of malloc keeps them (Memcheck manual, section 4.1): red zones round each, freed ones in a queue. A
+-- program asks for them by number or by name; what they do is the same.
 use Rattle.std.specs.Prelude.{ℕ, ◌+◌, ◌-◌, ◌*◌, ◌==◌, min, max, if◌then◌else◌, List, [], ◌++◌, Option, Some, None, Bool, true, false}
 use Rattle.shadow_memory.specs.Shadows.{copied_undef}
 use Rattle.shadow_memory.specs.declared.cells.RangeKind.{RangeKind}
@@ -13,10 +14,12 @@ use Rattle.guest_heap.specs.declared.released.Released.{Released}
 use Rattle.guest_heap.specs.declared.released.Released.TheVariants.{Done, Nothing, Invalid}
 use Rattle.guest_machine.specs.State.{Core}
 use Rattle.guest_machine.specs.Errors.{here, event_about}
-use Rattle.guest_machine.specs.Effects.{Effect, raising}
+use Rattle.guest_machine.specs.Effects.{Effect, quiet, raising, advanced}
 use Rattle.guest_machine.specs.StackPointer.{ranged}
 use Rattle.guest_machine.specs.Calls.{argument, answered, call_tested, call_errors}
-use Rattle.guest_machine.specs.declared.call.Call.TheVariants.{Malloc, Free, Calloc, Realloc}
+use Rattle.guest_elf.specs.declared.hook.Hook.{Hook}
+use Rattle.guest_elf.specs.declared.hook.Hook.TheVariants.{Malloc, Free, Calloc, Realloc}
+use Rattle.guest_machine.specs.declared.call.Call.TheVariants.{Heap}
 
 -- allocating --
 
@@ -44,23 +47,6 @@ block_at core (Some p) size redzone kind = answered (carved (placed core (Some p
 abbrev pub given_block : Core → ℕ → ℕ → RangeKind → Core
 given_block core size redzone kind = block_at core (place core.blocks size redzone) size redzone kind
 
--- malloc: its bytes are undefined
-abbrev pub malloc_call : Core → ℕ → Effect
-malloc_call core redzone =
-    let size = argument core 10 in
-    let now = call_tested core Malloc in
-    raising (given_block now size redzone Undefined) (call_errors core Malloc)
-
--- calloc: a block for so many members of a size, their product taken as a whole number; its bytes are zeros, and defined
-abbrev pub calloc_size : Core → ℕ
-calloc_size core = argument core 10 * argument core 11
-
-abbrev pub calloc_call : Core → ℕ → Effect
-calloc_call core redzone =
-    let size = calloc_size core in
-    let now = call_tested core Calloc in
-    raising (given_block now size redzone Defined) (call_errors core Calloc)
-
 -- freeing --
 
 -- a block that was live is inaccessible, and goes to the queue; else nothing changes
@@ -83,13 +69,6 @@ unfoldable pub free_errors : Core → Released → ℕ → List Event
 free_errors core (Done b) p = []
 free_errors core Nothing p = []
 free_errors core Invalid p = event_about core.blocks (here core) FreeError (Some p)
-
-abbrev pub free_call : Core → ℕ → Effect
-free_call core volume =
-    let p = argument core 10 in
-    let now = call_tested core Free in
-    let released = released_here now p in
-    raising (answered (freed now released volume) 0) (call_errors core Free ++ free_errors now released p)
 
 -- resizing --
 
@@ -143,15 +122,28 @@ unfoldable pub resize_errors : Core → ℕ → Resizing → List Event
 resize_errors core p Refuses = event_about core.blocks (here core) FreeError (Some p)
 resize_errors core p _ = []
 
-abbrev pub realloc_call : Core → ℕ → ℕ → (ℕ → ℕ) → Effect
-realloc_call core redzone volume taken =
-    let p = argument core 10 in
-    let size = argument core 11 in
-    let now = call_tested core Realloc in
-    let what = resizing core.blocks p size redzone in
-    record {
-      core = resized now p size redzone volume what;
-      raised = call_errors core Realloc ++ resize_errors now p what;
-      made = taken;
-      output = [];
-    }
+-- what the calls do --
+
+-- at the core that the tests have left, with the values of a0 and a1: the answer is in a0, and pc stays. Of malloc the bytes are
+-- undefined; calloc takes the product of its two numbers as a whole number, and its bytes are zeros, and defined
+unfoldable pub heap_work : Hook → Core → ℕ → ℕ → ℕ → ℕ → (ℕ → ℕ) → Effect
+heap_work Malloc core x y redzone volume taken = quiet (given_block core x redzone Undefined)
+heap_work Free core x y redzone volume taken =
+    let released = released_here core x in raising (answered (freed core released volume) 0) (free_errors core released x)
+heap_work Calloc core x y redzone volume taken = quiet (given_block core (x * y) redzone Defined)
+heap_work Realloc core x y redzone volume taken =
+    let what = resizing core.blocks x y redzone in
+    record { core = resized core x y redzone volume what; raised = resize_errors core x what; made = taken; output = [] }
+
+-- an effect after the errors of tests, and before a last change of the core
+abbrev pub between : List Event → Effect → (Core → Core) → Effect
+between errors effect last = record { core = last effect.core; raised = errors ++ effect.raised; made = effect.made; output = effect.output }
+
+-- a call by number, at ECALL: the number is tested, and then the parameters
+abbrev pub heap_call : Hook → Core → ℕ → ℕ → (ℕ → ℕ) → Effect
+heap_call function core redzone volume taken =
+    let now = call_tested core (Heap function) in
+    between
+    (call_errors core (Heap function))
+    (heap_work function now (argument core 10) (argument core 11) redzone volume taken)
+    advanced

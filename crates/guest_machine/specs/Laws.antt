@@ -1,8 +1,9 @@
 -- Laws of one step, which follow from its form and not from any instruction.
-use Rattle.std.specs.Prelude.{◌≡◌, ℕ, ◌/◌, ◌%◌, ◌^◌, ◌<◌, ◌≤◌, false, Bool, length, slice_get}
+use Rattle.std.specs.Prelude.{◌≡◌, ℕ, ◌/◌, ◌%◌, ◌^◌, ◌<◌, ◌≤◌, false, Bool, List, length, slice_get}
+use Rattle.guest_elf.specs.declared.hook.Hook.{Hook}
 use Rattle.guest_machine.specs.State.{State}
 use Rattle.guest_machine.specs.Run.{poked}
-use Rattle.guest_machine.specs.Exec.{exec, touches, counted, calls_heap, row_at, fetched}
+use Rattle.guest_machine.specs.Exec.{exec, touches, counted, is_heap_deed, deed_at}
 use Rattle.guest_machine.specs.declared.setup.Setup.{Setup}
 
 -- the addresses of the word at an address
@@ -32,6 +33,7 @@ KeepsWords =
 pub record DifferAt (offset : ℕ) (one other : Setup) : Type 0 where
   pub redzone : one.redzone ≡ other.redzone
   pub volume : one.volume ≡ other.volume
+  pub hooks : one.hooks ≡ other.hooks
   pub len : length one.input ≡ length other.input
   pub bytes : (i : ℕ) → (i ≡ offset → ⊥) → slice_get one.input i ≡ slice_get other.input i
 
@@ -42,14 +44,14 @@ KeepsInput =
     → (touches s one ≡ touches s other) × (exec s one ≡ exec s other)
 
 -- is the step of a state a heap call?
-abbrev pub is_heap_step : State → Bool
-is_heap_step s = calls_heap s.core (row_at (fetched s.core s.bytes))
+abbrev pub is_heap_step : State → List (ℕ × Hook) → Bool
+is_heap_step s hooks = is_heap_deed s.core (deed_at s.core s.bytes hooks)
 
 -- a step that is no heap call doesn't look at the red zone nor at the volume; and the state counts its heap calls
 pub record KeepsHeap : Type 0 where
-  pub same : (one other : Setup) (s : State) → one.input ≡ other.input → is_heap_step s ≡ false
+  pub same : (one other : Setup) (s : State) → one.input ≡ other.input → one.hooks ≡ other.hooks → is_heap_step s one.hooks ≡ false
       → (touches s one ≡ touches s other) × (exec s one ≡ exec s other)
-  pub counts : (setup : Setup) (s : State) → (exec s setup).heap_calls ≡ counted s.heap_calls (is_heap_step s)
+  pub counts : (setup : Setup) (s : State) → (exec s setup).heap_calls ≡ counted s.heap_calls (is_heap_step s setup.hooks)
 
 -- a word may be poked before a step that doesn't touch it or after it, and the step touches the same
 abbrev pub KeepsPokes : Type 0

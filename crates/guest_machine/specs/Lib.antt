@@ -8,8 +8,10 @@ pub mod CallStack
 pub mod StackPointer
 pub mod Alu
 pub mod Effects
+pub mod Hooks
 pub mod Calls
 pub mod HeapCalls
+pub mod NamedCalls
 pub mod Exec
 pub mod Loading
 pub mod Run

@@ -2,6 +2,8 @@
 ghost use Rattle.std.specs.Prelude.{◌≡◌};
 ghost use Rattle.guest_machine.specs.Calls.{call_of};
 
+use guest_elf::Hook;
+
 /// What a program asks of its environment by ECALL.
 #[derive(Clone, Copy, Debug, PartialEq, Eq)]
 pub(crate) enum Call {
@@ -9,10 +11,7 @@ pub(crate) enum Call {
     Write,
     Exit,
     ExitGroup,
-    Malloc,
-    Free,
-    Calloc,
-    Realloc,
+    Heap(Hook),
     Unknown,
 }
 
@@ -26,10 +25,10 @@ impl Call {
             64 => Call::Write,
             93 => Call::Exit,
             94 => Call::ExitGroup,
-            2001 => Call::Malloc,
-            2002 => Call::Free,
-            2003 => Call::Calloc,
-            2004 => Call::Realloc,
+            2001 => Call::Heap(Hook::Malloc),
+            2002 => Call::Heap(Hook::Free),
+            2003 => Call::Heap(Hook::Calloc),
+            2004 => Call::Heap(Hook::Realloc),
             _ => Call::Unknown,
         }
     }

@@ -67,6 +67,7 @@
 mod alu;
 mod call;
 mod hint;
+mod hooks;
 mod input;
 mod instruction;
 pub mod laws;
@@ -78,6 +79,7 @@ mod span;
 mod status;
 mod width;
 
+pub use hooks::Hooks;
 pub use input::Input;
 pub use machine::Machine;
 pub use meter::Meter;

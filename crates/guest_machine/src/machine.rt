@@ -4,6 +4,7 @@ mod calls;
 mod checks;
 mod fields;
 mod heap_calls;
+mod named_calls;
 mod observers;
 mod rows;
 mod stack;

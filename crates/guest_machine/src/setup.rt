@@ -1,8 +1,9 @@
+use crate::hooks::Hooks;
 use crate::input::Input;
 use crate::span::Span;
 use shadow_memory::RangeKind;
 
-/// What a run is given: its input, and the options of its heap.
+/// What a run is given: its input, the options of its heap, and the functions in whose place a step does a heap call.
 #[derive(Drop)]
 pub struct Setup {
     /// The bytes that the program can read.
@@ -11,6 +12,8 @@ pub struct Setup {
     pub redzone: u32,
     /// How many bytes the freed blocks may have that aren't used again yet.
     pub volume: u32,
+    /// A step at one of their addresses does the heap call of the function there, and returns to x1.
+    pub hooks: Hooks,
 }
 
 /// A range that is made inaccessible, undefined or defined just before a step.

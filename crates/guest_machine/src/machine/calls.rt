@@ -1,6 +1,6 @@
 //! The calls that a program makes of its environment.
-ghost use Rattle.std.specs.Prelude.{◌≡◌, ◌+◌, ◌-◌, ◌^◌, ◌<◌, ◌≤◌, ◌∷◌, [], length, min, nat_le, slice_index, Some, IfOk, OnOk};
-ghost use Rattle.guest_machine.specs.Calls.{argument, answers, call_tested, call_errors, tested_from, errors_from, moved_len, exit_call, output_room};
+ghost use Rattle.std.specs.Prelude.{◌≡◌, ◌+◌, ◌-◌, ◌^◌, ◌<◌, ◌≤◌, ◌∷◌, [], length, min, nat_le, slice_index, false, Some, IfOk, OnOk};
+ghost use Rattle.guest_machine.specs.Calls.{argument, answers, call_tested, call_errors, heap_parameters, tested_from, errors_from, moved_len, exit_call, output_room};
 ghost use Rattle.guest_machine.specs.Errors.{fault_of, buffer_errors};
 ghost use Rattle.shadow_memory.specs.Ranges.{written};
 ghost use Rattle.guest_machine.specs.Effects.{stored_core};
@@ -16,6 +16,7 @@ use crate::register::Register;
 use crate::setup::Setup;
 use crate::span::Span;
 use error_events::{Fault3, Kind, Parameter};
+use guest_elf::Hook;
 use shadow_memory::Bad;
 use std::alloc::AllocError;
 
@@ -102,6 +103,23 @@ impl Guest {
         self.test_parameter(Register::new(A2), third)
     }
 
+    /// Tests a heap call's parameters in order.
+    #[tactic(auto, unfolding(crate::specs::Calls::heap_parameters))]
+    pub(super) fn test_heap(&mut self, function: Hook) -> Result<(), AllocError>
+        ensures core { OnOk result (core_of self.new ≡ tested_from (core_of self.old) 10 (heap_parameters function)) }
+        ensures memory { self.new.memory ≡ self.old.memory }
+        ensures counts { self.new.counts ≡ self.old.counts }
+        ensures heap { self.new.heap ≡ self.old.heap }
+        ensures groups { OnOk result (Raises self.old self.new (errors_from (core_of self.old) 10 (heap_parameters function))) }
+    {
+        match function {
+            Hook::Malloc => self.test_one(Parameter::MallocSize),
+            Hook::Free => self.test_one(Parameter::FreePointer),
+            Hook::Calloc => self.test_two(Parameter::CallocMembers, Parameter::CallocSize),
+            Hook::Realloc => self.test_two(Parameter::ReallocPointer, Parameter::ReallocSize),
+        }
+    }
+
     /// Tests a call's number, and then its parameters in order.
     #[tactic(auto, unfolding(crate::specs::Calls::parameters_of, crate::specs::Calls::tested_from, crate::specs::Calls::errors_from, error_events::specs::Adding::add_events), using(crate::proofs::Showing::add_events_append))]
     pub(super) fn test_call(&mut self, call: Call) -> Result<(), AllocError>
@@ -125,10 +143,7 @@ impl Guest {
             ),
             Call::Exit => self.test_one(Parameter::ExitStatus),
             Call::ExitGroup => self.test_one(Parameter::ExitGroupStatus),
-            Call::Malloc => self.test_one(Parameter::MallocSize),
-            Call::Free => self.test_one(Parameter::FreePointer),
-            Call::Calloc => self.test_two(Parameter::CallocMembers, Parameter::CallocSize),
-            Call::Realloc => self.test_two(Parameter::ReallocPointer, Parameter::ReallocSize),
+            Call::Heap(function) => self.test_heap(function),
             Call::Unknown => Ok(()),
         }
     }
@@ -136,10 +151,11 @@ impl Guest {
     /// A call that only answers.
     #[tactic(auto, unfolding(error_events::specs::Adding::add_events))]
     fn test_and_answer(&mut self, call: Call, n: u32) -> Result<(), AllocError>
-        ensures { OnOk result (Does self.old self.new (answers (core_of self.old) call n) nothing) }
+        ensures { OnOk result (Does self.old self.new (answers (core_of self.old) call n) nothing false) }
     {
         self.test_call(call)?;
         self.answer(n);
+        self.advance();
         Ok(())
     }
 
@@ -178,7 +194,7 @@ impl Guest {
     }
 
     fn exit_call(&mut self, call: Call) -> Result<(), AllocError>
-        ensures { OnOk result (Does self.old self.new (exit_call (core_of self.old) call) nothing) }
+        ensures { OnOk result (Does self.old self.new (exit_call (core_of self.old) call) nothing false) }
     {
         let code = (self.argument(A0) % 256) as u8;
         self.test_call(call)?;
@@ -204,6 +220,7 @@ impl Guest {
         self.store_input(start, given)?;
         self.counts.position += u64::from(n);
         self.answer(n);
+        self.advance();
         Ok(Some(Span { start, len: n }))
     }
 
@@ -227,6 +244,7 @@ impl Guest {
         self.test_buffer(Parameter::WriteBuffer, true, start, len)?;
         self.counts.output_len += u64::from(len);
         self.answer(len);
+        self.advance();
         Ok(Some(Span { start, len }))
     }
 
@@ -266,22 +284,7 @@ impl Guest {
                 self.exit_call(call)?;
                 Ok(NOTHING)
             }
-            Call::Malloc => {
-                self.malloc_call(setup.redzone)?;
-                Ok(NOTHING)
-            }
-            Call::Free => {
-                self.free_call(setup.volume)?;
-                Ok(NOTHING)
-            }
-            Call::Calloc => {
-                let writes = self.calloc_call(setup.redzone)?;
-                Ok(Used {
-                    reads: None,
-                    writes,
-                })
-            }
-            Call::Realloc => self.realloc_call(setup.redzone, setup.volume),
+            Call::Heap(function) => self.heap_call(function, setup),
             Call::Unknown => {
                 self.test_and_answer(Call::Unknown, NO_SUCH_CALL)?;
                 Ok(NOTHING)

@@ -100,6 +100,7 @@ impl Guest {
         ensures core { OnOk result (core_of self.new ≡ tested (core_of self.old) r) }
         ensures memory { self.new.memory ≡ self.old.memory }
         ensures counts { self.new.counts ≡ self.old.counts }
+        ensures heap { self.new.heap ≡ self.old.heap }
         ensures groups { OnOk result (Raises self.old self.new (value_errors (core_of self.old) r)) }
     {
         self.test(r, Kind::Value)

@@ -3,6 +3,7 @@ ghost use Rattle.std.specs.Prelude.{◌≡◌, ◌%◌};
 ghost use Rattle.guest_machine.specs.Registers.{known, register, set_register, defined};
 ghost use Rattle.guest_machine.specs.Effects.{target, moved_to, advanced, stopped, exited, jumped, followed, linked_jump};
 ghost use Rattle.guest_machine.specs.Calls.{answered};
+ghost use Rattle.guest_machine.specs.NamedCalls.{returned_to};
 ghost use Rattle.guest_machine.specs.Shows.{core_of};
 
 use crate::hint::StackHint;
@@ -150,7 +151,7 @@ impl Guest {
         }
     }
 
-    /// Answers a call in a0.
+    /// Leaves a call's answer in a0.
     pub(super) fn answer(&mut self, n: u32)
         ensures core { core_of self.new ≡ answered (core_of self.old) n }
         ensures memory { self.new.memory ≡ self.old.memory }
@@ -158,6 +159,17 @@ impl Guest {
         ensures groups { self.new.groups ≡ self.old.groups }
     {
         self.set_register(Register::new(10), known(n));
-        self.advance();
+    }
+
+    /// Returns to an address.
+    #[tactic(auto, unfolding(crate::specs::CallStack::hinted))]
+    pub(super) fn return_to(&mut self, to: u32)
+        ensures core { core_of self.new ≡ returned_to to (core_of self.old) }
+        ensures memory { self.new.memory ≡ self.old.memory }
+        ensures counts { self.new.counts ≡ self.old.counts }
+        ensures groups { self.new.groups ≡ self.old.groups }
+    {
+        self.frames.back_to(to);
+        self.move_to(to);
     }
 }

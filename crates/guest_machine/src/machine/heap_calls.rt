@@ -1,24 +1,27 @@
-//! The calls of the heap.
+//! What the calls of the heap do, and those by number.
 ghost use Rattle.std.specs.Prelude.{◌≡◌, ◌+◌, ◌*◌, ◌≤◌, ◌<◌, max, min, None, Some, IfSome, IfOk, OnOk};
 ghost use Rattle.std.specs.Option.{option_map};
 ghost use Rattle.shadow_memory.specs.Ranges.{written, window};
 ghost use Rattle.shadow_memory.specs.Changes.{AreApart};
 ghost use Rattle.guest_heap.specs.Steps.{place};
 ghost use Rattle.guest_machine.specs.StackPointer.{ranged};
-ghost use Rattle.guest_machine.specs.HeapCalls.{placed, closed, carved, copied, IsClearOf, given_block, malloc_call, calloc_call, freed, released_here, is_invalid, free_call, moving_in, resizing, resized, resize_errors, realloc_call};
+ghost use Rattle.guest_machine.specs.HeapCalls.{placed, closed, carved, copied, IsClearOf, given_block, freed, released_here, is_invalid, free_errors, moving_in, resizing, resized, resize_errors};
 ghost use Rattle.guest_machine.specs.Effects.{no_bytes};
-ghost use Rattle.guest_machine.specs.Exec.{heap_uses, calling_heap, calloc_uses, realloc_uses, moved_from, moved_into, taken_from, written_to};
+ghost use Rattle.guest_machine.specs.Calls.{answered};
+ghost use Rattle.guest_machine.specs.Exec.{work_uses, heap_uses, calloc_uses, moved_from, moved_into, taken_from, written_to};
 ghost use Rattle.guest_machine.specs.Spans.{span_at};
 ghost use Rattle.guest_machine.specs.Shows.{core_of, bytes_of};
-ghost use Rattle.guest_machine.specs.Doing.{Raises, Does, DoesRealloc};
+ghost use Rattle.guest_machine.specs.Doing.{Raises, DoesWork, DoesHeapCall};
 
 use crate::call::Call;
 use crate::machine::Guest;
 use crate::machine::calls::{A0, A1};
 use crate::machine::step::{NOTHING, Used};
+use crate::setup::Setup;
 use crate::span::Span;
 use call_stacks::{Block, Trace};
 use error_events::Kind;
+use guest_elf::Hook;
 use guest_heap::Released;
 use guest_heap::laws::place_is_least;
 use shadow_memory::RangeKind;
@@ -145,24 +148,21 @@ impl Guest {
         self.counts.heap_calls = self.counts.heap_calls.saturating_add(1);
     }
 
-    #[tactic(auto, unfolding(error_events::specs::Adding::add_events))]
-    pub(super) fn malloc_call(&mut self, redzone: u32) -> Result<(), AllocError>
-        ensures { OnOk result (Does self.old self.new (malloc_call (core_of self.old) redzone) heap_uses) }
+    /// A block for so many members of a size, with zeros in it; where they are is told.
+    #[tactic(auto, unfolding(crate::specs::HeapCalls::block_at))]
+    fn give_members(
+        &mut self,
+        members: u32,
+        size: u32,
+        redzone: u32,
+    ) -> Result<Option<Span>, AllocError>
+        ensures core { OnOk result (core_of self.new ≡ given_block (core_of self.old) (members * size) redzone RangeKind.Defined) }
+        ensures span { IfOk result (λ span. span ≡ (calloc_uses (core_of self.old).blocks (members * size) redzone).writes) }
+        ensures bytes { IfOk result (λ span. bytes_of self.new ≡ written_to (bytes_of self.old) span no_bytes) }
+        ensures counts { self.new.counts ≡ self.old.counts }
+        ensures groups { self.new.groups ≡ self.old.groups }
     {
-        let size = self.argument(A0);
-        self.count_heap_call();
-        self.test_call(Call::Malloc)?;
-        self.give_block(size, redzone)
-    }
-
-    #[tactic(auto, unfolding(crate::specs::HeapCalls::block_at, error_events::specs::Adding::add_events))]
-    pub(super) fn calloc_call(&mut self, redzone: u32) -> Result<Option<Span>, AllocError>
-        ensures does { OnOk result (Does self.old self.new (calloc_call (core_of self.old) redzone) (calling_heap (calloc_uses (core_of self.old) redzone))) }
-        ensures writes { IfOk result (λ writes. writes ≡ (calloc_uses (core_of self.old) redzone).writes) }
-    {
-        let size = u64::from(self.argument(A0)) * u64::from(self.argument(A1));
-        self.count_heap_call();
-        self.test_call(Call::Calloc)?;
+        let size = u64::from(members) * u64::from(size);
         match u32::try_from(size) {
             Ok(size) => self.give_zeros(size, redzone),
             Err(_) => {
@@ -194,13 +194,14 @@ impl Guest {
         }
     }
 
-    #[tactic(auto, unfolding(crate::specs::HeapCalls::freed, crate::specs::HeapCalls::free_errors, error_events::specs::Adding::add_events), using(crate::proofs::Showing::add_events_append))]
-    pub(super) fn free_call(&mut self, volume: u32) -> Result<(), AllocError>
-        ensures { OnOk result (Does self.old self.new (free_call (core_of self.old) volume) heap_uses) }
+    /// Frees the block at an address, or notes that there is none.
+    #[tactic(auto, unfolding(crate::specs::HeapCalls::freed, crate::specs::HeapCalls::free_errors, error_events::specs::Adding::add_events))]
+    fn free(&mut self, p: u32, volume: u32) -> Result<(), AllocError>
+        ensures core { OnOk result (core_of self.new ≡ answered (freed (core_of self.old) (released_here (core_of self.old) p) volume) 0) }
+        ensures bytes { OnOk result (bytes_of self.new ≡ bytes_of self.old) }
+        ensures counts { self.new.counts ≡ self.old.counts }
+        ensures groups { OnOk result (Raises self.old self.new (free_errors (core_of self.old) (released_here (core_of self.old) p) p)) }
     {
-        let p = self.argument(A0);
-        self.count_heap_call();
-        self.test_call(Call::Free)?;
         if self.release(p, volume)? {
             self.raise_about(Kind::Free, Some(p))?;
         }
@@ -298,16 +299,53 @@ impl Guest {
         self.move_block(block, size, redzone, volume)
     }
 
-    #[tactic(auto, using(crate::proofs::Showing::add_events_append))]
-    pub(super) fn realloc_call(&mut self, redzone: u32, volume: u32) -> Result<Used, AllocError>
-        ensures does { OnOk result (DoesRealloc self.old self.new redzone volume) }
-        ensures reads { IfOk result (λ used. used.reads ≡ (realloc_uses (core_of self.old) redzone).reads) }
-        ensures writes { IfOk result (λ used. used.writes ≡ (realloc_uses (core_of self.old) redzone).writes) }
+    /// Does what a heap call does, with the values of a0 and a1, and says which bytes it took and which it wrote. It is counted; its
+    /// answer is in a0.
+    #[tactic(auto, unfolding(crate::specs::HeapCalls::heap_work, crate::specs::Exec::work_uses, error_events::specs::Adding::add_events))]
+    pub(super) fn heap_work(
+        &mut self,
+        function: Hook,
+        x: u32,
+        y: u32,
+        setup: &Setup,
+    ) -> Result<Used, AllocError>
+        ensures does { OnOk result (DoesWork self.old self.new function x y setup.now) }
+        ensures reads { IfOk result (λ used. used.reads ≡ (work_uses function (core_of self.old).blocks x y setup.now.redzone).reads) }
+        ensures writes { IfOk result (λ used. used.writes ≡ (work_uses function (core_of self.old).blocks x y setup.now.redzone).writes) }
     {
-        let p = self.argument(A0);
-        let size = self.argument(A1);
         self.count_heap_call();
-        self.test_call(Call::Realloc)?;
-        self.resize(p, size, redzone, volume)
+        match function {
+            Hook::Malloc => {
+                self.give_block(x, setup.redzone)?;
+                Ok(NOTHING)
+            }
+            Hook::Free => {
+                self.free(x, setup.volume)?;
+                Ok(NOTHING)
+            }
+            Hook::Calloc => {
+                let writes = self.give_members(x, y, setup.redzone)?;
+                Ok(Used {
+                    reads: None,
+                    writes,
+                })
+            }
+            Hook::Realloc => self.resize(x, y, setup.redzone, setup.volume),
+        }
+    }
+
+    /// A heap call by number.
+    #[tactic(auto, using(crate::proofs::Showing::add_events_append))]
+    pub(super) fn heap_call(&mut self, function: Hook, setup: &Setup) -> Result<Used, AllocError>
+        ensures does { OnOk result (DoesHeapCall self.old self.new function setup.now) }
+        ensures reads { IfOk result (λ used. used.reads ≡ (heap_uses function (core_of self.old) setup.now.redzone).reads) }
+        ensures writes { IfOk result (λ used. used.writes ≡ (heap_uses function (core_of self.old) setup.now.redzone).writes) }
+    {
+        let x = self.argument(A0);
+        let y = self.argument(A1);
+        self.test_call(Call::Heap(function))?;
+        let used = self.heap_work(function, x, y, setup)?;
+        self.advance();
+        Ok(used)
     }
 }

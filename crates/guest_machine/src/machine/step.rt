@@ -1,13 +1,14 @@
 //! One step.
-ghost use Rattle.std.specs.Prelude.{◌≡◌, ◌+◌, min, false, Option, Some, None, IfOk, IfSome, IfNone, OnErr, OnOk};
+ghost use Rattle.std.specs.Prelude.{◌≡◌, ◌+◌, ◌&&◌, min, false, Option, Some, None, IfOk, IfSome, IfNone, OnErr, OnOk};
 ghost use Rattle.guest_machine.specs.State.{State};
 ghost use Rattle.guest_machine.specs.Errors.{fetch_undef};
 ghost use Rattle.guest_machine.specs.Instructions.{row_of};
-ghost use Rattle.guest_machine.specs.Exec.{nothing, fetches, unfetched, jump_fault, exec, touches, has_touched, IsFetched};
+ghost use Rattle.guest_machine.specs.Exec.{nothing, is_running, is_aligned, called_here, fetches, unfetched, jump_fault, exec, touches, has_touched, IsFetched};
 ghost use Rattle.guest_machine.specs.Shows.{core_of, bytes_of, Holds, Shows};
 ghost use Rattle.guest_machine.specs.Doing.{uses_by, touched_by, Does, DoesRow, DoesRound, DoesStep};
 
 use crate::alu::computed;
+use crate::hooks::Hooks;
 use crate::instruction::{Instruction, row_of};
 use crate::machine::fields::known;
 use crate::machine::{Guest, Machine};
@@ -19,6 +20,7 @@ use crate::status::{Status, Stop};
 use definedness::Bits;
 use error_events::Kind;
 use error_events::laws::groups_grow;
+use guest_elf::Hook;
 use std::alloc::AllocError;
 
 /// The ranges whose bytes an instruction took and wrote.
@@ -32,6 +34,20 @@ pub(super) const NOTHING: Used = Used {
     reads: None,
     writes: None,
 };
+
+impl Used {
+    /// These, beside the word that was taken.
+    #[inline(always)]
+    fn touched(self, fetch: Option<Span>) -> Touched
+        ensures { result ≡ record { fetch = fetch; reads = self.reads; writes = self.writes } }
+    {
+        Touched {
+            fetch,
+            reads: self.reads,
+            writes: self.writes,
+        }
+    }
+}
 
 impl Guest {
     /// Carries an instruction out, and says which bytes it took and which it wrote.
@@ -134,7 +150,7 @@ impl Guest {
     #[inline(never)]
     #[tactic(auto, unfolding(crate::specs::Errors::event_about, error_events::specs::Adding::add_events))]
     fn jump_fault(&mut self, fault: Option<u32>) -> Result<(), AllocError>
-        ensures { OnOk result (Does self.old self.new (jump_fault (core_of self.old) fault) nothing) }
+        ensures { OnOk result (Does self.old self.new (jump_fault (core_of self.old) fault) nothing false) }
     {
         if fault.is_some() {
             self.raise_about(Kind::Jump, fault)?;
@@ -143,15 +159,34 @@ impl Guest {
         Ok(())
     }
 
-    /// The word at pc with its undefined bits, where it is taken.
+    /// Whether it runs, and pc is a multiple of 4.
+    #[inline(always)]
+    fn is_ready(&self) -> bool
+        ensures { result ≡ (is_running (core_of self.now).status && is_aligned (core_of self.now).pc) }
+    {
+        matches!(self.status, Status::Running) && self.pc % 4 == 0
+    }
+
+    /// The function of the heap that is called by name.
+    #[inline(always)]
+    #[tactic(auto, unfolding(crate::specs::Exec::called_here))]
+    fn called_here(&self, hooks: &Hooks) -> Option<Hook>
+        ensures { result ≡ called_here (core_of self.now) hooks.now }
+    {
+        match hooks.at(self.pc) {
+            Some(function) if self.is_ready() => Some(function),
+            _ => None,
+        }
+    }
+
+    /// The word at pc with its undefined bits, where it may be taken.
     #[inline(always)]
     #[tactic(auto, unfolding(crate::specs::Exec::fetches))]
     fn fetch(&self) -> Option<Bits>
         ensures none { IfNone result (fetches (core_of self.now) ≡ false) }
         ensures some { IfSome result (λ word. IsFetched (core_of self.now) (bytes_of self.now) word) }
     {
-        let runs = matches!(self.status, Status::Running);
-        if !runs || self.pc % 4 != 0 {
+        if !self.is_ready() {
             return None;
         }
         let word = self.memory.load(self.pc, 4);
@@ -164,11 +199,11 @@ impl Guest {
         }
     }
 
-    /// A step that takes no word.
+    /// A step that takes no word and calls no function by name.
     #[inline(always)]
     #[tactic(auto, unfolding(crate::specs::Exec::unfetched, error_events::specs::Adding::add_events))]
     fn halt(&mut self) -> Result<(), AllocError>
-        ensures { OnOk result (Does self.old self.new (unfetched (core_of self.old)) nothing) }
+        ensures { OnOk result (Does self.old self.new (unfetched (core_of self.old)) nothing false) }
     {
         if let Status::Running = self.status {
             if self.pc % 4 == 0 {
@@ -204,23 +239,19 @@ impl Guest {
         ensures does { OnOk result (DoesStep self.old self.new setup.now) }
         ensures touched { IfOk result (λ t. t ≡ touched_by self.old setup.now) }
     {
+        if let Some(function) = self.called_here(&setup.hooks) {
+            let used = self.call_by_name(function, setup)?;
+            return Ok(used.touched(None));
+        }
         let pc = self.pc;
         match self.fetch() {
             None => {
                 self.halt()?;
-                Ok(Touched {
-                    fetch: None,
-                    reads: None,
-                    writes: None,
-                })
+                Ok(NOTHING.touched(None))
             }
             Some(word) => {
                 let used = self.round(setup, word)?;
-                Ok(Touched {
-                    fetch: Some(Span { start: pc, len: 4 }),
-                    reads: used.reads,
-                    writes: used.writes,
-                })
+                Ok(used.touched(Some(Span { start: pc, len: 4 })))
             }
         }
     }

@@ -1,0 +1,40 @@
+//! The calls of the heap by name.
+ghost use Rattle.std.specs.Prelude.{◌≡◌, IfOk, OnOk};
+ghost use Rattle.guest_machine.specs.Doing.{uses_by_name, DoesNamed};
+
+use crate::machine::Guest;
+use crate::machine::calls::{A0, A1};
+use crate::machine::step::{NOTHING, Used};
+use crate::register::Register;
+use crate::setup::Setup;
+use crate::status::Stop;
+use guest_elf::Hook;
+use std::alloc::AllocError;
+
+// The register of the address that a function returns to.
+const RA: u8 = 1;
+
+impl Guest {
+    /// Does the heap call in place of a function, and returns to its caller; says which bytes it took and which it wrote.
+    #[cold]
+    #[inline(never)]
+    #[tactic(auto, unfolding(crate::specs::NamedCalls::named_by, crate::specs::Exec::named_uses_by, error_events::specs::Adding::add_events), using(crate::proofs::Showing::add_events_append))]
+    pub(super) fn call_by_name(&mut self, function: Hook, setup: &Setup) -> Result<Used, AllocError>
+        ensures does { OnOk result (DoesNamed self.old self.new function setup.now) }
+        ensures reads { IfOk result (λ used. used.reads ≡ (uses_by_name self.old function setup.now).reads) }
+        ensures writes { IfOk result (λ used. used.writes ≡ (uses_by_name self.old function setup.now).writes) }
+    {
+        let to = self.argument(RA) / 2 * 2;
+        let x = self.argument(A0);
+        let y = self.argument(A1);
+        self.test_value(Register::new(RA))?;
+        if to % 4 != 0 {
+            self.stop(Stop::Misaligned);
+            return Ok(NOTHING);
+        }
+        self.test_heap(function)?;
+        let used = self.heap_work(function, x, y, setup)?;
+        self.return_to(to);
+        Ok(used)
+    }
+}
