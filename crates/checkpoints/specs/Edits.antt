@@ -1,5 +1,5 @@
 -- What an edit leaves of a trail: for which run the trail is right then, and which of its machines are kept.
-use Rattle.std.specs.Prelude.{◌≡◌, ℕ, ◌+◌, ◌*◌, ◌<◌, ◌≤◌, ◌⊎◌, List, Option, true, false, length, slice_index_or}
+use Rattle.std.specs.Prelude.{◌≡◌, ℕ, ◌+◌, ◌*◌, ◌<◌, ◌≤◌, ◌⊎◌, List, Option, true, length, slice_index_or}
 use Rattle.guest_machine.specs.State.{State}
 use Rattle.guest_machine.specs.Run.{poked}
 use Rattle.guest_machine.specs.Shows.{Shows}
@@ -7,7 +7,7 @@ use Rattle.guest_machine.specs.declared.machine.Machine.{Machine}
 use Rattle.guest_machine.specs.declared.setup.Setup.{Setup}
 use Rattle.guest_machine.specs.declared.setup.Mark.{Mark}
 use Rattle.checkpoints.specs.FirstEffects.{IsBelowFirst, DifferAtStep}
-use Rattle.checkpoints.specs.Work.{IsFirst, lowered}
+use Rattle.checkpoints.specs.Work.{IsBelow, lowered}
 use Rattle.checkpoints.specs.Trails.{machines_of, is_short, last_held, KeepsJust, KeepsOnly, IsRightFor}
 use Rattle.checkpoints.specs.declared.trail.Trail.{Trail}
 
@@ -23,9 +23,10 @@ abbrev pub IsRightForSetups : (Setup → Setup → Type 0) → Trail → Trail �
 IsRightForSetups Differ old new =
     (start : State) (setup other : Setup) (marks : List Mark) → Differ setup other → IsRightFor old start setup marks → IsRightFor new start other marks
 
--- setups with the same input
-abbrev pub HaveOneInput : Setup → Setup → Type 0
-HaveOneInput setup other = setup.input ≡ other.input
+-- setups that differ in the options of the heap alone
+pub record DifferInHeap (setup other : Setup) : Type 0 where
+  pub input : setup.input ≡ other.input
+  pub hooks : setup.hooks ≡ other.hooks
 
 -- for a start with a word written
 abbrev pub IsRightForPoked : ℕ → ℕ → Trail → Trail → Type 0
@@ -51,15 +52,9 @@ KeepsBelowFirstOrIsShort Shown old new =
     → (KeepsJust (IsBelowFirst (Shown start setup marks)) old new × (is_short new ≡ is_short old))
     ⊎ (KeepsOnly (IsBelowFirst (Shown start setup marks)) old new × (is_short new ≡ true))
 
--- so that the last step at which a machine is held follows from the first effect
-abbrev pub LowersTo : (State → Setup → List Mark → ℕ → Type 0) → Trail → Trail → Type 0
-LowersTo Shown old new =
-    (start : State) (setup : Setup) (marks : List Mark) → IsRightFor old start setup marks
-    → (f : Option ℕ) → IsFirst (Shown start setup marks) f → last_held new ≡ lowered (last_held old) f
-
--- unless it is short
-abbrev pub LowersToUnlessShort : (State → Setup → List Mark → ℕ → Type 0) → Trail → Trail → Type 0
-LowersToUnlessShort Shown old new = is_short new ≡ false → LowersTo Shown old new
+-- where the machines are kept below a step, the last step at which one is held follows from it
+abbrev pub KeepsLower : Type 0
+KeepsLower = (f : Option ℕ) (old new : Trail) → KeepsJust (IsBelow f) old new → last_held new ≡ lowered (last_held old) f
 
 -- ---- looking for the last machine in which an edit doesn't show
 

@@ -39,7 +39,7 @@ hooks_by strings (symbol ∷ symbols) = hook_put_if symbol.value (hook_named (na
 unfoldable pub IsRising : List (ℕ × Hook) → Type 0
 IsRising entries = (i j : ℕ) (d : ℕ × Hook) → i < j → j < length entries → (get_or entries i d).0 < (get_or entries j d).0
 
--- the function at an address, of a list of them
+-- the function that begins at an address: the first one there
 unfoldable pub hook_at : List (ℕ × Hook) → ℕ → Option Hook
 hook_at [] address = None
 hook_at (entry ∷ entries) address = if entry.0 == address then Some entry.1 else hook_at entries address

@@ -4,7 +4,8 @@ use Rattle.std.proofs.lemmas.Bool.Decides.{nat_tests}
 use Rattle.std.proofs.lemmas.List.{get_or_default}
 use Rattle.std.specs.List.Sorted.{IsNonDecreasingBy}
 use Rattle.guest_elf.specs.declared.hook.Hook.{Hook}
-use Rattle.guest_machine.specs.Hooks.{hook_at, AreWithin}
+use Rattle.guest_elf.specs.Hooks.{hook_at}
+use Rattle.guest_machine.specs.Hooks.{AreWithin}
 
 same-number : (m n : ℕ) → m ≡ n → (m == n) ≡ true
 same-number m n e = grind (arith, nat_tests)

@@ -10,7 +10,7 @@ use Rattle.guest_machine.specs.State.{Core, State}
 use Rattle.guest_machine.specs.Instructions.{row_of}
 use Rattle.guest_machine.specs.Effects.{Effect, no_bytes, quiet, raising, advanced, stopped, target, load_upper, add_upper, compute_immediate, compute, load, store, branch, jump, jump_register, stops}
 use Rattle.guest_machine.specs.Calls.{argument, call_at, is_heap, moved_len, read_len, appends, read_call, write_call, exit_call, unknown_call}
-use Rattle.guest_machine.specs.Hooks.{hook_at}
+use Rattle.guest_elf.specs.Hooks.{hook_at}
 use Rattle.guest_machine.specs.NamedCalls.{returns, named_call}
 use Rattle.guest_machine.specs.Errors.{here, event_about, fetch_undef, fetch_errors}
 use Rattle.guest_machine.specs.StackPointer.{stack_ruled}

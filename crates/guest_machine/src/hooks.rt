@@ -1,7 +1,7 @@
 ghost use Rattle.std.specs.Prelude.{◌≡◌, ℕ, ◌<◌, ◌≤◌, length, slice_index_or};
 ghost use Rattle.guest_elf.specs.declared.hook.Hook.{Hook as HookOf};
 ghost use Rattle.std.specs.List.Sorted.{IsNonDecreasingBy};
-ghost use Rattle.guest_machine.specs.Hooks.{hook_at};
+ghost use Rattle.guest_elf.specs.Hooks.{hook_at};
 
 use guest_elf::Hook;
 use std::marker::Model;

@@ -7,7 +7,7 @@ use error_events::LeakKind;
 use error_events::LeakKind::{Definite, Indirect, Possible, Reachable};
 use guest_elf::read;
 use guest_heap::Heap;
-use guest_machine::{Input, Machine, Meter, Setup};
+use guest_machine::{Hooks, Input, Machine, Meter, Setup};
 use guest_programs::program;
 use shadow_memory::{Memory, RangeKind};
 use std::alloc::{AllocError, Global};
@@ -231,6 +231,7 @@ fn kinds_after(alloc: Global, words: &[u32], steps: u32) -> Result<Vec<LeakKind>
         input: Input::new(Vec::new(alloc)),
         redzone: 16,
         volume: 20_000_000,
+        hooks: Hooks::new(Vec::new(alloc)),
     };
     let mut meter = Meter::new();
     for _ in 0..steps {

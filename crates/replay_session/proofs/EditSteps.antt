@@ -38,10 +38,11 @@ get-other (b ∷ bs) zero byte (suc i) n = refl
 get-other (b ∷ bs) (suc offset) byte zero n = refl
 get-other (b ∷ bs) (suc offset) byte (suc i) n = get-other bs offset byte i (λ e. n (ap suc e))
 
-pub differ_at : (one other : Setup) (offset byte : ℕ) → other.input ≡ slice_set one.input offset byte → one.redzone ≡ other.redzone → one.volume ≡ other.volume → DifferAt offset one other
-differ_at one other offset byte input redzone volume = record {
+pub differ_at : (one other : Setup) (offset byte : ℕ) → other.input ≡ slice_set one.input offset byte → one.redzone ≡ other.redzone → one.volume ≡ other.volume → one.hooks ≡ other.hooks → DifferAt offset one other
+differ_at one other offset byte input redzone volume hooks = record {
   redzone = redzone;
   volume = volume;
+  hooks = hooks;
   len = sym (ap length input ∙ length-set one.input offset byte);
   bytes = λ i n. get-other one.input offset byte i n ∙ ap (λ bytes. slice_get bytes i) (sym input);
 }

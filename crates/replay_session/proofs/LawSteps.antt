@@ -8,9 +8,9 @@ use Rattle.guest_machine.specs.Run.{pre, start_state}
 use Rattle.guest_machine.specs.declared.setup.Mark.{Mark as MarkAt}
 use Rattle.checkpoints.specs.FirstEffects.{IsBelowFirst, MarkShows}
 use Rattle.checkpoints.specs.FirstUses.{uses_word}
-use Rattle.checkpoints.specs.Work.{floor, reached, steps_made, ReportMoves, EditMoves}
+use Rattle.checkpoints.specs.Work.{Work, floor, reached, steps_made, ReportMoves, EditMoves}
 use Rattle.replay_session.specs.Scenario.{Scenario, first_state, accepted, applied}
-use Rattle.replay_session.specs.Work.{ShowsAt, Work, MovesWork, LineMoves, no_work}
+use Rattle.replay_session.specs.Work.{ShowsAt, MovesWork, LineMoves, no_work}
 use Rattle.replay_session.specs.LinesWork.{Given, outcome_of, given_from, Reaches, Spares, IsKept, IsHeldAfter, IsLastHeld, Adds, AddUp, LinesMove, HeldByLines, MadeByLines, WorkIsOne}
 use Rattle.replay_session.specs.declared.fault.Fault.{Fault}
 use Rattle.replay_session.specs.declared.command.Command.{Command}
@@ -88,8 +88,8 @@ tested sc _ = record { test = λ k. false; decides = nowhere; later = λ x. absu
 
 -- a report moves the work as a report does, all else by where it shows
 by-kind : (sc : Scenario) (command : Command) (old new : Work) → MovesWork sc command old new
-    → ((command ≡ Report) × ReportMoves sc.step old.last old.made new.last new.made)
-    ⊎ ((command ≡ Report → ⊥) × EditMoves (ShowsAt sc command) old.last old.made new.last new.made)
+    → ((command ≡ Report) × ReportMoves sc.step old new)
+    ⊎ ((command ≡ Report → ⊥) × EditMoves (ShowsAt sc command) old new)
 by-kind sc Report old new h = inl (refl, h)
 by-kind sc _ old new h = inr (λ e. absurd cc, h)
 
@@ -184,7 +184,7 @@ line-holds lines g old new up moves = go (outcome_of g) refl moves
       ]),
     ))
 
-    edits : (command : Command) → outcome_of g ≡ Ok command → (command ≡ Report → ⊥) → EditMoves (ShowsAt g.scenario command) old.last old.made new.last new.made → UpTo (lines ++ g ∷ []) new.last
+    edits : (command : Command) → outcome_of g ≡ Ok command → (command ≡ Report → ⊥) → EditMoves (ShowsAt g.scenario command) old new → UpTo (lines ++ g ∷ []) new.last
     edits command e other m =
         let t = tested g.scenario command in
         let kept = kept-by (ShowsAt g.scenario command) t.test old.last new.last t.decides t.later up.0 m.0 in

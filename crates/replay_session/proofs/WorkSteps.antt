@@ -3,13 +3,17 @@ use Rattle.std.proofs.Common.{◌≡◌, ℕ, zero, suc, ◌+◌, ◌<◌, List,
 use Rattle.std.proofs.Math.Path.{transport}
 use Rattle.std.specs.Prelude.{slice_get}
 use Rattle.guest_machine.specs.declared.setup.Mark.{Mark}
-use Rattle.checkpoints.specs.Trails.{IsRightFor, last_held, meter_of, is_short}
-use Rattle.checkpoints.specs.Work.{IsFirst, lowered, EditMoves}
+use Rattle.std.proofs.lemmas.Bool.{cases_lt}
+use Rattle.std.specs.Prelude.{◌↔◌}
+use Rattle.checkpoints.specs.Edits.{KeepsLower}
+use Rattle.checkpoints.specs.FirstEffects.{IsBelowFirst}
+use Rattle.checkpoints.specs.Trails.{IsRightFor, KeepsJust, last_held, meter_of, is_short}
+use Rattle.checkpoints.specs.Work.{Work, IsFirst, IsBelow, lowered, EditMoves}
 use Rattle.checkpoints.specs.declared.trail.Trail.{Trail}
 use Rattle.replay_session.specs.Commands.{Reads}
 use Rattle.replay_session.specs.Scenario.{Scenario, first_state, counted, accepted}
 use Rattle.replay_session.specs.Session.{HasScenario}
-use Rattle.replay_session.specs.Work.{Work, MovesWork, MovesTrail, LineMoves, StaysWhole, work_on}
+use Rattle.replay_session.specs.Work.{MovesWork, MovesTrail, LineMoves, StaysWhole, work_on}
 use Rattle.replay_session.specs.declared.command.Command.{Command}
 use Rattle.replay_session.specs.declared.command.Command.TheVariants.{Report, Patch}
 use Rattle.replay_session.specs.declared.fault.Fault.{Fault}
@@ -17,10 +21,10 @@ use Rattle.replay_session.specs.declared.fault.Fault.TheVariants.{Memory}
 use Rattle.replay_session.specs.declared.keeper.Session.{Session}
 
 -- what shows nowhere leaves the work
-pub unmoved : (P : ℕ → Type 0) (last meter : ℕ) → ((k : ℕ) → P k → ⊥) → EditMoves P last meter last meter
-unmoved P last meter none = (go, refl)
+pub unmoved : (P : ℕ → Type 0) (work : Work) → ((k : ℕ) → P k → ⊥) → EditMoves P work work
+unmoved P work none = (go, refl)
   where
-    go : (f : Option ℕ) → IsFirst P f → last ≡ lowered last f
+    go : (f : Option ℕ) → IsFirst P f → work.last ≡ lowered work.last f
     go None h = refl
     go (Some f) h = absurd (none f h.0)
 
@@ -28,10 +32,34 @@ unmoved P last meter none = (go, refl)
 pub right-of : (session : Session) (sc : Scenario) → HasScenario session sc → IsRightFor session.trail (first_state sc) sc.setup sc.marks
 right-of session sc h = transport (λ i. IsRightFor session.trail (first_state sc) (h.setup i) (h.marks i)) h.trail
 
--- marks show at one step
-pub mark-first : (P : ℕ → Type 0) (s last after : ℕ) → P (s + 1) → ((k : ℕ) → P k → k ≡ s + 1) → after ≡ lowered last (Some (s + 1)) → (f : Option ℕ) → IsFirst P f → after ≡ lowered last f
-mark-first P s last after here only e None h = absurd (h (s + 1) here)
-mark-first P s last after here only e (Some g) h = e ∙ ap (λ k. lowered last (Some k)) (sym (only g h.0))
+-- a step is below the least one at which something holds just if it is below that one
+below-first : (P : ℕ → Type 0) (f : Option ℕ) (k : ℕ) → IsFirst P f → IsBelowFirst P k ↔ IsBelow f k
+below-first P None k first = ((λ h. tt), λ h j l p. first j p)
+below-first P (Some f) k first = (
+  (λ h. elim (cases_lt k f) [
+    | inl low ↦ low
+    | inr high ↦ absurd (h f high first.0)
+  ]),
+  λ h j l p. first.1 j (omega arith) p,
+)
+
+-- an edit that keeps the machines below the least step at which it shows, and the meter, moves the work by it
+pub moves-kept : KeepsLower → (P : ℕ → Type 0) (old new : Trail) → KeepsJust (IsBelowFirst P) old new → meter_of new ≡ meter_of old → EditMoves P (work_on old) (work_on new)
+moves-kept law P old new kept meter = (
+  (λ f first. law f old new (λ k.
+  let same = below-first P f k first in (
+    (λ h. let was = (kept k).0 h in (was.0, same.0 was.1)),
+    λ h. (kept k).1 (h.0, same.1 h.1),
+  ))),
+  meter,
+)
+
+-- the same where another test holds at the same steps
+pub moves-alike : (P Q : ℕ → Type 0) (old new : Trail) → ((k : ℕ) → P k ↔ Q k) → KeepsJust (IsBelowFirst P) old new → KeepsJust (IsBelowFirst Q) old new
+moves-alike P Q old new same kept k = (
+  (λ h. let was = (kept k).0 h in (was.0, λ j l q. was.1 j l ((same j).1 q))),
+  λ h. (kept k).1 (h.0, λ j l p. h.1 j l ((same j).0 p)),
+)
 
 pub got : (marks : List Mark) (i : ℕ) (d mark : Mark) → i < length marks → mark ≡ get_or marks i d → slice_get marks i ≡ Some mark
 got [] i d mark h e = absurd (omega arith)

@@ -4,7 +4,8 @@ use Rattle.std.specs.Prelude.{◌≡◌, ℕ, ◌+◌, ◌-◌, ◌%◌, ◌≤�
 use Rattle.std.specs.List.{All}
 use Rattle.checkpoints.specs.FirstEffects.{IsBelowFirst}
 use Rattle.replay_session.specs.Scenario.{Scenario, accepted, applied}
-use Rattle.replay_session.specs.Work.{ShowsAt, Work, LineMoves, no_work}
+use Rattle.checkpoints.specs.Work.{Work}
+use Rattle.replay_session.specs.Work.{ShowsAt, LineMoves, no_work}
 use Rattle.replay_session.specs.declared.fault.Fault.{Fault}
 use Rattle.replay_session.specs.declared.command.Command.{Command}
 use Rattle.replay_session.specs.declared.command.Command.TheVariants.{Report}

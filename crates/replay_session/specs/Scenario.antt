@@ -169,7 +169,7 @@ begun image input rules =
     record {
       image = image;
       bytes = (start_state image).bytes;
-      setup = setup_with input;
+      setup = setup_with image input;
       marks = [];
       rules = rules;
       options = record { callers = 12; show = true ∷ false ∷ true ∷ false ∷ [] };

@@ -3,7 +3,7 @@ use Rattle.std.specs.Prelude.{◌≡◌, ℕ, List, true, false, Some, slice_get
 use Rattle.guest_machine.specs.declared.setup.Mark.{Mark as MarkAt}
 use Rattle.checkpoints.specs.FirstEffects.{MarkShows, InputShows, HeapShows, PatchShows}
 use Rattle.checkpoints.specs.Trails.{last_held, meter_of, is_short}
-use Rattle.checkpoints.specs.Work.{ReportMoves, EditMoves, LeavesWork}
+use Rattle.checkpoints.specs.Work.{Work, ReportMoves, EditMoves, LeavesWork}
 use Rattle.checkpoints.specs.declared.trail.Trail.{Trail}
 use Rattle.replay_session.specs.Scenario.{Scenario, first_state, accepted}
 use Rattle.replay_session.specs.Session.{HasScenario, trail_of}
@@ -24,12 +24,7 @@ ShowsAt sc (Redzone n) k = HeapShows (first_state sc) sc.setup sc.marks k
 ShowsAt sc (Queue n) k = HeapShows (first_state sc) sc.setup sc.marks k
 ShowsAt sc _ k = ⊥
 
--- how far work has come: the last step at which a machine is held, and how many steps were made
-pub record Work : Type 0 where
-  pub last : ℕ
-  pub made : ℕ
-
--- that of a trail
+-- how far the work on a trail has come
 abbrev pub work_on : Trail → Work
 work_on trail = record { last = last_held trail; made = meter_of trail }
 
@@ -39,13 +34,13 @@ no_work = record { last = 0; made = 0 }
 
 -- a report moves the work by the steps that it made, each other command by its first effect, if it has one
 abbrev pub MovesWork : Scenario → Command → Work → Work → Type 0
-MovesWork sc Report old new = ReportMoves sc.step old.last old.made new.last new.made
-MovesWork sc command old new = EditMoves (ShowsAt sc command) old.last old.made new.last new.made
+MovesWork sc Report old new = ReportMoves sc.step old new
+MovesWork sc command old new = EditMoves (ShowsAt sc command) old new
 
 -- and a refused line leaves it
 abbrev pub LineMoves : Scenario → Result Command Fault → Work → Work → Type 0
 LineMoves sc (Ok command) old new = MovesWork sc command old new
-LineMoves sc (Err fault) old new = LeavesWork old.last old.made new.last new.made
+LineMoves sc (Err fault) old new = LeavesWork old new
 
 -- the same of the trails before and after
 abbrev pub MovesTrail : Scenario → Command → Trail → Trail → Type 0

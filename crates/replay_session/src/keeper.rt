@@ -2,7 +2,7 @@
 mod edits;
 mod refusals;
 
-ghost use Rattle.std.specs.Prelude.{◌≡◌, ◌≤◌};
+ghost use Rattle.std.specs.Prelude.{◌≡◌, ◌≤◌, IfOk};
 ghost use Rattle.checkpoints.specs.Trails.{LoadsAs};
 ghost use Rattle.replay_session.specs.Setups.{setup_with, longest_input};
 
@@ -11,7 +11,7 @@ use crate::fault::{BeginFault, Fault};
 use crate::reply::Reply;
 use checkpoints::Trail;
 use guest_elf::Image;
-use guest_machine::{Input, Mark, Setup};
+use guest_machine::{Hooks, Input, Mark, Setup};
 use replay_report::{Options, render};
 use std::alloc::{AllocError, Global};
 use suppressions::Suppression;
@@ -21,15 +21,18 @@ pub const LONGEST_INPUT: usize = 1_048_576;
 /// How many lines are answered.
 const MOST_LINES: u32 = 100_000;
 
-/// An input, and the heap's settings of Memcheck: a red zone of 16 bytes, and 20,000,000 bytes of freed blocks.
-pub fn setup_with(input: Vec<u8>) -> Setup
-    ensures { result ≡ setup_with input.items }
+/// An input, the heap's settings of Memcheck, which are a red zone of 16 bytes and 20,000,000 bytes of freed blocks, and the functions of
+/// the heap that a program has by name.
+pub fn setup_with(alloc: Global, image: &Image, input: Vec<u8>) -> Result<Setup, AllocError>
+    ensures { IfOk result (λ setup. setup ≡ setup_with image.now input.items) }
 {
-    Setup {
+    let hooks = image.hooks(alloc)?;
+    Ok(Setup {
         input: Input::new(input),
         redzone: 16,
         volume: 20_000_000,
-    }
+        hooks: Hooks::new(hooks),
+    })
 }
 
 /// One program and what the accepted lines leave: the machines that are held of its run, with the patches written, the input and the
@@ -75,20 +78,23 @@ impl<'a> Session<'a> {
         if input.len() > LONGEST_INPUT {
             return Err(BeginFault::InputTooLarge);
         }
-        match Trail::begin(alloc, &image) {
-            Err(_) => Err(BeginFault::Memory),
-            Ok(trail) => Ok(Session {
-                alloc,
-                image,
-                trail,
-                setup: setup_with(input),
-                marks: Vec::new(alloc),
-                suppressions,
-                options: Options::default(),
-                step: 0,
-                lines: 0,
-            }),
-        }
+        let Ok(setup) = setup_with(alloc, &image, input) else {
+            return Err(BeginFault::Memory);
+        };
+        let Ok(trail) = Trail::begin(alloc, &image) else {
+            return Err(BeginFault::Memory);
+        };
+        Ok(Session {
+            alloc,
+            image,
+            trail,
+            setup,
+            marks: Vec::new(alloc),
+            suppressions,
+            options: Options::default(),
+            step: 0,
+            lines: 0,
+        })
     }
 
     /// The machines that are held of the run, on whose meter each step of a report was made.

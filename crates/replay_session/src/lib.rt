@@ -12,7 +12,7 @@
 //! | [`Session::command`] | answers one line: a [`Reply`], or a [`Fault`] with its number; appends the bytes of a report |
 //! | [`Session::trail`] | the machines that are held, on whose meter each step of a report was made |
 //! | [`serve`] | answers each line of any reader to any writer, or stops with a [`ServeFault`] |
-//! | [`setup_with`] | an input and Memcheck's settings of the heap |
+//! | [`setup_with`] | an input, Memcheck's settings of the heap, and the functions of the heap that a program has by name |
 //! | [`send`] | writes all of some bytes and flushes |
 //! | [`laws::work_of_lines`] | nothing: its contract says what any lines cost in steps |
 //! | [`fakes`] | for tests: a reader and a writer over memory that fail where they are told to |

@@ -38,7 +38,7 @@ fn report_once(
     ensures { IfOk result (λ text. IsReportOnce image.now input.items suppressions.now step text.items) }
 {
     let start = Machine::start(alloc, image)?;
-    let setup = setup_with(input);
+    let setup = setup_with(alloc, image, input)?;
     let mut meter = Meter::new();
     let machine = run_to(start, &setup, &[], step, &mut meter)?;
     let input_len = setup.input.len() as u64;

@@ -1,6 +1,6 @@
 //! Reports of programs by hand, against texts written down from the format of a report.
 use guest_elf::read;
-use guest_machine::{Input, Machine, Mark, Meter, Setup};
+use guest_machine::{Hooks, Input, Machine, Mark, Meter, Setup};
 use guest_programs::program;
 use replay_report::{Options, render};
 use shadow_memory::RangeKind;
@@ -23,6 +23,7 @@ fn stepped(alloc: Global, machine: Machine, steps: u32) -> Result<Machine, Alloc
         input: Input::new(Vec::new(alloc)),
         redzone: 16,
         volume: 20_000_000,
+        hooks: Hooks::new(Vec::new(alloc)),
     };
     let mut meter = Meter::new();
     let mut machine = machine;

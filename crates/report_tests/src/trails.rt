@@ -4,7 +4,7 @@ ghost use Rattle.checkpoints.specs.Trails.{LoadsAs};
 
 use checkpoints::{Trail, run_to};
 use guest_elf::{Image, read};
-use guest_machine::{Input, Machine, Mark, Meter, Setup, Status, Stop};
+use guest_machine::{Hooks, Input, Machine, Mark, Meter, Setup, Status, Stop};
 use guest_programs::{program, sized_program};
 use shadow_memory::RangeKind;
 use std::alloc::{AllocError, Global};
@@ -152,6 +152,7 @@ fn setup(alloc: Global, input: &[u8]) -> Result<Setup, AllocError> {
         input,
         redzone: 16,
         volume: 20_000_000,
+        hooks: Hooks::new(Vec::new(alloc)),
     })
 }
 

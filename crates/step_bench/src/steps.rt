@@ -3,7 +3,7 @@ ghost use Rattle.std.specs.Prelude.{◌≡◌, ◌+◌, min, OnOk};
 
 use crate::guests::{loop_program, print_each};
 use guest_elf::read;
-use guest_machine::{Input, Machine, Meter, Register, Setup};
+use guest_machine::{Hooks, Input, Machine, Meter, Register, Setup};
 use std::alloc::{AllocError, Global};
 use std::io;
 use std::time::Instant;
@@ -24,6 +24,7 @@ fn run(
         input: Input::new(Vec::new(alloc)),
         redzone: 16,
         volume: 20_000_000,
+        hooks: Hooks::new(Vec::new(alloc)),
     };
     // At most the greatest u64, as is asked of its sum with the steps.
     let _before = meter.read();

@@ -4,7 +4,7 @@ use crate::guests::{loop_program, print_each};
 use crate::process::held_bytes;
 use checkpoints::{Trail, run_to};
 use guest_elf::{Image, read};
-use guest_machine::{Input, Machine, Meter, Setup};
+use guest_machine::{Hooks, Input, Machine, Meter, Setup};
 use guest_programs::{program, sized_program};
 use std::alloc::{AllocError, Global};
 use std::io;
@@ -120,6 +120,7 @@ impl Guest {
                 Guest::Blocks => 0,
                 Guest::Loop | Guest::Sweep | Guest::Pages | Guest::Ended => 20_000_000,
             },
+            hooks: Hooks::new(Vec::new(alloc)),
         }
     }
 }

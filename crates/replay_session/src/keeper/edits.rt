@@ -5,6 +5,7 @@ use crate::command::Command;
 use crate::fault::Fault;
 use crate::keeper::Session;
 use crate::reply::Reply;
+use checkpoints::laws::keeps_lower;
 use guest_machine::{Input, Mark};
 use std::mem;
 use suppressions::{LeakKinds, Suppression};
@@ -40,6 +41,7 @@ impl<'a> Session<'a> {
         ensures edits { Edits self.old self.new (Command.Input offset byte) result }
         ensures work { Works self.old self.new (Command.Input offset byte) result }
     {
+        keeps_lower();
         let input = mem::replace(&mut self.setup.input, Input::new(Vec::new(self.alloc)));
         self.setup.input = with_byte(input, offset, byte);
         self.trail.cut_input(offset);
@@ -52,6 +54,7 @@ impl<'a> Session<'a> {
         ensures edits { Edits self.old self.new (Command.Patch addr word) result }
         ensures work { Works self.old self.new (Command.Patch addr word) result }
     {
+        keeps_lower();
         match self.trail.patch(addr, word) {
             Ok(()) => Ok(Reply::Done),
             Err(_) => Err(Fault::Memory),
@@ -63,6 +66,7 @@ impl<'a> Session<'a> {
         ensures edits { Edits self.old self.new (Command.Mark mark) result }
         ensures work { Works self.old self.new (Command.Mark mark) result }
     {
+        keeps_lower();
         match self.marks.push(mark) {
             Ok(()) => {
                 self.trail.cut_mark(mark.step);
@@ -78,6 +82,7 @@ impl<'a> Session<'a> {
         ensures edits { Edits self.old self.new (Command.Unmark index) result }
         ensures work { Works self.old self.new (Command.Unmark index) result }
     {
+        keeps_lower();
         let mark = self.marks.remove(index as usize);
         self.trail.cut_mark(mark.step);
         Ok(Reply::Done)
@@ -119,6 +124,7 @@ impl<'a> Session<'a> {
         ensures edits { Edits self.old self.new (Command.Redzone n) result }
         ensures work { Works self.old self.new (Command.Redzone n) result }
     {
+        keeps_lower();
         self.setup.redzone = n;
         self.trail.cut_heap();
         Ok(Reply::Done)
@@ -129,6 +135,7 @@ impl<'a> Session<'a> {
         ensures edits { Edits self.old self.new (Command.Queue n) result }
         ensures work { Works self.old self.new (Command.Queue n) result }
     {
+        keeps_lower();
         self.setup.volume = n;
         self.trail.cut_heap();
         Ok(Reply::Done)

@@ -1,5 +1,5 @@
 use Rattle.std.proofs.Common.{◌∙◌, ap, sym}
-use Rattle.guest_machine.specs.Hooks.{hook_at}
+use Rattle.guest_elf.specs.Hooks.{hook_at}
 use Rattle.guest_machine.proofs.HookSteps.{hook_below, hook_above}
 use Rattle.guest_machine.proofs.hooks.Hooks.at.Goals as goal
 

@@ -4,7 +4,7 @@ use Rattle.replay_session.proofs.EditSteps.{differ_appended}
 use Rattle.replay_session.specs.Scenario.{first_state}
 use Rattle.checkpoints.specs.FirstEffects.{MarkShows}
 use Rattle.replay_session.specs.Session.{trail_of}
-use Rattle.replay_session.proofs.WorkSteps.{mark-first}
+use Rattle.replay_session.proofs.WorkSteps.{moves-kept}
 use Rattle.replay_session.proofs.keeper.Session.add_mark.Goals as goal
 
 pub returns-in-Ok-clause-edits : goal.returns-in-Ok-clause-edits
@@ -18,7 +18,8 @@ returns-in-Ok-clause-edits c sc out h =
 
 pub returns-in-Ok-clause-work : goal.returns-in-Ok-clause-work
 unfolding trail_of
-returns-in-Ok-clause-work c = (c.cut_mark.ensures.short, λ wanted whole sc h. (mark-first (MarkShows c.args.mark.step) c.args.mark.step _ _ refl (λ k e. e) c.cut_mark.ensures.lowers, c.cut_mark.ensures.meter))
+returns-in-Ok-clause-work c =
+    (c.cut_mark.ensures.short, λ wanted whole sc h. moves-kept c.keeps_lower.ensures (MarkShows c.args.mark.step) _ _ c.cut_mark.ensures.kept c.cut_mark.ensures.meter)
 
 pub returns-in-Err-clause-work : goal.returns-in-Err-clause-work
 unfolding trail_of

@@ -15,7 +15,7 @@ returns-clause-edits c sc out h =
 
 pub returns-clause-work : goal.returns-clause-work
 unfolding trail_of
-returns-clause-work c = (refl, λ wanted whole sc h. unmoved _ _ _ (λ k e. e))
+returns-clause-work c = (refl, λ wanted whole sc h. unmoved _ _ (λ k e. e))
 
 pub returns-in_default-clause-work : goal.returns-in_default-clause-work
 unfolding trail_of

@@ -1,9 +1,10 @@
-use Rattle.std.proofs.Common.{refl, inl, arith, ◌<◌, ◌^◌}
+use Rattle.std.proofs.Common.{refl, inl, inr, sym, ◌∙◌, arith, ◌<◌, ◌^◌}
 use Rattle.guest_machine.specs.Run.{poked}
 use Rattle.replay_session.proofs.EditSteps.{word_in}
 use Rattle.replay_session.specs.Scenario.{first_state}
 use Rattle.replay_session.specs.Session.{trail_of}
-use Rattle.replay_session.proofs.WorkSteps.{right-of}
+use Rattle.std.proofs.lemmas.Bool.{false≢true}
+use Rattle.replay_session.proofs.WorkSteps.{right-of, moves-kept}
 use Rattle.replay_session.proofs.keeper.Session.patch.Goals as goal
 
 pub returns-in-Ok-clause-edits : goal.returns-in-Ok-clause-edits
@@ -20,7 +21,13 @@ patch-requires c = let small : c.args.addr < 2 ^ 32 = omega arith in word_in c.a
 
 pub returns-in-Ok-clause-work : goal.returns-in-Ok-clause-work
 unfolding trail_of
-returns-in-Ok-clause-work c = (c.patch.ensures.short, λ wanted whole sc h. (c.in-Ok.ensures.lowers whole (first_state sc) sc.setup sc.marks (right-of c.args.self.now sc h), c.patch.ensures.meter))
+returns-in-Ok-clause-work c = (
+  c.patch.ensures.short,
+  λ wanted whole sc h. elim (c.in-Ok.ensures.kept (first_state sc) sc.setup sc.marks (right-of c.args.self.now sc h)) [
+    | inl just ↦ moves-kept c.keeps_lower.ensures _ _ _ just.0 c.patch.ensures.meter
+    | inr only ↦ absurd (false≢true (sym whole ∙ only.1))
+  ],
+)
 
 pub returns-in-Err-clause-work : goal.returns-in-Err-clause-work
 unfolding trail_of

@@ -16,4 +16,4 @@ returns-clause-edits c sc out h =
 
 pub returns-clause-work : goal.returns-clause-work
 unfolding trail_of
-returns-clause-work c = (refl, λ wanted whole sc h. unmoved _ _ _ (λ k e. e))
+returns-clause-work c = (refl, λ wanted whole sc h. unmoved _ _ (λ k e. e))
