@@ -46,6 +46,7 @@ differ addr word s m small = record {
   bytes = λ a n. go a n (is_in addr 4 a) refl;
   core = refl;
   position = refl;
+  end_seen = refl;
   output = refl;
   heap_calls = refl;
   events = refl;
@@ -65,7 +66,7 @@ keeps-pokes setup addr word s m small h =
     (λ e. stays setup (poked s addr word) a (sym (ap (λ f. f a) law.0) ∙ h a (in-word addr a m small e)))
     (λ e. d.bytes a (out-of-word addr a m small e))) in (
       law.0,
-      λ i. record { bytes = bytes i; core = sym d.core i; position = sym d.position i; output = sym d.output i; heap_calls = sym d.heap_calls i; events = sym d.events i },
+      λ i. record { bytes = bytes i; core = sym d.core i; position = sym d.position i; end_seen = sym d.end_seen i; output = sym d.output i; heap_calls = sym d.heap_calls i; events = sym d.events i },
     )
 
 pub reads-on : ReadsOn

@@ -7,7 +7,7 @@ use Rattle.shadow_memory.specs.Shadows.{made_so}
 use Rattle.shadow_memory.specs.Ranges.{written, byte_of}
 use Rattle.shadow_memory.specs.Memories.{bytes_in, shadows_in}
 use Rattle.guest_heap.specs.Heaps.{blocks_of}
-use Rattle.guest_machine.specs.Exec.{exec, uses_at, effect_at, touches, touched_at, has_touched, written_to, counted, is_heap_deed, deed_at}
+use Rattle.guest_machine.specs.Exec.{exec, uses_at, effect_at, touches, touched_at, has_touched, written_to, counted, is_heap_deed, deed_at, seen_also, intake_at}
 use Rattle.guest_machine.specs.Run.{marked, poked}
 use Rattle.error_events.specs.Adding.{add_event, add_events, GroupsGrowBy}
 use Rattle.error_events.specs.declared.event.Event.{Event}
@@ -32,17 +32,17 @@ length_taken taken n = length-map-range_with_len taken 0 n
 
 -- the state that a guest holds, with the output and the errors of another
 shown : Guest → State → State
-shown m s = record { bytes = bytes_of m; core = core_of m; position = m.counts.position; output = s.output; heap_calls = m.counts.heap_calls; events = s.events }
+shown m s = record { bytes = bytes_of m; core = core_of m; position = m.counts.position; end_seen = m.counts.end_seen; output = s.output; heap_calls = m.counts.heap_calls; events = s.events }
 
 -- a state that a guest holds is that one
 shown-is : (m : Guest) (s : State) → Holds m s → shown m s ≡ s
 unfolding shown
-shown-is m s h = λ i. record { bytes = h.bytes i; core = h.core i; position = h.position i; output = s.output; heap_calls = h.heap_calls i; events = s.events }
+shown-is m s h = λ i. record { bytes = h.bytes i; core = h.core i; position = h.position i; end_seen = h.end_seen i; output = s.output; heap_calls = h.heap_calls i; events = s.events }
 
 -- what a step does to a guest holds exec of each state that it held
 pub holds_exec : GroupsGrowBy → (old new : Guest) (setup : Setup)
     → DoesStep old new setup → (s : State) → Holds old s → Holds new (exec s setup)
-unfolding exec shown
+unfolding exec intake_at shown
 holds_exec grow old new setup d s h =
     let n = old.counts.output_len in
     let effect = effect_at (core_of old) (bytes_of old) old.counts.position n setup in
@@ -54,7 +54,8 @@ holds_exec grow old new setup d s h =
     record {
       bytes = d.bytes ∙ (λ i. written_to (h.bytes i) (usages i).writes (effects i).made);
       core = d.core ∙ ap (λ x. x.core) effects;
-      position = d.position ∙ (λ i. h.position i + (usages i).inputs);
+      position = d.position ∙ (λ i. h.position i + (intake_at (h.core i) (h.bytes i) (h.position i) setup).count);
+      end_seen = d.end_seen ∙ (λ i. seen_also (h.end_seen i) (intake_at (h.core i) (h.bytes i) (h.position i) setup).ends);
       output = d.output ∙ (λ i. h.output i + length (effects i).output) ∙ sym (length-append s.output (effect_at s.core s.bytes s.position (length s.output) setup).output);
       heap_calls = d.heap_calls ∙ (λ i. counted (h.heap_calls i) (is_heap_deed (h.core i) (deed_at (h.core i) (h.bytes i) setup.hooks)));
       groups =
@@ -77,6 +78,7 @@ holds-marked m memory mark b c s h =
       bytes = b ∙ h.bytes;
       core = (λ i. record { shadow = c i; registers = m.registers; pc = m.pc; status = m.status; frames = m.frames; blocks = blocks_of m.heap }) ∙ (λ i. record (h.core i) { shadow = made_so (h.core i).shadow mark.addr mark.len mark.kind });
       position = h.position;
+      end_seen = h.end_seen;
       output = h.output;
       heap_calls = h.heap_calls;
       groups = h.groups;
@@ -91,6 +93,7 @@ holds-poked m memory addr word b c s h =
       bytes = b ∙ ap (λ f. written f addr 4 (byte_of word)) h.bytes;
       core = (λ i. record { shadow = c i; registers = m.registers; pc = m.pc; status = m.status; frames = m.frames; blocks = blocks_of m.heap }) ∙ h.core;
       position = h.position;
+      end_seen = h.end_seen;
       output = h.output;
       heap_calls = h.heap_calls;
       groups = h.groups;

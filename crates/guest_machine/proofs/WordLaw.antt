@@ -5,7 +5,7 @@ use Rattle.std.proofs.lemmas.Bool.Decides.{nat_tests}
 use Rattle.shadow_memory.specs.Ranges.{above, offset, is_in, window, written, changed_in, little_word}
 use Rattle.guest_machine.specs.Spans.{covers}
 use Rattle.guest_machine.specs.State.{Core, State}
-use Rattle.guest_machine.specs.Exec.{exec, Takes, plan, outcome, uses_at, effect_at, touches, touched_at, has_touched, called_here, deed_by, deed_at, deed_terms, is_heap_deed, given_at, taken_from, written_to, counted, fetched, fetches, fetch_span}
+use Rattle.guest_machine.specs.Exec.{exec, Takes, plan, outcome, uses_at, effect_at, touches, touched_at, has_touched, called_here, deed_by, deed_at, deed_terms, is_heap_deed, given_at, taken_from, written_to, counted, fetched, fetches, fetch_span, seen_also, intake_of, intake_at, deed_asks, left_at}
 use Rattle.guest_machine.specs.Laws.{DifferWithin, TouchesNone, InWord, KeepsWords}
 use Rattle.guest_machine.specs.declared.span.Span.{Span}
 use Rattle.guest_machine.specs.declared.setup.Setup.{Setup}
@@ -83,8 +83,8 @@ module _ (W : ℕ → Type 0) (core : Core) (position output : ℕ) (setup : Set
   effect-same : effect_at core f position output setup ≡ effect_at core g position output setup
   unfolding effect_at uses_at
   effect-same =
-      ap (λ t. outcome core (deed_terms core (deed_at core f setup.hooks) position output setup) (deed_at core f setup.hooks) (given_at position (uses_at core f position output setup).inputs setup) t) (taken-outside W f g _ e reads-avoid)
-      ∙ ap (λ d. let uses = plan core (deed_terms core d position output setup) d in outcome core (deed_terms core d position output setup) d (given_at position uses.inputs setup) (taken_from g uses.reads)) deed-same
+      ap (λ t. outcome core (deed_terms core (deed_at core f setup.hooks) position output setup) (deed_at core f setup.hooks) (given_at position (deed_terms core (deed_at core f setup.hooks) position output setup).intake.count setup) t) (taken-outside W f g _ e reads-avoid)
+      ∙ ap (λ d. let terms = deed_terms core d position output setup in outcome core terms d (given_at position terms.intake.count setup) (taken_from g (plan core terms d).reads)) deed-same
 
   touched-same : touched_at core f position output setup ≡ touched_at core g position output setup
   unfolding touched_at
@@ -96,7 +96,7 @@ module _ (W : ℕ → Type 0) (setup : Setup) (s : State) (g : ℕ → ℕ) (e :
   other = record s { bytes = g }
 
   law : (touches s setup ≡ touches other setup) × DifferWithin W (exec s setup) (exec other setup)
-  unfolding exec touches other EqualOutside
+  unfolding exec intake_at touches other EqualOutside
   law =
       let d = deed-same W s.core s.position (length s.output) setup s.bytes g e h in
       let u = uses-same W s.core s.position (length s.output) setup s.bytes g e h in
@@ -105,7 +105,8 @@ module _ (W : ℕ → Type 0) (setup : Setup) (s : State) (g : ℕ → ℕ) (e :
         record {
           bytes = λ a n. written-outside W s.bytes g (uses_at s.core s.bytes s.position (length s.output) setup).writes (effect_at s.core s.bytes s.position (length s.output) setup).made e a n ∙ ap₂ (λ v y. written_to g v.writes y.made a) u x;
           core = ap (λ y. y.core) x;
-          position = ap (λ v. s.position + v.inputs) u;
+          position = ap (λ d. s.position + (intake_of (deed_asks s.core d) (left_at s.position setup)).count) d;
+          end_seen = ap (λ d. seen_also s.end_seen (intake_of (deed_asks s.core d) (left_at s.position setup)).ends) d;
           output = ap (λ y. s.output ++ y.output) x;
           heap_calls = ap (λ d. counted s.heap_calls (is_heap_deed s.core d)) d;
           events = ap (λ y. s.events ++ y.raised) x;
@@ -116,6 +117,6 @@ pub keeps-words : KeepsWords
 unfolding EqualOutside other
 keeps-words setup word s t d h =
     let same : record s { bytes = t.bytes } ≡ t =
-    λ i. record { bytes = t.bytes; core = d.core i; position = d.position i; output = d.output i; heap_calls = d.heap_calls i; events = d.events i } in
+    λ i. record { bytes = t.bytes; core = d.core i; position = d.position i; end_seen = d.end_seen i; output = d.output i; heap_calls = d.heap_calls i; events = d.events i } in
     let P : State → Type 0 = λ x. (touches s setup ≡ touches x setup) × DifferWithin (InWord word) (exec s setup) (exec x setup) in
     subst P same (law (InWord word) setup s t.bytes d.bytes h)

@@ -105,17 +105,13 @@ answers core call n = raising (advanced (answered (call_tested core call) n)) (c
 unfoldable pub moved_len : Core → ℕ
 moved_len core = min (argument core 12) 4096
 
--- how many bytes read stores: as many as are asked for and left of the input. Descriptor 0 is the input
-unfoldable pub read_len : Core → ℕ → ℕ
-read_len core left = if argument core 10 == 0 then min (moved_len core) left else 0
-
--- the buffer is tested as far as the count goes, and the input that is left is stored all the same, with no undefined bits
+-- the buffer is tested as far as the count goes, and the n bytes that are given of the input are stored all the same, with no undefined
+-- bits. Descriptor 0 is the input
 unfoldable pub read_call : Core → ℕ → List ℕ → Effect
-read_call core left given =
+read_call core n given =
     if argument core 10 == 0
     then
     (let now = call_tested core Read in
-    let n = read_len core left in
     record {
       core = advanced (answered (stored_core now (argument core 11) n 0) n);
       raised = call_errors core Read ++ buffer_errors now ReadBuffer false (argument core 11) (moved_len core);

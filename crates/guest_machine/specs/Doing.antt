@@ -1,15 +1,16 @@
 -- What the machine's private functions do to the parts that it shows.
-use Rattle.std.specs.Prelude.{◌≡◌, ℕ, ◌+◌, ◌-◌, true, false, Bool, length, List, Option}
+use Rattle.std.specs.Prelude.{◌≡◌, ℕ, ◌+◌, ◌-◌, true, false, Bool, length, List, Option, None}
 use Rattle.guest_machine.specs.Effects.{Effect}
 use Rattle.guest_machine.specs.Calls.{read_call, write_call}
 use Rattle.guest_machine.specs.HeapCalls.{heap_work, heap_call}
 use Rattle.guest_machine.specs.NamedCalls.{returns, named_call}
-use Rattle.guest_machine.specs.Exec.{Uses, Terms, counted, written_to, row_uses, row_effect, rounded, calls_heap, read_uses, write_uses, work_uses, heap_uses, named_uses, terms_of, given_at, taken_from, is_heap_deed, deed_at, uses_at, effect_at, touched_at}
+use Rattle.guest_machine.specs.Exec.{Uses, Terms, Intake, no_intake, intake_of, intake_at, seen_also, left_at, row_asks, call_asks, counted, written_to, row_uses, row_effect, rounded, calls_heap, read_uses, write_uses, work_uses, heap_uses, named_uses, terms_of, given_at, taken_from, is_heap_deed, deed_at, uses_at, effect_at, touched_at}
 use Rattle.guest_machine.specs.Shows.{core_of, bytes_of}
 use Rattle.error_events.specs.Adding.{add_events}
 use Rattle.error_events.specs.Shown.{groups_of}
 use Rattle.error_events.specs.declared.event.Event.{Event}
 use Rattle.guest_elf.specs.declared.hook.Hook.{Hook}
+use Rattle.guest_machine.specs.declared.call.Call.TheVariants.{Read}
 use Rattle.guest_machine.specs.declared.instruction.Instruction.{Instruction}
 use Rattle.guest_machine.specs.declared.machine.Guest.{Guest}
 use Rattle.guest_machine.specs.declared.setup.Setup.{Setup}
@@ -19,18 +20,19 @@ use Rattle.guest_machine.specs.declared.setup.Touched.{Touched}
 abbrev pub Raises : Guest → Guest → List Event → Type 0
 Raises old new events = groups_of new.groups ≡ add_events (groups_of old.groups) events
 
--- new is old after this effect, with these uses; a heap call is counted
-pub record Does (old new : Guest) (effect : Effect) (uses : Uses) (heap : Bool) : Type 0 where
+-- new is old after this effect, with these uses; a heap call is counted, and so is what is given of the input
+pub record Does (old new : Guest) (effect : Effect) (uses : Uses) (heap : Bool) (intake : Intake) : Type 0 where
   pub core : core_of new ≡ effect.core
   pub bytes : bytes_of new ≡ written_to (bytes_of old) uses.writes effect.made
-  pub position : new.counts.position ≡ old.counts.position + uses.inputs
+  pub position : new.counts.position ≡ old.counts.position + intake.count
+  pub end_seen : new.counts.end_seen ≡ seen_also old.counts.end_seen intake.ends
   pub output : new.counts.output_len ≡ old.counts.output_len + length effect.output
   pub heap_calls : new.counts.heap_calls ≡ counted old.counts.heap_calls heap
   pub groups : Raises old new effect.raised
 
 -- an instruction carried out by a machine: what it sees of the setup, what it uses, and that new is old after it
 abbrev pub row_terms : Guest → Option Instruction → Setup → Terms
-row_terms m row setup = terms_of (calls_heap (core_of m) row) m.counts.position m.counts.output_len setup
+row_terms m row setup = terms_of (calls_heap (core_of m) row) (row_asks (core_of m) row) m.counts.position m.counts.output_len setup
 
 abbrev pub uses_by : Guest → Option Instruction → Setup → Uses
 uses_by m row setup = row_uses (core_of m) row (row_terms m row setup)
@@ -38,16 +40,18 @@ uses_by m row setup = row_uses (core_of m) row (row_terms m row setup)
 abbrev pub DoesRow : Guest → Guest → Option Instruction → Setup → Type 0
 DoesRow old new row setup =
     let uses = uses_by old row setup in
-    let given = given_at old.counts.position uses.inputs setup in
-    Does old new (row_effect (core_of old) row (row_terms old row setup) given (taken_from (bytes_of old) uses.reads)) uses (calls_heap (core_of old) row)
+    let intake = (row_terms old row setup).intake in
+    let given = given_at old.counts.position intake.count setup in
+    Does old new (row_effect (core_of old) row (row_terms old row setup) given (taken_from (bytes_of old) uses.reads)) uses (calls_heap (core_of old) row) intake
 
 -- the same between the test of its word and the stack pointer rule
 abbrev pub DoesRound : Guest → Guest → Option Instruction → Setup → Type 0
 DoesRound old new row setup =
     let uses = uses_by old row setup in
-    let given = given_at old.counts.position uses.inputs setup in
+    let intake = (row_terms old row setup).intake in
+    let given = given_at old.counts.position intake.count setup in
     let effect = row_effect (core_of old) row (row_terms old row setup) given (taken_from (bytes_of old) uses.reads) in
-    Does old new (rounded (core_of old) effect) uses (calls_heap (core_of old) row)
+    Does old new (rounded (core_of old) effect) uses (calls_heap (core_of old) row) intake
 
 -- a whole step made by a machine, and what it touches
 abbrev pub DoesStep : Guest → Guest → Setup → Type 0
@@ -57,38 +61,38 @@ DoesStep old new setup =
     (effect_at (core_of old) (bytes_of old) counts.position counts.output_len setup)
     (uses_at (core_of old) (bytes_of old) counts.position counts.output_len setup)
     (is_heap_deed (core_of old) (deed_at (core_of old) (bytes_of old) setup.hooks))
+    (intake_at (core_of old) (bytes_of old) counts.position setup)
 
 abbrev pub touched_by : Guest → Setup → Touched
 touched_by m setup = touched_at (core_of m) (bytes_of m) m.counts.position m.counts.output_len setup
 
--- how much input is left
-abbrev pub input_left : Guest → Setup → ℕ
-input_left g setup = length setup.input - g.counts.position
-
 -- read and write carried out
+abbrev pub read_intake : Guest → Setup → Intake
+read_intake m setup = intake_of (call_asks (core_of m) Read) (left_at m.counts.position setup)
+
 abbrev pub DoesRead : Guest → Guest → Setup → Type 0
 DoesRead old new setup =
-    let uses = read_uses (core_of old) (input_left old setup) in
-    Does old new (read_call (core_of old) (input_left old setup) (given_at old.counts.position uses.inputs setup)) uses false
+    let intake = read_intake old setup in
+    Does old new (read_call (core_of old) intake.count (given_at old.counts.position intake.count setup)) (read_uses (core_of old) intake.count) false intake
 
 abbrev pub DoesWrite : Guest → Guest → Type 0
 DoesWrite old new =
     let uses = write_uses (core_of old) old.counts.output_len in
-    Does old new (write_call (core_of old) old.counts.output_len (taken_from (bytes_of old) uses.reads)) uses false
+    Does old new (write_call (core_of old) old.counts.output_len (taken_from (bytes_of old) uses.reads)) uses false no_intake
 
 -- what a heap call does; and the call by number, and by name
 abbrev pub DoesWork : Guest → Guest → Hook → ℕ → ℕ → Setup → Type 0
 DoesWork old new function x y setup =
     let uses = work_uses function (core_of old).blocks x y setup.redzone in
-    Does old new (heap_work function (core_of old) x y setup.redzone setup.volume (taken_from (bytes_of old) uses.reads)) uses true
+    Does old new (heap_work function (core_of old) x y setup.redzone setup.volume (taken_from (bytes_of old) uses.reads)) uses true no_intake
 
 abbrev pub DoesHeapCall : Guest → Guest → Hook → Setup → Type 0
 DoesHeapCall old new function setup =
     let uses = heap_uses function (core_of old) setup.redzone in
-    Does old new (heap_call function (core_of old) setup.redzone setup.volume (taken_from (bytes_of old) uses.reads)) uses true
+    Does old new (heap_call function (core_of old) setup.redzone setup.volume (taken_from (bytes_of old) uses.reads)) uses true no_intake
 
 abbrev pub named_terms : Guest → Setup → Terms
-named_terms m setup = terms_of (returns (core_of m)) m.counts.position m.counts.output_len setup
+named_terms m setup = terms_of (returns (core_of m)) None m.counts.position m.counts.output_len setup
 
 abbrev pub uses_by_name : Guest → Hook → Setup → Uses
 uses_by_name m function setup = named_uses function (core_of m) (named_terms m setup).red_zone
@@ -97,4 +101,4 @@ abbrev pub DoesNamed : Guest → Guest → Hook → Setup → Type 0
 DoesNamed old new function setup =
     let terms = named_terms old setup in
     let uses = uses_by_name old function setup in
-    Does old new (named_call function (core_of old) terms.red_zone terms.volume (taken_from (bytes_of old) uses.reads)) uses (returns (core_of old))
+    Does old new (named_call function (core_of old) terms.red_zone terms.volume (taken_from (bytes_of old) uses.reads)) uses (returns (core_of old)) no_intake

@@ -1,7 +1,7 @@
 -- One step, in three parts: what it does, by the word at pc and the functions that are called by name; what it uses, by this and
 -- what decides the step; and what it leaves, by these, the input that it reads and the bytes that it takes. No other byte value
 -- and no other part of the setup enters.
-use Rattle.std.specs.Prelude.{◌≡◌, ℕ, ◌+◌, ◌-◌, ◌*◌, ◌%◌, ◌==◌, ◌&&◌, ◌||◌, Bool, true, false, if◌then◌else◌, List, ◌++◌, take, drop, length, min, Option, Some, None, is_none}
+use Rattle.std.specs.Prelude.{nat_lt, ◌≡◌, ℕ, ◌+◌, ◌-◌, ◌*◌, ◌%◌, ◌==◌, ◌&&◌, ◌||◌, Bool, true, false, if◌then◌else◌, List, ◌++◌, take, drop, length, min, Option, Some, None, is_none}
 use Rattle.shadow_memory.specs.Ranges.{window, little_word, written}
 use Rattle.guest_machine.specs.Spans.{span_at, covers}
 use Rattle.shadow_memory.specs.Shadows.{first_inaccessible}
@@ -9,7 +9,7 @@ use Rattle.guest_machine.specs.Widths.{width_len}
 use Rattle.guest_machine.specs.State.{Core, State}
 use Rattle.guest_machine.specs.Instructions.{row_of}
 use Rattle.guest_machine.specs.Effects.{Effect, no_bytes, quiet, raising, advanced, stopped, target, load_upper, add_upper, compute_immediate, compute, load, store, branch, jump, jump_register, stops}
-use Rattle.guest_machine.specs.Calls.{argument, call_at, is_heap, moved_len, read_len, appends, read_call, write_call, exit_call, unknown_call}
+use Rattle.guest_machine.specs.Calls.{argument, call_at, is_heap, moved_len, appends, read_call, write_call, exit_call, unknown_call}
 use Rattle.guest_elf.specs.Hooks.{hook_at}
 use Rattle.guest_machine.specs.NamedCalls.{returns, named_call}
 use Rattle.guest_machine.specs.Errors.{here, event_about, fetch_undef, fetch_errors}
@@ -86,56 +86,60 @@ deed_at core bytes hooks = deed_by (called_here core hooks) (fetched core bytes)
 
 -- what a step uses --
 
--- the range of bytes that it takes and the one that it writes, if any; how many bytes of input it reads
+-- the range of bytes that it takes and the one that it writes, if any
 pub record Uses : Type 0 where
   pub reads : Option Span
   pub writes : Option Span
-  pub inputs : ℕ
 
--- what a step may see of the setup and of what adds up: how much input is left, how much output there is, and, at a heap call
+-- what a step is given of the input: how many bytes, and whether it sees the end, as it is given fewer than it asks for
+pub record Intake : Type 0 where
+  pub count : ℕ
+  pub ends : Bool
+
+abbrev pub no_intake : Intake
+no_intake = record { count = 0; ends = false }
+
+-- by how much it asks for, if it asks, and how much is left
+abbrev pub intake_of : Option ℕ → ℕ → Intake
+intake_of None left = no_intake
+intake_of (Some asked) left = record { count = min asked left; ends = nat_lt (min asked left) asked }
+
+-- what a step may see of the setup and of what adds up: what it is given of the input, how much output there is, and, at a heap call
 -- alone, the red zone and the volume
 pub record Terms : Type 0 where
-  pub left : ℕ
+  pub intake : Intake
   pub written : ℕ
   pub red_zone : ℕ
   pub volume : ℕ
 
 abbrev pub nothing : Uses
-nothing = record { reads = None; writes = None; inputs = 0 }
+nothing = record { reads = None; writes = None }
 
 -- a range read, and a range written, alone
 abbrev pub reading : Span → Uses
-reading span = record { reads = Some span; writes = None; inputs = 0 }
+reading span = record { reads = Some span; writes = None }
 
 abbrev pub writing : Span → Uses
-writing span = record { reads = None; writes = Some span; inputs = 0 }
+writing span = record { reads = None; writes = Some span }
 
 -- the bytes that a load or a store accesses
 abbrev pub accessed : Core → ℕ → ℕ → Width → Span
 accessed core rs1 imm width = span_at (target core rs1 imm) (width_len width)
 
--- read stores what it takes of the input
+-- read stores what it is given of the input
 abbrev pub read_uses : Core → ℕ → Uses
-read_uses core left =
-    record {
-      reads = None;
-      writes = if argument core 10 == 0 then Some (span_at (argument core 11) (read_len core left)) else None;
-      inputs = read_len core left;
-    }
+read_uses core count =
+    record { reads = None; writes = if argument core 10 == 0 then Some (span_at (argument core 11) count) else None }
 
 -- write takes what it appends
 abbrev pub write_uses : Core → ℕ → Uses
 write_uses core written =
-    record {
-      reads = if appends core written then Some (span_at (argument core 11) (moved_len core)) else None;
-      writes = None;
-      inputs = 0;
-    }
+    record { reads = if appends core written then Some (span_at (argument core 11) (moved_len core)) else None; writes = None }
 
 -- calloc writes its zeros
 abbrev pub calloc_uses : Blocks → ℕ → ℕ → Uses
 calloc_uses blocks size redzone =
-    record { reads = None; writes = option_map (λ p. span_at p size) (place blocks size redzone); inputs = 0 }
+    record { reads = None; writes = option_map (λ p. span_at p size) (place blocks size redzone) }
 
 -- realloc takes the bytes that go along, and writes them at their new place
 abbrev pub moved_from : Resizing → ℕ → ℕ → Option Span
@@ -149,7 +153,7 @@ moved_into _ size = None
 abbrev pub realloc_uses : Blocks → ℕ → ℕ → ℕ → Uses
 realloc_uses blocks p size redzone =
     let what = resizing blocks p size redzone in
-    record { reads = moved_from what p size; writes = moved_into what size; inputs = 0 }
+    record { reads = moved_from what p size; writes = moved_into what size }
 
 -- a heap call, with the values of a0 and a1
 unfoldable pub work_uses : Hook → Blocks → ℕ → ℕ → ℕ → Uses
@@ -171,7 +175,7 @@ named_uses function core redzone = named_uses_by (returns core) function core re
 
 -- what a call uses
 unfoldable pub call_uses : Core → Call → Terms → Uses
-call_uses core ReadCall terms = read_uses core terms.left
+call_uses core ReadCall terms = read_uses core terms.intake.count
 call_uses core WriteCall terms = write_uses core terms.written
 call_uses core ExitCall terms = nothing
 call_uses core ExitGroupCall terms = nothing
@@ -183,6 +187,16 @@ unfoldable pub calls_heap : Core → Option Instruction → Bool
 calls_heap core (Some CallRow) = is_heap (call_at core)
 calls_heap core _ = false
 
+-- how much of the input a call asks for: read does so, of descriptor 0
+unfoldable pub call_asks : Core → Call → Option ℕ
+call_asks core ReadCall = if argument core 10 == 0 then Some (moved_len core) else None
+call_asks core _ = None
+
+-- and an instruction
+unfoldable pub row_asks : Core → Option Instruction → Option ℕ
+row_asks core (Some CallRow) = call_asks core (call_at core)
+row_asks core _ = None
+
 -- what an instruction reads, writes and takes of the input
 unfoldable pub row_uses : Core → Option Instruction → Terms → Uses
 row_uses core (Some (Load width signed rd rs1 imm)) terms = reading (accessed core rs1 imm width)
@@ -193,7 +207,7 @@ row_uses core _ terms = nothing
 -- what a step leaves --
 
 unfoldable pub call_effect : Core → Call → Terms → List ℕ → (ℕ → ℕ) → Effect
-call_effect core ReadCall terms given taken = read_call core terms.left given
+call_effect core ReadCall terms given taken = read_call core terms.intake.count given
 call_effect core WriteCall terms given taken = write_call core terms.written taken
 call_effect core ExitCall terms given taken = exit_call core ExitCall
 call_effect core ExitGroupCall terms given taken = exit_call core ExitGroupCall
@@ -256,11 +270,21 @@ outcome core terms (Takes word) given taken = rounded core (row_effect core (row
 outcome core terms (CallsByName function) given taken = named_call function core terms.red_zone terms.volume taken
 outcome core terms Halts given taken = unfetched core
 
--- what a step sees of the setup, by whether it is a heap call
-abbrev pub terms_of : Bool → ℕ → ℕ → Setup → Terms
-terms_of heap position written setup =
+-- how much of the input a step asks for, if it asks
+abbrev pub deed_asks : Core → Deed → Option ℕ
+deed_asks core (Takes word) = row_asks core (row_of word)
+deed_asks core (CallsByName function) = None
+deed_asks core Halts = None
+
+-- how much of the input is left
+abbrev pub left_at : ℕ → Setup → ℕ
+left_at position setup = length setup.input - position
+
+-- what a step sees of the setup, by whether it is a heap call and what it asks for
+abbrev pub terms_of : Bool → Option ℕ → ℕ → ℕ → Setup → Terms
+terms_of heap asks position written setup =
     record {
-      left = length setup.input - position;
+      intake = intake_of asks (left_at position setup);
       written = written;
       red_zone = if heap then setup.redzone else 0;
       volume = if heap then setup.volume else 0;
@@ -268,7 +292,7 @@ terms_of heap position written setup =
 
 -- and by what it does
 abbrev pub deed_terms : Core → Deed → ℕ → ℕ → Setup → Terms
-deed_terms core deed position written setup = terms_of (is_heap_deed core deed) position written setup
+deed_terms core deed position written setup = terms_of (is_heap_deed core deed) (deed_asks core deed) position written setup
 
 -- so much of the input, from a position on
 abbrev pub given_at : ℕ → ℕ → Setup → List ℕ
@@ -289,27 +313,38 @@ unfoldable pub uses_at : Core → (ℕ → ℕ) → ℕ → ℕ → Setup → Us
 uses_at core bytes position written setup =
     let deed = deed_at core bytes setup.hooks in plan core (deed_terms core deed position written setup) deed
 
+-- what it is given of the input
+unfoldable pub intake_at : Core → (ℕ → ℕ) → ℕ → Setup → Intake
+intake_at core bytes position setup = intake_of (deed_asks core (deed_at core bytes setup.hooks)) (left_at position setup)
+
 -- and what it leaves
 unfoldable pub effect_at : Core → (ℕ → ℕ) → ℕ → ℕ → Setup → Effect
 effect_at core bytes position written setup =
     let deed = deed_at core bytes setup.hooks in
-    let uses = uses_at core bytes position written setup in
-    outcome core (deed_terms core deed position written setup) deed (given_at position uses.inputs setup) (taken_from bytes uses.reads)
+    let terms = deed_terms core deed position written setup in
+    outcome core terms deed (given_at position terms.intake.count setup) (taken_from bytes (plan core terms deed).reads)
 
 -- one more of a count, which stands still at the greatest 64-bit number
 abbrev pub counted : ℕ → Bool → ℕ
 counted n false = n
 counted n true = min (n + 1) 18446744073709551615
 
+-- the end of the input, once seen, stays seen
+abbrev pub seen_also : Bool → Bool → Bool
+seen_also seen false = seen
+seen_also seen true = true
+
 -- one step
 unfoldable pub exec : State → Setup → State
 exec s setup =
+    let intake = intake_at s.core s.bytes s.position setup in
     let uses = uses_at s.core s.bytes s.position (length s.output) setup in
     let effect = effect_at s.core s.bytes s.position (length s.output) setup in
     record {
       bytes = written_to s.bytes uses.writes effect.made;
       core = effect.core;
-      position = s.position + uses.inputs;
+      position = s.position + intake.count;
+      end_seen = seen_also s.end_seen intake.ends;
       output = s.output ++ effect.output;
       heap_calls = counted s.heap_calls (is_heap_deed s.core (deed_at s.core s.bytes setup.hooks));
       events = s.events ++ effect.raised;

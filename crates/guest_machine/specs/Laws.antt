@@ -1,5 +1,5 @@
 -- Laws of one step, which follow from its form and not from any instruction.
-use Rattle.std.specs.Prelude.{◌≡◌, ℕ, ◌/◌, ◌%◌, ◌^◌, ◌<◌, ◌≤◌, false, Bool, List, length, slice_get}
+use Rattle.std.specs.Prelude.{◌≡◌, ℕ, ◌/◌, ◌%◌, ◌^◌, ◌<◌, ◌≤◌, true, false, Bool, List, [], ◌∷◌, ◌++◌, length, slice_get}
 use Rattle.guest_elf.specs.declared.hook.Hook.{Hook}
 use Rattle.guest_machine.specs.State.{State}
 use Rattle.guest_machine.specs.Run.{poked}
@@ -15,6 +15,7 @@ pub record DifferWithin (W : ℕ → Type 0) (s t : State) : Type 0 where
   pub bytes : (a : ℕ) → (W a → ⊥) → s.bytes a ≡ t.bytes a
   pub core : s.core ≡ t.core
   pub position : s.position ≡ t.position
+  pub end_seen : s.end_seen ≡ t.end_seen
   pub output : s.output ≡ t.output
   pub heap_calls : s.heap_calls ≡ t.heap_calls
   pub events : s.events ≡ t.events
@@ -62,3 +63,20 @@ KeepsPokes =
 -- a step gives no input back
 abbrev pub ReadsOn : Type 0
 ReadsOn = (setup : Setup) (s : State) → s.position ≤ (exec s setup).position
+
+-- the other setup has one byte of input more, at its end
+pub record Extends (one other : Setup) : Type 0 where
+  pub redzone : one.redzone ≡ other.redzone
+  pub volume : one.volume ≡ other.volume
+  pub hooks : one.hooks ≡ other.hooks
+  pub input : (byte : ℕ) × (other.input ≡ one.input ++ byte ∷ [])
+
+-- a step goes the same way with one byte more at the end of the input where it hasn't seen the end without that byte, and where it
+-- hasn't read it
+pub record KeepsEnd : Type 0 where
+  pub unseen : (one other : Setup) (s : State) → Extends one other → (exec s one).end_seen ≡ false → (touches s one ≡ touches s other) × (exec s one ≡ exec s other)
+  pub unread : (one other : Setup) (s : State) → Extends one other → (exec s other).position ≤ length one.input → (touches s one ≡ touches s other) × (exec s one ≡ exec s other)
+
+-- the end of the input, once seen, stays seen
+abbrev pub EndStays : Type 0
+EndStays = (setup : Setup) (s : State) → s.end_seen ≡ true → (exec s setup).end_seen ≡ true

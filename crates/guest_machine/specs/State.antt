@@ -1,5 +1,5 @@
 -- What a run is at a moment: the byte values, what decides a step beside them, and what only adds up.
-use Rattle.std.specs.Prelude.{ℕ, List}
+use Rattle.std.specs.Prelude.{ℕ, Bool, List}
 use Rattle.definedness.specs.declared.Bits.{Bits}
 use Rattle.shadow_memory.specs.Shadows.{Shadow}
 use Rattle.guest_machine.specs.declared.status.Status.{Status}
@@ -18,12 +18,13 @@ pub record Core : Type 0 where
   pub frames : List Frame
   pub blocks : Blocks
 
--- a state: beside the core, the byte at each address, how many bytes of input were read, the bytes that were written out,
--- how many heap calls were made, and all errors so far
+-- a state: beside the core, the byte at each address, how many bytes of input were read, whether some read asked for more than was
+-- left of it, the bytes that were written out, how many heap calls were made, and all errors so far
 pub record State : Type 0 where
   pub bytes : ℕ → ℕ
   pub core : Core
   pub position : ℕ
+  pub end_seen : Bool
   pub output : List ℕ
   pub heap_calls : ℕ
   pub events : List Event

@@ -18,10 +18,11 @@ use guest_heap::Heap;
 use shadow_memory::Memory;
 use std::alloc::Global;
 
-/// What only adds up: bytes of input read, bytes of output, heap calls made.
+/// What only adds up: bytes of input read and whether its end was seen, bytes of output, heap calls made.
 #[derive(Clone, Copy)]
 pub(crate) struct Counts {
     position: u64,
+    end_seen: bool,
     output_len: u64,
     heap_calls: u64,
 }

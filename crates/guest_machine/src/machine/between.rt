@@ -41,6 +41,7 @@ impl Guest {
             heap: Heap::new(alloc),
             counts: Counts {
                 position: 0,
+                end_seen: false,
                 output_len: 0,
                 heap_calls: 0,
             },

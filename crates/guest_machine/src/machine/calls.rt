@@ -1,12 +1,12 @@
 //! The calls that a program makes of its environment.
-ghost use Rattle.std.specs.Prelude.{◌≡◌, ◌+◌, ◌-◌, ◌^◌, ◌<◌, ◌≤◌, ◌∷◌, [], length, min, nat_le, slice_index, false, Some, IfOk, OnOk};
+ghost use Rattle.std.specs.Prelude.{◌≡◌, ◌+◌, ◌-◌, ◌^◌, ◌<◌, ◌≤◌, ◌∷◌, [], length, min, nat_le, nat_lt, slice_index, false, Some, IfOk, OnOk};
 ghost use Rattle.guest_machine.specs.Calls.{argument, answers, call_tested, call_errors, heap_parameters, tested_from, errors_from, moved_len, exit_call, output_room};
 ghost use Rattle.guest_machine.specs.Errors.{fault_of, buffer_errors};
 ghost use Rattle.shadow_memory.specs.Ranges.{written};
 ghost use Rattle.guest_machine.specs.Effects.{stored_core};
-ghost use Rattle.guest_machine.specs.Exec.{nothing, given_at, read_uses, write_uses};
+ghost use Rattle.guest_machine.specs.Exec.{no_intake, nothing, given_at, read_uses, write_uses, seen_also};
 ghost use Rattle.guest_machine.specs.Shows.{core_of, bytes_of};
-ghost use Rattle.guest_machine.specs.Doing.{input_left, uses_by, Raises, Does, DoesRow, DoesRead, DoesWrite};
+ghost use Rattle.guest_machine.specs.Doing.{uses_by, read_intake, Raises, Does, DoesRow, DoesRead, DoesWrite};
 
 use crate::call::Call;
 use crate::instruction::Instruction;
@@ -151,7 +151,7 @@ impl Guest {
     /// A call that only answers.
     #[tactic(auto, unfolding(error_events::specs::Adding::add_events))]
     fn test_and_answer(&mut self, call: Call, n: u32) -> Result<(), AllocError>
-        ensures { OnOk result (Does self.old self.new (answers (core_of self.old) call n) nothing false) }
+        ensures { OnOk result (Does self.old self.new (answers (core_of self.old) call n) nothing false no_intake) }
     {
         self.test_call(call)?;
         self.answer(n);
@@ -193,8 +193,25 @@ impl Guest {
         Ok(())
     }
 
+    /// Counts n bytes of the input as read, of those that were asked for.
+    fn note_read(&mut self, asked: u32, n: u32)
+        requires { self.old.counts.position + n < 2 ^ 64 }
+        ensures core { core_of self.new ≡ core_of self.old }
+        ensures memory { self.new.memory ≡ self.old.memory }
+        ensures position { self.new.counts.position ≡ self.old.counts.position + n }
+        ensures end_seen { self.new.counts.end_seen ≡ seen_also self.old.counts.end_seen (nat_lt n asked) }
+        ensures output { self.new.counts.output_len ≡ self.old.counts.output_len }
+        ensures heap_calls { self.new.counts.heap_calls ≡ self.old.counts.heap_calls }
+        ensures groups { self.new.groups ≡ self.old.groups }
+    {
+        self.counts.position += u64::from(n);
+        if n < asked {
+            self.counts.end_seen = true;
+        }
+    }
+
     fn exit_call(&mut self, call: Call) -> Result<(), AllocError>
-        ensures { OnOk result (Does self.old self.new (exit_call (core_of self.old) call) nothing false) }
+        ensures { OnOk result (Does self.old self.new (exit_call (core_of self.old) call) nothing false no_intake) }
     {
         let code = (self.argument(A0) % 256) as u8;
         self.test_call(call)?;
@@ -202,10 +219,10 @@ impl Guest {
         Ok(())
     }
 
-    #[tactic(auto, unfolding(crate::specs::Calls::read_call, crate::specs::Calls::read_len, error_events::specs::Adding::add_events), using(crate::proofs::Showing::add_events_append))]
+    #[tactic(auto, unfolding(crate::specs::Calls::read_call, crate::specs::Exec::call_asks, error_events::specs::Adding::add_events), using(crate::proofs::Showing::add_events_append))]
     fn read_call(&mut self, setup: &Setup) -> Result<Option<Span>, AllocError>
         ensures does { OnOk result (DoesRead self.old self.new setup.now) }
-        ensures writes { IfOk result (λ written. written ≡ (read_uses (core_of self.old) (input_left self.old setup.now)).writes) }
+        ensures writes { IfOk result (λ written. written ≡ (read_uses (core_of self.old) (read_intake self.old setup.now).count).writes) }
     {
         if self.argument(A0) != 0 {
             self.test_and_answer(Call::Read, BAD_DESCRIPTOR)?;
@@ -218,7 +235,7 @@ impl Guest {
         self.test_call(Call::Read)?;
         self.test_buffer(Parameter::ReadBuffer, false, start, asked)?;
         self.store_input(start, given)?;
-        self.counts.position += u64::from(n);
+        self.note_read(asked, n);
         self.answer(n);
         self.advance();
         Ok(Some(Span { start, len: n }))
@@ -258,7 +275,7 @@ impl Guest {
     }
 
     /// Carries ECALL out, and says which bytes it took and which it wrote.
-    #[tactic(auto, unfolding(crate::specs::Calls::call_at, crate::specs::Exec::call_effect, crate::specs::Exec::call_uses, crate::specs::Exec::calls_heap, crate::specs::Exec::row_uses, crate::specs::Exec::row_effect))]
+    #[tactic(auto, unfolding(crate::specs::Calls::call_at, crate::specs::Exec::call_effect, crate::specs::Exec::call_uses, crate::specs::Exec::calls_heap, crate::specs::Exec::row_asks, crate::specs::Exec::call_asks, crate::specs::Exec::row_uses, crate::specs::Exec::row_effect))]
     pub(super) fn call(&mut self, setup: &Setup) -> Result<Used, AllocError>
         ensures does { OnOk result (DoesRow self.old self.new (Some Instruction.Call) setup.now) }
         ensures reads { IfOk result (λ used. used.reads ≡ (uses_by self.old (Some Instruction.Call) setup.now).reads) }

@@ -140,6 +140,7 @@ impl Guest {
         ensures core { core_of self.new ≡ core_of self.old }
         ensures memory { self.new.memory ≡ self.old.memory }
         ensures position { self.new.counts.position ≡ self.old.counts.position }
+        ensures end_seen { self.new.counts.end_seen ≡ self.old.counts.end_seen }
         ensures output { self.new.counts.output_len ≡ self.old.counts.output_len }
         ensures counted { self.new.counts.heap_calls ≡ min (self.old.counts.heap_calls + 1) u64.MAX }
         ensures heap { self.new.heap ≡ self.old.heap }

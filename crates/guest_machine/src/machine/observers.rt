@@ -39,6 +39,13 @@ impl Machine {
         self.guest.counts.position
     }
 
+    /// Whether a read of the input has asked for more bytes than were left.
+    pub fn end_seen(&self) -> bool
+        ensures { (s : State) → Shows self.now s → result ≡ s.end_seen }
+    {
+        self.guest.counts.end_seen
+    }
+
     /// How many bytes were written out.
     pub fn output_len(&self) -> u64
         ensures { (s : State) → Shows self.now s → result ≡ length s.output }

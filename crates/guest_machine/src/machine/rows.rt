@@ -7,7 +7,7 @@ ghost use Rattle.shadow_memory.specs.Ranges.{little_word, window};
 ghost use Rattle.guest_machine.specs.Errors.{access_errors, taken_undef};
 ghost use Rattle.guest_machine.specs.Widths.{width_len, width_limit};
 ghost use Rattle.guest_machine.specs.Effects.{results_in, load, store, branch, jump, jump_register, branched, stored_core};
-ghost use Rattle.guest_machine.specs.Exec.{nothing, accessed, writing, taken_from};
+ghost use Rattle.guest_machine.specs.Exec.{no_intake, nothing, accessed, writing, taken_from};
 ghost use Rattle.guest_machine.specs.Shows.{core_of, bytes_of};
 ghost use Rattle.guest_machine.specs.Doing.{Raises, Does};
 
@@ -27,7 +27,7 @@ impl Guest {
     /// Writes rd and goes on.
     #[tactic(auto, unfolding(error_events::specs::Adding::add_events))]
     pub(super) fn result_in(&mut self, rd: Register, bits: Bits)
-        ensures { Does self.old self.new (results_in (core_of self.old) rd bits) nothing false }
+        ensures { Does self.old self.new (results_in (core_of self.old) rd bits) nothing false no_intake }
     {
         self.set_register(rd, bits);
         self.advance();
@@ -78,7 +78,7 @@ impl Guest {
         rs1: Register,
         imm: u32,
     ) -> Result<Span, AllocError>
-        ensures does { IfOk result (λ span. Does self.old self.new (load (core_of self.old) width signed rd rs1 imm (taken_from (bytes_of self.old) (Some span))) nothing false) }
+        ensures does { IfOk result (λ span. Does self.old self.new (load (core_of self.old) width signed rd rs1 imm (taken_from (bytes_of self.old) (Some span))) nothing false no_intake) }
         ensures reads { IfOk result (λ span. span ≡ accessed (core_of self.old) rs1 imm width) }
     {
         let start = self.target(rs1, imm);
@@ -101,7 +101,7 @@ impl Guest {
         rs2: Register,
         imm: u32,
     ) -> Result<Span, AllocError>
-        ensures does { IfOk result (λ span. Does self.old self.new (store (core_of self.old) width rs1 rs2 imm) (writing span) false) }
+        ensures does { IfOk result (λ span. Does self.old self.new (store (core_of self.old) width rs1 rs2 imm) (writing span) false no_intake) }
         ensures writes { IfOk result (λ span. span ≡ accessed (core_of self.old) rs1 imm width) }
     {
         let to = self.target(rs1, imm);
@@ -139,7 +139,7 @@ impl Guest {
         rs2: Register,
         imm: u32,
     ) -> Result<(), AllocError>
-        ensures { OnOk result (Does self.old self.new (branch (core_of self.old) test rs1 rs2 imm) nothing false) }
+        ensures { OnOk result (Does self.old self.new (branch (core_of self.old) test rs1 rs2 imm) nothing false no_intake) }
     {
         let taken = passes(
             test,
@@ -158,7 +158,7 @@ impl Guest {
 
     #[tactic(auto, unfolding(error_events::specs::Adding::add_events))]
     pub(super) fn jump_and_link(&mut self, rd: Register, imm: u32)
-        ensures { Does self.old self.new (jump (core_of self.old) rd imm) nothing false }
+        ensures { Does self.old self.new (jump (core_of self.old) rd imm) nothing false no_intake }
     {
         self.linked_jump(StackHint::of_jal(rd), rd, self.pc.wrapping_add(imm));
     }
@@ -170,7 +170,7 @@ impl Guest {
         rs1: Register,
         imm: u32,
     ) -> Result<(), AllocError>
-        ensures { OnOk result (Does self.old self.new (jump_register (core_of self.old) rd rs1 imm) nothing false) }
+        ensures { OnOk result (Does self.old self.new (jump_register (core_of self.old) rd rs1 imm) nothing false no_intake) }
     {
         let to = self.target(rs1, imm) / 2 * 2;
         self.test_value(rs1)?;

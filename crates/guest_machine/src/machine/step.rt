@@ -3,7 +3,7 @@ ghost use Rattle.std.specs.Prelude.{◌≡◌, ◌+◌, ◌&&◌, min, false, Op
 ghost use Rattle.guest_machine.specs.State.{State};
 ghost use Rattle.guest_machine.specs.Errors.{fetch_undef};
 ghost use Rattle.guest_machine.specs.Instructions.{row_of};
-ghost use Rattle.guest_machine.specs.Exec.{nothing, is_running, is_aligned, called_here, fetches, unfetched, jump_fault, exec, touches, has_touched, IsFetched};
+ghost use Rattle.guest_machine.specs.Exec.{no_intake, nothing, is_running, is_aligned, called_here, fetches, unfetched, jump_fault, exec, touches, has_touched, IsFetched};
 ghost use Rattle.guest_machine.specs.Shows.{core_of, bytes_of, Holds, Shows};
 ghost use Rattle.guest_machine.specs.Doing.{uses_by, touched_by, Does, DoesRow, DoesRound, DoesStep};
 
@@ -51,7 +51,7 @@ impl Used {
 
 impl Guest {
     /// Carries an instruction out, and says which bytes it took and which it wrote.
-    #[tactic(auto, unfolding(crate::specs::Exec::row_effect, crate::specs::Exec::row_uses, crate::specs::Exec::calls_heap, error_events::specs::Adding::add_events))]
+    #[tactic(auto, unfolding(crate::specs::Exec::row_effect, crate::specs::Exec::row_uses, crate::specs::Exec::calls_heap, crate::specs::Exec::row_asks, crate::specs::Exec::call_asks, error_events::specs::Adding::add_events))]
     fn carry_out(&mut self, setup: &Setup, row: Option<Instruction>) -> Result<Used, AllocError>
         ensures does { OnOk result (DoesRow self.old self.new row setup.now) }
         ensures reads { IfOk result (λ used. used.reads ≡ (uses_by self.old row setup.now).reads) }
@@ -150,7 +150,7 @@ impl Guest {
     #[inline(never)]
     #[tactic(auto, unfolding(crate::specs::Errors::event_about, error_events::specs::Adding::add_events))]
     fn jump_fault(&mut self, fault: Option<u32>) -> Result<(), AllocError>
-        ensures { OnOk result (Does self.old self.new (jump_fault (core_of self.old) fault) nothing false) }
+        ensures { OnOk result (Does self.old self.new (jump_fault (core_of self.old) fault) nothing false no_intake) }
     {
         if fault.is_some() {
             self.raise_about(Kind::Jump, fault)?;
@@ -203,7 +203,7 @@ impl Guest {
     #[inline(always)]
     #[tactic(auto, unfolding(crate::specs::Exec::unfetched, error_events::specs::Adding::add_events))]
     fn halt(&mut self) -> Result<(), AllocError>
-        ensures { OnOk result (Does self.old self.new (unfetched (core_of self.old)) nothing false) }
+        ensures { OnOk result (Does self.old self.new (unfetched (core_of self.old)) nothing false no_intake) }
     {
         if let Status::Running = self.status {
             if self.pc % 4 == 0 {
@@ -234,7 +234,7 @@ impl Guest {
 
     /// One step, and the bytes that it took or wrote.
     #[inline(always)]
-    #[tactic(auto, unfolding(crate::specs::Exec::fetched, crate::specs::Exec::uses_at, crate::specs::Exec::effect_at, crate::specs::Exec::touched_at))]
+    #[tactic(auto, unfolding(crate::specs::Exec::fetched, crate::specs::Exec::uses_at, crate::specs::Exec::intake_at, crate::specs::Exec::effect_at, crate::specs::Exec::touched_at))]
     fn act(&mut self, setup: &Setup) -> Result<Touched, AllocError>
         ensures does { OnOk result (DoesStep self.old self.new setup.now) }
         ensures touched { IfOk result (λ t. t ≡ touched_by self.old setup.now) }
