@@ -4,8 +4,8 @@
 //! A [`Machine`] holds, of each of the 2^32 addresses, a byte, whether it may be accessed, and which of its bits are undefined;
 //! the 32 registers with their undefined bits; pc; whether it runs; the frames of the calls that it is in; the blocks of the
 //! heap; how much of the input was read, of the output written, and how many heap calls were made; and the errors so far,
-//! counted by kind and trace. It is moved by [`Machine::step`] alone, one instruction at a time, ECALL included; between steps
-//! a range can be marked and a word poked.
+//! counted by kind and trace. It is moved by [`Machine::step`] alone, one instruction at a time, ECALL included, or one call of a
+//! function of the heap that the setup names by its first address; between steps a range can be marked and a word poked.
 //!
 //! # Public items
 //!
@@ -20,10 +20,11 @@
 //! | [`Machine::position`], [`Machine::output_len`], [`Machine::heap_calls`] | what was read, written and called so far |
 //! | [`Machine::memory`], [`Machine::heap`] | the bytes with what is known of them, and the blocks of the heap |
 //! | [`Machine::groups`] | the errors so far, in order of first occurrence |
+//! | [`Hooks::new`], [`Hooks::at`] | the functions of the heap that are called by name, from a list in order of address; the one that begins at an address |
 //! | [`Meter::new`], [`Meter::read`] | a count of steps, raised by `step` alone |
 //! | [`laws::keeps_words`], [`laws::keeps_input`], [`laws::keeps_heap`], [`laws::keeps_pokes`], [`laws::reads_on`] | nothing: their contracts are laws of one step |
 //!
-//! [`Setup`], [`Input`], [`Mark`], [`Touched`], [`Span`], [`Register`], [`Status`] and [`Stop`] are the values that these take and
+//! [`Setup`], [`Input`], [`Hooks`], [`Mark`], [`Touched`], [`Span`], [`Register`], [`Status`] and [`Stop`] are the values that these take and
 //! answer; those of memory, traces, blocks and errors are of the crates `shadow_memory`, `call_stacks`, `guest_heap` and
 //! `error_events`. What consumes a machine and finds no memory drops it and answers `AllocError`; nothing else fails.
 //!
@@ -48,11 +49,13 @@
 //! In `specs/`, from the outside in:
 //!
 //! - `Run`: the state at the start, marks, pokes, and the states before and after the marks of each step.
-//! - `Exec`: one step (`exec`) and what it touches (`touches`), in three parts: the word at pc, what the step uses, and what
-//!   it leaves. No other byte and no other part of the setup enters; the laws follow from this form.
+//! - `Exec`: one step (`exec`) and what it touches (`touches`), in three parts: what the step does (`deed_at`: it takes the word at
+//!   pc, calls a function by name, or neither), what it uses, and what it leaves. No other byte and no other part of the setup
+//!   enters; the laws follow from this form.
 //! - `Effects` and `Calls`: what each class of instruction and each call of the environment leaves; `Alu`: what instructions
 //!   compute; `Instructions`: the class of each row of the instruction table; `Widths`: of accesses.
-//! - `HeapCalls`: `malloc`, `calloc`, `free` and `realloc` over the blocks of the crate `guest_heap`.
+//! - `HeapCalls`: `malloc`, `calloc`, `free` and `realloc` over the blocks of the crate `guest_heap`; `Hooks` and `NamedCalls`: where
+//!   they are called by name, and what such a call does before and after.
 //! - `Errors`: what each test notes, with its note; `CallStack`: the frames by the hints of JAL and JALR; `StackPointer`: what a
 //!   move of the stack pointer makes inaccessible or undefined.
 //! - `State`, `Registers`, `Spans`: what a state is, and how registers and ranges of addresses change.

@@ -1,13 +1,16 @@
 //! Programs by hand, and what becomes of them. The expected values are those of the instruction set's manual.
 mod errors;
 mod heap;
+mod named;
 mod values;
 
 use definedness::Bits;
 use error_events::Kind;
 use guest_elf::read;
 use guest_machine::laws::{keeps_heap, keeps_input, keeps_pokes, keeps_words, reads_on};
-use guest_machine::{Input, Machine, Mark, Meter, Register, Setup, Span, Status, Stop, Touched};
+use guest_machine::{
+    Hooks, Input, Machine, Mark, Meter, Register, Setup, Span, Status, Stop, Touched,
+};
 use guest_programs::program;
 use shadow_memory::RangeKind;
 use std::alloc::{AllocError, Global};
@@ -26,6 +29,7 @@ fn setup(alloc: Global) -> Setup {
         input: Input::new(Vec::new(alloc)),
         redzone: 16,
         volume: 20_000_000,
+        hooks: Hooks::new(Vec::new(alloc)),
     }
 }
 

@@ -34,7 +34,7 @@ pub(super) fn raised(rt: &impl Abort, machine: &Machine, want: &[Row]) {
 }
 
 /// A register with undefined bits that has a parameter.
-const fn undefined(parameter: Parameter) -> Row {
+pub(super) const fn undefined(parameter: Parameter) -> Row {
     (Kind::Param(parameter, Fault3::Contains), 0)
 }
 

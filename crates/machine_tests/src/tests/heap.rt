@@ -2,7 +2,7 @@
 use crate::tests::errors::raised;
 use crate::tests::{ECALL, EIGHT, FREE, MALLOC, REALLOC, TO_SIXTEEN, bits_of, started};
 use error_events::Kind;
-use guest_machine::{Input, Machine, Meter, Setup};
+use guest_machine::{Hooks, Input, Machine, Meter, Setup};
 use std::alloc::Global;
 use std::test::Fail;
 
@@ -28,6 +28,7 @@ fn run_with(alloc: Global, words: &[u32], redzone: u32, volume: u32) -> Result<M
         input: Input::new(Vec::new(alloc)),
         redzone,
         volume,
+        hooks: Hooks::new(Vec::new(alloc)),
     };
     let mut meter = Meter::new();
     let mut machine = started(alloc, words)?;

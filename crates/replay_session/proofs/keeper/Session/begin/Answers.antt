@@ -8,8 +8,8 @@ unfolding begun first_state
 returns-clause-ok c =
     record {
       image = refl;
-      trail = c.in-Ok.ensures.right _ _;
-      setup = c.setup_with.ensures;
+      trail = c.in-Ok-begin.ensures.right _ _;
+      setup = c.in-Ok.ensures;
       marks = c.new.ensures.items;
       rules = refl;
       options = λ i. record { callers = c.default.ensures.callers i; show = c.default.ensures.show i };
@@ -19,8 +19,8 @@ returns-clause-ok c =
 
 pub returns-clause-work : goal.returns-clause-work
 unfolding trail_of
-returns-clause-work c = λ i. record { last = c.in-Ok.ensures.first i; made = c.in-Ok.ensures.meter i }
+returns-clause-work c = λ i. record { last = c.in-Ok-begin.ensures.first i; made = c.in-Ok-begin.ensures.meter i }
 
 pub returns-clause-whole : goal.returns-clause-whole
 unfolding trail_of
-returns-clause-whole c = c.in-Ok.ensures.whole
+returns-clause-whole c = c.in-Ok-begin.ensures.whole
