@@ -2,6 +2,7 @@
 use Rattle.std.specs.Prelude.{◌≡◌, ℕ, ◌+◌, ◌*◌, ◌<◌, ◌≤◌, ◌⊎◌, List, Option, true, length, slice_index_or}
 use Rattle.guest_machine.specs.State.{State}
 use Rattle.guest_machine.specs.Run.{poked}
+use Rattle.guest_machine.specs.Laws.{Extends}
 use Rattle.guest_machine.specs.Shows.{Shows}
 use Rattle.guest_machine.specs.declared.machine.Machine.{Machine}
 use Rattle.guest_machine.specs.declared.setup.Setup.{Setup}
@@ -27,6 +28,10 @@ IsRightForSetups Differ old new =
 pub record DifferInHeap (setup other : Setup) : Type 0 where
   pub input : setup.input ≡ other.input
   pub hooks : setup.hooks ≡ other.hooks
+
+-- the input without its last byte, which is at an offset
+abbrev pub LosesLast : ℕ → Setup → Setup → Type 0
+LosesLast offset setup other = Extends other setup × (length other.input ≡ offset)
 
 -- for a start with a word written
 abbrev pub IsRightForPoked : ℕ → ℕ → Trail → Trail → Type 0

@@ -50,9 +50,9 @@ pub keeps-input : KeepsInput
 unfolding exec seen taken-under intake_at
 keeps-input one other offset s d h =
     let t : seen s one ≡ seen s other = λ i.
-        let heap = is_heap_step s (d.hooks i) in
-        let intake = intake_of (deed_asks s.core (deed_at s.core s.bytes (d.hooks i))) (d.len i - s.position) in
-        record { intake = intake; written = length s.output; red_zone = cond heap (d.redzone i) 0; volume = cond heap (d.volume i) 0 } in
+    let heap = is_heap_step s (d.hooks i) in
+    let intake = intake_of (deed_asks s.core (deed_at s.core s.bytes (d.hooks i))) (d.len i - s.position) in
+    record { intake = intake; written = length s.output; red_zone = cond heap (d.redzone i) 0; volume = cond heap (d.volume i) 0 } in
     let within : s.position + (taken-under s one).count ≤ offset = h in
     same-step one other s d.hooks t (same-part one.input other.input s.position (taken-under s one).count d.len (λ i k. d.bytes i (λ e. omega arith)))
 
@@ -137,7 +137,7 @@ module _ (one other : Setup) (s : State) (x : Extends one other) where
       let l = longer in
       let within : s.position + (intake_of (deed_asks s.core (deed_at s.core s.bytes other.hooks)) (left_at s.position other)).count ≤ length one.input = h in
       let count : (intake_of (deed_asks s.core (deed_at s.core s.bytes one.hooks)) (left_at s.position other)).count ≤ left_at s.position one = (
-        let same = ap (λ o. (intake_of o (left_at s.position other)).count) asks in omega arith
+      let same = ap (λ o. (intake_of o (left_at s.position other)).count) asks in omega arith
       ) in
       ungiven (deed_asks s.core (deed_at s.core s.bytes one.hooks)) (left_at s.position one) (left_at s.position other) (omega arith) count
 
