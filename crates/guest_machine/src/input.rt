@@ -1,5 +1,6 @@
-ghost use Rattle.std.specs.Prelude.{◌≡◌, length};
+ghost use Rattle.std.specs.Prelude.{◌≡◌, ◌-◌, ◌++◌, ◌∷◌, [], length, take, OnOk, OnErr};
 
+use std::alloc::AllocError;
 use std::marker::Model;
 
 /// The bytes that a run may read, in order. Contracts see it as their list. It is made from a vector and gives it back.
@@ -35,6 +36,22 @@ impl Input {
         ensures { result.now ≡ self.now }
     {
         &self.bytes
+    }
+
+    /// Puts a byte at its end. Where memory fails, it stays as it is.
+    pub fn push(&mut self, byte: u8) -> Result<(), AllocError>
+        ensures ok { OnOk result (self.new ≡ self.old ++ byte ∷ []) }
+        ensures err { OnErr result (self.new ≡ self.old) }
+    {
+        self.bytes.push(byte)?;
+        Ok(())
+    }
+
+    /// Takes the last byte off, if there is one.
+    pub fn pop(&mut self)
+        ensures { self.new ≡ take (length self.old - 1) self.old }
+    {
+        let _last = self.bytes.pop();
     }
 
     /// Its bytes.

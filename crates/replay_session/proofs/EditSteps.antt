@@ -1,8 +1,8 @@
 -- What the edits of a session are to its run: other marks at one step, another byte of the input, a word of the image.
-use Rattle.std.proofs.Common.{◌≡◌, ℕ, zero, suc, ◌+◌, ◌%◌, ◌^◌, ◌<◌, ◌==◌, ◌&&◌, Bool, true, false, cond, List, [], ◌∷◌, ◌++◌, remove, length, get_or, refl, ap, sym, ◌∙◌, arith}
+use Rattle.std.proofs.Common.{◌≡◌, ℕ, zero, suc, ◌+◌, ◌%◌, ◌^◌, ◌<◌, ◌==◌, ◌&&◌, Bool, true, false, cond, List, [], ◌∷◌, ◌++◌, ◌-◌, take, remove, length, get_or, refl, ap, sym, ◌∙◌, arith}
 use Rattle.std.specs.Prelude.{slice_get, slice_set, is_some}
 use Rattle.std.proofs.lemmas.Bool.Decides.{nat_tests}
-use Rattle.std.proofs.lemmas.List.{length-set}
+use Rattle.std.proofs.lemmas.List.{length-set, take_all}
 use Rattle.error_events.proofs.SameKeys.{left-true, right-true}
 use Rattle.guest_elf.specs.Images.{loaded_at}
 use Rattle.guest_elf.specs.declared.image.Image.{Image}
@@ -10,6 +10,8 @@ use Rattle.guest_machine.specs.Laws.{DifferAt}
 use Rattle.guest_machine.specs.Run.{marks_at}
 use Rattle.guest_machine.specs.declared.setup.Setup.{Setup}
 use Rattle.guest_machine.specs.declared.setup.Mark.{Mark}
+use Rattle.std.proofs.Math.Seq.{take-suc}
+use Rattle.checkpoints.specs.Edits.{LosesLast}
 use Rattle.checkpoints.specs.FirstEffects.{DifferAtStep}
 use Rattle.checkpoints.specs.Words.{IsWordIn}
 use Rattle.checkpoints.specs.Trails.{LoadsAs, loaded_of}
@@ -46,6 +48,23 @@ differ_at one other offset byte input redzone volume hooks = record {
   len = sym (ap length input ∙ length-set one.input offset byte);
   bytes = λ i n. get-other one.input offset byte i n ∙ ap (λ bytes. slice_get bytes i) (sym input);
 }
+
+-- the input without its last byte
+last-part : (bytes : List ℕ) → 0 < length bytes → (byte : ℕ) × (bytes ≡ take (length bytes - 1) bytes ++ byte ∷ [])
+last-part bytes some =
+    let n = length bytes - 1 in
+    let one : suc n ≡ length bytes = omega arith in (
+      get_or bytes n 0,
+      sym (take_all (suc n) bytes (omega arith)) ∙ take-suc bytes n 0 (omega arith),
+    )
+
+pub loses_last : (one other : Setup) (offset : ℕ) → 0 < length one.input → other.input ≡ take (length one.input - 1) one.input → offset ≡ length other.input
+    → one.redzone ≡ other.redzone → one.volume ≡ other.volume → one.hooks ≡ other.hooks → LosesLast offset one other
+loses_last one other offset some input at redzone volume hooks =
+    let last = last-part one.input some in (
+      record { redzone = sym redzone; volume = sym volume; hooks = sym hooks; input = (last.0, last.1 ∙ ap (λ front. front ++ last.0 ∷ []) (sym input)) },
+      sym at,
+    )
 
 -- a word of the image
 pub word_in : (trail : Trail) (image : Image) (addr : ℕ) → LoadsAs trail image → addr < 2 ^ 32 → is_word image addr ≡ true → IsWordIn (loaded_of trail) addr

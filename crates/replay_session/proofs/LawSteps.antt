@@ -1,5 +1,5 @@
 -- The laws of the steps that lines make.
-use Rattle.std.proofs.Common.{◌≡◌, ℕ, zero, suc, ◌+◌, ◌%◌, ◌≤◌, ◌==◌, nat_lt, Bool, true, false, List, [], ◌∷◌, ◌++◌, Option, Some, None, Result, Ok, Err, refl, ap, sym, ◌∙◌, subst, arith, min, inl, inr, append_assoc, append-nil}
+use Rattle.std.proofs.Common.{◌≡◌, ℕ, zero, suc, ◌+◌, ◌-◌, length, ◌%◌, ◌≤◌, ◌==◌, nat_lt, Bool, true, false, List, [], ◌∷◌, ◌++◌, Option, Some, None, Result, Ok, Err, refl, ap, sym, ◌∙◌, subst, arith, min, inl, inr, append_assoc, append-nil}
 use Rattle.std.specs.Prelude.{◌⊎◌, ◌↔◌, slice_get}
 use Rattle.std.proofs.lemmas.Bool.{cases_lt, false≢true}
 use Rattle.std.proofs.lemmas.Bool.Decides.{Decides-ltb, Decides-eqb}
@@ -14,7 +14,7 @@ use Rattle.replay_session.specs.Work.{ShowsAt, MovesWork, LineMoves, no_work}
 use Rattle.replay_session.specs.LinesWork.{Given, outcome_of, given_from, Reaches, Spares, IsKept, IsHeldAfter, IsLastHeld, Adds, AddUp, LinesMove, HeldByLines, MadeByLines, WorkIsOne}
 use Rattle.replay_session.specs.declared.fault.Fault.{Fault}
 use Rattle.replay_session.specs.declared.command.Command.{Command}
-use Rattle.replay_session.specs.declared.command.Command.TheVariants.{Report, Input, Patch, Mark, Unmark, Redzone, Queue}
+use Rattle.replay_session.specs.declared.command.Command.TheVariants.{Report, Input, Append, Cut, Patch, Mark, Unmark, Redzone, Queue}
 use Rattle.replay_session.proofs.LeastSteps.{DecidesEach, kept-by}
 
 nowhere : DecidesEach (λ k. false) (λ k. ⊥)
@@ -57,6 +57,16 @@ unfolding first_state pre start_state
 tested sc (Input offset value) = record {
   test = λ k. nat_lt offset (pre (first_state sc) sc.setup sc.marks k).position;
   decides = λ k. Decides-ltb offset _;
+  later = λ x. absurd (omega arith);
+}
+tested sc (Append value) = record {
+  test = λ k. (pre (first_state sc) sc.setup sc.marks k).end_seen;
+  decides = λ k. ((λ e. e), λ e. e);
+  later = λ x. absurd (false≢true x);
+}
+tested sc Cut = record {
+  test = λ k. nat_lt (length sc.setup.input - 1) (pre (first_state sc) sc.setup sc.marks k).position;
+  decides = λ k. Decides-ltb (length sc.setup.input - 1) _;
   later = λ x. absurd (omega arith);
 }
 tested sc (Patch addr word) = record {

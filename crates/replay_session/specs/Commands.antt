@@ -12,7 +12,7 @@ use Rattle.suppressions.specs.Rules.{Rule}
 use Rattle.suppressions.specs.Words.{leak_kinds}
 use Rattle.suppressions.specs.declared.leak_kinds.LeakKinds.{LeakKinds}
 use Rattle.replay_session.specs.declared.command.Command.{Command}
-use Rattle.replay_session.specs.declared.command.Command.TheVariants.{Goto, Report, Input, Patch, Mark, Unmark, Switch, Add, Callers, Redzone, Queue, Show, Worked}
+use Rattle.replay_session.specs.declared.command.Command.TheVariants.{Goto, Report, Input, Append, Cut, Patch, Mark, Unmark, Switch, Add, Callers, Redzone, Queue, Show, Worked}
 use Rattle.replay_session.specs.declared.fault.Fault.{Fault}
 use Rattle.replay_session.specs.declared.fault.Fault.TheVariants.{Memory, BadCommand, BadOption, BadSuppression}
 
@@ -81,9 +81,31 @@ input_with (Some offset) (Some value) = Some (Input offset value)
 input_with (Some offset) None = None
 input_with None value = None
 
+unfoldable pub replace_of : List ℕ → List (List ℕ) → Option Command
+replace_of offset (value ∷ []) = input_with (number offset) (small (number value))
+replace_of offset _ = None
+
+-- `input append BYTE`
+abbrev pub append_with : Option ℕ → Option Command
+append_with None = None
+append_with (Some value) = Some (Append value)
+
+unfoldable pub append_of : List (List ℕ) → Option Command
+append_of (value ∷ []) = append_with (small (number value))
+append_of _ = None
+
+-- `input cut`
+unfoldable pub cut_of : List (List ℕ) → Option Command
+cut_of [] = Some Cut
+cut_of (field ∷ more) = None
+
+-- what is done to the input
 unfoldable pub input_of : List (List ℕ) → Option Command
-input_of (offset ∷ value ∷ []) = input_with (number offset) (small (number value))
-input_of _ = None
+input_of [] = None
+input_of (word ∷ more) =
+    if bytes_eq word (codes "append") then append_of more
+    else if bytes_eq word (codes "cut") then cut_of more
+    else replace_of word more
 
 -- `patch ADDR WORD`
 abbrev pub patch_with : Option ℕ → Option ℕ → Option Command

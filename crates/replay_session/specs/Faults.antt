@@ -1,7 +1,7 @@
 -- The numbers of the refusals of a line.
 use Rattle.std.specs.Prelude.{ℕ}
 use Rattle.replay_session.specs.declared.fault.Fault.{Fault}
-use Rattle.replay_session.specs.declared.fault.Fault.TheVariants.{Memory, BadCommand, OutsideInput, NotPatchable, StepLimit, BadRange, NoSuchMark, NoSuchSuppression, BadOption, TooManyMarks, LineTooLong, TooManyCommands, BadSuppression}
+use Rattle.replay_session.specs.declared.fault.Fault.TheVariants.{Memory, BadCommand, OutsideInput, NotPatchable, StepLimit, BadRange, NoSuchMark, NoSuchSuppression, BadOption, TooManyMarks, LineTooLong, TooManyCommands, BadSuppression, InputTooLarge}
 
 abbrev pub number_of : Fault → ℕ
 number_of Memory = 1
@@ -17,3 +17,4 @@ number_of TooManyMarks = 10
 number_of LineTooLong = 11
 number_of TooManyCommands = 12
 number_of BadSuppression = 13
+number_of InputTooLarge = 14

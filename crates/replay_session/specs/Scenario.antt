@@ -1,5 +1,5 @@
 -- What the accepted commands leave, and what a line is answered. Nothing of earlier reports is in it.
-use Rattle.std.specs.Prelude.{ℕ, zero, suc, ◌+◌, ◌%◌, ◌^◌, ◌==◌, ◌||◌, ◌&&◌, nat_le, nat_lt, Bool, true, false, if◌then◌else◌, List, [], ◌∷◌, ◌++◌, length, remove, slice_set, Option, Some, None, is_some, Result, Ok, Err}
+use Rattle.std.specs.Prelude.{ℕ, zero, suc, ◌+◌, ◌-◌, take, ◌%◌, ◌^◌, ◌==◌, ◌||◌, ◌&&◌, nat_le, nat_lt, Bool, true, false, if◌then◌else◌, List, [], ◌∷◌, ◌++◌, length, remove, slice_set, Option, Some, None, is_some, Result, Ok, Err}
 use Rattle.guest_elf.specs.Images.{loaded_at}
 use Rattle.guest_elf.specs.declared.image.Image.{Image}
 use Rattle.guest_machine.specs.State.{State}
@@ -11,11 +11,11 @@ use Rattle.replay_report.specs.declared.options.Options.{Options}
 use Rattle.suppressions.specs.Rules.{Rule}
 use Rattle.suppressions.specs.declared.leak_kinds.LeakKinds.{LeakKinds}
 use Rattle.replay_session.specs.Commands.{parsed}
-use Rattle.replay_session.specs.Setups.{setup_with}
+use Rattle.replay_session.specs.Setups.{setup_with, longest_input}
 use Rattle.replay_session.specs.declared.command.Command.{Command}
-use Rattle.replay_session.specs.declared.command.Command.TheVariants.{Goto, Report, Input, Patch, Mark, Unmark, Switch, Add, Callers, Redzone, Queue, Show, Worked}
+use Rattle.replay_session.specs.declared.command.Command.TheVariants.{Goto, Report, Input, Append, Cut, Patch, Mark, Unmark, Switch, Add, Callers, Redzone, Queue, Show, Worked}
 use Rattle.replay_session.specs.declared.fault.Fault.{Fault}
-use Rattle.replay_session.specs.declared.fault.Fault.TheVariants.{OutsideInput, NotPatchable, StepLimit, BadRange, NoSuchMark, NoSuchSuppression, BadOption, TooManyMarks, LineTooLong, TooManyCommands}
+use Rattle.replay_session.specs.declared.fault.Fault.TheVariants.{InputTooLarge, OutsideInput, NotPatchable, StepLimit, BadRange, NoSuchMark, NoSuchSuppression, BadOption, TooManyMarks, LineTooLong, TooManyCommands}
 
 -- a program with its patched byte values, its input and heap settings, the marks, the suppressions with their switches, the options
 -- of the report, the chosen step, and how many lines were given
@@ -31,7 +31,7 @@ pub record Scenario : Type 0 where
 
 -- the limits of a session
 abbrev pub most_steps : ℕ
-most_steps = 1048576
+most_steps = 4194304
 
 abbrev pub most_marks : ℕ
 most_marks = 4096
@@ -95,6 +95,8 @@ unfoldable pub command_refusal : Room → Command → Option Fault
 command_refusal room (Goto n) = refused_if (nat_lt most_steps n) StepLimit
 command_refusal room Report = None
 command_refusal room (Input offset value) = refused_if (nat_le room.input offset) OutsideInput
+command_refusal room (Append value) = refused_if (nat_le longest_input room.input) InputTooLarge
+command_refusal room Cut = refused_if (nat_lt room.input 1) OutsideInput
 command_refusal room (Patch addr word) = if is_word room.image addr then None else Some NotPatchable
 command_refusal room (Mark mark) = mark_refusal room.marks mark
 command_refusal room (Unmark i) = refused_if (nat_le room.marks i) NoSuchMark
@@ -144,6 +146,8 @@ abbrev pub changed : Scenario → Command → Scenario
 changed sc (Goto n) = record sc { step = n }
 changed sc Report = sc
 changed sc (Input offset value) = record sc { setup = record sc.setup { input = slice_set sc.setup.input offset value } }
+changed sc (Append value) = record sc { setup = record sc.setup { input = sc.setup.input ++ value ∷ [] } }
+changed sc Cut = record sc { setup = record sc.setup { input = take (length sc.setup.input - 1) sc.setup.input } }
 changed sc (Patch addr word) = record sc { bytes = (poked (first_state sc) addr word).bytes }
 changed sc (Mark mark) = record sc { marks = sc.marks ++ mark ∷ [] }
 changed sc (Unmark i) = record sc { marks = remove sc.marks i }

@@ -10,7 +10,7 @@ use Rattle.replay_session.specs.declared.fault.Fault.TheVariants.{Memory}
 use Rattle.replay_session.specs.declared.reply.Reply.{Reply}
 use Rattle.replay_session.specs.declared.reply.Reply.TheVariants.{Done as IsDone, Work, Report as Reported}
 use Rattle.replay_session.specs.declared.command.Command.{Command}
-use Rattle.replay_session.specs.declared.command.Command.TheVariants.{Report, Input, Patch, Mark, Unmark, Switch, Add, Callers, Worked}
+use Rattle.replay_session.specs.declared.command.Command.TheVariants.{Report, Input, Append, Cut, Patch, Mark, Unmark, Switch, Add, Callers, Worked}
 
 -- the session has the scenario: its trail is right for the run from the state before step 0, and it keeps the rest as it is
 pub record HasScenario (session : Session) (sc : Scenario) : Type 0 where
@@ -48,15 +48,17 @@ work_of session = meter_of session.trail
 -- what an accepted command names is there and in its range
 abbrev pub IsWithin : Room → Command → Type 0
 IsWithin room (Input offset value) = offset < room.input
+IsWithin room Cut = 0 < room.input
 IsWithin room (Patch addr word) = is_word room.image addr ≡ true
 IsWithin room (Unmark i) = i < room.marks
 IsWithin room (Switch i on) = i < room.rules
 IsWithin room (Callers n) = (1 ≤ n) × (n ≤ 24)
 IsWithin room _ = Unit {0}
 
--- memory may be wanting at a report, a patch, a mark and a new suppression
+-- memory may be wanting at a report, a byte put at the end of the input, a patch, a mark and a new suppression
 abbrev pub TakesMemory : Command → Type 0
 TakesMemory Report = Unit {0}
+TakesMemory (Append value) = Unit {0}
 TakesMemory (Patch addr word) = Unit {0}
 TakesMemory (Mark mark) = Unit {0}
 TakesMemory (Add rule) = Unit {0}

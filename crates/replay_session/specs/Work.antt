@@ -1,7 +1,7 @@
 -- How a line moves a session's work: the last step at which a machine is held, and how many steps were made.
-use Rattle.std.specs.Prelude.{◌≡◌, ℕ, List, true, false, Some, slice_get, Result, Ok, Err}
+use Rattle.std.specs.Prelude.{◌≡◌, ℕ, ◌-◌, length, List, true, false, Some, slice_get, Result, Ok, Err}
 use Rattle.guest_machine.specs.declared.setup.Mark.{Mark as MarkAt}
-use Rattle.checkpoints.specs.FirstEffects.{MarkShows, InputShows, HeapShows, PatchShows}
+use Rattle.checkpoints.specs.FirstEffects.{MarkShows, InputShows, EndShows, HeapShows, PatchShows}
 use Rattle.checkpoints.specs.Trails.{last_held, meter_of, is_short}
 use Rattle.checkpoints.specs.Work.{Work, ReportMoves, EditMoves, LeavesWork}
 use Rattle.checkpoints.specs.declared.trail.Trail.{Trail}
@@ -12,11 +12,13 @@ use Rattle.replay_session.specs.declared.fault.Fault.{Fault}
 use Rattle.replay_session.specs.declared.fault.Fault.TheVariants.{Memory}
 use Rattle.replay_session.specs.declared.reply.Reply.{Reply}
 use Rattle.replay_session.specs.declared.command.Command.{Command}
-use Rattle.replay_session.specs.declared.command.Command.TheVariants.{Report, Input, Patch, Mark, Unmark, Redzone, Queue}
+use Rattle.replay_session.specs.declared.command.Command.TheVariants.{Report, Input, Append, Cut, Patch, Mark, Unmark, Redzone, Queue}
 
 -- at which steps an accepted command may show in the run; at none where it doesn't edit the run
 abbrev pub ShowsAt : Scenario → Command → ℕ → Type 0
 ShowsAt sc (Input offset value) k = InputShows offset (first_state sc) sc.setup sc.marks k
+ShowsAt sc (Append value) k = EndShows (first_state sc) sc.setup sc.marks k
+ShowsAt sc Cut k = InputShows (length sc.setup.input - 1) (first_state sc) sc.setup sc.marks k
 ShowsAt sc (Patch addr word) k = PatchShows addr (first_state sc) sc.setup sc.marks k
 ShowsAt sc (Mark mark) k = MarkShows mark.step k
 ShowsAt sc (Unmark i) k = (mark : MarkAt) × (slice_get sc.marks i ≡ Some mark) × MarkShows mark.step k

@@ -11,6 +11,10 @@ pub(crate) enum Command {
     Report,
     /// Replaces a byte of the input.
     Input { offset: u32, byte: u8 },
+    /// Puts a byte at the end of the input.
+    Append(u8),
+    /// Takes the last byte off the input.
+    Cut,
     /// Replaces a word of the loaded program.
     Patch { addr: u32, word: u32 },
     /// Puts a mark at the end of the list.

@@ -7,19 +7,20 @@ use thiserror::Error;
 /// Why a line is refused. A refused line changes nothing but the number of lines.
 #[derive(Clone, Copy, Debug, PartialEq, Eq, Error)]
 pub enum Fault {
-    /// Memory was wanting, at a report, a patch, a mark or a new suppression that nothing else refuses.
+    /// Memory was wanting, at a report, a patch, a mark, a new suppression or a byte put at the end of the input that nothing else
+    /// refuses.
     #[error("no memory")]
     Memory,
     /// An unknown word, another number of fields, an empty field, or one of another form.
     #[error("unknown command or bad fields")]
     BadCommand,
-    /// An offset at or above the input's length.
+    /// An offset at or above the input's length, or the last byte of an empty input.
     #[error("outside of the input")]
     OutsideInput,
     /// An address that is no multiple of 4, or whose word isn't loaded whole.
     #[error("no loaded word")]
     NotPatchable,
-    /// A step above 1,048,576.
+    /// A step above 4,194,304.
     #[error("the step is above the limit")]
     StepLimit,
     /// A mark of no bytes, of more than 1,048,576, or that ends above 2^32.
@@ -46,10 +47,13 @@ pub enum Fault {
     /// Words that are no suppression's.
     #[error("no suppression")]
     BadSuppression,
+    /// The input has 1,048,576 bytes already.
+    #[error("the input is too large")]
+    InputTooLarge,
 }
 
 impl Fault {
-    /// The number of the refusal, from 1 to 13, as a reply writes it.
+    /// The number of the refusal, from 1 to 14, as a reply writes it.
     pub fn number(self) -> u8
         ensures { result ≡ number_of self }
     {
@@ -67,6 +71,7 @@ impl Fault {
             Fault::LineTooLong => 11,
             Fault::TooManyCommands => 12,
             Fault::BadSuppression => 13,
+            Fault::InputTooLarge => 14,
         }
     }
 }

@@ -2,6 +2,8 @@
 mod edits;
 mod refusals;
 
+pub use refusals::MOST_STEPS;
+
 ghost use Rattle.std.specs.Prelude.{◌≡◌, ◌≤◌, IfOk};
 ghost use Rattle.checkpoints.specs.Trails.{LoadsAs};
 ghost use Rattle.replay_session.specs.Setups.{setup_with, longest_input};

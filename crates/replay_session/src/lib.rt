@@ -24,9 +24,11 @@
 //!
 //! | Line | What it does |
 //! |---|---|
-//! | `goto N` | chooses step N, at most 1,048,576 |
+//! | `goto N` | chooses step N, at most 4,194,304 |
 //! | `report` | answers the report at the chosen step |
 //! | `input OFFSET BYTE` | replaces a byte of the input |
+//! | `input append BYTE` | puts a byte at the end of the input, which may have 1,048,576 |
+//! | `input cut` | takes the last byte off the input |
 //! | `patch ADDR WORD` | replaces a loaded word, the lowest byte first; what is known of its bits stays |
 //! | `mark STEP ADDR LEN KIND` | makes a range `defined`, `undefined` or `noaccess` just before a step |
 //! | `unmark I` | takes mark I out, from 0; later ones move down |
@@ -47,8 +49,8 @@
 //!
 //! - [`Session::begin`]: the session has the scenario of its arguments (`begun`).
 //! - [`Session::command`]: for each scenario that the session has, the answer and the bytes appended are those of the line, and the
-//!   session then has the scenario that the line leaves (`Answered`); or memory was wanting where it may be, at a report, a patch, a mark
-//!   or a new suppression that isn't refused, and the line only counts (`Wanting`). A refused line changes the number of lines alone.
+//!   session then has the scenario that the line leaves (`Answered`); or memory was wanting where it may be, at a report, a patch, a mark,
+//!   a new suppression or `input append` that isn't refused, and the line only counts (`Wanting`). A refused line changes the number of lines alone.
 //!   What the line costs in steps is that of its command by its first effect (`WorksLine`), as long as the trail isn't short; no line but
 //!   a patch makes it short (`StaysWholeAfter`).
 //! - [`laws::work_of_lines`]: if each of any lines costs that, then after them machines are held at just the steps that the list of lines
@@ -90,7 +92,7 @@ mod serving;
 mod texts;
 
 pub use fault::{BeginFault, Fault};
-pub use keeper::{LONGEST_INPUT, Session, setup_with};
+pub use keeper::{LONGEST_INPUT, MOST_STEPS, Session, setup_with};
 pub use reply::Reply;
 pub use sending::send;
 pub use serving::{READS, ServeFault, serve};

@@ -1,6 +1,6 @@
 //! A line read as a command.
 ghost use Rattle.std.specs.Prelude.{◌≡◌, true, false};
-ghost use Rattle.replay_session.specs.Commands.{has_empty, kind_of, taken, alone, input_of, patch_of, mark_of, switch_of, add_with, option_named, option_of, command_of, parsed, Reads};
+ghost use Rattle.replay_session.specs.Commands.{has_empty, kind_of, taken, alone, replace_of, append_of, cut_of, input_of, patch_of, mark_of, switch_of, add_with, option_named, option_of, command_of, parsed, Reads};
 ghost use Rattle.suppressions.specs.Added.{added};
 
 use crate::command::Command;
@@ -34,6 +34,10 @@ const GOTO: &[u8] = b"goto";
 const REPORT: &[u8] = b"report";
 
 const INPUT: &[u8] = b"input";
+
+const APPEND: &[u8] = b"append";
+
+const CUT: &[u8] = b"cut";
 
 const PATCH: &[u8] = b"patch";
 
@@ -96,11 +100,10 @@ fn alone(command: Command, mut fields: Parts<'_>) -> Result<Command, Fault>
 }
 
 /// `input OFFSET BYTE`.
-#[tactic(auto, unfolding(crate::specs::Commands::input_of))]
-fn input_of(mut fields: Parts<'_>) -> Option<Command>
-    ensures { result ≡ input_of fields.entry }
+#[tactic(auto, unfolding(crate::specs::Commands::replace_of))]
+fn replace_of(offset: &[u8], mut fields: Parts<'_>) -> Option<Command>
+    ensures { result ≡ replace_of offset.now fields.entry }
 {
-    let offset = fields.next()?;
     let value = fields.next()?;
     if fields.next().is_some() {
         return None;
@@ -108,6 +111,45 @@ fn input_of(mut fields: Parts<'_>) -> Option<Command>
     let offset = number(offset)?;
     let byte = byte(value)?;
     Some(Command::Input { offset, byte })
+}
+
+/// `input append BYTE`.
+#[tactic(auto, unfolding(crate::specs::Commands::append_of))]
+fn append_of(mut fields: Parts<'_>) -> Option<Command>
+    ensures { result ≡ append_of fields.entry }
+{
+    let value = fields.next()?;
+    if fields.next().is_some() {
+        return None;
+    }
+    let byte = byte(value)?;
+    Some(Command::Append(byte))
+}
+
+/// `input cut`.
+#[tactic(auto, unfolding(crate::specs::Commands::cut_of))]
+fn cut_of(mut fields: Parts<'_>) -> Option<Command>
+    ensures { result ≡ cut_of fields.entry }
+{
+    match fields.next() {
+        None => Some(Command::Cut),
+        Some(_) => None,
+    }
+}
+
+/// What is done to the input.
+#[tactic(auto, unfolding(crate::specs::Commands::input_of))]
+fn input_of(mut fields: Parts<'_>) -> Option<Command>
+    ensures { result ≡ input_of fields.entry }
+{
+    let word = fields.next()?;
+    if word == APPEND {
+        append_of(fields)
+    } else if word == CUT {
+        cut_of(fields)
+    } else {
+        replace_of(word, fields)
+    }
 }
 
 /// `patch ADDR WORD`.

@@ -5,6 +5,7 @@ use Rattle.std.specs.Str.Parse.{digits_value, without_leading_plus}
 use Rattle.clap.specs.Words.{App, Row, Rule, Text, first_of, new_app, new_rule, one_of, subcommand_of, with_rule, with_subcommand}
 use Rattle.clap.specs.Simple.{on_top}
 use Rattle.clap.specs.declared.builder.ValueParser.TheVariants.{Signed}
+use Rattle.replay_session.specs.Scenario.{most_steps}
 use Rattle.replaycheck.specs.Carried.{input_path, rules_path}
 use Rattle.replaycheck.specs.declared.arguments.Order.{Order}
 
@@ -16,9 +17,9 @@ option name = record (new_rule name) { long = Some name; value_names = 1 }
 abbrev pub program_command : Text → App
 program_command name = with_rule (with_rule (with_rule (new_app name) (record (new_rule (codes "FILE")) { required = true })) (option (codes "input"))) (option (codes "supp"))
 
--- `--step`, from 0 to 1,048,576, which it is where it isn't given
+-- `--step`, from 0 to 4,194,304, and 1,048,576 where it isn't given
 abbrev pub step_option : Rule
-step_option = record (option (codes "step")) { defaults = codes "1048576" ∷ []; parser = Some (Signed (pos 0) (pos 1048576)) }
+step_option = record (option (codes "step")) { defaults = codes "1048576" ∷ []; parser = Some (Signed (pos 0) (pos most_steps)) }
 
 -- the command line: `run` and `session`
 abbrev pub command_line : App

@@ -8,6 +8,7 @@ ghost use Rattle.replaycheck.specs.Orders.{IsOrderFor, IsOrderOf, command_line, 
 use crate::help::{ABOUT, AFTER_RUN, AFTER_SESSION, RUN, SESSION};
 use clap::error::ErrorKind;
 use clap::{Arg, ArgMatches, Command, Error, value_parser};
+use replay_session::MOST_STEPS;
 use std::alloc::{AllocError, Global};
 
 /// What is asked for: a session with a program, or the report of one at a step.
@@ -56,9 +57,9 @@ fn step_argument<'a>(alloc: Global) -> Arg<'a>
     Arg::new(alloc, "step")
         .long("step")
         .value_name("N")
-        .value_parser(value_parser!(u32).range(0..=1_048_576))
+        .value_parser(value_parser!(u32).range(0..=i64::from(MOST_STEPS)))
         .default_value("1048576")
-        .help("The step to report at, from 0 to 1048576")
+        .help("The step to report at, from 0 to 4194304")
 }
 
 /// The whole command line.

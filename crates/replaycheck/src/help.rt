@@ -49,9 +49,11 @@ Example, the report after 5000 steps:
 pub(crate) const AFTER_SESSION: &str = with_refusals!(
     "\
 Lines, with one space between fields; a number is decimal, or hexadecimal after 0x:
-  goto N                   chooses step N: 0 to 1048576, 0 at first
+  goto N                   chooses step N: 0 to 4194304, 0 at first
   report                   answers the report at the chosen step
   input OFFSET BYTE        replaces a byte of the input
+  input append BYTE        puts a byte at the end of the input
+  input cut                takes the last byte off the input
   patch ADDR WORD          replaces a loaded word, the lowest byte first
   mark STEP ADDR LEN KIND  makes a range defined, undefined or noaccess just before a step
   unmark I                 takes mark I out, counted from 0; later ones move down
@@ -70,7 +72,7 @@ the count of lines:
   2   no command, or a field that is missing, too many, empty or of the wrong form
   3   no such byte of the input
   4   no word of the loaded program
-  5   a step above 1048576
+  5   a step above 4194304
   6   a mark of 0 or of more than 1048576 bytes, or one that ends above 2^32
   7   no such mark
   8   no such suppression
@@ -79,6 +81,7 @@ the count of lines:
   11  a line of more than 4096 bytes
   12  the 100001st line; it ends the session
   13  a suppression that can't be read
+  14  an input of 1048576 bytes gets no more
 
 Example, what another first byte of the input would have changed:
   printf 'goto 5000\\nreport\\ninput 0 8\\nreport\\n' |

@@ -48,6 +48,34 @@ impl<'a> Session<'a> {
         Ok(Reply::Done)
     }
 
+    /// Puts a byte at the end of the input.
+    fn append(&mut self, byte: u8) -> Result<Reply, Fault>
+        ensures edits { Edits self.old self.new (Command.Append byte) result }
+        ensures work { Works self.old self.new (Command.Append byte) result }
+    {
+        keeps_lower();
+        match self.setup.input.push(byte) {
+            Ok(()) => {
+                self.trail.cut_end();
+                Ok(Reply::Done)
+            }
+            Err(_) => Err(Fault::Memory),
+        }
+    }
+
+    /// Takes the last byte off the input.
+    fn cut(&mut self) -> Result<Reply, Fault>
+        requires { 0 < length self.old.setup.input }
+        ensures edits { Edits self.old self.new Command.Cut result }
+        ensures work { Works self.old self.new Command.Cut result }
+    {
+        keeps_lower();
+        self.setup.input.pop();
+        let last = self.setup.input.len();
+        self.trail.cut_input(last as u32);
+        Ok(Reply::Done)
+    }
+
     /// Replaces a word of the loaded program.
     fn patch(&mut self, addr: u32, word: u32) -> Result<Reply, Fault>
         requires { is_word self.old.image addr ≡ true }
@@ -177,6 +205,8 @@ impl<'a> Session<'a> {
                 Err(_) => Err(Fault::Memory),
             },
             Command::Input { offset, byte } => self.set_input(offset, byte),
+            Command::Append(byte) => self.append(byte),
+            Command::Cut => self.cut(),
             Command::Patch { addr, word } => self.patch(addr, word),
             Command::Mark(mark) => self.add_mark(mark),
             Command::Unmark(index) => self.unmark(index),

@@ -4,13 +4,13 @@ ghost use Rattle.replay_session.specs.Scenario.{is_word, mark_refusal, refused_i
 
 use crate::command::Command;
 use crate::fault::Fault;
-use crate::keeper::{MOST_LINES, Session};
+use crate::keeper::{LONGEST_INPUT, MOST_LINES, Session};
 use crate::parsing::parse;
 use guest_elf::Image;
 use guest_machine::Mark;
 
 /// The greatest step that may be chosen or marked.
-pub(crate) const MOST_STEPS: u32 = 1_048_576;
+pub const MOST_STEPS: u32 = 4_194_304;
 /// How many marks there may be at one time.
 const MOST_MARKS: usize = 4096;
 /// How long a mark may be, in bytes.
@@ -76,6 +76,10 @@ impl<'a> Session<'a> {
                     Fault::OutsideInput,
                 )
             }
+            Command::Append(_) => {
+                refused_if(self.setup.input.len() >= LONGEST_INPUT, Fault::InputTooLarge)
+            }
+            Command::Cut => refused_if(self.setup.input.len() < 1, Fault::OutsideInput),
             Command::Patch { addr, .. } => {
                 refused_if(!is_word(&self.image, *addr), Fault::NotPatchable)
             }

@@ -71,3 +71,15 @@ returns-in-Worked-clause-carried c sc h = rw c.in-Worked.is (c.tell_work.ensures
 
 pub returns-in-Worked-clause-work : goal.returns-in-Worked-clause-work
 returns-in-Worked-clause-work c = rw c.in-Worked.is c.tell_work.ensures.work
+
+pub returns-in-Append-clause-carried : goal.returns-in-Append-clause-carried
+returns-in-Append-clause-carried c sc h = rw c.in-Append.is (c.append.ensures.edits sc c.args.out.now.items h)
+
+pub returns-in-Append-clause-work : goal.returns-in-Append-clause-work
+returns-in-Append-clause-work c = rw c.in-Append.is c.append.ensures.work
+
+pub returns-in-Cut-clause-carried : goal.returns-in-Cut-clause-carried
+returns-in-Cut-clause-carried c sc h = rw c.in-Cut.is (c.cut.ensures.edits sc c.args.out.now.items h)
+
+pub returns-in-Cut-clause-work : goal.returns-in-Cut-clause-work
+returns-in-Cut-clause-work c = rw c.in-Cut.is c.cut.ensures.work
