@@ -1,11 +1,12 @@
 -- Where a search finds the function at an address.
-use Rattle.std.proofs.Common.{◌≡◌, ◌⊎◌, inl, inr, ℕ, zero, suc, ◌<◌, ◌≤◌, ◌==◌, true, false, cond, refl, ap, sym, ◌∙◌, List, [], ◌∷◌, get_or, length, Some, None, arith}
+use Rattle.std.proofs.Common.{◌≡◌, ◌⊎◌, inl, inr, ℕ, zero, suc, ◌+◌, ◌<◌, ◌≤◌, ◌==◌, Bool, true, false, cond, refl, ap, sym, subst, ◌∙◌, slice_index_or, slice_set, List, [], ◌∷◌, get_or, length, Some, None, arith}
 use Rattle.std.proofs.lemmas.Bool.Decides.{nat_tests}
-use Rattle.std.proofs.lemmas.List.{get_or_default}
+use Rattle.std.proofs.lemmas.Bool.{true≢false}
+use Rattle.std.proofs.lemmas.List.{get_or_default, get_or-set_same, get_or-set_other}
 use Rattle.std.specs.List.Sorted.{IsNonDecreasingBy}
 use Rattle.guest_elf.specs.declared.hook.Hook.{Hook}
 use Rattle.guest_elf.specs.Hooks.{hook_at}
-use Rattle.guest_machine.specs.Hooks.{AreWithin}
+use Rattle.guest_machine.specs.Sieve.{slot_of, AreMarked}
 
 same-number : (m n : ℕ) → m ≡ n → (m == n) ≡ true
 same-number m n e = grind (arith, nat_tests)
@@ -41,12 +42,33 @@ hook_got hooks a i e within same before here =
     let first = hook_found hooks a i e within (λ k d less equal. let lower = before k d less in omega (arith, lower, equal)) (ap (λ (entry : ℕ × Hook). entry.0) (sym same) ∙ here) in
     sym (first ∙ ap (λ (entry : ℕ × Hook). Some entry.1) (sym same))
 
--- none is outside the bounds
-pub hook_below : (hooks : List (ℕ × Hook)) (low high a : ℕ) → AreWithin low high hooks → a < low → hook_at hooks a ≡ None
-hook_below hooks low high a bounds under = hook_absent hooks a (λ k d less same. let from = (bounds k d less).0 in omega (arith, from, same, under))
+-- none is there where the sieve has no mark
+pub hook_unmarked : (hooks : List (ℕ × Hook)) (sieve : List Bool) (a : ℕ) → AreMarked sieve hooks (length hooks) → slice_index_or sieve (slot_of a) false ≡ false → hook_at hooks a ≡ None
+hook_unmarked hooks sieve a marked none = hook_absent hooks a go
+  where
+    go : (k : ℕ) (e : ℕ × Hook) → k < length hooks → (get_or hooks k e).0 ≡ a → ⊥
+    go k e less same = true≢false (sym (ap (λ b. slice_index_or sieve (slot_of b) false) (sym same) ∙ marked k e less) ∙ none)
 
-pub hook_above : (hooks : List (ℕ × Hook)) (low high a : ℕ) → AreWithin low high hooks → high < a → hook_at hooks a ≡ None
-hook_above hooks low high a bounds over = hook_absent hooks a (λ k d less same. let to = (bounds k d less).1 in omega (arith, to, same, over))
+-- a mark more keeps those that are there
+mark-kept : (sieve : List Bool) (i j : ℕ) → i < length sieve → (i ≡ j) ⊎ (i ≡ j → ⊥) → slice_index_or sieve j false ≡ true → slice_index_or (slice_set sieve i true) j false ≡ true
+mark-kept sieve i j within (inl same) old = subst (λ n. slice_index_or (slice_set sieve i true) n false ≡ true) same (get_or-set_same sieve i true false within)
+mark-kept sieve i j within (inr apart) old = get_or-set_other sieve i j true false (λ e. apart (sym e)) ∙ old
+
+same-or-not : (i j : ℕ) → (i ≡ j) ⊎ (i ≡ j → ⊥)
+same-or-not i j = grind arith
+
+-- the mark of one function more
+pub marked_more : (sieve : List Bool) (hooks : List (ℕ × Hook)) (i slot : ℕ) (e : ℕ × Hook) → slot < length sieve → i < length hooks → slot ≡ slot_of (get_or hooks i e).0 → AreMarked sieve hooks i
+    → AreMarked (slice_set sieve slot true) hooks (i + 1)
+marked_more sieve hooks i slot e within inside is marked k d below = go (split k i)
+  where
+    go : (k < i) ⊎ (i ≤ k) → slice_index_or (slice_set sieve slot true) (slot_of (get_or hooks k d).0) false ≡ true
+    go (inl less) = mark-kept sieve slot (slot_of (get_or hooks k d).0) within (same-or-not _ _) (marked k d less)
+    go (inr more) =
+        let last : i ≡ k = omega arith in
+        let there : get_or hooks i e ≡ get_or hooks k d = get_or_default hooks i e d inside ∙ ap (λ n. get_or hooks n d) last in
+        let same : slot ≡ slot_of (get_or hooks k d).0 = is ∙ ap (λ (entry : ℕ × Hook). slot_of entry.0) there in
+        subst (λ n. slice_index_or (slice_set sieve slot true) n false ≡ true) same (get_or-set_same sieve slot true false within)
 
 -- none is there where those before a place are below it, and the one at the place above
 pub hook_passed : (hooks : List (ℕ × Hook)) (a i : ℕ) (d : ℕ × Hook) → IsNonDecreasingBy (λ (entry : ℕ × Hook). entry.0) hooks → ((k : ℕ) (e : ℕ × Hook) → k < i → (get_or hooks k e).0 < a)

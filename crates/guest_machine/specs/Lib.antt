@@ -8,7 +8,7 @@ pub mod CallStack
 pub mod StackPointer
 pub mod Alu
 pub mod Effects
-pub mod Hooks
+pub mod Sieve
 pub mod Calls
 pub mod HeapCalls
 pub mod NamedCalls

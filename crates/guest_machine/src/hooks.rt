@@ -2,31 +2,34 @@ ghost use Rattle.std.specs.Prelude.{◌≡◌, ℕ, ◌<◌, ◌≤◌, length, 
 ghost use Rattle.guest_elf.specs.declared.hook.Hook.{Hook as HookOf};
 ghost use Rattle.std.specs.List.Sorted.{IsNonDecreasingBy};
 ghost use Rattle.guest_elf.specs.Hooks.{hook_at};
+ghost use Rattle.guest_machine.specs.Sieve.{slot_of, AreMarked};
 
 use guest_elf::Hook;
 use std::marker::Model;
+
+// How many marks a sieve has room for.
+const SLOTS: usize = 64;
 
 /// The functions of the heap that a program has under their own names, each with its first address. Contracts see them as their
 /// list.
 #[derive(Drop)]
 pub struct Hooks {
     entries: Vec<(u32, Hook)>,
-    // No entry has an address below the first of these or above the second.
-    low: u32,
-    high: u32,
+    // A mark in the place of each entry's address: where there is none, no function begins.
+    sieve: [bool; SLOTS],
 }
 
 impl Model for Hooks {
-    ghost use Rattle.std.specs.Prelude.{List, ℕ};
+    ghost use Rattle.std.specs.Prelude.{List, ℕ, length};
     ghost use Rattle.std.specs.List.Sorted.{IsNonDecreasingBy};
     ghost use Rattle.guest_elf.specs.declared.hook.Hook.{Hook as HookOf};
-    ghost use Rattle.guest_machine.specs.Hooks.{AreWithin};
+    ghost use Rattle.guest_machine.specs.Sieve.{AreMarked};
 
     ghost Value = { List (ℕ × HookOf) };
 
     ghost view = { λ hooks. hooks.entries.items };
 
-    ghost invariant = { λ hooks. IsNonDecreasingBy (λ (entry : ℕ × HookOf). entry.0) hooks.entries.items × AreWithin hooks.low hooks.high hooks.entries.items };
+    ghost invariant = { λ hooks. IsNonDecreasingBy (λ (entry : ℕ × HookOf). entry.0) hooks.entries.items × AreMarked hooks.sieve hooks.entries.items (length hooks.entries.items) };
 }
 
 impl Hooks {
@@ -35,9 +38,8 @@ impl Hooks {
         requires { IsNonDecreasingBy (λ (entry : ℕ × HookOf). entry.0) entries.items }
         ensures { result ≡ entries.items }
     {
-        let low = entries.first().map_or(u32::MAX, |entry| entry.0);
-        let high = entries.last().map_or(0, |entry| entry.0);
-        Hooks { entries, low, high }
+        let sieve = sieve_of(&entries);
+        Hooks { entries, sieve }
     }
 
     /// The function that begins at an address: of several, the first.
@@ -45,14 +47,31 @@ impl Hooks {
     pub fn at(&self, addr: u32) -> Option<Hook>
         ensures { result ≡ hook_at self.now addr }
     {
-        if addr < self.low {
-            return None;
+        if self.sieve[slot_of(addr)] {
+            find(&self.entries, addr)
+        } else {
+            None
         }
-        if self.high < addr {
-            return None;
-        }
-        find(&self.entries, addr)
     }
+}
+
+/// The place of an address in a sieve.
+fn slot_of(addr: u32) -> usize
+    ensures value { result ≡ slot_of addr }
+    ensures within { result < 64 }
+{
+    addr as usize / 4 % SLOTS
+}
+
+/// The sieve of some functions.
+fn sieve_of(entries: &[(u32, Hook)]) -> [bool; SLOTS]
+    ensures { AreMarked result entries.now (length entries.now) }
+{
+    let mut sieve = [false; SLOTS];
+    for &(start, _) in entries {
+        sieve[slot_of(start)] = true;
+    }
+    sieve
 }
 
 /// How many of the functions begin below an address.

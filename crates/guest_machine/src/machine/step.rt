@@ -173,9 +173,10 @@ impl Guest {
     fn called_here(&self, hooks: &Hooks) -> Option<Hook>
         ensures { result ≡ called_here (core_of self.now) hooks.now }
     {
-        match hooks.at(self.pc) {
-            Some(function) if self.is_ready() => Some(function),
-            _ => None,
+        if self.is_ready() {
+            hooks.at(self.pc)
+        } else {
+            None
         }
     }
 
