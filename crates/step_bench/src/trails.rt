@@ -11,7 +11,7 @@ use std::io;
 use std::time::Instant;
 
 /// How many steps are made.
-const STEPS: u32 = 1_048_576;
+const STEPS: u32 = 4_194_304;
 
 // addi x5,x5,0, whose immediate stands in the upper twelve bits.
 const ADVANCE: u32 = 0x0002_8293;
