@@ -48,7 +48,7 @@ static int provoke(unsigned which, int *words, char *bytes)
     case 8: if (words[1] == 7) result = 1; break;           /* branches on what nobody has written */
     case 9: result = table[words[1] & 3]; break;            /* takes an address from what nobody has written */
     case 10: result = words[1]; break;                      /* exits with what nobody has written */
-    case 11: free(malloc(words[1])); break;                 /* asks for a block of a size that nobody has written */
+    case 11: kept = malloc(words[1]); free(kept); break;    /* asks for a block of a size that nobody has written */
     case 12: write(1, words, 8); break;                     /* sends what nobody has written */
     case 13: write(1, bytes, 11); break;                    /* sends more than there is */
     case 14: read(0, bytes, 11); break;                     /* asks for more than there is room for */
