@@ -58,10 +58,47 @@ from_picolibc() {
   "$REPLAYCHECK" run "$room/$1.elf" --input "$1.input" "${@:2}" | sed -E 's/ 0x0001[0-9a-f]{4}: / /'
 }
 
+# made NAME WORD..: builds a wrong program. symptom TEXT COMMAND..: whether a command says what the manual's last section explains.
+made() {
+  riscv64-unknown-elf-gcc --specs=picolibc.specs "${@:2}" -o "$room/$1" 2>&1 || true
+}
+symptom() {
+  sed '1,/^## 11/d' ../../docs/manual.md | grep -q -F -e "\`$1" || { echo "the manual hasn't $1"; return 1; }
+  local told
+  told=$("${@:2}" 2>&1)
+  [[ $told == *"$1"* ]] || { echo "$told"; return 1; }
+}
+
+symptoms() {
+  local target=(-march=rv32im -mabi=ilp32)
+  local kit=("${target[@]}" -nostartfiles -T firmware.ld start.S)
+  local run="$REPLAYCHECK run $room"
+  riscv64-unknown-elf-objcopy -O binary station.elf "$room/flash.bin"
+  check 'no ELF file' symptom 'image refused 20' $run/flash.bin
+  made wide --crt0=minimal "$room/small.c"
+  check 'no -march' symptom 'image refused 21' $run/wide
+  made object "${target[@]}" -c station.c
+  check 'an object' symptom 'image refused 24' $run/object
+  riscv64-unknown-elf-gcc "${target[@]}" -nostdlib -e main -Ttext=0x80000000 "$room/small.c" -o "$room/high"
+  check 'at the stack region' symptom 'image refused 29' $run/high
+  made large "${kit[@]}" system.c "$room/large.c"
+  check 'all RAM reserved' symptom 'image refused 30' $run/large
+  made compressed "${kit[@]}" -march=rv32imac system.c station.c
+  check 'for rv32imac' symptom 'state stopped misaligned' $run/compressed
+  made bare "${target[@]}" -nostdlib -nostartfiles -T firmware.ld -e main "$room/small.c"
+  check 'no start file' symptom 'state stopped jump 0x00000000' $run/bare
+  check 'stdio without console.c' symptom 'undefined reference' made streams "${kit[@]}" system.c average.c
+  check 'two heaps' symptom 'multiple definition of' made heaps "${kit[@]}" system.c heap_by_number.c "$room/aligned.c"
+}
+
 if ! command -v riscv64-unknown-elf-gcc >/dev/null; then
   left_out 'building the programs, and average.elf and labels.elf' 'there is no riscv64-unknown-elf-gcc'
 else
   check 'building the programs' ./build.sh "$room"
+  echo 'int main(void) { return 5; }' >"$room/small.c"
+  echo 'char all[20000000]; int main(void) { return all[5]; }' >"$room/large.c"
+  printf '#include <malloc.h>\nint main(void) { return memalign(64, 20) == 0; }\n' >"$room/aligned.c"
+  symptoms
   if [ "$(compiled_by station.elf)" != "$(compiled_by "$room/station.elf")" ]; then
     left_out 'comparing the programs, and average.elf and labels.elf' "the compiler isn't that of station.elf"
   else

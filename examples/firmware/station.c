@@ -27,7 +27,7 @@ static uint8_t records[256];
 
 static int set_name(struct station *station, const uint8_t *value, unsigned length)
 {
-    char *name = malloc((length + 3) & ~3u);        /* bug 1: with 4, 8, 12 .. letters there is no room for the zero */
+    char *name = malloc((length + 3) & ~3u);        /* bug 1: with 0, 4, 8 .. letters there is no room for the zero */
     if (!name)
         return -1;
     memcpy(name, value, length);
