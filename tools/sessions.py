@@ -59,8 +59,10 @@ def end(main):
     try:
         status = main()
         sys.stdout.flush()
-    except BrokenPipeError:
-        sys.stdout = None
+    except BrokenPipeError:  # nobody reads on
+        os.dup2(os.open(os.devnull, os.O_WRONLY), sys.stdout.fileno())
+        status = 2
+    except KeyboardInterrupt:
         status = 2
     except (OSError, Ended) as fault:
         print(f"{tool}: {fault}", file=sys.stderr)
