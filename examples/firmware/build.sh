@@ -4,8 +4,8 @@
 # Builds the programs of this folder and of the one above, each beside its source, or all of them into FOLDER. One version of the
 # tools makes the same bytes each time, wherever the folders lie; the section .comment says which compiler it was.
 #
-# The files that are checked in hold code of this repository alone. average.elf and labels.elf have picolibc in them, and are left
-# to who has it. Wants gcc-riscv64-unknown-elf and picolibc-riscv64-unknown-elf.
+# The files that are checked in hold code of this repository alone. average.elf, labels.elf and library.elf have picolibc in them,
+# and are left to who has it. Wants gcc-riscv64-unknown-elf and picolibc-riscv64-unknown-elf.
 set -euo pipefail
 case ${1-} in
   --help) sed -n '2,8s/^# \{0,1\}//p' "$0"; exit 0 ;;
@@ -47,4 +47,5 @@ firmware kinds -nostdlib kinds.o memory.o heap_by_number.o
 firmware station -nostdlib station.o memory.o heap_by_number.o
 firmware station-by-name -nostdlib station.o memory.o heap_by_name.o
 firmware average average.o console.o -DPICOLIBC_INTEGER_PRINTF_SCANF
+firmware library library.o console.o heap_by_number.o -lm
 firmware labels labels.o heap_by_number.o --picolibc-buildtype=release

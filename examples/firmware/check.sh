@@ -55,7 +55,7 @@ fi
 compiled_by() { strings -a "$1" | grep -m 1 '^GCC: '; }
 
 from_picolibc() {
-  "$REPLAYCHECK" run "$room/$1.elf" --input "$1.input" "${@:2}" | sed -E 's/ 0x0001[0-9a-f]{4}: / /'
+  "$REPLAYCHECK" run "$room/$1.elf" "${@:2}" | sed -E 's/ 0x0001[0-9a-f]{4}: / /'
 }
 
 # made NAME WORD..: builds a wrong program. symptom TEXT COMMAND..: whether a command says what the manual's last section explains.
@@ -92,7 +92,7 @@ symptoms() {
 }
 
 if ! command -v riscv64-unknown-elf-gcc >/dev/null; then
-  left_out 'building the programs, and average.elf and labels.elf' 'there is no riscv64-unknown-elf-gcc'
+  left_out 'building the programs, and those with picolibc' 'there is no riscv64-unknown-elf-gcc'
 else
   check 'building the programs' ./build.sh "$room"
   echo 'int main(void) { return 5; }' >"$room/small.c"
@@ -100,14 +100,16 @@ else
   printf '#include <malloc.h>\nint main(void) { return memalign(64, 20) == 0; }\n' >"$room/aligned.c"
   symptoms
   if [ "$(compiled_by station.elf)" != "$(compiled_by "$room/station.elf")" ]; then
-    left_out 'comparing the programs, and average.elf and labels.elf' "the compiler isn't that of station.elf"
+    left_out 'comparing the programs, and those with picolibc' "the compiler isn't that of station.elf"
   else
     for program in ../*.elf kinds.elf station.elf station-by-name.elf; do
       check "the same bytes of $program" cmp "$program" "$room/${program##*/}"
     done
-    check 'printf and scanf' same average from_picolibc average
-    check 'fast string functions' same labels from_picolibc labels
-    check 'fast string functions, suppressed' same labels-suppressed from_picolibc labels --supp picolibc.supp
+    check 'picolibc without a false error' same library from_picolibc library
+    check 'printf and scanf' same average from_picolibc average --input average.input
+    check 'fast string functions' same labels from_picolibc labels --input labels.input
+    check 'fast string functions, suppressed' same labels-suppressed \
+      from_picolibc labels --input labels.input --supp picolibc.supp
   fi
 fi
 tell
