@@ -17,7 +17,7 @@ gcc=riscv64-unknown-elf-gcc
 command -v $gcc >/dev/null || { echo "build.sh: no $gcc" >&2; exit 2; }
 
 # The names of folders on this machine have no place in the files, nor have those of temporary objects.
-moved=("$PWD"=. "${PWD%/*}"=.. /usr/lib/=)
+moved=("$PWD=." "${PWD%/*}=.." "/usr/lib/=")
 target=(-march=rv32im -mabi=ilp32 --specs=picolibc.specs)
 flags=("${target[@]}" -Og -g -Wall -Wextra "${moved[@]/#/-ffile-prefix-map=}" "${moved[@]/#/-Wa,--debug-prefix-map=}")
 objects=$(mktemp -d)

@@ -52,7 +52,7 @@ fi
 
 # ---- with the compiler
 
-compiled_by() { strings -a "$1" | grep -m 1 '^GCC: '; }
+compiled_by() { strings -a "$1" | grep -E '^(GCC: |GNU AS )' | sort -u; }
 
 from_picolibc() {
   "$REPLAYCHECK" run "$room/$1.elf" "${@:2}" | sed -E 's/ 0x0001[0-9a-f]{4}: / /'
@@ -69,24 +69,25 @@ symptom() {
   [[ $told == *"$1"* ]] || { echo "$told"; return 1; }
 }
 
+run_of() { "$REPLAYCHECK" run "$room/$1"; }
+
 symptoms() {
   local target=(-march=rv32im -mabi=ilp32)
   local kit=("${target[@]}" -nostartfiles -T firmware.ld start.S)
-  local run="$REPLAYCHECK run $room"
   riscv64-unknown-elf-objcopy -O binary station.elf "$room/flash.bin"
-  check 'no ELF file' symptom 'image refused 20' $run/flash.bin
+  check 'no ELF file' symptom 'image refused 20' run_of flash.bin
   made wide --crt0=minimal "$room/small.c"
-  check 'no -march' symptom 'image refused 21' $run/wide
+  check 'no -march' symptom 'image refused 21' run_of wide
   made object "${target[@]}" -c station.c
-  check 'an object' symptom 'image refused 24' $run/object
+  check 'an object' symptom 'image refused 24' run_of object
   riscv64-unknown-elf-gcc "${target[@]}" -nostdlib -e main -Ttext=0x80000000 "$room/small.c" -o "$room/high"
-  check 'at the stack region' symptom 'image refused 29' $run/high
+  check 'at the stack region' symptom 'image refused 29' run_of high
   made large "${kit[@]}" system.c "$room/large.c"
-  check 'all RAM reserved' symptom 'image refused 30' $run/large
+  check 'all RAM reserved' symptom 'image refused 30' run_of large
   made compressed "${kit[@]}" -march=rv32imac system.c station.c
-  check 'for rv32imac' symptom 'state stopped misaligned' $run/compressed
+  check 'for rv32imac' symptom 'state stopped misaligned' run_of compressed
   made bare "${target[@]}" -nostdlib -nostartfiles -T firmware.ld -e main "$room/small.c"
-  check 'no start file' symptom 'state stopped jump 0x00000000' $run/bare
+  check 'no start file' symptom 'state stopped jump 0x00000000' run_of bare
   check 'stdio without console.c' symptom 'undefined reference' made streams "${kit[@]}" system.c average.c
   check 'two heaps' symptom 'multiple definition of' made heaps "${kit[@]}" system.c heap_by_number.c "$room/aligned.c"
 }
