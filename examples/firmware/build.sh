@@ -27,6 +27,7 @@ for source in *.S *.c ../*.s; do
   name=${source##*/}
   $gcc "${flags[@]}" -c "$source" -o "$objects/${name%.*}.o"
 done
+$gcc "${flags[@]}" -include heap_by_number.h -c station.c -o "$objects/station-by-number.o"
 
 # linked FILE SCRIPT WORD..: names of objects, and options for the linker.
 linked() {
@@ -43,9 +44,9 @@ firmware() {
   linked "${into:-.}/$1.elf" firmware.ld start.o system.o "${@:2}"
 }
 
-firmware kinds -nostdlib kinds.o memory.o heap_by_number.o
-firmware station -nostdlib station.o memory.o heap_by_number.o
-firmware station-by-name -nostdlib station.o memory.o heap_by_name.o
+firmware kinds -nostdlib kinds.o memory.o heap_by_name.o
+firmware station -nostdlib station.o memory.o heap_by_name.o
+firmware station-by-number -nostdlib station-by-number.o memory.o heap_by_number.o
 firmware average average.o console.o -DPICOLIBC_INTEGER_PRINTF_SCANF
-firmware library library.o console.o heap_by_number.o -lm
-firmware labels labels.o heap_by_number.o --picolibc-buildtype=release
+firmware library library.o console.o heap_by_name.o -lm
+firmware labels labels.o heap_by_name.o --picolibc-buildtype=release

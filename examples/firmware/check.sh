@@ -24,14 +24,14 @@ same() {
   diff "expected/$1" <("${@:2}")
 }
 
-# Without what differs between the two ways to the heap: where in malloc and its like a trace begins.
+# Without what differs between the two ways to the heap: the line with which the trace of a call begins.
 without_heap_places() {
-  sed -E 's/^   at 0x[0-9a-f]{8}: (malloc|free|calloc|realloc)$/   at \1/'
+  sed -E 's/^   at 0x[0-9a-f]{8}: (malloc|free|calloc|realloc)(_by_number)?$/   at \1/'
 }
 
-same_by_name() {
+same_by_number() {
   diff <(without_heap_places <expected/station) \
-    <(../../tools/talk station-by-name.elf --input station.input station.session | without_heap_places)
+    <(../../tools/talk station-by-number.elf --input station.input station.session | without_heap_places)
 }
 
 # The remarks of kinds.session are those of the cases in kinds.c.
@@ -42,10 +42,10 @@ same_cases() {
 check 'a session on station.elf' same station ../../tools/talk station.elf --input station.input station.session
 check 'each kind of error' same kinds ../../tools/talk kinds.elf --input kinds.input kinds.session
 check 'the cases of kinds.c' same_cases
-check 'heap calls by name' same_by_name
+check 'heap calls by number' same_by_number
 
 if command -v qemu-riscv32 >/dev/null; then
-  check 'the heap of heap_by_name.c' diff <(echo 'harbour 00231') <(qemu-riscv32 station-by-name.elf <station.input)
+  check 'the heap of heap_by_name.c' diff <(echo 'harbour 00231') <(qemu-riscv32 station.elf <station.input)
 else
   left_out 'the heap of heap_by_name.c' 'there is no qemu-riscv32'
 fi
@@ -71,6 +71,20 @@ symptom() {
 
 run_of() { "$REPLAYCHECK" run "$room/$1"; }
 
+# overrun NAME: whether a program like station.elf is found to write behind the block of a name with 8 letters.
+overrun() {
+  printf 'goto 4000\ninput 1 8\nreport\n' | "$REPLAYCHECK" session "$room/$1" --input station.input >"$room/told"
+  grep -A 5 '^error' "$room/told" | grep -q "is 0 bytes after a block of size 8 alloc'd"
+}
+
+other_heaps() {
+  made own -march=rv32im -mabi=ilp32 -nostartfiles -T firmware.ld -Wl,--defsym=__heap_size=16384 start.S system.c station.c
+  check "picolibc's own heap" overrun own
+  riscv64-unknown-elf-objcopy --redefine-sym malloc=pvPortMalloc --redefine-sym free=vPortFree station.elf "$room/rtos"
+  riscv64-unknown-elf-objcopy --redefine-sym pvPortMalloc=malloc --redefine-sym vPortFree=free "$room/rtos" "$room/check"
+  check 'a heap with other names' overrun check
+}
+
 symptoms() {
   local target=(-march=rv32im -mabi=ilp32)
   local kit=("${target[@]}" -nostartfiles -T firmware.ld start.S)
@@ -89,7 +103,7 @@ symptoms() {
   made bare "${target[@]}" -nostdlib -nostartfiles -T firmware.ld -e main "$room/small.c"
   check 'no start file' symptom 'state stopped jump 0x00000000' run_of bare
   check 'stdio without console.c' symptom 'undefined reference' made streams "${kit[@]}" system.c average.c
-  check 'two heaps' symptom 'multiple definition of' made heaps "${kit[@]}" system.c heap_by_number.c "$room/aligned.c"
+  check 'two heaps' symptom 'multiple definition of' made heaps "${kit[@]}" system.c heap_by_name.c "$room/aligned.c"
 }
 
 if ! command -v riscv64-unknown-elf-gcc >/dev/null; then
@@ -100,10 +114,11 @@ else
   echo 'char all[20000000]; int main(void) { return all[5]; }' >"$room/large.c"
   printf '#include <malloc.h>\nint main(void) { return memalign(64, 20) == 0; }\n' >"$room/aligned.c"
   symptoms
+  other_heaps
   if [ "$(compiled_by station.elf)" != "$(compiled_by "$room/station.elf")" ]; then
     left_out 'comparing the programs, and those with picolibc' "the compiler isn't that of station.elf"
   else
-    for program in ../*.elf kinds.elf station.elf station-by-name.elf; do
+    for program in ../*.elf kinds.elf station.elf station-by-number.elf; do
       check "the same bytes of $program" cmp "$program" "$room/${program##*/}"
     done
     check 'picolibc without a false error' same library from_picolibc library
