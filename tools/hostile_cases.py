@@ -35,14 +35,15 @@ def put(file, offset, size, number):
 
 
 def fields(file):
-    """Offset and size of each field of the headers and of the first two symbols."""
+    """Offset and size of each field of the headers, of the first function's symbol and of the one before it."""
     header = [(at, 1) for at in range(16)] + [(16, 2), (18, 2)] + [(at, 4) for at in range(20, 40, 4)]
     header += [(at, 2) for at in range(40, 52, 2)]
     sections, count = struct.unpack_from("<I", file, 32)[0], struct.unpack_from("<H", file, 48)[0]
     words = list(range(52, 84, 4)) + list(range(sections, sections + 40 * count, 4))
     table = next(at for at in range(sections, len(file), 40) if struct.unpack_from("<I", file, at + 4)[0] == 2)
     symbols = struct.unpack_from("<I", file, table + 16)[0]
-    return header + [(at, 4) for at in words + list(range(symbols, symbols + 32, 4))]
+    function = next(at for at in range(symbols, len(file), 16) if file[at + 12] & 15 == 2)
+    return header + [(at, 4) for at in words + list(range(function - 16, function + 16, 4))]
 
 
 def many_segments(count, kind, size, apart):

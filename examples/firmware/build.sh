@@ -1,0 +1,52 @@
+#!/usr/bin/env bash
+# usage: examples/firmware/build.sh [FOLDER]
+#
+# Builds the programs of this folder and of the one above, each beside its source, or all of them into FOLDER. One version of the
+# tools makes the same bytes each time, wherever the folders lie; the section .comment says which compiler it was.
+#
+# The files that are checked in hold code of this repository alone. average.elf, labels.elf and library.elf have picolibc in them,
+# and are left to who has it. Wants gcc-riscv64-unknown-elf and picolibc-riscv64-unknown-elf.
+set -euo pipefail
+case ${1-} in
+  --help) sed -n '2,8s/^# \{0,1\}//p' "$0"; exit 0 ;;
+  -*) sed -n 2p "$0" >&2; exit 2 ;;
+esac
+into=${1:+$(mkdir -p "$1" && cd "$1" && pwd)}
+cd "$(dirname "$(readlink -f "$0")")"
+gcc=riscv64-unknown-elf-gcc
+command -v $gcc >/dev/null || { echo "build.sh: no $gcc" >&2; exit 2; }
+
+# The names of folders on this machine have no place in the files, nor have those of temporary objects.
+moved=("$PWD=." "${PWD%/*}=.." "/usr/lib/=")
+target=(-march=rv32im -mabi=ilp32 --specs=picolibc.specs)
+flags=("${target[@]}" -Og -g -Wall -Wextra "${moved[@]/#/-ffile-prefix-map=}" "${moved[@]/#/-Wa,--debug-prefix-map=}")
+objects=$(mktemp -d)
+trap 'rm -rf "$objects"' EXIT
+
+for source in *.S *.c ../*.s; do
+  name=${source##*/}
+  $gcc "${flags[@]}" -c "$source" -o "$objects/${name%.*}.o"
+done
+$gcc "${flags[@]}" -include heap_by_number.h -c station.c -o "$objects/station-by-number.o"
+
+# linked FILE SCRIPT WORD..: names of objects, and options for the linker.
+linked() {
+  (cd "$objects" && $gcc "${target[@]}" -nostartfiles -T "$OLDPWD/$2" "${@:3}" -o linked)
+  mv "$objects/linked" "$1"
+}
+
+for name in three-words use-after-free undefined-branches packet; do
+  linked "${into:-..}/$name.elf" ../words.ld -nostdlib -n -Wl,--no-gc-sections $name.o
+done
+
+# What each has, and after it the program's own. The heap comes last, so that all else has the same addresses with either.
+firmware() {
+  linked "${into:-.}/$1.elf" firmware.ld start.o system.o "${@:2}"
+}
+
+firmware kinds -nostdlib kinds.o memory.o heap_by_name.o
+firmware station -nostdlib station.o memory.o heap_by_name.o
+firmware station-by-number -nostdlib station-by-number.o memory.o heap_by_number.o
+firmware average average.o console.o -DPICOLIBC_INTEGER_PRINTF_SCANF
+firmware library library.o console.o heap_by_name.o -lm
+firmware labels labels.o heap_by_name.o --picolibc-buildtype=release

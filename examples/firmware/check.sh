@@ -1,0 +1,131 @@
+#!/usr/bin/env bash
+# usage: examples/firmware/check.sh [PROGRAM]
+#
+# Runs what stands in this folder under PROGRAM, or this repository's replaycheck, and compares what it says with expected/. Where
+# there is a compiler, it also builds all programs anew and compares them byte for byte. Prints a line for each difference and for what
+# this machine lacks, and last `N passed, M failed`. Exit status: 0 all as expected, 1 not, 2 it couldn't be done.
+set -u
+export LC_ALL=C
+usage() { sed -n '2,/^set/s/^# \{0,1\}//p' "$0"; }
+case ${1-} in
+  --help) usage; exit 0 ;;
+  -*) usage | head -n 1 >&2; exit 2 ;;
+esac
+REPLAYCHECK=$(readlink -f "${1:-$(dirname "$0")/../../replaycheck}")
+[ -x "$REPLAYCHECK" ] || { echo "check.sh: no program $REPLAYCHECK" >&2; exit 2; }
+export REPLAYCHECK
+cd "$(dirname "$(readlink -f "$0")")" || exit 2
+source ../../tools/counting.sh
+room=$(mktemp -d) || exit 2
+trap 'rm -rf "$room"' EXIT
+
+# same NAME COMMAND..: whether a command says what stands in expected/.
+same() {
+  diff "expected/$1" <("${@:2}")
+}
+
+# Without what differs between the two ways to the heap: the line with which the trace of a call begins.
+without_heap_places() {
+  sed -E 's/^   at 0x[0-9a-f]{8}: (malloc|free|calloc|realloc)(_by_number)?$/   at \1/'
+}
+
+same_by_number() {
+  diff <(without_heap_places <expected/station) \
+    <(../../tools/talk station-by-number.elf --input station.input station.session | without_heap_places)
+}
+
+# The remarks of kinds.session are those of the cases in kinds.c.
+same_cases() {
+  diff <(sed -nE 's|^    case ([0-9]+): .* /\* (.*) \*/$|\1: \2|p' kinds.c) <(sed -nE 's/^# ([0-9]+: .*)$/\1/p' kinds.session)
+}
+
+check 'a session on station.elf' same station ../../tools/talk station.elf --input station.input station.session
+check 'each kind of error' same kinds ../../tools/talk kinds.elf --input kinds.input kinds.session
+check 'the cases of kinds.c' same_cases
+check 'heap calls by number' same_by_number
+
+if command -v qemu-riscv32 >/dev/null; then
+  check 'the heap of heap_by_name.c' diff <(echo 'harbour 00231') <(qemu-riscv32 station.elf <station.input)
+else
+  left_out 'the heap of heap_by_name.c' 'there is no qemu-riscv32'
+fi
+
+# ---- with the compiler
+
+compiled_by() { strings -a "$1" | grep -E '^(GCC: |GNU AS )' | sort -u; }
+
+from_picolibc() {
+  "$REPLAYCHECK" run "$room/$1.elf" "${@:2}" | sed -E 's/ 0x0001[0-9a-f]{4}: / /'
+}
+
+# made NAME WORD..: builds a wrong program. symptom TEXT COMMAND..: whether a command says what the manual's last section explains.
+made() {
+  riscv64-unknown-elf-gcc --specs=picolibc.specs "${@:2}" -o "$room/$1" 2>&1 || true
+}
+symptom() {
+  sed '1,/^## 11/d' ../../docs/manual.md | grep -q -F -e "\`$1" || { echo "the manual hasn't $1"; return 1; }
+  local told
+  told=$("${@:2}" 2>&1)
+  [[ $told == *"$1"* ]] || { echo "$told"; return 1; }
+}
+
+run_of() { "$REPLAYCHECK" run "$room/$1"; }
+
+# overrun NAME: whether a program like station.elf is found to write behind the block of a name with 8 letters.
+overrun() {
+  printf 'goto 4000\ninput 1 8\nreport\n' | "$REPLAYCHECK" session "$room/$1" --input station.input >"$room/told"
+  grep -A 5 '^error' "$room/told" | grep -q "is 0 bytes after a block of size 8 alloc'd"
+}
+
+other_heaps() {
+  made own -march=rv32im -mabi=ilp32 -nostartfiles -T firmware.ld -Wl,--defsym=__heap_size=16384 start.S system.c station.c
+  check "picolibc's own heap" overrun own
+  riscv64-unknown-elf-objcopy --redefine-sym malloc=pvPortMalloc --redefine-sym free=vPortFree station.elf "$room/rtos"
+  riscv64-unknown-elf-objcopy --redefine-sym pvPortMalloc=malloc --redefine-sym vPortFree=free "$room/rtos" "$room/check"
+  check 'a heap with other names' overrun check
+}
+
+symptoms() {
+  local target=(-march=rv32im -mabi=ilp32)
+  local kit=("${target[@]}" -nostartfiles -T firmware.ld start.S)
+  riscv64-unknown-elf-objcopy -O binary station.elf "$room/flash.bin"
+  check 'no ELF file' symptom 'image refused 20' run_of flash.bin
+  made wide --crt0=minimal "$room/small.c"
+  check 'no -march' symptom 'image refused 21' run_of wide
+  made object "${target[@]}" -c station.c
+  check 'an object' symptom 'image refused 24' run_of object
+  riscv64-unknown-elf-gcc "${target[@]}" -nostdlib -e main -Ttext=0x80000000 "$room/small.c" -o "$room/high"
+  check 'at the stack region' symptom 'image refused 29' run_of high
+  made large "${kit[@]}" system.c "$room/large.c"
+  check 'all RAM reserved' symptom 'image refused 30' run_of large
+  made compressed "${kit[@]}" -march=rv32imac system.c station.c
+  check 'for rv32imac' symptom 'state stopped misaligned' run_of compressed
+  made bare "${target[@]}" -nostdlib -nostartfiles -T firmware.ld -e main "$room/small.c"
+  check 'no start file' symptom 'state stopped jump 0x00000000' run_of bare
+  check 'stdio without console.c' symptom 'undefined reference' made streams "${kit[@]}" system.c average.c
+  check 'two heaps' symptom 'multiple definition of' made heaps "${kit[@]}" system.c heap_by_name.c "$room/aligned.c"
+}
+
+if ! command -v riscv64-unknown-elf-gcc >/dev/null; then
+  left_out 'building the programs, and those with picolibc' 'there is no riscv64-unknown-elf-gcc'
+else
+  check 'building the programs' ./build.sh "$room"
+  echo 'int main(void) { return 5; }' >"$room/small.c"
+  echo 'char all[20000000]; int main(void) { return all[5]; }' >"$room/large.c"
+  printf '#include <malloc.h>\nint main(void) { return memalign(64, 20) == 0; }\n' >"$room/aligned.c"
+  symptoms
+  other_heaps
+  if [ "$(compiled_by station.elf)" != "$(compiled_by "$room/station.elf")" ]; then
+    left_out 'comparing the programs, and those with picolibc' "the compiler isn't that of station.elf"
+  else
+    for program in ../*.elf kinds.elf station.elf station-by-number.elf; do
+      check "the same bytes of $program" cmp "$program" "$room/${program##*/}"
+    done
+    check 'picolibc without a false error' same library from_picolibc library
+    check 'printf and scanf' same average from_picolibc average --input average.input
+    check 'fast string functions' same labels from_picolibc labels --input labels.input
+    check 'fast string functions, suppressed' same labels-suppressed \
+      from_picolibc labels --input labels.input --supp picolibc.supp
+  fi
+fi
+tell
