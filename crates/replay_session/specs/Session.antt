@@ -4,6 +4,7 @@ use Rattle.checkpoints.specs.Trails.{IsRightFor, meter_of}
 use Rattle.checkpoints.specs.declared.trail.Trail.{Trail}
 use Rattle.replay_report.specs.Report.{AppendsReport}
 use Rattle.replay_session.specs.Scenario.{Scenario, Room, IsReportOf, first_state, is_word, accepted, applied, counted, changed}
+use Rattle.replay_session.specs.Setups.{longest_input}
 use Rattle.replay_session.specs.declared.keeper.Session.{Session}
 use Rattle.replay_session.specs.declared.fault.Fault.{Fault}
 use Rattle.replay_session.specs.declared.fault.Fault.TheVariants.{Memory}
@@ -48,6 +49,7 @@ work_of session = meter_of session.trail
 -- what an accepted command names is there and in its range
 abbrev pub IsWithin : Room → Command → Type 0
 IsWithin room (Input offset value) = offset < room.input
+IsWithin room (Append value) = room.input < longest_input
 IsWithin room Cut = 0 < room.input
 IsWithin room (Patch addr word) = is_word room.image addr ≡ true
 IsWithin room (Unmark i) = i < room.marks

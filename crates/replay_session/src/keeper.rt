@@ -4,7 +4,7 @@ mod refusals;
 
 pub use refusals::MOST_STEPS;
 
-ghost use Rattle.std.specs.Prelude.{◌≡◌, ◌≤◌, IfOk};
+ghost use Rattle.std.specs.Prelude.{◌≡◌, ◌≤◌, IfOk, length};
 ghost use Rattle.checkpoints.specs.Trails.{LoadsAs};
 ghost use Rattle.replay_session.specs.Setups.{setup_with, longest_input};
 
@@ -46,6 +46,7 @@ pub struct Session<'a> {
     trail: Trail,
     ghost loads: { LoadsAs trail image },
     setup: Setup,
+    ghost fits: { length setup.input ≤ longest_input },
     marks: Vec<Mark>,
     suppressions: Vec<Suppression>,
     options: Options,

@@ -1,5 +1,6 @@
 //! What the accepted commands change.
 ghost use Rattle.std.specs.Prelude.{◌≡◌, ◌<◌, length, slice_set};
+ghost use Rattle.replay_session.specs.Setups.{longest_input};
 
 use crate::command::Command;
 use crate::fault::Fault;
@@ -50,6 +51,7 @@ impl<'a> Session<'a> {
 
     /// Puts a byte at the end of the input.
     fn append(&mut self, byte: u8) -> Result<Reply, Fault>
+        requires { length self.old.setup.input < longest_input }
         ensures edits { Edits self.old self.new (Command.Append byte) result }
         ensures work { Works self.old self.new (Command.Append byte) result }
     {
