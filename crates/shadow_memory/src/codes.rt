@@ -1,11 +1,12 @@
 //! Two bits for each byte of a page.
-ghost use Rattle.std.specs.Prelude.{◌≡◌, ℕ, ◌+◌, ◌%◌, ◌<◌, ◌≤◌, ◌==◌, if◌then◌else◌, vec_len, IfOk, IsTrue};
+ghost use Rattle.std.specs.Prelude.{◌≡◌, ℕ, ◌+◌, ◌-◌, ◌%◌, ◌<◌, ◌≤◌, ◌==◌, if◌then◌else◌, vec_len, IfOk, IfSome, IsTrue};
 ghost use Rattle.shadow_memory.specs.Marks.{defined};
-ghost use Rattle.shadow_memory.specs.Places.{is_between};
-ghost use Rattle.shadow_memory.specs.Parts.{code_of, mark_by, part_of};
+ghost use Rattle.shadow_memory.specs.Places.{changed_from, is_between};
+ghost use Rattle.shadow_memory.specs.Parts.{code_of, loaded_code, mark_by, part_of, taken_code};
 
 use crate::cells::RangeKind;
 use crate::laws::{all_are, first_not};
+use crate::slices::set_all;
 use std::alloc::{AllocError, Global};
 
 /// The number of an inaccessible byte.
@@ -30,6 +31,39 @@ pub(crate) fn code_of_kind(kind: RangeKind) -> u8
         RangeKind::Undefined => UNDEFINED,
         RangeKind::Defined => DEFINED,
     }
+}
+
+/// The kind that has a number.
+pub(crate) fn kind_of_code(code: u8) -> Option<RangeKind>
+    ensures { IfSome result (λ kind. code ≡ code_of kind) }
+{
+    match code {
+        NO_ACCESS => Some(RangeKind::NoAccess),
+        UNDEFINED => Some(RangeKind::Undefined),
+        DEFINED => Some(RangeKind::Defined),
+        _ => None,
+    }
+}
+
+/// The number of what a byte loads as, where it isn't defined in part.
+pub(crate) fn loaded_code(code: u8) -> u8
+    ensures small { result < 4 }
+    ensures value { result ≡ loaded_code code }
+{
+    if code == UNDEFINED {
+        UNDEFINED
+    } else {
+        DEFINED
+    }
+}
+
+// The number of a byte that takes what another has.
+fn taken_code(made: u8, old: u8) -> u8
+    requires { made < 4 }
+    ensures small { result < 4 }
+    ensures value { result ≡ taken_code made old }
+{
+    if old == NO_ACCESS { NO_ACCESS } else { made }
 }
 
 /// The number of a byte that is stored with all bits defined.
@@ -145,17 +179,79 @@ impl Codes {
         }
     }
 
-    // Sets the four numbers of one byte.
-    fn set_four(&mut self, at: usize, code: u8)
-        requires within { at + 4 ≤ 4096 }
-        requires aligned { at % 4 ≡ 0 }
+    // A place, from one on, before which each number is this one; the same place, if its number isn't.
+    fn run_some(&self, at: usize, to: usize, code: u8) -> usize
+        requires order { at < to }
+        requires within { to ≤ 4096 }
         requires small { code < 4 }
-        ensures { (k : ℕ) → code_at self.new k ≡ (if is_between at (at + 4) k then code else code_at self.old k) }
+        ensures on { at ≤ result }
+        ensures more { code_at self.now at ≡ code → at < result }
+        ensures within { result ≤ to }
+        ensures same { (k : ℕ) → at ≤ k → k < result → code_at self.now k ≡ code }
     {
-        self.packed[at / 4] = code * FOUR_ONES;
+        if self.code(at) != code {
+            return at;
+        }
+        if at % 4 == 0 {
+            let next = self.skip(at, code).min(to);
+            if next > at {
+                return next;
+            }
+        }
+        at + 1
     }
 
-    // Sets the number of a place, or those of a whole byte if they come before another place; answers the place after them.
+    /// The place after one where the run of the number there ends, or another place if that comes first.
+    pub(crate) fn run(&self, from: usize, to: usize) -> usize
+        requires order { from < to }
+        requires within { to ≤ 4096 }
+        ensures on { from < result }
+        ensures within { result ≤ to }
+        ensures same { (k : ℕ) → from ≤ k → k < result → code_at self.now k ≡ code_at self.now from }
+    {
+        let code = self.code(from);
+        let mut at = from;
+        while at < to {
+            let next = self.run_some(at, to, code);
+            if next == at {
+                return at;
+            }
+            at = next;
+        }
+        at
+    }
+
+    /// The first place, from one up to another, whose byte is defined in part; the other place, if there is none.
+    pub(crate) fn whole_end(&self, from: usize, to: usize) -> usize
+        requires order { from ≤ to }
+        requires within { to ≤ 4096 }
+        ensures start { from ≤ result }
+        ensures within { result ≤ to }
+        ensures whole { (k : ℕ) → from ≤ k → k < result → code_at self.now k < 3 }
+    {
+        let mut at = from;
+        while at < to {
+            if self.code(at) == PARTLY {
+                return at;
+            }
+            at = self.run(at, to);
+        }
+        at
+    }
+
+    // Sets the numbers of whole bytes.
+    fn set_fours(&mut self, from: usize, to: usize, code: u8)
+        requires order { from ≤ to }
+        requires within { to ≤ 4096 }
+        requires aligned { from % 4 ≡ 0 }
+        requires aligned_end { to % 4 ≡ 0 }
+        requires small { code < 4 }
+        ensures { (k : ℕ) → code_at self.new k ≡ (if is_between from to k then code else code_at self.old k) }
+    {
+        set_all(&mut self.packed, from / 4, to / 4, code * FOUR_ONES);
+    }
+
+    // Sets the number of a place, or those of all whole bytes that end before another place; answers the place after them.
     fn set_some(&mut self, at: usize, to: usize, code: u8) -> usize
         requires order { at < to }
         requires within { to ≤ 4096 }
@@ -165,8 +261,9 @@ impl Codes {
         ensures set { (k : ℕ) → code_at self.new k ≡ (if is_between at result k then code else code_at self.old k) }
     {
         if at % 4 == 0 && to - at >= 4 {
-            self.set_four(at, code);
-            at + 4
+            let end = to - to % 4;
+            self.set_fours(at, end, code);
+            end
         } else {
             self.set(at, code);
             at + 1
@@ -183,6 +280,63 @@ impl Codes {
         let mut at = from;
         while at < to {
             at = self.set_some(at, to, code);
+        }
+    }
+
+    // Has the places of a run take a number; answers the place after them.
+    fn take_some(&mut self, at: usize, to: usize, made: u8) -> usize
+        requires order { at < to }
+        requires within { to ≤ 4096 }
+        requires small { made < 4 }
+        ensures on { at < result }
+        ensures within { result ≤ to }
+        ensures set { (k : ℕ) → code_at self.new k ≡ (if is_between at result k then taken_code made (code_at self.old k) else code_at self.old k) }
+    {
+        let code = taken_code(made, self.code(at));
+        let end = self.run(at, to);
+        self.make(at, end, code);
+        end
+    }
+
+    /// Has the places from one up to, not with, another take a number; those of inaccessible bytes keep theirs.
+    pub(crate) fn take(&mut self, from: usize, to: usize, made: u8)
+        requires order { from ≤ to }
+        requires within { to ≤ 4096 }
+        requires small { made < 4 }
+        ensures { (k : ℕ) → code_at self.new k ≡ (if is_between from to k then taken_code made (code_at self.old k) else code_at self.old k) }
+    {
+        let mut at = from;
+        while at < to {
+            at = self.take_some(at, to, made);
+        }
+    }
+
+    // Has places take what those of a run of others load as; answers the place after the run.
+    fn copy_some(&mut self, at: usize, source: &Codes, from: usize, to: usize) -> usize
+        requires order { from < to }
+        requires within { to ≤ 4096 }
+        requires room { at + (to - from) ≤ 4096 }
+        ensures on { from < result }
+        ensures within { result ≤ to }
+        ensures set { (k : ℕ) → code_at self.new k ≡ changed_from (code_at self.old) at (result - from) (λ i old. taken_code (loaded_code (code_at source.now (from + i))) old) k }
+    {
+        let made = loaded_code(source.code(from));
+        let end = source.run(from, to);
+        self.take(at, at + (end - from), made);
+        end
+    }
+
+    /// Has so many places take what others load as, none of which is that of a byte defined in part; those of inaccessible bytes
+    /// keep theirs.
+    pub(crate) fn copy(&mut self, at: usize, source: &Codes, from: usize, count: usize)
+        requires room { at + count ≤ 4096 }
+        requires within { from + count ≤ 4096 }
+        ensures { (k : ℕ) → code_at self.new k ≡ changed_from (code_at self.old) at count (λ i old. taken_code (loaded_code (code_at source.now (from + i))) old) k }
+    {
+        let end = from + count;
+        let mut place = from;
+        while place < end {
+            place = self.copy_some(at + (place - from), source, place, end);
         }
     }
 
