@@ -1,10 +1,12 @@
 -- Marks that take what others load with, by their numbers.
-use Rattle.std.proofs.Common.{◌≡◌, ℕ, Bool, true, false, refl, ap, sym, ◌∙◌, ◌+◌, ◌-◌, ◌==◌, ◌<◌, ◌≤◌, inl, inr, cond, arith}
+use Rattle.std.proofs.Common.{◌≡◌, ◌≢◌, ℕ, Bool, List, true, false, refl, ap, ap₂, length, set, slice_index, sym, ◌∙◌, ◌+◌, ◌/◌, ◌%◌, ◌-◌, ◌==◌, ◌<◌, ◌≤◌, inl, inr, cond, arith}
 use Rattle.std.proofs.lemmas.Bool.{cases_Bool, cases_eq}
 use Rattle.std.proofs.lemmas.Bool.Decides.{nat_tests}
+use Rattle.std.proofs.lemmas.Grind.{get_or-set_at}
+use Rattle.std.proofs.lemmas.List.{get_or-set_other}
 use Rattle.shadow_memory.specs.Marks.{mark_of, taken}
 use Rattle.shadow_memory.specs.Places.{is_between}
-use Rattle.shadow_memory.specs.Parts.{code_of, loaded_code, mark_by, taken_code}
+use Rattle.shadow_memory.specs.Parts.{code_of, loaded_code, mark_by, part_of, taken_code}
 use Rattle.shadow_memory.specs.declared.cells.RangeKind.{RangeKind}
 use Rattle.shadow_memory.specs.declared.cells.RangeKind.TheVariants.{NoAccess, Undefined, Defined}
 use Rattle.shadow_memory.proofs.Between.{mark_by-code_of}
@@ -98,4 +100,28 @@ run-copied at n from k made source old new same made-is is = is ∙ elim (cases_
       let near = copied-near at n from k h in
       ap (λ m. cond (is_between at (at + n) k) (taken_code m (old k)) (old k)) (made-is ∙ ap loaded_code (sym (same (from + (k - at)) (omega arith) (omega arith))))
   | inr h ↦ rw h refl
+]
+
+four-inside : (at k : ℕ) → at % 4 ≡ 0 → k / 4 ≡ at / 4 → is_between at (at + 4) k ≡ true
+four-inside at k aligned here = grind (arith, nat_tests)
+
+four-outside : (at k : ℕ) → at % 4 ≡ 0 → k / 4 ≢ at / 4 → is_between at (at + 4) k ≡ false
+four-outside at k aligned away = grind (arith, nat_tests)
+
+-- the four numbers in a byte that took what those in another load as
+pub four-copied : (packed source : List ℕ) (at from made : ℕ) → at % 4 ≡ 0 → from % 4 ≡ 0 → at / 4 < length packed
+    → ((k : ℕ) → k < 4 → part_of made k ≡ taken_code (loaded_code (part_of (slice_index source (from / 4)) k)) (part_of (slice_index packed (at / 4)) k))
+    → (k : ℕ) → part_of (slice_index (set packed (at / 4) made) (k / 4)) (k % 4)
+    ≡ cond (is_between at (at + 4) k) (taken_code (loaded_code (part_of (slice_index source ((from + (k - at)) / 4)) ((from + (k - at)) % 4))) (part_of (slice_index packed (k / 4)) (k % 4))) (part_of (slice_index packed (k / 4)) (k % 4))
+four-copied packed source at from made aligned from-aligned within is k = elim (cases_eq (k / 4) (at / 4)) [
+  | inl here ↦
+      let byte : (from + (k - at)) / 4 ≡ from / 4 = omega arith in
+      let place : (from + (k - at)) % 4 ≡ k % 4 = omega arith in
+      let small : k % 4 < 4 = omega arith in
+      ap (λ b. part_of b (k % 4)) (ap (slice_index (set packed (at / 4) made)) here ∙ get_or-set_at packed (at / 4) (at / 4) made 0 refl within) ∙ is (k % 4) small
+      ∙ ap₂ (λ s t. taken_code (loaded_code s) t) (sym (ap₂ (λ b p. part_of (slice_index source b) p) byte place)) (ap (λ b. part_of (slice_index packed b) (k % 4)) (sym here))
+      ∙ sym (ap (λ b. cond b (taken_code (loaded_code (part_of (slice_index source ((from + (k - at)) / 4)) ((from + (k - at)) % 4))) (part_of (slice_index packed (k / 4)) (k % 4))) (part_of (slice_index packed (k / 4)) (k % 4))) (four-inside at k aligned here))
+  | inr away ↦
+      ap (λ b. part_of b (k % 4)) (get_or-set_other packed (at / 4) (k / 4) made 0 away)
+      ∙ sym (ap (λ b. cond b (taken_code (loaded_code (part_of (slice_index source ((from + (k - at)) / 4)) ((from + (k - at)) % 4))) (part_of (slice_index packed (k / 4)) (k % 4))) (part_of (slice_index packed (k / 4)) (k % 4))) (four-outside at k aligned away))
 ]

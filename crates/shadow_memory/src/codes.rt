@@ -2,6 +2,7 @@
 ghost use Rattle.std.specs.Prelude.{◌≡◌, ℕ, ◌+◌, ◌-◌, ◌%◌, ◌<◌, ◌≤◌, ◌==◌, if◌then◌else◌, vec_len, IfOk, IfSome, IsTrue};
 ghost use Rattle.shadow_memory.specs.Marks.{defined};
 ghost use Rattle.shadow_memory.specs.Places.{changed_from, is_between};
+ghost use Rattle.shadow_memory.specs.Loads.{four};
 ghost use Rattle.shadow_memory.specs.Parts.{code_of, loaded_code, mark_by, part_of, taken_code};
 
 use crate::cells::RangeKind;
@@ -82,6 +83,9 @@ pub(crate) fn defined_code(code: u8) -> u8
 // How many bytes hold the numbers of a page, four to a byte.
 const PACKED: usize = 1024;
 
+// From how many places to how many a long run of one number is looked for.
+const STRETCH: usize = 64;
+
 // The byte whose four numbers are each 1.
 const FOUR_ONES: u8 = 85;
 
@@ -118,6 +122,48 @@ fn with_part(byte: u8, place: usize, code: u8) -> u8
         2 => byte / 64 * 64 + code * 16 + byte % 16,
         _ => code * 64 + byte % 64,
     }
+}
+
+// A byte of four numbers.
+fn packed_four(first: u8, second: u8, third: u8, fourth: u8) -> u8
+    requires first { first < 4 }
+    requires second { second < 4 }
+    requires third { third < 4 }
+    requires fourth { fourth < 4 }
+    ensures { (k : ℕ) → k < 4 → part_of result k ≡ four first second third fourth k }
+{
+    first + 4 * second + 16 * third + 64 * fourth
+}
+
+// The number of a byte, in one place of four, that takes what another there loads as.
+fn copied_part(source: u8, target: u8, place: usize) -> u8
+    requires { place < 4 }
+    ensures small { result < 4 }
+    ensures value { result ≡ taken_code (loaded_code (part_of source place)) (part_of target place) }
+{
+    taken_code(loaded_code(part(source, place)), part(target, place))
+}
+
+// The four numbers in a byte that take what those in another load as.
+fn copied_four(source: u8, target: u8) -> u8
+    ensures { (k : ℕ) → k < 4 → part_of result k ≡ taken_code (loaded_code (part_of source k)) (part_of target k) }
+{
+    packed_four(
+        copied_part(source, target, 0),
+        copied_part(source, target, 1),
+        copied_part(source, target, 2),
+        copied_part(source, target, 3),
+    )
+}
+
+// Is none of the four numbers in a byte that of a byte defined in part? `false` may be told of such ones too.
+fn are_whole(byte: u8) -> bool
+    ensures { IsTrue result → (k : ℕ) → k < 4 → part_of byte k < 3 }
+{
+    part(byte, 0) != PARTLY
+        && part(byte, 1) != PARTLY
+        && part(byte, 2) != PARTLY
+        && part(byte, 3) != PARTLY
 }
 
 #[tactic(auto, unfolding(crate::specs::Codes::code_at))]
@@ -221,6 +267,23 @@ impl Codes {
         at
     }
 
+    // A place, from one on, before which no byte is defined in part; the same place, if its byte is.
+    fn whole_some(&self, at: usize, to: usize) -> usize
+        requires order { at < to }
+        requires within { to ≤ 4096 }
+        ensures on { at ≤ result }
+        ensures within { result ≤ to }
+        ensures whole { (k : ℕ) → at ≤ k → k < result → code_at self.now k < 3 }
+    {
+        if at % 4 == 0 && to - at >= 4 && at % STRETCH != 0 && are_whole(self.packed[at / 4]) {
+            return at + 4;
+        }
+        if self.code(at) == PARTLY {
+            return at;
+        }
+        self.run(at, to)
+    }
+
     /// The first place, from one up to another, whose byte is defined in part; the other place, if there is none.
     pub(crate) fn whole_end(&self, from: usize, to: usize) -> usize
         requires order { from ≤ to }
@@ -231,10 +294,11 @@ impl Codes {
     {
         let mut at = from;
         while at < to {
-            if self.code(at) == PARTLY {
+            let next = self.whole_some(at, to);
+            if next == at {
                 return at;
             }
-            at = self.run(at, to);
+            at = next;
         }
         at
     }
@@ -311,8 +375,35 @@ impl Codes {
         }
     }
 
-    // Has places take what those of a run of others load as; answers the place after the run.
+    // Has four places of a byte take what those of another byte load as.
+    fn copy_four(&mut self, at: usize, source: &Codes, from: usize)
+        requires aligned { at % 4 ≡ 0 }
+        requires room { at + 4 ≤ 4096 }
+        requires from_aligned { from % 4 ≡ 0 }
+        requires within { from + 4 ≤ 4096 }
+        ensures { (k : ℕ) → code_at self.new k ≡ changed_from (code_at self.old) at 4 (λ i old. taken_code (loaded_code (code_at source.now (from + i))) old) k }
+    {
+        self.packed[at / 4] = copied_four(source.packed[from / 4], self.packed[at / 4]);
+    }
+
+    // Has places take what others load as, four of a byte or a run of one number; answers the place after the others.
     fn copy_some(&mut self, at: usize, source: &Codes, from: usize, to: usize) -> usize
+        requires order { from < to }
+        requires within { to ≤ 4096 }
+        requires room { at + (to - from) ≤ 4096 }
+        ensures on { from < result }
+        ensures within { result ≤ to }
+        ensures set { (k : ℕ) → code_at self.new k ≡ changed_from (code_at self.old) at (result - from) (λ i old. taken_code (loaded_code (code_at source.now (from + i))) old) k }
+    {
+        if at % 4 == 0 && from % 4 == 0 && to - from >= 4 && from % STRETCH != 0 {
+            self.copy_four(at, source, from);
+            return from + 4;
+        }
+        self.copy_run(at, source, from, to)
+    }
+
+    // Has places take what those of a run of others load as; answers the place after the run.
+    fn copy_run(&mut self, at: usize, source: &Codes, from: usize, to: usize) -> usize
         requires order { from < to }
         requires within { to ≤ 4096 }
         requires room { at + (to - from) ≤ 4096 }
