@@ -9,7 +9,7 @@ use Rattle.shadow_memory.specs.Places.{is_between}
 use Rattle.shadow_memory.specs.Parts.{code_of, loaded_code, mark_by, part_of, taken_code}
 use Rattle.shadow_memory.specs.declared.cells.RangeKind.{RangeKind}
 use Rattle.shadow_memory.specs.declared.cells.RangeKind.TheVariants.{NoAccess, Undefined, Defined}
-use Rattle.shadow_memory.proofs.Between.{mark_by-code_of}
+use Rattle.shadow_memory.proofs.Between.{mark_by-code_of, outside-between, whole-between}
 
 between-start : (at next k : ℕ) → is_between at next k ≡ true → at ≤ k
 between-start at next k h = grind (arith, nat_tests)
@@ -26,12 +26,6 @@ run-taken at next k code made old new same is = is ∙ elim (cases_Bool (is_betw
 
 was-before : (from at next k : ℕ) → is_between at next k ≡ true → is_between from at k ≡ false
 was-before from at next k h = grind (arith, nat_tests)
-
-whole-between : (from at next k : ℕ) → from ≤ at → is_between at next k ≡ true → is_between from next k ≡ true
-whole-between from at next k order h = grind (arith, nat_tests)
-
-outside-between : (from at next k : ℕ) → from ≤ at → at ≤ next → is_between at next k ≡ false → is_between from at k ≡ is_between from next k
-outside-between from at next k order more h = grind (arith, nat_tests)
 
 -- places that took a number up to one, and from there on
 pub take-joins : (from at next k made old now new : ℕ) → from ≤ at → at ≤ next → now ≡ cond (is_between from at k) (taken_code made old) old → new ≡ cond (is_between at next k) (taken_code made now) now → new ≡ cond (is_between from next k) (taken_code made old) old

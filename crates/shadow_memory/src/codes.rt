@@ -1,5 +1,5 @@
 //! Two bits for each byte of a page.
-ghost use Rattle.std.specs.Prelude.{◌≡◌, ℕ, ◌+◌, ◌-◌, ◌%◌, ◌<◌, ◌≤◌, ◌==◌, if◌then◌else◌, vec_len, IfOk, IfSome, IsTrue};
+ghost use Rattle.std.specs.Prelude.{◌≡◌, ◌⊎◌, ℕ, ◌+◌, ◌-◌, ◌%◌, ◌<◌, ◌≤◌, ◌==◌, if◌then◌else◌, vec_len, IfOk, IfSome, IsTrue};
 ghost use Rattle.shadow_memory.specs.Marks.{defined};
 ghost use Rattle.shadow_memory.specs.Places.{changed_from, is_between};
 ghost use Rattle.shadow_memory.specs.Loads.{four};
@@ -144,10 +144,20 @@ fn copied_part(source: u8, target: u8, place: usize) -> u8
     taken_code(loaded_code(part(source, place)), part(target, place))
 }
 
+// Are the four numbers in a byte all that of undefined bytes, or all that of defined ones?
+fn are_alike(byte: u8) -> bool
+    ensures { IsTrue result → (k : ℕ) → k < 4 → (part_of byte k ≡ 1) ⊎ (part_of byte k ≡ 2) }
+{
+    byte == UNDEFINED * FOUR_ONES || byte == DEFINED * FOUR_ONES
+}
+
 // The four numbers in a byte that take what those in another load as.
 fn copied_four(source: u8, target: u8) -> u8
     ensures { (k : ℕ) → k < 4 → part_of result k ≡ taken_code (loaded_code (part_of source k)) (part_of target k) }
 {
+    if are_alike(source) && are_alike(target) {
+        return source;
+    }
     packed_four(
         copied_part(source, target, 0),
         copied_part(source, target, 1),
@@ -160,10 +170,11 @@ fn copied_four(source: u8, target: u8) -> u8
 fn are_whole(byte: u8) -> bool
     ensures { IsTrue result → (k : ℕ) → k < 4 → part_of byte k < 3 }
 {
-    part(byte, 0) != PARTLY
-        && part(byte, 1) != PARTLY
-        && part(byte, 2) != PARTLY
-        && part(byte, 3) != PARTLY
+    are_alike(byte)
+        || part(byte, 0) != PARTLY
+            && part(byte, 1) != PARTLY
+            && part(byte, 2) != PARTLY
+            && part(byte, 3) != PARTLY
 }
 
 #[tactic(auto, unfolding(crate::specs::Codes::code_at))]

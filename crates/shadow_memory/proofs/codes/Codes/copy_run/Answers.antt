@@ -1,4 +1,4 @@
-use Rattle.std.proofs.Common.{◌≡◌, ◌∙◌, ◌+◌, ◌-◌, ◌<◌, ap, arith}
+use Rattle.std.proofs.Common.{◌∙◌, ◌-◌, ◌<◌, ap, arith}
 use Rattle.shadow_memory.specs.Codes.{code_at}
 use Rattle.shadow_memory.specs.Parts.{loaded_code}
 use Rattle.shadow_memory.proofs.Taking.{run-copied}

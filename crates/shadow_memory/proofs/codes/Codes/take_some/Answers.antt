@@ -1,4 +1,4 @@
-use Rattle.std.proofs.Common.{◌∙◌, ap, cond, sym}
+use Rattle.std.proofs.Common.{◌∙◌, ap, cond}
 use Rattle.shadow_memory.specs.Codes.{code_at}
 use Rattle.shadow_memory.specs.Parts.{taken_code}
 use Rattle.shadow_memory.specs.Places.{is_between}

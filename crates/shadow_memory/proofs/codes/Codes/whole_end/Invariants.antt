@@ -1,4 +1,4 @@
-use Rattle.std.proofs.Common.{ℕ, ◌≡◌, ◌<◌, ◌≤◌, ◌-◌}
+use Rattle.std.proofs.Common.{ℕ, ◌<◌, ◌≤◌, ◌-◌}
 use Rattle.shadow_memory.specs.Codes.{code_at}
 use Rattle.shadow_memory.proofs.codes.Codes.whole_end.Given as goal
 

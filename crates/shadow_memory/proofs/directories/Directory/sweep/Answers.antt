@@ -1,4 +1,4 @@
-use Rattle.std.proofs.Common.{◌≡◌, ◌∙◌, ◌+◌, ◌*◌, ◌<◌, ◌/◌, ℕ, ap, arith, length, refl, rules, sym, vec_len}
+use Rattle.std.proofs.Common.{◌≡◌, ◌∙◌, ◌+◌, ◌*◌, ◌<◌, ◌/◌, ℕ, ap, arith, length, refl}
 use Rattle.std.proofs.Math.Path.{fun_ext}
 use Rattle.shadow_memory.specs.Directories.{cells_under, page_at}
 use Rattle.shadow_memory.specs.Edits.{each_of}
