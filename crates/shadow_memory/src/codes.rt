@@ -84,7 +84,7 @@ pub(crate) fn defined_code(code: u8) -> u8
 const PACKED: usize = 1024;
 
 // From how many places to how many a long run of one number is looked for.
-const STRETCH: usize = 64;
+const STRETCH: usize = 512;
 
 // The byte whose four numbers are each 1.
 const FOUR_ONES: u8 = 85;
