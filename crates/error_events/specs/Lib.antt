@@ -5,4 +5,6 @@ pub mod Regrouping
 pub mod Entries
 pub mod Layers
 pub mod Merging
+pub mod Counts
+pub mod CountLists
 pub mod Shown

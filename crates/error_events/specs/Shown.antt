@@ -1,5 +1,6 @@
 -- What `Groups` show: each key with its note and its count, in order.
 use Rattle.std.specs.Prelude.{ℕ, List, [], ◌∷◌}
+use Rattle.error_events.specs.CountLists.{counts_of}
 use Rattle.error_events.specs.declared.event.Key.{Key}
 use Rattle.error_events.specs.declared.event.Note.{Note}
 use Rattle.error_events.specs.declared.event.Group.{Group}
@@ -11,4 +12,4 @@ counted (e ∷ es) [] = []
 counted (e ∷ es) (count ∷ counts) = record { kind = e.0.kind; trace = e.0.trace; count = count; note = e.1 } ∷ counted es counts
 
 unfoldable pub groups_of : Groups → List Group
-groups_of groups = counted groups.known groups.counts.items
+groups_of groups = counted groups.known (counts_of groups.counts)

@@ -1,8 +1,11 @@
-ghost use Rattle.std.specs.Prelude.{◌≡◌, [], ◌∷◌, ◌++◌, map, None, position, length, take, List, min, ◌≤◌, ◌+◌, ◌<◌, slice_get, slice_set, slice_index, OnOk, OnErr, IfOk};
+ghost use Rattle.std.specs.Prelude.{◌≡◌, [], ◌∷◌, ◌++◌, map, None, position, length, take, List, ◌≤◌, ◌+◌, ◌<◌, slice_get, OnOk, OnErr, IfOk};
 ghost use Rattle.std.specs.List.{filter_map, range_with_len};
+ghost use Rattle.error_events.specs.Counts.{raised_at};
+ghost use Rattle.error_events.specs.CountLists.{counts_of};
 ghost use Rattle.error_events.specs.Merging.{cut_group, merged, merged_with};
 ghost use Rattle.error_events.specs.Regrouping.{regrouped};
 
+use crate::counts::Counts;
 use crate::event::{Event, Group, Key, Note};
 use crate::layered_map::LayeredMap;
 use std::alloc::{AllocError, Global};
@@ -11,22 +14,8 @@ use std::alloc::{AllocError, Global};
 #[derive(Drop)]
 pub struct Groups {
     known: LayeredMap<Key, Note>,
-    counts: Vec<u64>,
-    ghost matched: { length known ≡ length counts.items },
-}
-
-/// The count at a place.
-fn count_at(counts: &[u64], index: usize) -> Option<u64>
-    ensures { result ≡ slice_get counts.now index }
-{
-    counts.get(index).copied()
-}
-
-/// A copy of the counts.
-fn copied(counts: &Vec<u64>) -> Result<Vec<u64>, AllocError>
-    ensures { IfOk result (λ copy. copy.items ≡ counts.now.items) }
-{
-    counts.clone()
+    counts: Counts,
+    ghost matched: { length known ≡ length (counts_of counts) },
 }
 
 /// A group with the first addresses of its trace alone.
@@ -45,7 +34,7 @@ fn cut(group: Group, callers: u32) -> Group
 impl Groups {
     ghost use Rattle.error_events.specs.Shown.{groups_of};
     ghost use Rattle.error_events.specs.declared.event.Event.{Event};
-    ghost use Rattle.error_events.specs.Groups.{grouped, most};
+    ghost use Rattle.error_events.specs.Groups.{grouped};
     ghost use Rattle.error_events.specs.Adding.{add_group, add_event};
 
     /// No groups, which take no memory.
@@ -54,7 +43,7 @@ impl Groups {
     {
         Groups {
             known: LayeredMap::new(alloc),
-            counts: Vec::new(alloc),
+            counts: Counts::new(alloc),
         }
     }
 
@@ -70,7 +59,7 @@ impl Groups {
         ensures { result ≡ slice_get (groups_of self.now) index }
     {
         let (key, note) = self.known.get(index)?;
-        let count = count_at(&self.counts, index)?;
+        let count = self.counts.get(index)?;
         Some(Group {
             kind: key.kind,
             trace: key.trace,
@@ -102,35 +91,32 @@ impl Groups {
             trace: group.trace,
         };
         match self.known.position(&key) {
-            Some(index) => {
-                self.raise(index, group.count);
-                Ok(())
-            }
+            Some(index) => self.raise(index, group.count),
             None => self.begin(key, group.note, group.count),
         }
     }
 
     /// So many more errors of a group.
-    fn raise(&mut self, index: usize, by: u64)
+    fn raise(&mut self, index: usize, by: u64) -> Result<(), AllocError>
         requires { index < length self.old.known }
         ensures known { self.new.known ≡ self.old.known }
-        ensures counts { self.new.counts.items ≡ slice_set self.old.counts.items index (min (slice_index self.old.counts.items index + by) most) }
+        ensures counts { OnOk result (counts_of self.new.counts ≡ raised_at (counts_of self.old.counts) index by) }
+        ensures counts_err { OnErr result (counts_of self.new.counts ≡ counts_of self.old.counts) }
     {
-        self.counts[index] = self.counts[index].saturating_add(by);
+        self.counts.raise(index, by)
     }
 
     /// A new group. All that can fail comes before the count, so that keys and counts stay matched.
     fn begin(&mut self, key: Key, note: Note, count: u64) -> Result<(), AllocError>
         requires { position (⟦<Key as PartialEq>⟧.eq key) (map (λ e. e.0) self.old.known) ≡ None }
         ensures known { OnOk result (self.new.known ≡ self.old.known ++ (key, note) ∷ []) }
-        ensures counts { OnOk result (self.new.counts.items ≡ self.old.counts.items ++ count ∷ []) }
+        ensures counts { OnOk result (counts_of self.new.counts ≡ counts_of self.old.counts ++ count ∷ []) }
         ensures known_err { OnErr result (self.new.known ≡ self.old.known) }
-        ensures counts_err { OnErr result (self.new.counts.items ≡ self.old.counts.items) }
+        ensures counts_err { OnErr result (counts_of self.new.counts ≡ counts_of self.old.counts) }
     {
-        self.counts.reserve(1)?;
-        let alloc = *self.counts.allocator();
-        self.known.push(alloc, key, note)?;
-        self.counts.push(count).unwrap();
+        self.counts.make_room()?;
+        self.known.push(self.counts.allocator(), key, note)?;
+        self.counts.push(count);
         Ok(())
     }
 
@@ -151,7 +137,7 @@ impl Groups {
         requires some { 0 < callers }
         ensures { IfOk result (λ groups. groups_of groups ≡ merged callers [] keep.now (groups_of self.now)) }
     {
-        let mut groups = Groups::new(*self.counts.allocator());
+        let mut groups = Groups::new(self.counts.allocator());
         for index in 0..keep.len() {
             groups.merge(callers, keep[index], self.get(index))?;
         }
@@ -175,7 +161,7 @@ impl Groups {
     {
         (0..self.len())
             .filter_map(|index| self.get(index))
-            .collect(*self.counts.allocator())
+            .collect(self.counts.allocator())
     }
 
     /// A copy, which later errors of the other don't reach.
@@ -184,7 +170,7 @@ impl Groups {
     {
         Ok(Groups {
             known: self.known.share()?,
-            counts: copied(&self.counts)?,
+            counts: self.counts.share()?,
         })
     }
 }

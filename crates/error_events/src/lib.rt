@@ -3,8 +3,9 @@
 //! An [`Event`] is one error: its [`Kind`], the [`Trace`](call_stacks::Trace) where it was met, and a [`Note`] on the address
 //! that it is about. [`Groups`] count errors as they come: those of one kind and one trace are one [`Group`], in order of first
 //! occurrence, with the first one's note. No list of errors is kept, and an error of a known group costs a look-up in a table,
-//! however many groups there are, or in a few tables after shares. [`Groups::share`] copies the counts: kinds, traces and notes
-//! are shared, and each of them is copied later about as many times as the number of groups can be halved.
+//! however many groups there are, or in a few tables after shares. [`Groups::share`] copies the counts of the last
+//! 256 groups at most, and shares the others; of them 256 are copied once one of them changes. Kinds, traces and notes are shared,
+//! and each of them is copied later about as many times as the number of groups can be halved.
 //!
 //! # Public items
 //!
@@ -42,12 +43,13 @@
 //! - `Adding`: one more error (`add_event`), and the law that ties it to `grouped`.
 //! - `Regrouping`: which errors are kept (`kept`), and their groups by fewer addresses (`regrouped`).
 //! - `Parameters`: the texts of parameters. `Shown`: what `Groups` show (`groups_of`).
-//! - `Entries`, `Layers` and `Merging` are for this crate's proofs.
+//! - `Counts`, `CountLists`, `Entries`, `Layers` and `Merging` are for this crate's proofs.
 //!
 //! Sources: Valgrind user manual, section 2.4 (how errors are compared and counted) and option `--num-callers`; Memcheck manual,
 //! section 4.2 (the kinds).
 #![tactic(auto)]
 
+mod counts;
 mod event;
 mod groups;
 mod kind;

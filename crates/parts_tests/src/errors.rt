@@ -1,6 +1,7 @@
 //! Errors with their groups, by hand.
 use call_stacks::Trace;
 use error_events::{Event, Fault3, Group, Groups, Kind, Note, Parameter};
+use std::alloc::AllocError;
 use std::process::Abort;
 use std::test::Fail;
 
@@ -90,6 +91,34 @@ fn a_copy_stays_as_it_was(rt: HostRuntime) -> Result<(), Fail> {
     shows(&rt, early.get(0), READ, &[8], 2, 1);
     shows(&rt, groups.get(0), READ, &[8], 3, 1);
     shows(&rt, groups.get(1), READ, &[12], 1, 3);
+    Ok(())
+}
+
+// One more error of a group after a copy was made; the copy's count stays.
+fn raised_apart(rt: &impl Abort, groups: &mut Groups, address: u32) -> Result<(), AllocError> {
+    let early = groups.share()?;
+    let trace = Trace::of(address);
+    let note = Note::Elsewhere(1);
+    let kind = READ;
+    groups.add(Event { kind, trace, note })?;
+    shows(rt, early.get(address as usize), READ, &[address], 1, 1);
+    shows(rt, groups.get(address as usize), READ, &[address], 2, 1);
+    Ok(())
+}
+
+// Of 600 groups one in the first chunk of counts, one at the end of a chunk, and one after the chunks.
+#[test]
+fn copies_have_counts_of_their_own(rt: HostRuntime) -> Result<(), Fail> {
+    let mut groups = Groups::new(rt.alloc());
+    for address in 0..600u32 {
+        let trace = Trace::of(address);
+        let note = Note::Elsewhere(1);
+        let kind = READ;
+        groups.add(Event { kind, trace, note })?;
+    }
+    raised_apart(&rt, &mut groups, 5)?;
+    raised_apart(&rt, &mut groups, 511)?;
+    raised_apart(&rt, &mut groups, 599)?;
     Ok(())
 }
 

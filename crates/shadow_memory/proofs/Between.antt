@@ -46,10 +46,10 @@ join-true b c d x y e f = rw (e, f) refl
 join-false : (b c d : Bool) (x y : ℕ) → b ≡ false → c ≡ d → cond b x (cond c x y) ≡ cond d x y
 join-false b c d x y e f = rw (e, f) refl
 
-whole-between : (from at next k : ℕ) → from ≤ at → is_between at next k ≡ true → is_between from next k ≡ true
+pub whole-between : (from at next k : ℕ) → from ≤ at → is_between at next k ≡ true → is_between from next k ≡ true
 whole-between from at next k order h = grind (arith, nat_tests)
 
-outside-between : (from at next k : ℕ) → from ≤ at → at ≤ next → is_between at next k ≡ false → is_between from at k ≡ is_between from next k
+pub outside-between : (from at next k : ℕ) → from ≤ at → at ≤ next → is_between at next k ≡ false → is_between from at k ≡ is_between from next k
 outside-between from at next k order more h = grind (arith, nat_tests)
 
 -- a range that is set up to a place, and from there on

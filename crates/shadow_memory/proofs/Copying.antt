@@ -1,13 +1,13 @@
--- The step of a copy to a range that is apart.
-use Rattle.std.proofs.Common.{◌≡◌, ℕ, false, refl, ap, ◌∙◌, ◌+◌, ◌^◌, ◌<◌, ◌≤◌, if◌then◌else◌, arith}
+-- Copies to a range that is apart, part by part.
+use Rattle.std.proofs.Common.{◌≡◌, ℕ, false, refl, ap, sym, ◌∙◌, ◌+◌, ◌/◌, ◌%◌, ◌^◌, ◌<◌, ◌≤◌, arith}
 use Rattle.std.proofs.lemmas.Bool.Decides.{nat_tests}
-use Rattle.shadow_memory.specs.Cells.{shadow_in}
+use Rattle.shadow_memory.specs.Marks.{blank}
 use Rattle.shadow_memory.specs.Places.{changed_from}
-use Rattle.shadow_memory.specs.Changes.{copied_cell}
+use Rattle.shadow_memory.specs.Changes.{copied_cell, taken_cell, AreApart}
 use Rattle.shadow_memory.specs.Ranges.{above, changed_in, is_in}
-use Rattle.shadow_memory.specs.Shadows.{loaded_undef}
 use Rattle.shadow_memory.specs.declared.cells.Cell.{Cell}
-use Rattle.shadow_memory.proofs.Growing.{one-more}
+use Rattle.shadow_memory.specs.declared.cells.RangeKind.{RangeKind}
+use Rattle.shadow_memory.proofs.Growing.{range-joins, same-change, same-range}
 
 still-apart : (to i len a : ℕ) → i ≤ len → is_in to len a ≡ false → is_in to i a ≡ false
 still-apart to i len a within h = grind (arith, nat_tests)
@@ -17,13 +17,26 @@ range-apart : {X : Type 0} (f : ℕ → X) (to i len a : ℕ) (change : ℕ → 
 unfolding changed_in
 range-apart f to i len a change within h = rw (still-apart to i len a within h) refl
 
-same-cell : (c d : Cell) → c.byte ≡ d.byte → c.accessible ≡ d.accessible → c.undef ≡ d.undef → c ≡ d
-same-cell c d e f g = λ i. record { byte = e i; accessible = f i; undef = g i }
+-- the step of a copy
+pub copy-joins : (old now new : ℕ → Cell) (from to d n len : ℕ) → to < 2 ^ 32 → len < 2 ^ 32 → d + n ≤ len → AreApart from to len → now ≡ changed_in old to d (copied_cell old from) → new ≡ changed_in now (above to d) n (copied_cell now (above from d))
+    → new ≡ changed_in old to (d + n) (copied_cell old from)
+copy-joins old now new from to d n len small long within apart was is =
+    let few : d + n ≤ 2 ^ 32 = omega arith in
+    let front : d ≤ len = omega arith in
+    range-joins old now new to d n (copied_cell old from) (copied_cell now (above from d)) small few was is (λ i below x.
+    let here : above (above from d) i ≡ above from (d + i) = omega arith in
+    let inside : d + i < len = omega arith in
+    ap (λ (s : Cell). taken_cell s x) (ap now here ∙ ap (λ (f : ℕ → Cell). f (above from (d + i))) was ∙ range-apart old to d len (above from (d + i)) (copied_cell old from) front (apart (d + i) inside)))
 
-pub copy-more : (old now : ℕ → Cell) (from to i len : ℕ) (source target made : Cell) → to < 2 ^ 32 → i < 2 ^ 32 → i ≤ len → is_in to len (above from i) ≡ false → now ≡ changed_in old to i (copied_cell old from)
-    → source ≡ now (above from i) → target ≡ now (above to i) → made.byte ≡ source.byte → made.accessible ≡ target.accessible → made.undef ≡ (if target.accessible then loaded_undef (shadow_in source) else target.undef)
-    → changed_from now (above to i) 1 (λ k y. made) ≡ changed_in old to (i + 1) (copied_cell old from)
-copy-more old now from to i len source target made small few within apart is source-is target-is byte accessible undef =
-    let before : source ≡ old (above from i) = source-is ∙ ap (λ (f : ℕ → Cell). f (above from i)) is ∙ range-apart old to i len (above from i) (copied_cell old from) within apart in
-    one-more old now to i (copied_cell old from) target made small few is target-is (same-cell made (copied_cell old from i target) (byte ∙ ap (λ (c : Cell). c.byte) before) accessible
-    (undef ∙ ap (λ (c : Cell). if target.accessible then loaded_undef (shadow_in c) else target.undef) before))
+-- a copy of zeros of one kind
+pub zeros-copied : (old new : ℕ → Cell) (from to n count : ℕ) (kind : RangeKind) → n ≤ count → ((i : ℕ) → i < count → old (above from i) ≡ blank kind) → new ≡ changed_in old to n (λ i cell. taken_cell (blank kind) cell) → new ≡ changed_in old to n (copied_cell old from)
+zeros-copied old new from to n count kind few zeros made =
+    made ∙ same-range old to n (λ i cell. taken_cell (blank kind) cell) (copied_cell old from) (λ i below x. ap (λ (s : Cell). taken_cell s x) (sym (zeros i (omega arith))))
+
+-- and one from a page that is seen
+pub seen-copied : (old new seen : ℕ → Cell) (from to n : ℕ) → from < 2 ^ 32 → from % 4096 + n ≤ 4096 → ((a : ℕ) → a / 4096 ≡ from / 4096 → old a ≡ seen (a % 4096)) → new ≡ changed_from old to n (λ i cell. taken_cell (seen (from % 4096 + i)) cell) → new ≡ changed_from old to n (copied_cell old from)
+seen-copied old new seen from to n small page same made =
+    made ∙ same-change old to n (λ i cell. taken_cell (seen (from % 4096 + i)) cell) (copied_cell old from) (λ i below x.
+    let there : above from i / 4096 ≡ from / 4096 = omega arith in
+    let place : above from i % 4096 ≡ from % 4096 + i = omega arith in
+    ap (λ (s : Cell). taken_cell s x) (sym (same (above from i) there ∙ ap seen place)))

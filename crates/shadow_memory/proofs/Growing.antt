@@ -104,3 +104,83 @@ pub page-more : {X : Type 0} (f now new : ℕ → X) (start d n at : ℕ) (chang
     → ((i : ℕ) → i < n → (x : X) → part i x ≡ change (d + i) x) → new ≡ changed_in f start (d + n) change
 page-more f now new start d n at change part small at-is page few is made alike =
     made ∙ ap (λ g. changed_from g at n part) is ∙ range-grows f start d n at change part small at-is page few (λ i below. alike i below (f (above start (d + i))))
+
+joined-near : (at d n k : ℕ) → is_between (at + d) (at + d + n) k ≡ true → k - (at + d) < n
+joined-near at d n k h = grind (arith, nat_tests)
+
+joined-fresh : (at d n k : ℕ) → is_between (at + d) (at + d + n) k ≡ true → is_between at (at + d) k ≡ false
+joined-fresh at d n k h = grind (arith, nat_tests)
+
+joined-inside : (at d n k : ℕ) → is_between (at + d) (at + d + n) k ≡ true → is_between at (at + (d + n)) k ≡ true
+joined-inside at d n k h = grind (arith, nat_tests)
+
+joined-place : (at d n k : ℕ) → is_between (at + d) (at + d + n) k ≡ true → d + (k - (at + d)) ≡ k - at
+joined-place at d n k h = grind (arith, nat_tests)
+
+joined-outside : (at d n k : ℕ) → is_between (at + d) (at + d + n) k ≡ false → is_between at (at + (d + n)) k ≡ is_between at (at + d) k
+joined-outside at d n k h = grind (arith, nat_tests)
+
+-- places changed from one on, and then those after them
+pub changed-joins : {X : Type 0} (f g h : ℕ → X) (at d n : ℕ) (change part : ℕ → X → X) → ((k : ℕ) → g k ≡ changed_from f at d change k) → ((k : ℕ) → h k ≡ changed_from g (at + d) n part k) → ((i : ℕ) → i < n → (x : X) → part i x ≡ change (d + i) x)
+    → (k : ℕ) → h k ≡ changed_from f at (d + n) change k
+changed-joins f g h at d n change part was is alike k =
+    is k ∙ ap (λ x. cond (is_between (at + d) (at + d + n) k) (part (k - (at + d)) x) x) (was k) ∙ elim (cases_Bool (is_between (at + d) (at + d + n) k)) [
+      | inl b ↦ choose-new _ _ _ _ _ (part (k - (at + d))) (f k) b (joined-fresh at d n k b) (joined-inside at d n k b) (alike (k - (at + d)) (joined-near at d n k b) (f k) ∙ ap (λ i. change i (f k)) (joined-place at d n k b))
+      | inr b ↦ keep-old _ _ _ _ _ (f k) b (joined-outside at d n k b)
+    ]
+
+onward-near : (n at a : ℕ) → is_in at n a ≡ true → offset at a < n
+onward-near n at a h = grind (arith, nat_tests)
+
+onward-inside : (start d n at a : ℕ) → start < 2 ^ 32 → at ≡ above start d → d + n ≤ 2 ^ 32 → is_in at n a ≡ true → is_in start (d + n) a ≡ true
+onward-inside start d n at a small at-is few h = grind (arith, nat_tests)
+
+onward-fresh : (start d n at a : ℕ) → start < 2 ^ 32 → at ≡ above start d → d + n ≤ 2 ^ 32 → is_in at n a ≡ true → is_in start d a ≡ false
+onward-fresh start d n at a small at-is few h = grind (arith, nat_tests)
+
+onward-next : (start d n at a : ℕ) → start < 2 ^ 32 → at ≡ above start d → d + n ≤ 2 ^ 32 → is_in at n a ≡ true → offset start a ≡ d + offset at a
+onward-next start d n at a small at-is few h = grind (arith, nat_tests)
+
+onward-address : (start d n at a : ℕ) → start < 2 ^ 32 → at ≡ above start d → is_in at n a ≡ true → above start (d + offset at a) ≡ a
+onward-address start d n at a small at-is h = grind (arith, nat_tests)
+
+onward-outside : (start d n at a : ℕ) → start < 2 ^ 32 → at ≡ above start d → d + n ≤ 2 ^ 32 → is_in at n a ≡ false → is_in start (d + n) a ≡ is_in start d a
+onward-outside start d n at a small at-is few h = grind (arith, nat_tests)
+
+-- a range of d places grows by the n after them, which may go round the end
+pub range-joins : {X : Type 0} (f now new : ℕ → X) (start d n : ℕ) (change part : ℕ → X → X) → start < 2 ^ 32 → d + n ≤ 2 ^ 32 → now ≡ changed_in f start d change → new ≡ changed_in now (above start d) n part
+    → ((i : ℕ) → i < n → (x : X) → part i x ≡ change (d + i) x) → new ≡ changed_in f start (d + n) change
+unfolding changed_in
+range-joins f now new start d n change part small few was is alike =
+    let at = above start d in
+    is ∙ ap (λ g. changed_in g at n part) was ∙ fun_ext (λ a. elim (cases_Bool (is_in at n a)) [
+      | inl h ↦ choose-new _ _ _ _ _ (part (offset at a)) (f a) h (onward-fresh start d n at a small refl few h) (onward-inside start d n at a small refl few h) (alike (offset at a) (onward-near n at a h) (f a) ∙ ap (λ i. change i (f a)) (sym (onward-next start d n at a small refl few h)))
+      | inr h ↦ keep-old _ _ _ _ _ (f a) h (onward-outside start d n at a small refl few h)
+    ])
+
+choose-alike : {X : Type 0} (b : Bool) (x y z : X) → (b ≡ true → x ≡ y) → cond b x z ≡ cond b y z
+choose-alike true x y z h = h refl
+choose-alike false x y z h = refl
+
+-- changes that are alike at each place
+pub same-change : {X : Type 0} (f : ℕ → X) (at n : ℕ) (part change : ℕ → X → X) → ((i : ℕ) → i < n → (x : X) → part i x ≡ change i x) → changed_from f at n part ≡ changed_from f at n change
+same-change f at n part change alike = fun_ext (λ a. choose-alike (is_between at (at + n) a) _ _ (f a) (λ h. alike _ (is-near n at a h) (f a)))
+
+pub same-range : {X : Type 0} (f : ℕ → X) (start n : ℕ) (part change : ℕ → X → X) → ((i : ℕ) → i < n → (x : X) → part i x ≡ change i x) → changed_in f start n part ≡ changed_in f start n change
+unfolding changed_in
+same-range f start n part change alike = fun_ext (λ a. choose-alike (is_in start n a) _ _ (f a) (λ h. alike _ (onward-near n start a h) (f a)))
+
+-- places that lie before the end are a range
+pub one-range : {X : Type 0} (f new : ℕ → X) (at n : ℕ) (change : ℕ → X → X) → at + n ≤ 2 ^ 32 → at < 2 ^ 32 → new ≡ changed_from f at n change → new ≡ changed_in f at n change
+one-range f new at n change inside small made =
+    let here : at ≡ above at 0 = omega arith in
+    let few : 0 + n ≤ 2 ^ 32 = omega arith in
+    let none : 0 + n ≡ n = omega arith in
+    page-more f f new at 0 n at change change small here inside few (sym (range-empty f at change)) made (λ i below x. let e : i ≡ 0 + i = omega arith in ap (λ j. change j x) e) ∙ ap (λ k. changed_in f at k change) none
+
+none-between : (at k : ℕ) → is_between at (at + 0) k ≡ false
+none-between at k = grind (arith, nat_tests)
+
+-- no place changes
+pub changed-none : {X : Type 0} (f : ℕ → X) (at n : ℕ) (change : ℕ → X → X) → n ≡ 0 → changed_from f at n change ≡ f
+changed-none f at n change none = fun_ext (λ k. ap (λ m. changed_from f at m change k) none ∙ rw (none-between at k) refl)

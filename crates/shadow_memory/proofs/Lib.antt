@@ -7,6 +7,8 @@ pub mod Seen
 pub mod Parts
 pub mod Searching
 pub mod Copying
+pub mod Taking
+pub mod Blanks
 pub mod Loading
 pub mod Storing
 pub mod Ranging

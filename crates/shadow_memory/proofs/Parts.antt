@@ -21,3 +21,8 @@ rest-read xs d m i within how = elim (cases_lt i (length xs - m)) [
     | inr all ↦ let e : m ≡ length xs = all.0 in let f : m ≤ d = all.1 in get_or_past xs (d + i) 0 (omega arith)
   ])
 ]
+
+pub between-read : (xs : List ℕ) (from to k : ℕ) → from ≤ k → k < to → slice_index (take (to - from) (drop from xs)) (k - from) ≡ slice_index xs k
+between-read xs from to k low high =
+    let there : from + (k - from) ≡ k = omega arith in
+    get_or-take (to - from) (drop from xs) (k - from) 0 (omega arith) ∙ get_or-drop from xs (k - from) 0 ∙ ap (λ i. get_or xs i 0) there

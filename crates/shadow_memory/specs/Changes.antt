@@ -33,9 +33,13 @@ ranged kind i cell = marked cell.byte (mark_of kind)
 abbrev pub filled : (ℕ → ℕ) → ℕ → Cell → Cell
 filled bytes i cell = record { byte = bytes i; accessible = true; undef = 0 }
 
--- a cell that gets the byte i above an address, as it loads: an inaccessible target takes the byte and stays inaccessible
+-- a cell that takes what another one loads as: an inaccessible one takes the byte and stays inaccessible
+abbrev pub taken_cell : Cell → Cell → Cell
+taken_cell source cell = record { byte = source.byte; accessible = cell.accessible; undef = if cell.accessible then loaded_undef (shadow_in source) else cell.undef }
+
+-- and one that takes the byte i above an address
 abbrev pub copied_cell : (ℕ → Cell) → ℕ → ℕ → Cell → Cell
-copied_cell cells from i cell = let source = cells (above from i) in record { byte = source.byte; accessible = cell.accessible; undef = if cell.accessible then loaded_undef (shadow_in source) else cell.undef }
+copied_cell cells from i cell = taken_cell (cells (above from i)) cell
 
 -- none of n bytes from one address on is among the n from another on
 abbrev pub AreApart : ℕ → ℕ → ℕ → Type 0

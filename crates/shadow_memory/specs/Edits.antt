@@ -1,34 +1,46 @@
--- What one change does to cells that lie one after another in a page.
+-- What one change does to cells that lie one after another.
 use Rattle.std.specs.Prelude.{ℕ, length, slice_index, ◌+◌, ◌<◌, ◌≤◌, ◌≡◌}
 use Rattle.shadow_memory.specs.Cells.{IsClean}
 use Rattle.shadow_memory.specs.Marks.{blank}
+use Rattle.shadow_memory.specs.Pages.{cells_in, AreWhole}
 use Rattle.shadow_memory.specs.Places.{changed_from}
-use Rattle.shadow_memory.specs.Changes.{filled, ranged, received}
+use Rattle.shadow_memory.specs.Changes.{filled, ranged, received, taken_cell}
 use Rattle.shadow_memory.specs.declared.cells.Cell.{Cell}
 use Rattle.shadow_memory.specs.declared.cells.RangeKind.{RangeKind}
+use Rattle.shadow_memory.specs.declared.edits.Each.{Each}
+use Rattle.shadow_memory.specs.declared.edits.Each.TheVariants.{Make, Clear, Take}
 use Rattle.shadow_memory.specs.declared.edits.Edit.{Edit}
-use Rattle.shadow_memory.specs.declared.edits.Edit.TheVariants.{Set, Make, Fill, Store}
+use Rattle.shadow_memory.specs.declared.edits.Edit.TheVariants.{Set, All, Fill, Store, Copy}
+
+-- what becomes of a cell that changes as each of its range does
+unfoldable pub each_of : Each → Cell → Cell
+each_of (Make kind) cell = ranged kind 0 cell
+each_of Clear cell = filled (λ i. 0) 0 cell
+each_of (Take kind) cell = taken_cell (blank kind) cell
 
 -- how many cells change
 unfoldable pub count_of : Edit → ℕ
 count_of (Set cell) = 1
-count_of (Make count kind) = count
+count_of (All count each) = count
 count_of (Fill count bytes) = count
 count_of (Store bytes) = length bytes.now
+count_of (Copy page place count) = count
 
 -- what becomes of the one at an offset
 unfoldable pub change_of : Edit → ℕ → Cell → Cell
 change_of (Set made) i cell = made
-change_of (Make count kind) i cell = ranged kind i cell
+change_of (All count each) i cell = each_of each cell
 change_of (Fill count bytes) i cell = filled (slice_index bytes.now) i cell
 change_of (Store bytes) i cell = received (slice_index bytes.now) i cell
+change_of (Copy page place count) i cell = taken_cell (cells_in page.now (place + i)) cell
 
--- no inaccessible byte gets undefined bits
+-- no inaccessible byte gets undefined bits, and what is copied lies in a page, with no byte that is defined in part
 unfoldable pub Fits : Edit → Type 0
 Fits (Set cell) = IsClean cell
-Fits (Make count kind) = Unit {0}
+Fits (All count each) = Unit {0}
 Fits (Fill count bytes) = Unit {0}
 Fits (Store bytes) = Unit {0}
+Fits (Copy page place count) = (place + count ≤ 4096) × AreWhole page.now.marks place (place + count)
 
 -- a blank page is blank after a change, of this kind
 abbrev pub LeavesBlank : RangeKind → Edit → RangeKind → Type 0

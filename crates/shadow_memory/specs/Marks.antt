@@ -1,6 +1,6 @@
 -- What a page keeps of each byte beside its value.
-use Rattle.std.specs.Prelude.{ℕ, IsTrue, not, ◌≡◌, if◌then◌else◌}
-use Rattle.shadow_memory.specs.Shadows.{Shadow, shadow_of}
+use Rattle.std.specs.Prelude.{ℕ, IsTrue, true, not, ◌≡◌, if◌then◌else◌}
+use Rattle.shadow_memory.specs.Shadows.{Shadow, loaded_undef, shadow_of}
 use Rattle.shadow_memory.specs.declared.cells.Cell.{Cell}
 use Rattle.shadow_memory.specs.declared.cells.Mark.{Mark}
 use Rattle.shadow_memory.specs.declared.cells.RangeKind.{RangeKind}
@@ -17,6 +17,10 @@ mark_of kind = record { accessible = (shadow_of kind).accessible; undef = (shado
 -- the mark of a byte that is stored with all bits defined: an inaccessible one stays inaccessible
 abbrev pub defined : Mark → Mark
 defined mark = if mark.accessible then mark_of Defined else mark
+
+-- the mark of a byte that takes the bits undefined that another loads with: an inaccessible one stays inaccessible
+abbrev pub taken : Mark → Mark → Mark
+taken source mark = if mark.accessible then record { accessible = true; undef = loaded_undef (shadow_of_mark source) } else mark
 
 -- a cell of a byte and a mark
 abbrev pub marked : ℕ → Mark → Cell

@@ -1,5 +1,5 @@
 -- The cells of one page.
-use Rattle.std.specs.Prelude.{ℕ, slice_index, unwrap_or}
+use Rattle.std.specs.Prelude.{ℕ, slice_index, unwrap_or, ◌<◌, ◌≤◌}
 use Rattle.std.specs.BTreeMap.{get}
 use Rattle.std.specs.Ordering.{nat_cmp}
 use Rattle.shadow_memory.specs.Marks.{marked, mark_of}
@@ -19,6 +19,11 @@ marks_mixed mixed at = mark_by (code_at mixed.codes at) (unwrap_or (get nat_cmp 
 unfoldable pub marks_in : Marks → ℕ → Mark
 marks_in (Uniform kind) at = mark_of kind
 marks_in (AsMixed mixed) at = marks_mixed mixed at
+
+-- no byte from one place up to, not with, another is held as one that is defined in part
+unfoldable pub AreWhole : Marks → ℕ → ℕ → Type 0
+AreWhole (Uniform kind) from to = Unit {0}
+AreWhole (AsMixed mixed) from to = (at : ℕ) → from ≤ at → at < to → code_at mixed.codes at < 3
 
 -- the cell at a place of the page
 unfoldable pub cells_in : Page → ℕ → Cell

@@ -15,6 +15,14 @@ code_of NoAccess = 0
 code_of Undefined = 1
 code_of Defined = 2
 
+-- the number of what a byte loads as, where it isn't defined in part: an inaccessible one loads as defined
+abbrev pub loaded_code : ℕ → ℕ
+loaded_code code = if code == 1 then 1 else 2
+
+-- the number of a byte that takes what another has: an inaccessible one stays inaccessible
+abbrev pub taken_code : ℕ → ℕ → ℕ
+taken_code made old = if old == 0 then 0 else made
+
 -- what a number says, where a partly defined byte has these bits undefined
 abbrev pub mark_by : ℕ → ℕ → Mark
 mark_by code partly = if code == 0 then mark_of NoAccess else if code == 1 then mark_of Undefined else if code == 2 then mark_of Defined else record { accessible = true; undef = partly }

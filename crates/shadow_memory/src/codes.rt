@@ -1,11 +1,13 @@
 //! Two bits for each byte of a page.
-ghost use Rattle.std.specs.Prelude.{◌≡◌, ℕ, ◌+◌, ◌%◌, ◌<◌, ◌≤◌, ◌==◌, if◌then◌else◌, vec_len, IfOk, IsTrue};
+ghost use Rattle.std.specs.Prelude.{◌≡◌, ◌⊎◌, ℕ, ◌+◌, ◌-◌, ◌%◌, ◌<◌, ◌≤◌, ◌==◌, if◌then◌else◌, vec_len, IfOk, IfSome, IsTrue};
 ghost use Rattle.shadow_memory.specs.Marks.{defined};
-ghost use Rattle.shadow_memory.specs.Places.{is_between};
-ghost use Rattle.shadow_memory.specs.Parts.{code_of, mark_by, part_of};
+ghost use Rattle.shadow_memory.specs.Places.{changed_from, is_between};
+ghost use Rattle.shadow_memory.specs.Loads.{four};
+ghost use Rattle.shadow_memory.specs.Parts.{code_of, loaded_code, mark_by, part_of, taken_code};
 
 use crate::cells::RangeKind;
 use crate::laws::{all_are, first_not};
+use crate::slices::set_all;
 use std::alloc::{AllocError, Global};
 
 /// The number of an inaccessible byte.
@@ -32,6 +34,39 @@ pub(crate) fn code_of_kind(kind: RangeKind) -> u8
     }
 }
 
+/// The kind that has a number.
+pub(crate) fn kind_of_code(code: u8) -> Option<RangeKind>
+    ensures { IfSome result (λ kind. code ≡ code_of kind) }
+{
+    match code {
+        NO_ACCESS => Some(RangeKind::NoAccess),
+        UNDEFINED => Some(RangeKind::Undefined),
+        DEFINED => Some(RangeKind::Defined),
+        _ => None,
+    }
+}
+
+/// The number of what a byte loads as, where it isn't defined in part.
+pub(crate) fn loaded_code(code: u8) -> u8
+    ensures small { result < 4 }
+    ensures value { result ≡ loaded_code code }
+{
+    if code == UNDEFINED {
+        UNDEFINED
+    } else {
+        DEFINED
+    }
+}
+
+// The number of a byte that takes what another has.
+fn taken_code(made: u8, old: u8) -> u8
+    requires { made < 4 }
+    ensures small { result < 4 }
+    ensures value { result ≡ taken_code made old }
+{
+    if old == NO_ACCESS { NO_ACCESS } else { made }
+}
+
 /// The number of a byte that is stored with all bits defined.
 pub(crate) fn defined_code(code: u8) -> u8
     requires { code < 4 }
@@ -47,6 +82,9 @@ pub(crate) fn defined_code(code: u8) -> u8
 
 // How many bytes hold the numbers of a page, four to a byte.
 const PACKED: usize = 1024;
+
+// From how many places to how many a long run of one number is looked for.
+const STRETCH: usize = 512;
 
 // The byte whose four numbers are each 1.
 const FOUR_ONES: u8 = 85;
@@ -84,6 +122,59 @@ fn with_part(byte: u8, place: usize, code: u8) -> u8
         2 => byte / 64 * 64 + code * 16 + byte % 16,
         _ => code * 64 + byte % 64,
     }
+}
+
+// A byte of four numbers.
+fn packed_four(first: u8, second: u8, third: u8, fourth: u8) -> u8
+    requires first { first < 4 }
+    requires second { second < 4 }
+    requires third { third < 4 }
+    requires fourth { fourth < 4 }
+    ensures { (k : ℕ) → k < 4 → part_of result k ≡ four first second third fourth k }
+{
+    first + 4 * second + 16 * third + 64 * fourth
+}
+
+// The number of a byte, in one place of four, that takes what another there loads as.
+fn copied_part(source: u8, target: u8, place: usize) -> u8
+    requires { place < 4 }
+    ensures small { result < 4 }
+    ensures value { result ≡ taken_code (loaded_code (part_of source place)) (part_of target place) }
+{
+    taken_code(loaded_code(part(source, place)), part(target, place))
+}
+
+// Are the four numbers in a byte all that of undefined bytes, or all that of defined ones?
+fn are_alike(byte: u8) -> bool
+    ensures { IsTrue result → (k : ℕ) → k < 4 → (part_of byte k ≡ 1) ⊎ (part_of byte k ≡ 2) }
+{
+    byte == UNDEFINED * FOUR_ONES || byte == DEFINED * FOUR_ONES
+}
+
+// The four numbers in a byte that take what those in another load as.
+fn copied_four(source: u8, target: u8) -> u8
+    ensures { (k : ℕ) → k < 4 → part_of result k ≡ taken_code (loaded_code (part_of source k)) (part_of target k) }
+{
+    if are_alike(source) && are_alike(target) {
+        return source;
+    }
+    packed_four(
+        copied_part(source, target, 0),
+        copied_part(source, target, 1),
+        copied_part(source, target, 2),
+        copied_part(source, target, 3),
+    )
+}
+
+// Is none of the four numbers in a byte that of a byte defined in part? `false` may be told of such ones too.
+fn are_whole(byte: u8) -> bool
+    ensures { IsTrue result → (k : ℕ) → k < 4 → part_of byte k < 3 }
+{
+    are_alike(byte)
+        || part(byte, 0) != PARTLY
+            && part(byte, 1) != PARTLY
+            && part(byte, 2) != PARTLY
+            && part(byte, 3) != PARTLY
 }
 
 #[tactic(auto, unfolding(crate::specs::Codes::code_at))]
@@ -145,17 +236,97 @@ impl Codes {
         }
     }
 
-    // Sets the four numbers of one byte.
-    fn set_four(&mut self, at: usize, code: u8)
-        requires within { at + 4 ≤ 4096 }
-        requires aligned { at % 4 ≡ 0 }
+    // A place, from one on, before which each number is this one; the same place, if its number isn't.
+    fn run_some(&self, at: usize, to: usize, code: u8) -> usize
+        requires order { at < to }
+        requires within { to ≤ 4096 }
         requires small { code < 4 }
-        ensures { (k : ℕ) → code_at self.new k ≡ (if is_between at (at + 4) k then code else code_at self.old k) }
+        ensures on { at ≤ result }
+        ensures more { code_at self.now at ≡ code → at < result }
+        ensures within { result ≤ to }
+        ensures same { (k : ℕ) → at ≤ k → k < result → code_at self.now k ≡ code }
     {
-        self.packed[at / 4] = code * FOUR_ONES;
+        if self.code(at) != code {
+            return at;
+        }
+        if at % 4 == 0 {
+            let next = self.skip(at, code).min(to);
+            if next > at {
+                return next;
+            }
+        }
+        at + 1
     }
 
-    // Sets the number of a place, or those of a whole byte if they come before another place; answers the place after them.
+    /// The place after one where the run of the number there ends, or another place if that comes first.
+    pub(crate) fn run(&self, from: usize, to: usize) -> usize
+        requires order { from < to }
+        requires within { to ≤ 4096 }
+        ensures on { from < result }
+        ensures within { result ≤ to }
+        ensures same { (k : ℕ) → from ≤ k → k < result → code_at self.now k ≡ code_at self.now from }
+    {
+        let code = self.code(from);
+        let mut at = from;
+        while at < to {
+            let next = self.run_some(at, to, code);
+            if next == at {
+                return at;
+            }
+            at = next;
+        }
+        at
+    }
+
+    // A place, from one on, before which no byte is defined in part; the same place, if its byte is.
+    fn whole_some(&self, at: usize, to: usize) -> usize
+        requires order { at < to }
+        requires within { to ≤ 4096 }
+        ensures on { at ≤ result }
+        ensures within { result ≤ to }
+        ensures whole { (k : ℕ) → at ≤ k → k < result → code_at self.now k < 3 }
+    {
+        if at % 4 == 0 && to - at >= 4 && at % STRETCH != 0 && are_whole(self.packed[at / 4]) {
+            return at + 4;
+        }
+        if self.code(at) == PARTLY {
+            return at;
+        }
+        self.run(at, to)
+    }
+
+    /// The first place, from one up to another, whose byte is defined in part; the other place, if there is none.
+    pub(crate) fn whole_end(&self, from: usize, to: usize) -> usize
+        requires order { from ≤ to }
+        requires within { to ≤ 4096 }
+        ensures start { from ≤ result }
+        ensures within { result ≤ to }
+        ensures whole { (k : ℕ) → from ≤ k → k < result → code_at self.now k < 3 }
+    {
+        let mut at = from;
+        while at < to {
+            let next = self.whole_some(at, to);
+            if next == at {
+                return at;
+            }
+            at = next;
+        }
+        at
+    }
+
+    // Sets the numbers of whole bytes.
+    fn set_fours(&mut self, from: usize, to: usize, code: u8)
+        requires order { from ≤ to }
+        requires within { to ≤ 4096 }
+        requires aligned { from % 4 ≡ 0 }
+        requires aligned_end { to % 4 ≡ 0 }
+        requires small { code < 4 }
+        ensures { (k : ℕ) → code_at self.new k ≡ (if is_between from to k then code else code_at self.old k) }
+    {
+        set_all(&mut self.packed, from / 4, to / 4, code * FOUR_ONES);
+    }
+
+    // Sets the number of a place, or those of all whole bytes that end before another place; answers the place after them.
     fn set_some(&mut self, at: usize, to: usize, code: u8) -> usize
         requires order { at < to }
         requires within { to ≤ 4096 }
@@ -165,8 +336,9 @@ impl Codes {
         ensures set { (k : ℕ) → code_at self.new k ≡ (if is_between at result k then code else code_at self.old k) }
     {
         if at % 4 == 0 && to - at >= 4 {
-            self.set_four(at, code);
-            at + 4
+            let end = to - to % 4;
+            self.set_fours(at, end, code);
+            end
         } else {
             self.set(at, code);
             at + 1
@@ -183,6 +355,90 @@ impl Codes {
         let mut at = from;
         while at < to {
             at = self.set_some(at, to, code);
+        }
+    }
+
+    // Has the places of a run take a number; answers the place after them.
+    fn take_some(&mut self, at: usize, to: usize, made: u8) -> usize
+        requires order { at < to }
+        requires within { to ≤ 4096 }
+        requires small { made < 4 }
+        ensures on { at < result }
+        ensures within { result ≤ to }
+        ensures set { (k : ℕ) → code_at self.new k ≡ (if is_between at result k then taken_code made (code_at self.old k) else code_at self.old k) }
+    {
+        let code = taken_code(made, self.code(at));
+        let end = self.run(at, to);
+        self.make(at, end, code);
+        end
+    }
+
+    /// Has the places from one up to, not with, another take a number; those of inaccessible bytes keep theirs.
+    pub(crate) fn take(&mut self, from: usize, to: usize, made: u8)
+        requires order { from ≤ to }
+        requires within { to ≤ 4096 }
+        requires small { made < 4 }
+        ensures { (k : ℕ) → code_at self.new k ≡ (if is_between from to k then taken_code made (code_at self.old k) else code_at self.old k) }
+    {
+        let mut at = from;
+        while at < to {
+            at = self.take_some(at, to, made);
+        }
+    }
+
+    // Has four places of a byte take what those of another byte load as.
+    fn copy_four(&mut self, at: usize, source: &Codes, from: usize)
+        requires aligned { at % 4 ≡ 0 }
+        requires room { at + 4 ≤ 4096 }
+        requires from_aligned { from % 4 ≡ 0 }
+        requires within { from + 4 ≤ 4096 }
+        ensures { (k : ℕ) → code_at self.new k ≡ changed_from (code_at self.old) at 4 (λ i old. taken_code (loaded_code (code_at source.now (from + i))) old) k }
+    {
+        self.packed[at / 4] = copied_four(source.packed[from / 4], self.packed[at / 4]);
+    }
+
+    // Has places take what others load as, four of a byte or a run of one number; answers the place after the others.
+    fn copy_some(&mut self, at: usize, source: &Codes, from: usize, to: usize) -> usize
+        requires order { from < to }
+        requires within { to ≤ 4096 }
+        requires room { at + (to - from) ≤ 4096 }
+        ensures on { from < result }
+        ensures within { result ≤ to }
+        ensures set { (k : ℕ) → code_at self.new k ≡ changed_from (code_at self.old) at (result - from) (λ i old. taken_code (loaded_code (code_at source.now (from + i))) old) k }
+    {
+        if at % 4 == 0 && from % 4 == 0 && to - from >= 4 && from % STRETCH != 0 {
+            self.copy_four(at, source, from);
+            return from + 4;
+        }
+        self.copy_run(at, source, from, to)
+    }
+
+    // Has places take what those of a run of others load as; answers the place after the run.
+    fn copy_run(&mut self, at: usize, source: &Codes, from: usize, to: usize) -> usize
+        requires order { from < to }
+        requires within { to ≤ 4096 }
+        requires room { at + (to - from) ≤ 4096 }
+        ensures on { from < result }
+        ensures within { result ≤ to }
+        ensures set { (k : ℕ) → code_at self.new k ≡ changed_from (code_at self.old) at (result - from) (λ i old. taken_code (loaded_code (code_at source.now (from + i))) old) k }
+    {
+        let made = loaded_code(source.code(from));
+        let end = source.run(from, to);
+        self.take(at, at + (end - from), made);
+        end
+    }
+
+    /// Has so many places take what others load as, none of which is that of a byte defined in part; those of inaccessible bytes
+    /// keep theirs.
+    pub(crate) fn copy(&mut self, at: usize, source: &Codes, from: usize, count: usize)
+        requires room { at + count ≤ 4096 }
+        requires within { from + count ≤ 4096 }
+        ensures { (k : ℕ) → code_at self.new k ≡ changed_from (code_at self.old) at count (λ i old. taken_code (loaded_code (code_at source.now (from + i))) old) k }
+    {
+        let end = from + count;
+        let mut place = from;
+        while place < end {
+            place = self.copy_some(at + (place - from), source, place, end);
         }
     }
 

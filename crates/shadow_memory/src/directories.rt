@@ -1,9 +1,9 @@
 //! Pages in a row.
-ghost use Rattle.std.specs.Prelude.{◌≡◌, ℕ, ◌<◌, ◌≤◌, ◌+◌, ◌/◌, ◌%◌, OnOk, OnErr, IfOk, IfNone, IfSome, IsTrue, IsFalse, length, replicate, slice_index, vec_len};
+ghost use Rattle.std.specs.Prelude.{◌≡◌, ℕ, ◌<◌, ◌≤◌, ◌+◌, ◌*◌, ◌/◌, ◌%◌, OnOk, OnErr, IfOk, IfNone, IfSome, IsTrue, IsFalse, length, replicate, slice_index, vec_len};
 ghost use Rattle.shadow_memory.specs.Changes.{received};
 
 use crate::cells::RangeKind;
-use crate::edits::Edit;
+use crate::edits::{Each, Edit};
 use crate::pages::PAGE;
 use crate::slots::PageSlot;
 use crate::views::View;
@@ -32,9 +32,9 @@ fn untouched(alloc: Global, count: usize) -> Result<Vec<PageSlot>, AllocError>
 impl Directory {
     ghost use Rattle.shadow_memory.specs.Marks.{blank};
     ghost use Rattle.shadow_memory.specs.Places.{changed_from};
-    ghost use Rattle.shadow_memory.specs.Directories.{cells_under, page_at};
+    ghost use Rattle.shadow_memory.specs.Directories.{cells_at, cells_under, page_at};
     ghost use Rattle.shadow_memory.specs.Views.{cells_seen};
-    ghost use Rattle.shadow_memory.specs.Edits.{change_of, count_of, Fits};
+    ghost use Rattle.shadow_memory.specs.Edits.{change_of, count_of, each_of, Fits};
 
     /// Inaccessible zeros.
     pub(crate) fn new(alloc: Global) -> Directory
@@ -70,6 +70,17 @@ impl Directory {
         match self.place(at / PAGE) {
             Some(place) => self.pages[place].view(),
             None => View::Blank(RangeKind::NoAccess),
+        }
+    }
+
+    /// The page of a place, which the one who asks holds too.
+    pub(crate) fn slot(&self, at: usize) -> Result<PageSlot, AllocError>
+        requires { at < 4194304 }
+        ensures { IfOk result (λ slot. (a : ℕ) → a / 4096 ≡ at / 4096 → cells_under self.now a ≡ cells_at slot (a % 4096)) }
+    {
+        match self.place(at / PAGE) {
+            Some(place) => Ok(self.pages[place].clone()?),
+            None => Ok(PageSlot::Blank(RangeKind::NoAccess)),
         }
     }
 
@@ -156,6 +167,89 @@ impl Directory {
         self.reach(alloc, number)?;
         let place = number - self.first;
         self.pages[place].change(alloc, at % PAGE, edit)
+    }
+
+    /// Changes each byte of blank pages, one after another from one that is kept on, and at most so many. Answers how many.
+    fn sweep(&mut self, place: usize, most: usize, each: Each) -> usize
+        requires { place + most ≤ vec_len self.old.pages }
+        ensures within { result ≤ most }
+        ensures swept { cells_under self.new ≡ changed_from (cells_under self.old) (4096 * (self.old.first + place)) (4096 * result) (λ i cell. each_of each cell) }
+    {
+        for i in 0..most {
+            if !self.pages[place + i].sweep(each) {
+                return i;
+            }
+        }
+        most
+    }
+
+    /// The same from a page with a number on.
+    fn change_blank(
+        &mut self,
+        alloc: Global,
+        number: usize,
+        most: usize,
+        each: Each,
+    ) -> Result<usize, AllocError>
+        requires { number + most ≤ 1024 }
+        ensures within { IfOk result (λ n. n ≤ most) }
+        ensures ok { IfOk result (λ n. cells_under self.new ≡ changed_from (cells_under self.old) (4096 * number) (4096 * n) (λ i cell. each_of each cell)) }
+        ensures err { OnErr result (cells_under self.new ≡ cells_under self.old) }
+    {
+        if most == 0 {
+            return Ok(0);
+        }
+        self.reach(alloc, number + most - 1)?;
+        self.reach(alloc, number)?;
+        let place = number - self.first;
+        let kept = self.pages.len() - place;
+        Ok(self.sweep(place, most.min(kept), each))
+    }
+
+    /// Changes bytes of one page alike, at most so many. Answers how many.
+    #[tactic(auto, unfolding(crate::specs::Edits::count_of, crate::specs::Edits::change_of, crate::specs::Edits::Fits))]
+    fn change_page(
+        &mut self,
+        alloc: Global,
+        at: usize,
+        most: usize,
+        each: Each,
+    ) -> Result<usize, AllocError>
+        requires some { 0 < most }
+        requires within { at < 4194304 }
+        ensures some { IfOk result (λ n. 0 < n) }
+        ensures within { IfOk result (λ n. n ≤ most) }
+        ensures ok { IfOk result (λ n. cells_under self.new ≡ changed_from (cells_under self.old) at n (λ i cell. each_of each cell)) }
+        ensures err { OnErr result (cells_under self.new ≡ cells_under self.old) }
+    {
+        let count = most.min(PAGE - at % PAGE);
+        self.change(alloc, at, &Edit::All(count, each))?;
+        Ok(count)
+    }
+
+    /// Changes bytes alike from a place on: those of blank pages, or some of one page. Answers how many.
+    pub(crate) fn change_some(
+        &mut self,
+        alloc: Global,
+        at: usize,
+        most: usize,
+        each: Each,
+    ) -> Result<usize, AllocError>
+        requires some { 0 < most }
+        requires within { at + most ≤ 4194304 }
+        ensures some { IfOk result (λ n. 0 < n) }
+        ensures within { IfOk result (λ n. n ≤ most) }
+        ensures ok { IfOk result (λ n. cells_under self.new ≡ changed_from (cells_under self.old) at n (λ i cell. each_of each cell)) }
+        ensures err { OnErr result (cells_under self.new ≡ cells_under self.old) }
+    {
+        if at % PAGE != 0 {
+            return self.change_page(alloc, at, most, each);
+        }
+        let count = self.change_blank(alloc, at / PAGE, most / PAGE, each)?;
+        if count > 0 {
+            return Ok(PAGE * count);
+        }
+        self.change_page(alloc, at, most, each)
     }
 }
 

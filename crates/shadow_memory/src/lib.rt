@@ -56,13 +56,17 @@
 //! Up to 1,024 directories of 1,024 pages of 4,096 bytes, each directory and page behind an `Rc`. The table reaches as far as the
 //! last directory that was changed, and one that was not changed is blank; a directory keeps its pages from the first to the last
 //! that was changed, so that a copy of it is no longer than what a program uses there. A page of zeros of one kind is blank too:
-//! it has no bytes at all, so a range of whole pages that were not written to costs a step a page. The marks of a page
-//! are of one kind, or two bits a byte with an ordered map for the bytes that are defined in part (as in N.
-//! Nethercote and J. Seward, "How to shadow every byte of memory used by a program", VEE 2007); a range that makes
-//! them one kind again is found by a scan. Every change goes through `Memory::change`, which changes cells of one page, all of
-//! them or none, in a page of its own: `Rc::make_mut` copies a directory or a page that others share first. Only where no
-//! other memory has the page, and its bytes there are accessible and defined, `Memory::put` stores at once. A load that
-//! lies in one page looks it up once, and a store of defined bits twice: to find what is inaccessible, and to write.
+//! it has no bytes at all. The marks of a page are of one kind, or two bits a byte with an ordered map for the bytes that are
+//! defined in part (as in N. Nethercote and J. Seward, "How to shadow every byte of memory used by a program", VEE 2007); a range
+//! that makes them one kind again is found by a scan. Every change goes through `Memory::change`, which changes cells of one page,
+//! all of them or none, in a page of its own, or through `Memory::change_some`, which changes the bytes of a range alike: those of
+//! blank pages one after another at once. `Rc::make_mut` copies a directory or a page that others share first. Only where no
+//! other memory has the page, and its bytes there are accessible and defined, `Memory::put` stores at once. A load
+//! that lies in one page looks it up once, and a store of defined bits twice: to find what is inaccessible, and to write.
+//!
+//! A copy looks for zeros of one kind first, over as many pages as there are: they change the target as a range alike, so that
+//! blank pages stay blank, and a held page that becomes zeros of one kind becomes blank. Other bytes go from one page to one page,
+//! the bytes as a slice and the two bits by runs, up to a byte that is defined in part, which goes alone.
 //!
 //! Sources: RISC-V Unprivileged ISA 20191213, sections 1.4 and 1.5; the Memcheck manual, sections 4.5 and 4.7.
 #![tactic(auto)]

@@ -3,11 +3,15 @@ ghost use Rattle.std.specs.Prelude.{◌≡◌, ◌+◌, ◌%◌, ◌<◌, ◌≤
 ghost use Rattle.shadow_memory.specs.Firsts.{IsFirst, NonePass};
 ghost use Rattle.shadow_memory.specs.Shadows.{holds_word, is_bad, HoldNoWord, IsNextWord};
 ghost use Rattle.shadow_memory.specs.Cells.{set_at};
-ghost use Rattle.shadow_memory.specs.Marks.{defined, mark_of, shadow_of_mark, IsCleanMark};
-ghost use Rattle.shadow_memory.specs.Places.{is_between};
+ghost use Rattle.shadow_memory.specs.Marks.{defined, mark_of, shadow_of_mark, taken, IsCleanMark};
+ghost use Rattle.shadow_memory.specs.Places.{changed_from, is_between};
+ghost use Rattle.shadow_memory.specs.Codes.{code_at};
 
 use crate::cells::{Mark, RangeKind, is_bad_mark, mark_of_kind};
-use crate::codes::{Codes, DEFINED, NO_ACCESS, PARTLY, UNDEFINED, code_of_kind, defined_code};
+use crate::codes::{
+    Codes, DEFINED, NO_ACCESS, PARTLY, UNDEFINED, code_of_kind, defined_code, kind_of_code,
+    loaded_code,
+};
 use crate::pages::PAGE;
 use std::alloc::{AllocError, Global};
 use std::collections::BTreeMap;
@@ -153,6 +157,39 @@ impl Mixed {
         }
     }
 
+    // Has the accessible bytes take the bits undefined that one of a kind loads with.
+    fn take(&mut self, from: usize, to: usize, kind: RangeKind)
+        requires order { from ≤ to }
+        requires within { to ≤ 4096 }
+        ensures { Agree (marks_mixed self.new) (λ k. if is_between from to k then taken (mark_of kind) (marks_mixed self.old k) else marks_mixed self.old k) }
+    {
+        self.codes.take(from, to, loaded_code(code_of_kind(kind)));
+    }
+
+    // Has the accessible bytes take the bits undefined that others load with, none of which is defined in part.
+    fn copy(&mut self, at: usize, source: &Mixed, from: usize, count: usize)
+        requires room { at + count ≤ 4096 }
+        requires within { from + count ≤ 4096 }
+        requires whole { (k : ℕ) → from ≤ k → k < from + count → code_at source.now.codes k < 3 }
+        ensures { Agree (marks_mixed self.new) (changed_from (marks_mixed self.old) at count (λ i mark. taken (marks_mixed source.now (from + i)) mark)) }
+    {
+        self.codes.copy(at, &source.codes, from, count);
+    }
+
+    // The kind of the bytes from one place up to, not with, another, if they are of one.
+    fn kind(&self, from: usize, to: usize) -> Option<RangeKind>
+        requires order { from < to }
+        requires within { to ≤ 4096 }
+        ensures { IfSome result (λ kind. (k : ℕ) → from ≤ k → k < to → marks_mixed self.now k ≡ mark_of kind) }
+    {
+        let kind = kind_of_code(self.codes.code(from))?;
+        if self.codes.run(from, to) == to {
+            Some(kind)
+        } else {
+            None
+        }
+    }
+
     // The first bad byte from one place up to, not with, another. Defined bytes are skipped by a scan.
     fn first_bad(&self, from: usize, to: usize, need_defined: bool) -> Option<usize>
         requires order { from ≤ to }
@@ -237,10 +274,10 @@ impl Clone for Marks {
     }
 }
 
-#[tactic(auto, unfolding(crate::specs::Pages::marks_in))]
+#[tactic(auto, unfolding(crate::specs::Pages::marks_in, crate::specs::Pages::AreWhole))]
 impl Marks {
     ghost use Rattle.std.specs.Prelude.{if◌then◌else◌};
-    ghost use Rattle.shadow_memory.specs.Pages.{marks_in};
+    ghost use Rattle.shadow_memory.specs.Pages.{marks_in, marks_mixed, AreWhole};
     ghost use Rattle.shadow_memory.specs.Places.{AgreeInPage};
 
     pub(crate) fn mark(&self, at: usize) -> Mark
@@ -351,6 +388,115 @@ impl Marks {
                 mixed.define(from, to);
                 Ok(())
             }
+        }
+    }
+
+    /// Has the accessible bytes from one place up to, not with, another take the bits undefined that one of a kind loads with.
+    pub(crate) fn take(
+        &mut self,
+        alloc: Global,
+        from: usize,
+        to: usize,
+        kind: RangeKind,
+    ) -> Result<(), AllocError>
+        requires order { from ≤ to }
+        requires within { to ≤ 4096 }
+        ensures ok { OnOk result (AgreeInPage (marks_in self.new) (λ k. if is_between from to k then taken (mark_of kind) (marks_in self.old k) else marks_in self.old k)) }
+        ensures err { OnErr result (AgreeInPage (marks_in self.new) (marks_in self.old)) }
+    {
+        let made = match kind {
+            RangeKind::Undefined => RangeKind::Undefined,
+            _ => RangeKind::Defined,
+        };
+        match self {
+            Marks::Uniform(RangeKind::NoAccess) => Ok(()),
+            Marks::Uniform(_) => self.make(alloc, from, to, made),
+            Marks::Mixed(mixed) => {
+                mixed.take(from, to, kind);
+                self.fold(made);
+                Ok(())
+            }
+        }
+    }
+
+    // Has the accessible bytes take the bits undefined that others load with, none of which is defined in part.
+    fn copy_mixed(
+        &mut self,
+        alloc: Global,
+        at: usize,
+        source: &Mixed,
+        from: usize,
+        count: usize,
+    ) -> Result<(), AllocError>
+        requires room { at + count ≤ 4096 }
+        requires within { from + count ≤ 4096 }
+        requires whole { (k : ℕ) → from ≤ k → k < from + count → code_at source.now.codes k < 3 }
+        ensures ok { OnOk result (AgreeInPage (marks_in self.new) (changed_from (marks_in self.old) at count (λ i mark. taken (marks_mixed source.now (from + i)) mark))) }
+        ensures err { OnErr result (AgreeInPage (marks_in self.new) (marks_in self.old)) }
+    {
+        match self {
+            Marks::Uniform(RangeKind::NoAccess) => Ok(()),
+            Marks::Uniform(old) => {
+                let mut mixed = Mixed::filled(alloc, *old)?;
+                mixed.copy(at, source, from, count);
+                *self = Marks::Mixed(mixed);
+                Ok(())
+            }
+            Marks::Mixed(mixed) => {
+                mixed.copy(at, source, from, count);
+                Ok(())
+            }
+        }
+    }
+
+    /// Has so many accessible bytes take the bits undefined that others load with, none of which is defined in part.
+    pub(crate) fn copy(
+        &mut self,
+        alloc: Global,
+        at: usize,
+        source: &Marks,
+        from: usize,
+        count: usize,
+    ) -> Result<(), AllocError>
+        requires room { at + count ≤ 4096 }
+        requires within { from + count ≤ 4096 }
+        requires whole { AreWhole source.now from (from + count) }
+        ensures ok { OnOk result (AgreeInPage (marks_in self.new) (changed_from (marks_in self.old) at count (λ i mark. taken (marks_in source.now (from + i)) mark))) }
+        ensures err { OnErr result (AgreeInPage (marks_in self.new) (marks_in self.old)) }
+    {
+        match source {
+            Marks::Uniform(kind) => self.take(alloc, at, at + count, *kind),
+            Marks::Mixed(mixed) => {
+                self.copy_mixed(alloc, at, mixed, from, count)?;
+                self.fold(RangeKind::Defined);
+                Ok(())
+            }
+        }
+    }
+
+    /// The first place, from one up to another, whose byte is defined in part; the other place, if there is none.
+    pub(crate) fn whole_end(&self, from: usize, to: usize) -> usize
+        requires order { from ≤ to }
+        requires within { to ≤ 4096 }
+        ensures start { from ≤ result }
+        ensures within { result ≤ to }
+        ensures whole { AreWhole self.now from result }
+    {
+        match self {
+            Marks::Uniform(_) => to,
+            Marks::Mixed(mixed) => mixed.codes.whole_end(from, to),
+        }
+    }
+
+    /// The kind of the bytes from one place up to, not with, another, if they are of one.
+    pub(crate) fn kind(&self, from: usize, to: usize) -> Option<RangeKind>
+        requires order { from < to }
+        requires within { to ≤ 4096 }
+        ensures { IfSome result (λ kind. (k : ℕ) → from ≤ k → k < to → marks_in self.now k ≡ mark_of kind) }
+    {
+        match self {
+            Marks::Uniform(kind) => Some(*kind),
+            Marks::Mixed(mixed) => mixed.kind(from, to),
         }
     }
 

@@ -1,8 +1,9 @@
 //! The whole memory, and one change of it.
-ghost use Rattle.std.specs.Prelude.{◌≡◌, ℕ, ◌+◌, ◌/◌, ◌%◌, ◌<◌, ◌≤◌, true, IfOk, IsTrue, IsFalse, OnOk, OnErr, length, slice_index, vec_len};
+ghost use Rattle.std.specs.Prelude.{◌≡◌, ℕ, ◌+◌, ◌/◌, ◌%◌, ◌^◌, ◌<◌, ◌≤◌, true, IfOk, IsTrue, IsFalse, OnOk, OnErr, length, slice_index, vec_len};
 ghost use Rattle.shadow_memory.specs.Changes.{received};
 ghost use Rattle.shadow_memory.specs.Shadows.{is_bad, shadow_of};
-ghost use Rattle.shadow_memory.specs.Edits.{change_of, count_of, Fits};
+ghost use Rattle.shadow_memory.specs.Directories.{cells_at};
+ghost use Rattle.shadow_memory.specs.Edits.{change_of, count_of, each_of, Fits};
 ghost use Rattle.shadow_memory.specs.Cells.{shadow_in, IsClean};
 ghost use Rattle.shadow_memory.specs.Places.{changed_from, AgreeInDirectory};
 ghost use Rattle.shadow_memory.specs.Views.{cells_seen};
@@ -10,8 +11,9 @@ ghost use Rattle.shadow_memory.specs.Memories.{bytes_in, shadows_in, cells_of, c
 
 use crate::cells::{Cell, RangeKind};
 use crate::directories::Directory;
-use crate::edits::Edit;
+use crate::edits::{Each, Edit};
 use crate::pages::PAGE;
+use crate::slots::PageSlot;
 use crate::views::View;
 use std::alloc::{AllocError, Global};
 use std::rc::Rc;
@@ -36,7 +38,7 @@ pub struct Memory {
     alloc: Global,
 }
 
-#[tactic(auto, unfolding(crate::specs::Memories::cells_below, crate::specs::Views::cells_seen))]
+#[tactic(auto, unfolding(crate::specs::Memories::cells_below, crate::specs::Views::cells_seen, crate::specs::Directories::cells_at))]
 impl DirectorySlot {
     // The page of a place, to read.
     fn view(&self, at: usize) -> View<'_>
@@ -46,6 +48,17 @@ impl DirectorySlot {
         match self {
             DirectorySlot::Blank => View::Blank(RangeKind::NoAccess),
             DirectorySlot::Held(directory) => directory.view(at),
+        }
+    }
+
+    // The page of a place, which the one who asks holds too.
+    fn slot(&self, at: usize) -> Result<PageSlot, AllocError>
+        requires { at < 4194304 }
+        ensures { IfOk result (λ slot. (a : ℕ) → a / 4096 ≡ at / 4096 → a < 4194304 → cells_below self.now a ≡ cells_at slot (a % 4096)) }
+    {
+        match self {
+            DirectorySlot::Blank => Ok(PageSlot::Blank(RangeKind::NoAccess)),
+            DirectorySlot::Held(directory) => directory.slot(at),
         }
     }
 
@@ -96,6 +109,35 @@ impl DirectorySlot {
             }
         }
     }
+
+    // Changes bytes alike from a place on, at most so many, in a directory of its own. Answers how many.
+    fn change_some(
+        &mut self,
+        alloc: Global,
+        at: usize,
+        most: usize,
+        each: Each,
+    ) -> Result<usize, AllocError>
+        requires some { 0 < most }
+        requires within { at + most ≤ 4194304 }
+        ensures some { IfOk result (λ n. 0 < n) }
+        ensures within { IfOk result (λ n. n ≤ most) }
+        ensures ok { IfOk result (λ n. AgreeInDirectory (cells_below self.new) (changed_from (cells_below self.old) at n (λ i cell. each_of each cell))) }
+        ensures err { OnErr result (AgreeInDirectory (cells_below self.new) (cells_below self.old)) }
+    {
+        match self {
+            DirectorySlot::Held(shared) => {
+                let own = Rc::make_mut(shared)?;
+                own.change_some(alloc, at, most, each)
+            }
+            DirectorySlot::Blank => {
+                let mut directory = Directory::new(alloc);
+                let count = directory.change_some(alloc, at, most, each)?;
+                *self = DirectorySlot::Held(Rc::new(alloc, directory)?);
+                Ok(count)
+            }
+        }
+    }
 }
 
 #[tactic(auto, unfolding(crate::specs::Memories::cells_below))]
@@ -110,7 +152,7 @@ impl Clone for DirectorySlot {
     }
 }
 
-#[tactic(auto, unfolding(crate::specs::Memories::cells_of, crate::specs::Memories::cells_below, crate::specs::Views::cells_seen, crate::specs::Memories::bytes_in, crate::specs::Memories::shadows_in))]
+#[tactic(auto, unfolding(crate::specs::Memories::cells_of, crate::specs::Memories::cells_below, crate::specs::Views::cells_seen, crate::specs::Directories::cells_at, crate::specs::Memories::bytes_in, crate::specs::Memories::shadows_in))]
 impl Memory {
     /// Every byte is 0 and inaccessible.
     pub fn new(alloc: Global) -> Self
@@ -149,6 +191,18 @@ impl Memory {
             self.directories[at / DIRECTORY].view(at % DIRECTORY)
         } else {
             View::Blank(RangeKind::NoAccess)
+        }
+    }
+
+    /// The page of an address, which the one who asks holds too.
+    pub(crate) fn slot(&self, addr: u32) -> Result<PageSlot, AllocError>
+        ensures { IfOk result (λ slot. (a : ℕ) → a / 4096 ≡ addr / 4096 → cells_of self.now a ≡ cells_at slot (a % 4096)) }
+    {
+        let at = addr as usize;
+        if at / DIRECTORY < self.directories.len() {
+            self.directories[at / DIRECTORY].slot(at % DIRECTORY)
+        } else {
+            Ok(PageSlot::Blank(RangeKind::NoAccess))
         }
     }
 
@@ -199,6 +253,28 @@ impl Memory {
         let at = addr as usize;
         self.grow(at / DIRECTORY)?;
         self.directories[at / DIRECTORY].change(self.alloc, at % DIRECTORY, edit)
+    }
+
+    /// Changes bytes alike from an address on, at least one and at most so many, all of them or none. Answers how many.
+    pub(crate) fn change_some(
+        &mut self,
+        addr: u32,
+        most: u32,
+        each: Each,
+    ) -> Result<u32, AllocError>
+        requires { 0 < most }
+        ensures some { IfOk result (λ n. 0 < n) }
+        ensures within { IfOk result (λ n. n ≤ most) }
+        ensures inside { IfOk result (λ n. addr + n ≤ 2 ^ 32) }
+        ensures ok { IfOk result (λ n. cells_of self.new ≡ changed_from (cells_of self.old) addr n (λ i cell. each_of each cell)) }
+        ensures err { OnErr result (cells_of self.new ≡ cells_of self.old) }
+    {
+        let number = addr as usize / DIRECTORY;
+        let at = addr as usize % DIRECTORY;
+        let most = (most as usize).min(DIRECTORY - at);
+        self.grow(number)?;
+        let count = self.directories[number].change_some(self.alloc, at, most, each)?;
+        Ok(count as u32)
     }
 
     /// A memory that holds the same. Later changes of one of the two don't reach the other.

@@ -1,9 +1,8 @@
 //! One page of 4,096 bytes.
-ghost use Rattle.std.specs.Prelude.{◌≡◌, ◌+◌, ◌*◌, ◌%◌, ◌^◌, ◌<◌, ◌≤◌, OnOk, OnErr, IfOk, IfNone, IfSome, IsTrue, IsFalse, length, nat_lt, slice_index, vec_len};
+ghost use Rattle.std.specs.Prelude.{◌≡◌, ℕ, ◌+◌, ◌*◌, ◌%◌, ◌^◌, ◌<◌, ◌≤◌, OnOk, OnErr, IfOk, IfNone, IfSome, IsTrue, IsFalse, length, nat_lt, slice_index, vec_len};
 ghost use Rattle.shadow_memory.specs.Cells.{set_at, shadow_in, IsClean};
 ghost use Rattle.shadow_memory.specs.Marks.{blank};
 ghost use Rattle.shadow_memory.specs.Places.{changed_from, AgreeInPage};
-ghost use Rattle.shadow_memory.specs.Edits.{change_of, count_of, Fits};
 ghost use Rattle.shadow_memory.specs.Changes.{IsWidth};
 ghost use Rattle.shadow_memory.specs.Loads.{loaded_at};
 ghost use Rattle.shadow_memory.specs.Ranges.{little_word};
@@ -12,7 +11,8 @@ ghost use Rattle.shadow_memory.specs.Shadows.{is_bad, HoldNoWord, IsNextWord};
 ghost use Rattle.shadow_memory.specs.Values.{holds_in_range, HoldNoneInRange, IsNextInRange};
 
 use crate::cells::{Cell, Loaded, Mark, RangeKind, marked_cell};
-use crate::edits::Edit;
+use crate::edits::{Each, Edit};
+use crate::laws::all_are;
 use crate::marks::Marks;
 use crate::slices::{set_all, write_at};
 use crate::words::{ABSENT, loaded_from, word};
@@ -29,12 +29,13 @@ pub(crate) struct Page {
     ghost long: { vec_len bytes ≡ 4096 },
 }
 
-#[tactic(auto, unfolding(crate::specs::Pages::cells_in, crate::specs::Pages::marks_in, crate::specs::Edits::count_of, crate::specs::Edits::change_of, crate::specs::Edits::Fits, crate::specs::Loads::loaded_at, crate::specs::Ranges::little_word, crate::specs::Ranges::first_from))]
+#[tactic(auto, unfolding(crate::specs::Pages::cells_in, crate::specs::Pages::marks_in, crate::specs::Edits::count_of, crate::specs::Edits::change_of, crate::specs::Edits::each_of, crate::specs::Edits::Fits, crate::specs::Loads::loaded_at, crate::specs::Ranges::little_word, crate::specs::Ranges::first_from))]
 impl Page {
     ghost use Rattle.std.specs.Prelude.{if◌then◌else◌};
     ghost use Rattle.shadow_memory.specs.Places.{is_between};
-    ghost use Rattle.shadow_memory.specs.Changes.{filled, ranged, received};
-    ghost use Rattle.shadow_memory.specs.Pages.{cells_in};
+    ghost use Rattle.shadow_memory.specs.Changes.{filled, ranged, received, taken_cell};
+    ghost use Rattle.shadow_memory.specs.Edits.{change_of, count_of, each_of, Fits};
+    ghost use Rattle.shadow_memory.specs.Pages.{cells_in, AreWhole};
 
     /// A page of zeros, of a kind.
     pub(crate) fn new(alloc: Global, kind: RangeKind) -> Result<Page, AllocError>
@@ -207,6 +208,90 @@ impl Page {
         Ok(())
     }
 
+    // Has bytes become 0, with the bits undefined that one of a kind loads with.
+    fn take(
+        &mut self,
+        alloc: Global,
+        at: usize,
+        count: usize,
+        kind: RangeKind,
+    ) -> Result<(), AllocError>
+        requires { at + count ≤ 4096 }
+        ensures ok { OnOk result (AgreeInPage (cells_in self.new) (changed_from (cells_in self.old) at count (λ i cell. taken_cell (blank kind) cell))) }
+        ensures err { OnErr result (AgreeInPage (cells_in self.new) (cells_in self.old)) }
+    {
+        self.marks.take(alloc, at, at + count, kind)?;
+        set_all(&mut self.bytes, at, at + count, 0);
+        Ok(())
+    }
+
+    // Changes bytes alike.
+    fn all(&mut self, alloc: Global, at: usize, count: usize, each: Each) -> Result<(), AllocError>
+        requires { at + count ≤ 4096 }
+        ensures ok { OnOk result (AgreeInPage (cells_in self.new) (changed_from (cells_in self.old) at count (λ i cell. each_of each cell))) }
+        ensures err { OnErr result (AgreeInPage (cells_in self.new) (cells_in self.old)) }
+    {
+        match each {
+            Each::Make(kind) => self.make(alloc, at, at + count, kind),
+            Each::Clear => self.fill(alloc, at, count, &[]),
+            Each::Take(kind) => self.take(alloc, at, count, kind),
+        }
+    }
+
+    // Copies bytes of a page, none of which is defined in part.
+    fn copy(
+        &mut self,
+        alloc: Global,
+        at: usize,
+        source: &Page,
+        from: usize,
+        count: usize,
+    ) -> Result<(), AllocError>
+        requires room { at + count ≤ 4096 }
+        requires within { from + count ≤ 4096 }
+        requires whole { AreWhole source.now.marks from (from + count) }
+        ensures ok { OnOk result (AgreeInPage (cells_in self.new) (changed_from (cells_in self.old) at count (λ i cell. taken_cell (cells_in source.now (from + i)) cell))) }
+        ensures err { OnErr result (AgreeInPage (cells_in self.new) (cells_in self.old)) }
+    {
+        self.marks.copy(alloc, at, &source.marks, from, count)?;
+        write_at(&mut self.bytes, at, &source.bytes[from..from + count]);
+        Ok(())
+    }
+
+    /// The first place, from one up to another, whose byte is defined in part; the other place, if there is none.
+    pub(crate) fn whole_end(&self, from: usize, to: usize) -> usize
+        requires order { from ≤ to }
+        requires within { to ≤ 4096 }
+        ensures start { from ≤ result }
+        ensures within { result ≤ to }
+        ensures whole { AreWhole self.now.marks from result }
+    {
+        self.marks.whole_end(from, to)
+    }
+
+    /// The kind of the bytes from one place up to, not with, another, if they are zeros of one.
+    pub(crate) fn zeros(&self, from: usize, to: usize) -> Option<RangeKind>
+        requires order { from < to }
+        requires within { to ≤ 4096 }
+        ensures { IfSome result (λ kind. (k : ℕ) → from ≤ k → k < to → cells_in self.now k ≡ blank kind) }
+    {
+        if !all_are(&self.bytes[from..to], 0) {
+            return None;
+        }
+        self.marks.kind(from, to)
+    }
+
+    /// The kind of the page once each byte changed so, if it is zeros of one then and that can be told without looking at the bytes.
+    pub(crate) fn cleared(&self, each: Each) -> Option<RangeKind>
+        ensures { IfSome result (λ kind. (k : ℕ) → k < 4096 → each_of each (cells_in self.now k) ≡ blank kind) }
+    {
+        match each {
+            Each::Make(_) => None,
+            Each::Clear => Some(RangeKind::Defined),
+            Each::Take(_) => Some(each.kind_after(self.marks.kind(0, PAGE)?)),
+        }
+    }
+
     fn store(&mut self, alloc: Global, at: usize, bytes: &[u8]) -> Result<(), AllocError>
         requires { at + length bytes.now ≤ 4096 }
         ensures ok { OnOk result (AgreeInPage (cells_in self.new) (changed_from (cells_in self.old) at (length bytes.now) (received (slice_index bytes.now)))) }
@@ -245,9 +330,10 @@ impl Page {
     {
         match edit {
             Edit::Set(cell) => self.set(alloc, at, *cell),
-            Edit::Make(count, kind) => self.make(alloc, at, at + *count, *kind),
+            Edit::All(count, each) => self.all(alloc, at, *count, *each),
             Edit::Fill(count, bytes) => self.fill(alloc, at, *count, bytes),
             Edit::Store(bytes) => self.store(alloc, at, bytes),
+            Edit::Copy(source, from, count) => self.copy(alloc, at, source, *from, *count),
         }
     }
 }

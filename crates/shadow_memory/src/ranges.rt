@@ -1,13 +1,15 @@
-//! Changes of whole ranges, page by page.
-ghost use Rattle.std.specs.Prelude.{◌≡◌, ◌+◌, ◌%◌, ◌<◌, ◌≤◌, ◌^◌, OnOk, OnErr, length, slice_index};
+//! Changes of whole ranges: blank pages one after another at once, others page by page.
+ghost use Rattle.std.specs.Prelude.{◌≡◌, ◌+◌, ◌%◌, ◌<◌, ◌≤◌, ◌^◌, IfOk, OnOk, OnErr, length, slice_index};
+ghost use Rattle.shadow_memory.specs.Edits.{each_of};
+ghost use Rattle.shadow_memory.specs.Places.{changed_from};
 ghost use Rattle.shadow_memory.specs.Ranges.{changed_in, written};
 ghost use Rattle.shadow_memory.specs.Shadows.{made_so, stored_undef};
-ghost use Rattle.shadow_memory.specs.Changes.{filled, ranged, SomeFront};
+ghost use Rattle.shadow_memory.specs.Changes.{filled, SomeFront};
 ghost use Rattle.shadow_memory.specs.Fronts.{CellsReceived, HasFilled, HasReceived};
 ghost use Rattle.shadow_memory.specs.Memories.{bytes_in, shadows_in, cells_of};
 
 use crate::cells::RangeKind;
-use crate::edits::Edit;
+use crate::edits::{Each, Edit};
 use crate::memory::Memory;
 use std::alloc::AllocError;
 
@@ -31,20 +33,18 @@ impl Memory {
         ensures shadows { OnOk result (shadows_in self.new ≡ made_so (shadows_in self.old) addr len kind) }
         ensures err { OnErr result (SomeFront len (λ k. shadows_in self.new ≡ made_so (shadows_in self.old) addr k kind)) }
     {
-        self.make_cells(addr, len, kind)
+        self.change_all(addr, len, Each::Make(kind))
     }
 
-    // The cells of a range, page by page.
-    #[tactic(auto, unfolding(crate::specs::Edits::count_of, crate::specs::Edits::change_of, crate::specs::Edits::Fits))]
-    fn make_cells(&mut self, addr: u32, len: u32, kind: RangeKind) -> Result<(), AllocError>
-        ensures ok { OnOk result (cells_of self.new ≡ changed_in (cells_of self.old) addr len (ranged kind)) }
-        ensures err { OnErr result (SomeFront len (λ k. cells_of self.new ≡ changed_in (cells_of self.old) addr k (ranged kind))) }
+    /// Changes the bytes of a range alike. A refusal leaves a front of it changed.
+    pub(crate) fn change_all(&mut self, addr: u32, len: u32, each: Each) -> Result<(), AllocError>
+        ensures ok { OnOk result (cells_of self.new ≡ changed_in (cells_of self.old) addr len (λ i cell. each_of each cell)) }
+        ensures err { OnErr result (SomeFront len (λ k. cells_of self.new ≡ changed_in (cells_of self.old) addr k (λ i cell. each_of each cell))) }
     {
         let mut done = 0;
         while done < len {
             let at = addr.wrapping_add(done);
-            let count = count_in_page(at, len - done);
-            self.change(at, &Edit::Make(count as usize, kind))?;
+            let count = self.change_some(at, len - done, each)?;
             done += count;
         }
         Ok(())
@@ -59,8 +59,25 @@ impl Memory {
         self.fill_cells(addr, len, bytes)
     }
 
-    // The cells of a range, page by page.
-    #[tactic(auto, unfolding(crate::specs::Edits::count_of, crate::specs::Edits::change_of, crate::specs::Edits::Fits))]
+    // Some cells of a range, all of them or none; answers how many.
+    #[tactic(auto, unfolding(crate::specs::Edits::count_of, crate::specs::Edits::change_of, crate::specs::Edits::each_of, crate::specs::Edits::Fits))]
+    fn fill_some(&mut self, at: u32, most: u32, bytes: &[u8]) -> Result<u32, AllocError>
+        requires { 0 < most }
+        ensures some { IfOk result (λ n. 0 < n) }
+        ensures within { IfOk result (λ n. n ≤ most) }
+        ensures inside { IfOk result (λ n. at + n ≤ 2 ^ 32) }
+        ensures ok { IfOk result (λ n. cells_of self.new ≡ changed_from (cells_of self.old) at n (filled (slice_index bytes.now))) }
+        ensures err { OnErr result (cells_of self.new ≡ cells_of self.old) }
+    {
+        if bytes.is_empty() {
+            return self.change_some(at, most, Each::Clear);
+        }
+        let count = count_in_page(at, most);
+        self.change(at, &Edit::Fill(count as usize, bytes))?;
+        Ok(count)
+    }
+
+    // The cells of a range.
     fn fill_cells(&mut self, addr: u32, len: u32, bytes: &[u8]) -> Result<(), AllocError>
         ensures ok { OnOk result (cells_of self.new ≡ changed_in (cells_of self.old) addr len (filled (slice_index bytes.now))) }
         ensures err { OnErr result (SomeFront len (λ k. cells_of self.new ≡ changed_in (cells_of self.old) addr k (filled (slice_index bytes.now)))) }
@@ -68,9 +85,8 @@ impl Memory {
         let mut done = 0;
         while done < len {
             let at = addr.wrapping_add(done);
-            let count = count_in_page(at, len - done);
             let rest = &bytes[bytes.len().min(done as usize)..];
-            self.change(at, &Edit::Fill(count as usize, rest))?;
+            let count = self.fill_some(at, len - done, rest)?;
             done += count;
         }
         Ok(())

@@ -1,10 +1,12 @@
 //! Searches of memory, page by page.
-ghost use Rattle.std.specs.Prelude.{◌≡◌, ◌<◌, ◌^◌, IfNone, IfSome};
+ghost use Rattle.std.specs.Prelude.{◌≡◌, ℕ, ◌+◌, ◌%◌, ◌<◌, ◌≤◌, ◌^◌, IfNone, IfSome};
+ghost use Rattle.shadow_memory.specs.Marks.{blank};
+ghost use Rattle.shadow_memory.specs.Ranges.{above};
 ghost use Rattle.shadow_memory.specs.Shadows.{first_bad, HoldNoWord, IsNextWord};
 ghost use Rattle.shadow_memory.specs.Values.{HoldNoneInRange, IsNextInRange};
-ghost use Rattle.shadow_memory.specs.Memories.{bytes_in, shadows_in};
+ghost use Rattle.shadow_memory.specs.Memories.{bytes_in, cells_of, shadows_in};
 
-use crate::cells::Bad;
+use crate::cells::{Bad, RangeKind};
 use crate::memory::Memory;
 use crate::pages::PAGE;
 use crate::ranges::{PAGE_LEN, count_in_page};
@@ -14,7 +16,44 @@ const PAGES: u32 = 1048576;
 
 const DIRECTORY_PAGES: u32 = 1024;
 
+/// So many zeros of one kind.
+#[derive(Clone, Copy)]
+pub(crate) struct Zeros {
+    pub(crate) count: u32,
+    pub(crate) kind: RangeKind,
+}
+
 impl Memory {
+    // The kind of so many bytes of one page, if they are zeros of one.
+    fn zeros_in_page(&self, addr: u32, count: u32) -> Option<RangeKind>
+        requires some { 0 < count }
+        requires one_page { addr % 4096 + count ≤ 4096 }
+        ensures { IfSome result (λ kind. (i : ℕ) → i < count → cells_of self.now (above addr i) ≡ blank kind) }
+    {
+        let place = addr as usize % PAGE;
+        self.view(addr).zeros(place, place + count as usize)
+    }
+
+    /// Zeros of one kind from an address on, at most so many, if the bytes there are so up to the end of the page.
+    pub(crate) fn zeros(&self, addr: u32, most: u32) -> Option<Zeros>
+        requires { 0 < most }
+        ensures some { IfSome result (λ zeros. 0 < zeros.count) }
+        ensures within { IfSome result (λ zeros. zeros.count ≤ most) }
+        ensures zeros { IfSome result (λ zeros. (i : ℕ) → i < zeros.count → cells_of self.now (above addr i) ≡ blank zeros.kind) }
+    {
+        let mut count = count_in_page(addr, most);
+        let kind = self.zeros_in_page(addr, count)?;
+        while count < most {
+            let at = addr.wrapping_add(count);
+            let more = count_in_page(at, most - count);
+            match self.zeros_in_page(at, more) {
+                Some(other) if other == kind => count += more,
+                _ => return Some(Zeros { count, kind }),
+            }
+        }
+        Some(Zeros { count, kind })
+    }
+
     /// The first byte of a range that is inaccessible or, where asked, has an undefined bit.
     pub fn first_bad(&self, addr: u32, len: u32, need_defined: bool) -> Option<Bad>
         ensures { result ≡ first_bad (shadows_in self.now) addr len need_defined }

@@ -1,13 +1,15 @@
 //! A page that may be blank, or shared.
-ghost use Rattle.std.specs.Prelude.{◌≡◌, ◌+◌, ◌<◌, ◌≤◌, IfSome, IsTrue, IsFalse, OnOk, OnErr, length, slice_index};
+ghost use Rattle.std.specs.Prelude.{◌≡◌, ℕ, ◌+◌, ◌<◌, ◌≤◌, IfSome, IsTrue, IsFalse, OnOk, OnErr, length, slice_index};
 ghost use Rattle.shadow_memory.specs.Changes.{received};
 ghost use Rattle.shadow_memory.specs.Places.{changed_from, AgreeInPage};
 ghost use Rattle.shadow_memory.specs.Directories.{cells_at};
 ghost use Rattle.shadow_memory.specs.Views.{cells_seen};
-ghost use Rattle.shadow_memory.specs.Edits.{change_of, count_of, Fits, LeavesBlank};
+ghost use Rattle.shadow_memory.specs.Edits.{change_of, count_of, each_of, Fits, LeavesBlank};
+ghost use Rattle.shadow_memory.specs.Marks.{blank};
+ghost use Rattle.shadow_memory.specs.Pages.{cells_in};
 
 use crate::cells::RangeKind;
-use crate::edits::Edit;
+use crate::edits::{Each, Edit};
 use crate::pages::{PAGE, Page};
 use crate::views::View;
 use std::alloc::{AllocError, Global};
@@ -28,9 +30,28 @@ fn blank_after(old: RangeKind, edit: &Edit<'_>) -> Option<RangeKind>
     ensures { IfSome result (LeavesBlank old edit.now) }
 {
     match edit {
-        Edit::Make(PAGE, kind) => Some(*kind),
+        Edit::All(count, each) => {
+            let new = each.kind_after(old);
+            if *count == PAGE || new == old {
+                Some(new)
+            } else {
+                None
+            }
+        }
         Edit::Fill(PAGE, []) => Some(RangeKind::Defined),
-        Edit::Make(_, kind) if *kind == old => Some(old),
+        _ => None,
+    }
+}
+
+// The kind of a page after a change of all of it, where it is known to be zeros of one.
+#[tactic(auto, unfolding(crate::specs::Edits::count_of, crate::specs::Edits::change_of, crate::specs::Edits::each_of))]
+fn cleared_by(page: &Page, edit: &Edit<'_>) -> Option<RangeKind>
+    ensures whole { IfSome result (λ kind. count_of edit.now ≡ 4096) }
+    ensures zeros { IfSome result (λ kind. (k : ℕ) → k < 4096 → change_of edit.now k (cells_in page.now k) ≡ blank kind) }
+{
+    match edit {
+        Edit::All(PAGE, each) => page.cleared(*each),
+        Edit::Fill(PAGE, []) => Some(RangeKind::Defined),
         _ => None,
     }
 }
@@ -62,6 +83,20 @@ impl PageSlot {
         false
     }
 
+    /// Changes each byte of a blank page. Says whether it was one.
+    pub(crate) fn sweep(&mut self, each: Each) -> bool
+        ensures done { IsTrue result → cells_at self.new ≡ (λ k. each_of each (cells_at self.old k)) }
+        ensures kept { IsFalse result → cells_at self.new ≡ cells_at self.old }
+    {
+        match self {
+            PageSlot::Blank(old) => {
+                *self = PageSlot::Blank(each.kind_after(*old));
+                true
+            }
+            PageSlot::Held(_) => false,
+        }
+    }
+
     /// Changes cells from a place on, in a page of its own.
     pub(crate) fn change(
         &mut self,
@@ -76,6 +111,10 @@ impl PageSlot {
     {
         match self {
             PageSlot::Held(shared) => {
+                if let Some(kind) = cleared_by(shared, edit) {
+                    *self = PageSlot::Blank(kind);
+                    return Ok(());
+                }
                 let own = Rc::make_mut(shared)?;
                 own.change(alloc, at, edit)
             }

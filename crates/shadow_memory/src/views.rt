@@ -1,8 +1,9 @@
 //! One page of a memory, to read.
-ghost use Rattle.std.specs.Prelude.{◌≡◌, ◌+◌, ◌*◌, ◌%◌, ◌^◌, ◌<◌, ◌≤◌, IfNone, IfSome};
+ghost use Rattle.std.specs.Prelude.{◌≡◌, ℕ, ◌+◌, ◌*◌, ◌%◌, ◌^◌, ◌<◌, ◌≤◌, IfNone, IfSome};
 ghost use Rattle.shadow_memory.specs.Cells.{shadow_in, IsClean};
 ghost use Rattle.shadow_memory.specs.Changes.{IsWidth};
 ghost use Rattle.shadow_memory.specs.Loads.{loaded_at};
+ghost use Rattle.shadow_memory.specs.Marks.{blank};
 ghost use Rattle.shadow_memory.specs.Firsts.{IsFirst, NonePass};
 ghost use Rattle.shadow_memory.specs.Shadows.{is_bad, HoldNoWord, IsNextWord};
 ghost use Rattle.shadow_memory.specs.Values.{holds_in_range, HoldNoneInRange, IsNextInRange};
@@ -32,6 +33,18 @@ impl View<'_> {
         match self {
             View::Blank(kind) => blank_cell(kind),
             View::Held(page) => page.cell(at),
+        }
+    }
+
+    /// The kind of the bytes from one place up to, not with, another, if they are zeros of one.
+    pub(crate) fn zeros(self, from: usize, to: usize) -> Option<RangeKind>
+        requires order { from < to }
+        requires within { to ≤ 4096 }
+        ensures { IfSome result (λ kind. (k : ℕ) → from ≤ k → k < to → cells_seen self.entry k ≡ blank kind) }
+    {
+        match self {
+            View::Blank(kind) => Some(kind),
+            View::Held(page) => page.zeros(from, to),
         }
     }
 

@@ -1,13 +1,13 @@
 use Rattle.std.proofs.Common.{◌-◌, ◌≡◌, ◌≤◌}
-use Rattle.shadow_memory.specs.Changes.{ranged}
+use Rattle.shadow_memory.specs.Edits.{each_of}
 use Rattle.shadow_memory.specs.Memories.{cells_of}
 use Rattle.shadow_memory.specs.Ranges.{changed_in}
-use Rattle.shadow_memory.proofs.memory.Memory.make_cells.Given as goal
+use Rattle.shadow_memory.proofs.memory.Memory.change_all.Given as goal
 
 abbrev pub invariant-loop-done : goal.invariant-loop-done
 invariant-loop-done l = record {
   within : l.done ≤ l.len;
-  cells : cells_of l.self ≡ changed_in (cells_of l.initial.self) l.addr l.done (ranged l.kind);
+  cells : cells_of l.self ≡ changed_in (cells_of l.initial.self) l.addr l.done (λ i cell. each_of l.each cell);
 }
 
 abbrev pub decreases-loop-done : goal.decreases-loop-done

@@ -1,0 +1,123 @@
+//! Copies of bytes with what is known of them, each beside a plain copy byte by byte.
+use definedness::Bits;
+use shadow_memory::{Cell, Memory, RangeKind};
+use std::alloc::{AllocError, Global};
+use std::process::Abort;
+use std::test::Fail;
+
+// A page that is held, with some bytes inaccessible, undefined and defined in part; two blank pages of undefined bytes; one of
+// zeros; and inaccessible ones after them. The same stands at each base.
+fn lay_out(memory: &mut Memory, base: u32) -> Result<(), AllocError> {
+    memory.fill(base, 0x1000, b"abcdefghijklmnopqrstuvw")?;
+    memory.set_range(base.wrapping_add(0x1000), 0x2000, RangeKind::Undefined)?;
+    memory.fill(base.wrapping_add(0x3000), 0x1000, b"")?;
+    for group in 0..12u32 {
+        let at = base
+            .wrapping_add(0xF00)
+            .wrapping_add(group.wrapping_mul(20));
+        let bits = Bits {
+            value: group | 0x4433_2200,
+            undef: 0x00F0_0000,
+        };
+        let _bad = memory.store(at, 4, bits)?;
+        memory.set_range(at.wrapping_add(5), 9, RangeKind::Undefined)?;
+        memory.set_range(at.wrapping_add(16), group & 3, RangeKind::NoAccess)?;
+    }
+    Ok(())
+}
+
+// Copies, if the ranges are apart.
+fn copy_apart(memory: &mut Memory, from: u32, to: u32, len: u32) -> Result<bool, AllocError> {
+    if from.wrapping_sub(to) < len || to.wrapping_sub(from) < len {
+        return Ok(false);
+    }
+    memory.copy_with_shadow(from, to, len)?;
+    Ok(true)
+}
+
+// What a target's byte is after a copy of a source's.
+fn copied(source: Cell, target: Cell) -> Cell {
+    Cell {
+        byte: source.byte,
+        accessible: target.accessible,
+        undef: if target.accessible { source.undef } else { 0 },
+    }
+}
+
+// The first offset of 16 more bytes than were copied whose byte isn't what it should be.
+fn first_wrong(old: &Memory, new: &Memory, from: u32, to: u32, len: u32) -> Option<u32> {
+    for i in 0..len.wrapping_add(16) {
+        let at = to.wrapping_add(i);
+        let was = old.byte(at);
+        let want = if i < len {
+            copied(old.byte(from.wrapping_add(i)), was)
+        } else {
+            was
+        };
+        if new.byte(at) != want {
+            return Some(i);
+        }
+    }
+    None
+}
+
+// Where a copy leaves a memory that it shouldn't; none where all is well.
+fn wrong_copy(alloc: Global, from: u32, to: u32, len: u32) -> Result<Option<u32>, AllocError> {
+    let mut memory = Memory::new(alloc);
+    lay_out(&mut memory, 0x1_0000)?;
+    lay_out(&mut memory, 0x3_0000)?;
+    let old = memory.share()?;
+    if !copy_apart(&mut memory, from, to, len)? {
+        return Ok(Some(len));
+    }
+    Ok(first_wrong(&old, &memory, from, to, len))
+}
+
+// What a row shows; from where, to where and how many bytes are copied.
+type Copy = (&'static str, u32, u32, u32);
+
+const COPIES: [Copy; 8] = [
+    ("mixed bytes to mixed ones", 0x1_0F00, 0x3_0F08, 0x90),
+    ("mixed bytes to undefined ones", 0x1_0F80, 0x3_1FC0, 0x90),
+    ("undefined bytes to mixed ones", 0x1_1F80, 0x3_0F80, 0x90),
+    ("undefined bytes to zeros", 0x1_1F80, 0x3_2FC0, 0x90),
+    ("zeros to undefined bytes", 0x1_2FC0, 0x3_1F80, 0x90),
+    ("past accessible bytes", 0x1_0F80, 0x3_3FC0, 0x90),
+    ("from inaccessible bytes", 0x1_3FC0, 0x3_0F80, 0x90),
+    ("round the end", 0x1_0F80, 0xFFFF_FFC0, 0x90),
+];
+
+// Each offset of a source and of a target in 16 bytes.
+#[test]
+fn copies_at_each_offset(rt: HostRuntime) -> Result<(), Fail> {
+    for (shows, from, to, len) in COPIES {
+        for offsets in 0..256u32 {
+            let from = from.wrapping_add(offsets & 15);
+            let to = to.wrapping_add(offsets / 16);
+            assert_eq!(rt;
+                (shows, offsets, wrong_copy(rt.alloc(), from, to, len)?),
+                (shows, offsets, None)
+            );
+        }
+    }
+    Ok(())
+}
+
+const PAGES: [Copy; 4] = [
+    ("to the same place in pages", 0x1_0E80, 0x3_0E80, 0x3400),
+    ("to another place in pages", 0x1_0E80, 0x3_0EC0, 0x3400),
+    ("from whole pages", 0x1_1000, 0x3_0000, 0x3000),
+    ("within blank pages", 0x1_1008, 0x1_2010, 0xF80),
+];
+
+// Whole pages.
+#[test]
+fn copies_of_pages(rt: HostRuntime) -> Result<(), Fail> {
+    for (shows, from, to, len) in PAGES {
+        assert_eq!(rt;
+            (shows, wrong_copy(rt.alloc(), from, to, len)?),
+            (shows, None)
+        );
+    }
+    Ok(())
+}
