@@ -77,8 +77,8 @@ fn answers(alloc: Global, words: &[u32], lines: &[u8], want: &[u8]) -> Result<bo
 #[test]
 fn lines_and_refusals(rt: HostRuntime) -> Result<(), Fail> {
     let cases = [
-        (b"goto 1048576".as_slice(), b"ok\n".as_slice()),
-        (b"goto 1048577", b"refused 5\n"),
+        (b"goto 4194304".as_slice(), b"ok\n".as_slice()),
+        (b"goto 4194305", b"refused 5\n"),
         (b"goto", b"refused 2\n"),
         (b"goto  1", b"refused 2\n"),
         (b"goto 1 ", b"refused 2\n"),
@@ -110,6 +110,12 @@ fn lines_and_refusals(rt: HostRuntime) -> Result<(), Fail> {
         (b"input 1 0xff", b"ok\n"),
         (b"input 1 256", b"refused 2\n"),
         (b"input 2 0", b"refused 3\n"),
+        (b"input append 0xff", b"ok\n"),
+        (b"input append 256", b"refused 2\n"),
+        (b"input append", b"refused 2\n"),
+        (b"input append 1 2", b"refused 2\n"),
+        (b"input cut\ninput cut\ninput cut", b"ok\nok\nrefused 3\n"),
+        (b"input cut 1", b"refused 2\n"),
         (b"patch 0x10008 0", b"ok\n"),
         (b"patch 0x10002 0", b"refused 4\n"),
         (b"patch 0x1000c 0", b"refused 4\n"),
@@ -117,7 +123,7 @@ fn lines_and_refusals(rt: HostRuntime) -> Result<(), Fail> {
         (b"mark 0 0xffffffff 2 defined", b"refused 6\n"),
         (b"mark 0 0 0 defined", b"refused 6\n"),
         (b"mark 0 0 1048577 defined", b"refused 6\n"),
-        (b"mark 1048577 0 0 defined", b"refused 5\n"),
+        (b"mark 4194305 0 0 defined", b"refused 5\n"),
         (b"mark 0 0 1 Defined", b"refused 2\n"),
         (b"unmark 0", b"refused 7\n"),
         (b"supp on 0", b"refused 8\n"),
