@@ -1,4 +1,5 @@
 //! Programs by hand, and what becomes of them. The expected values are those of the instruction set's manual.
+mod ends;
 mod errors;
 mod heap;
 mod named;
@@ -7,7 +8,9 @@ mod values;
 use definedness::Bits;
 use error_events::Kind;
 use guest_elf::read;
-use guest_machine::laws::{keeps_heap, keeps_input, keeps_pokes, keeps_words, reads_on};
+use guest_machine::laws::{
+    end_stays, keeps_end, keeps_heap, keeps_input, keeps_pokes, keeps_words, reads_on,
+};
 use guest_machine::{
     Hooks, Input, Machine, Mark, Meter, Register, Setup, Span, Status, Stop, Touched,
 };
@@ -395,6 +398,8 @@ fn the_laws_can_be_called() {
     keeps_heap();
     keeps_pokes();
     reads_on();
+    keeps_end();
+    end_stays();
 }
 
 #[test]
