@@ -47,10 +47,10 @@ below-first P (Some f) k first = (
 pub moves-kept : KeepsLower → (P : ℕ → Type 0) (old new : Trail) → KeepsJust (IsBelowFirst P) old new → meter_of new ≡ meter_of old → EditMoves P (work_on old) (work_on new)
 moves-kept law P old new kept meter = (
   (λ f first. law f old new (λ k.
-  let same = below-first P f k first in (
-    (λ h. let was = (kept k).0 h in (was.0, same.0 was.1)),
-    λ h. (kept k).1 (h.0, same.1 h.1),
-  ))),
+      let same = below-first P f k first in (
+        (λ h. let was = (kept k).0 h in (was.0, same.0 was.1)),
+        λ h. (kept k).1 (h.0, same.1 h.1),
+      ))),
   meter,
 )
 

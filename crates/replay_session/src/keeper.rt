@@ -2,8 +2,6 @@
 mod edits;
 mod refusals;
 
-pub use refusals::MOST_STEPS;
-
 ghost use Rattle.std.specs.Prelude.{◌≡◌, ◌≤◌, IfOk, length};
 ghost use Rattle.checkpoints.specs.Trails.{LoadsAs};
 ghost use Rattle.replay_session.specs.Setups.{setup_with, longest_input};
@@ -14,6 +12,7 @@ use crate::reply::Reply;
 use checkpoints::Trail;
 use guest_elf::Image;
 use guest_machine::{Hooks, Input, Mark, Setup};
+pub use refusals::MOST_STEPS;
 use replay_report::{Options, render};
 use std::alloc::{AllocError, Global};
 use suppressions::Suppression;

@@ -77,7 +77,10 @@ impl<'a> Session<'a> {
                 )
             }
             Command::Append(_) => {
-                refused_if(self.setup.input.len() >= LONGEST_INPUT, Fault::InputTooLarge)
+                refused_if(
+                    self.setup.input.len() >= LONGEST_INPUT,
+                    Fault::InputTooLarge,
+                )
             }
             Command::Cut => refused_if(self.setup.input.len() < 1, Fault::OutsideInput),
             Command::Patch { addr, .. } => {
