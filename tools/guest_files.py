@@ -7,10 +7,10 @@ DATA = TOP / "crates" / "session_cases" / "data"
 ENTRY = 0x10000
 
 
-def elf(words, memory=0, symbols=()):
-    """A static program for RV32: a segment of these words at ENTRY, of so many bytes where that is more, and functions,
-    each a name, an address and a size."""
-    content = b"".join(struct.pack("<I", word) for word in words)
+def elf(words, memory=0, symbols=(), data=b""):
+    """A static program for RV32: a segment of these words at ENTRY and the data after them, of so many bytes where that is
+    more, and functions, each a name, an address and a size."""
+    content = b"".join(struct.pack("<I", word) for word in words) + data
     names = [name.encode() + b"\0" for name in sorted({symbol[0] for symbol in symbols})]
     places = {name[:-1].decode(): 1 + sum(map(len, names[:i])) for i, name in enumerate(names)}
     strings = b"\0" + b"".join(names)
