@@ -3,7 +3,7 @@ import struct
 
 from guest_files import ENTRY, TOP, elf
 
-FULL = 1048576
+LONGEST, MILLION = 4194304, 1048576
 NUMBERS = [0, 1, 0x7FFFFFFF, 0x80000000, 0xFFFFFFFF]
 EDGES = [0, ENTRY, ENTRY + 4096, 0x40000000, 0x50000000, 0x60000000, 0x7F000000, 0x7FFFFFF0, 0x80000000]
 EBREAK, ECALL = 0x00100073, 0x00000073
@@ -95,7 +95,7 @@ def texts():
 def scripts():
     good = elf(EXITS)
     numbers = ["0", "1", str(2**32 - 1), "0xffffffff", str(2**32), "-1", "", "9" * 4000]
-    forms = ["goto N", "input N N", "patch N N", "mark N N N defined", "unmark N", "supp on N", "supp off N"]
+    forms = ["goto N", "input N N", "input append N", "input cut N", "patch N N", "mark N N N defined", "unmark N", "supp on N", "supp off N"]
     forms += ["supp add N", "supp add Cond N", "option callers N", "option redzone N", "option queue N"]
     forms += ["option show N"]
     for form in forms:
@@ -139,23 +139,23 @@ def full():
     yield case("100,001 reports", elf(EXITS), ["report"] * 100001)
     malloc, size = load_number(17, 2001), load_number(10, 1 << 24)
     calloc = load_number(17, 2003) + [addi(10, 0, 1)] + load_number(11, 1 << 24) + [ECALL]
-    yield case("31 blocks of 16 MiB", elf(malloc + (size + [ECALL]) * 31 + LOOPS), step=FULL)
-    yield case("31 blocks of 16 MiB, zeroed", elf(calloc * 31 + LOOPS), step=FULL)
+    yield case("31 blocks of 16 MiB", elf(malloc + (size + [ECALL]) * 31 + LOOPS), step=LONGEST)
+    yield case("31 blocks of 16 MiB, zeroed", elf(calloc * 31 + LOOPS), step=LONGEST)
     for count in (0, 1):
         words = malloc + [addi(10, 0, count), ECALL, 0xFF9FF06F]
-        yield case(f"as many blocks of {count} bytes as can be", elf(words), step=FULL)
-    yield case("recursion without end", elf([0x000000EF]), step=FULL)
-    yield case("code that writes over itself", elf([0x00000297, 0x0002A303, 0x0062A023, 0xFF5FF06F]), step=FULL)
-    yield case("a million places of errors", elf([0x00002503] * FULL), step=FULL)
-    yield case("a million places of errors, 24 addresses each", elf(DEEP[:4] + [0x00002503] * FULL), step=FULL)
+        yield case(f"as many blocks of {count} bytes as can be", elf(words), step=LONGEST)
+    yield case("recursion without end", elf([0x000000EF]), step=LONGEST)
+    yield case("code that writes over itself", elf([0x00000297, 0x0002A303, 0x0062A023, 0xFF5FF06F]), step=LONGEST)
+    yield case("a million places of errors", elf([0x00002503] * MILLION), step=LONGEST)
+    yield case("a million places of errors, 24 addresses each", elf(DEEP[:4] + [0x00002503] * MILLION), step=LONGEST)
     yield case("20,000 errors in functions of long names", elf(DEEP[:4] + [0x00002503] * 20000, 0,
-               [("a" * 4000, ENTRY, 90000)]), step=FULL)
+               [("a" * 4000, ENTRY, 90000)]), step=LONGEST)
     frees = load_number(17, 2002) + [addi(10, 0, 16), ECALL, 0xFF9FF06F]
-    yield case("as many invalid frees as can be", elf(frees), step=FULL)
+    yield case("as many invalid frees as can be", elf(frees), step=LONGEST)
     words = load_number(6, 65536) + [0x0002A023, 0x006282B3, 0xFF9FF06F]
-    yield case("a write to each 16th page", elf(words), step=FULL)
-    yield case("each edit of a full run", elf(LOOPS, 4096), ["goto 1048576", "report", "patch 0x10004 1", "report",
-               "mark 1048576 0 1 defined", "report", "option redzone 0", "report", "unmark 0", "report"])
+    yield case("a write to each 16th page", elf(words), step=LONGEST)
+    yield case("each edit of a full run", elf(LOOPS, 4096), [f"goto {LONGEST}", "report", "patch 0x10004 1", "report",
+               f"mark {LONGEST} 0 1 defined", "report", "option redzone 0", "report", "unmark 0", "report"])
 
 
 CLASSES = {"files": files, "texts": texts, "scripts": scripts, "guests": guests, "full": full}
