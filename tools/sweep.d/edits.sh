@@ -30,7 +30,7 @@ list_code_edits() {
   local first last where
   if [[ $code =~ ^[0-9][0-9a-fA-FxX]*\.\. ]]; then
     range "$code" 4294967295
-    where=(--start-address="$first" --stop-address=$((last + 1)))
+    where=(--start-address="$first" --stop-address=$((last + 4)))
   else
     where=(--disassemble="$code")
   fi

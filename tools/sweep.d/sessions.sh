@@ -39,18 +39,20 @@ run_unedited() {
   IFS=$'\t' read -r _ _ state bytes_read _ <"$room/unedited"
 }
 
-# A step soon after the end of the unedited run. A machine that has ended stays as it is, but a mark may change it
-# still.
+# A step soon after the end of the unedited run. A machine that has ended stays as it is, but a mark may change it still.
 soon_after_end() {
-  local words=(--last "$step") line ended
-  for line in "${also[@]}"; do
-    case $line in mark\ *) echo "$step"; return ;; esac
-    words+=(--line "$line")
-  done
-  case $state in running*) echo "$step"; return ;; esac
-  ended=$("$tools/when" "${session[@]:2}" "${words[@]}" "state ${state%% *}") || ended=$step
-  ended=$((ended * 5 / 4))
-  echo $((ended < step ? ended : step))
+  local at
+  if [[ $state == running* ]] || grep -q '^mark ' "$room/before"; then
+    echo "$step"
+    return
+  fi
+  {
+    cat "$room/before"
+    for ((at = 1024; at < step; at = at * 5 / 4)); do printf 'goto %d\nreport\n' $at; done
+  } | "${session[@]}" | "${awk[@]}" -v end="$step" '
+    /^step / { at = $2 }
+    /^state / && $2 != "running" && at < end { end = at }
+    END { print end }'
 }
 
 # run_list COUNT STEP: the edits of ROOM/list, in parts side by side, into ROOM/rows. Three lines an edit, of the
