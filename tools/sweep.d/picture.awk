@@ -56,7 +56,7 @@ function set_sizes() {
   left = 76
   top = 64
   width = left + wide * columns + 20
-  if (width < 900) width = 900
+  if (width < 1040) width = 1040  # a line of the legend
   below = top + tall * rows
   legend_y = below + 40 + (kind == "patch" ? 54 : 14)
 }
@@ -89,8 +89,8 @@ function print_picture(   i) {
   print ".t{font-size:10px;fill:#444}.e{text-anchor:end}.m{text-anchor:middle}</style>"
   print "<rect width=\"100%\" height=\"100%\" fill=\"#fff\"/>"
   printf "<text x=\"16\" y=\"24\" font-size=\"16\">%s</text>\n", xml(cut(title, 110))
-  printf "<text x=\"16\" y=\"44\" fill=\"#444\">a column for each %s, a row for each value that it was given</text>\n",
-    (kind == "input" ? "byte" : "instruction")
+  printf "<text x=\"16\" y=\"44\" fill=\"#444\">a column for each %s, a row for each value that it was given%s</text>\n",
+    (kind == "input" ? "byte" : "instruction"), (values == "all" ? "; white is the value as it was" : "")
   for (i = 1; i <= cells; i++) print_cell(i)
   for (i = 0; i < rows; i++) if (name_of_row(i) != "")
     printf "<text class=\"t e\" x=\"%d\" y=\"%d\">%s</text>\n", left - 6, top + i * tall + (tall > 2 ? 11 : 4),
