@@ -65,7 +65,7 @@ made() {
   riscv64-unknown-elf-gcc --specs=picolibc.specs "${@:2}" -o "$room/$1" 2>&1 || true
 }
 symptom() {
-  sed '1,/^## 11/d' ../../docs/manual.md | grep -q -F -e "\`$1" || { echo "the manual hasn't $1"; return 1; }
+  sed '1,/^## [0-9]*\. When it/d' ../../docs/manual.md | grep -q -F -e "\`$1" || { echo "the manual hasn't $1"; return 1; }
   local told
   told=$("${@:2}" 2>&1)
   [[ $told == *"$1"* ]] || { echo "$told"; return 1; }

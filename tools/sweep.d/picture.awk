@@ -89,8 +89,9 @@ function print_picture(   i) {
   print ".t{font-size:10px;fill:#444}.e{text-anchor:end}.m{text-anchor:middle}</style>"
   print "<rect width=\"100%\" height=\"100%\" fill=\"#fff\"/>"
   printf "<text x=\"16\" y=\"24\" font-size=\"16\">%s</text>\n", xml(cut(title, 110))
-  printf "<text x=\"16\" y=\"44\" fill=\"#444\">a column for each %s, a row for each value that it was given%s</text>\n",
+  printf "<text x=\"16\" y=\"44\" fill=\"#444\">a column for each %s, a row for each value that it was given%s</text>",
     (kind == "input" ? "byte" : "instruction"), (values == "all" ? "; white is the value as it was" : "")
+  print ""
   for (i = 1; i <= cells; i++) print_cell(i)
   for (i = 0; i < rows; i++) if (name_of_row(i) != "")
     printf "<text class=\"t e\" x=\"%d\" y=\"%d\">%s</text>\n", left - 6, top + i * tall + (tall > 2 ? 11 : 4),

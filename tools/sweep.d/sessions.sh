@@ -39,7 +39,7 @@ run_unedited() {
   IFS=$'\t' read -r _ _ state bytes_read _ <"$room/unedited"
 }
 
-# A step soon after the end of the unedited run. A machine that has ended stays as it is, but a mark may change it still.
+# A step soon after the end of the unedited run. A machine that has ended stays as it is, but a mark may change it.
 soon_after_end() {
   local at
   if [[ $state == running* ]] || grep -q '^mark ' "$room/before"; then
