@@ -58,10 +58,12 @@ refuse_more_than_most() {
 # the step, the file, its input, a sum over both and the suppressions, and the lines before all edits; then where,
 # and how many edits.
 describe_sweep() {
-  local files=("$(path "$file")") before
+  local files=("$(path "$file")") names before
   [ -z "$input" ] || files+=("$(path "$input")")
   [ -z "$supp" ] || files+=("$(path "$supp")")
   before=$(IFS=';' && echo "${also[*]}")
-  printf '#\t%s\t%s\t%s\t%s\t%s\t%s\t%s\t%s\t%s\n' "$kind" "$values" "$step" "${file##*/}" "${input##*/}" \
+  names=("${file##*/}" "${input##*/}")
+  names=("${names[@]//[$'\t\n']/ }")
+  printf '#\t%s\t%s\t%s\t%s\t%s\t%s\t%s\t%s\t%s\n' "$kind" "$values" "$step" "${names[@]}" \
     "$(cat "${files[@]}" | cksum | tr ' ' :)" "$before" "$places" "$(($(wc -l <"$room/done")))"
 }

@@ -3,7 +3,9 @@
 # In: the outcomes, the second file. An outcome to which many edits lead has a colour of its own, a warm one where
 # it has something new. All other outcomes have one of two colours: with something new, and without.
 
+# A text as XML has it. Names in a program may have any bytes.
 function xml(text) {
+  gsub(/[^ -~]/, "?", text)
   gsub(/&/, "\\&amp;", text)
   gsub(/</, "\\&lt;", text)
   gsub(/>/, "\\&gt;", text)

@@ -9,16 +9,17 @@ function fault(text) {
   failed = 1
   exit 1
 }
-# The place of table k stands where it belongs, by its first byte.
-function add_place(place, k,   i) {
-  for (i = k; i > 1 && places[i - 1] + 0 > place + 0; i--) places[i] = places[i - 1]
+# The place of a table stands where it belongs: by its first byte, or behind the others for code.
+function add_place(place,   i) {
+  if (place in met) return
+  met[place] = 1
+  for (i = ++places_met; i > 1 && kind == "input" && places[i - 1] + 0 > place + 0; i--) places[i] = places[i - 1]
   places[i] = place
 }
 # All places: ranges of bytes that meet or follow one another are one.
 function all_places(   i, text, ends, last) {
-  for (i = 1; i <= tables; i++) {
+  for (i = 1; i <= places_met; i++) {
     split(places[i], ends, /\.\./)
-    if (i > 1 && places[i] == places[i - 1]) continue
     if (kind == "input" && i > 1 && ends[1] + 0 <= last + 1) {
       if (ends[2] + 0 > last) last = ends[2]
       sub(/[0-9]+$/, last, text)
@@ -36,7 +37,7 @@ $1 == "#" && NF == 10 {
   same = $2 OFS $3 OFS $4 OFS $5 OFS $6 OFS $7 OFS $8
   if (tables++ && same != sweep) fault("tables of different sweeps")
   sweep = same
-  add_place($9, tables)
+  add_place($9)
   wanted += $10
   next
 }

@@ -57,7 +57,7 @@ read_options() {
   [ "$table" != - ] || [ "$picture" != - ] || refuse '--table - and --svg - at once'
   local out
   for out in "$table" "$picture"; do
-    case $out in '' | -) ;; *) : >"$out" || exit 2 ;; esac
+    case $out in '' | -) ;; *) (: >>"$out") 2>/dev/null || die "cannot write $out" ;; esac
   done
 }
 
