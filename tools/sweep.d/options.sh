@@ -36,6 +36,7 @@ take_option() {
     --most) number most "$2" 1 4000000000 ;;
     *) refuse "no option $1" ;;
   esac
+  [ -n "$2" ] || refuse "$1 wants a value"
 }
 
 # read_options WORD..: sets the variables above, and `kind` to `input` or `patch`, the first word of an edit.
@@ -45,7 +46,7 @@ read_options() {
       --help) sed -n '2,/^set/s/^# \{0,1\}//p' "$tools/sweep"; exit 0 ;;
       --exits) exits=each; shift ;;
       --from) tables=("${@:2}"); [ $# -gt 1 ] || refuse '--from wants a table'; break ;;
-      --*) [ $# -gt 1 ] && [ -n "$2" ] || refuse "$1 wants a value"; take_option "$1" "$2"; shift 2 ;;
+      --*) take_option "$1" "${2-}"; shift 2 ;;
       *) [ -z "$file" ] && [ -n "$1" ] || refuse "one FILE, and not two: $1"; file=$1; shift ;;
     esac
   done
