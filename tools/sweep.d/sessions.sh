@@ -95,7 +95,7 @@ run_edits() {
     fi
     "${awk[@]}" -F '\t' -v ended="$room/done" '$3 ~ /^running / { print $1 "\t" $2; next } { print >>ended }' \
       "$room/rows" >"$room/list"
-    left=$(wc -l <"$room/list") at=$((at * 8 + 1))
+    left=$(wc -l <"$room/list") at=$((at * 8))
     [ "$at" -le "$step" ] || at=$step
   done
   [ ! -t 2 ] || printf '\r\033[K' >&2
