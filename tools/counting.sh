@@ -14,6 +14,21 @@ check() {
   fi
 }
 
+# gives STATUS OUT COMMAND..: whether a command ends with a status and writes just this, or what has this in it (`*TEXT*`). Its
+# output stands in got.out and got.err then, in the folder at hand.
+gives() {
+  local status=$1 out=$2 came
+  shift 2
+  "$@" </dev/null >got.out 2>got.err
+  came=$?
+  head -c 300 got.out got.err
+  [ "$came" = "$status" ] || { echo "status $came for $status"; return 1; }
+  case $out in
+    \**\*) grep -q -F -e "${out:1:-1}" got.out ;;
+    *) printf '%s' "$out" | cmp - got.out ;;
+  esac
+}
+
 # left_out LABEL WHY: what can't be checked on this machine.
 left_out() {
   printf '%s: %s: left out, %s\n' "${0##*/}" "$1" "$2"

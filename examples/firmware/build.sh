@@ -28,6 +28,7 @@ for source in *.S *.c ../*.s; do
   $gcc "${flags[@]}" -c "$source" -o "$objects/${name%.*}.o"
 done
 $gcc "${flags[@]}" -include heap_by_number.h -c station.c -o "$objects/station-by-number.o"
+$gcc "${flags[@]}" -DTWICE -c boot.c -o "$objects/boot-twice.o"
 
 # linked FILE SCRIPT WORD..: names of objects, and options for the linker.
 linked() {
@@ -47,6 +48,8 @@ firmware() {
 firmware kinds -nostdlib kinds.o memory.o heap_by_name.o
 firmware station -nostdlib station.o memory.o heap_by_name.o
 firmware station-by-number -nostdlib station-by-number.o memory.o heap_by_number.o
+firmware boot -nostdlib boot.o
+firmware boot-twice -nostdlib boot-twice.o
 firmware average average.o console.o -DPICOLIBC_INTEGER_PRINTF_SCANF
 firmware library library.o console.o heap_by_name.o -lm
 firmware labels labels.o heap_by_name.o --picolibc-buildtype=release

@@ -42,6 +42,8 @@ same_cases() {
 check 'a session on station.elf' same station ../../tools/talk station.elf --input station.input station.session
 check 'each kind of error' same kinds ../../tools/talk kinds.elf --input kinds.input kinds.session
 check 'the cases of kinds.c' same_cases
+check 'each byte of station.input' same sweep ../../tools/sweep station.elf --input station.input --svg "$room/station.svg"
+check 'its picture' cmp station.svg "$room/station.svg"
 check 'heap calls by number' same_by_number
 
 if command -v qemu-riscv32 >/dev/null; then
@@ -63,7 +65,7 @@ made() {
   riscv64-unknown-elf-gcc --specs=picolibc.specs "${@:2}" -o "$room/$1" 2>&1 || true
 }
 symptom() {
-  sed '1,/^## 11/d' ../../docs/manual.md | grep -q -F -e "\`$1" || { echo "the manual hasn't $1"; return 1; }
+  sed '1,/^## [0-9]*\. When it/d' ../../docs/manual.md | grep -q -F -e "\`$1" || { echo "the manual hasn't $1"; return 1; }
   local told
   told=$("${@:2}" 2>&1)
   [[ $told == *"$1"* ]] || { echo "$told"; return 1; }
@@ -118,7 +120,7 @@ else
   if [ "$(compiled_by station.elf)" != "$(compiled_by "$room/station.elf")" ]; then
     left_out 'comparing the programs, and those with picolibc' "the compiler isn't that of station.elf"
   else
-    for program in ../*.elf kinds.elf station.elf station-by-number.elf; do
+    for program in ../*.elf kinds.elf station.elf station-by-number.elf boot.elf boot-twice.elf; do
       check "the same bytes of $program" cmp "$program" "$room/${program##*/}"
     done
     check 'picolibc without a false error' same library from_picolibc library
