@@ -31,7 +31,7 @@ take_option() {
     --table) table=$2 ;;
     --svg) picture=$2 ;;
     --also) also+=("$2") ;;
-    --step) number step "$2" 0 1048576 ;;
+    --step) number step "$2" 0 4194304 ;;
     --jobs) number jobs "$2" 1 10000 ;;
     --most) number most "$2" 1 4000000000 ;;
     *) refuse "no option $1" ;;
