@@ -34,6 +34,42 @@ const EXITS_WITH_INPUT: [u32; 10] = [
     0x0000_0073,
 ];
 
+/// `addi a7, x0, 63; addi a2, x0, 1; addi a1, x2, 0`, then over and over `addi x5, x0, 600; addi x5, x5, -1; bne x5, x0, -4;
+/// addi a0, x0, 0; ecall; add x6, x6, a0; bne a0, x0, -24`, and `addi a7, x0, 93; addi a0, x6, 0; ecall`: reads a byte a call until a
+/// call gives none, and exits with how many it was given. Call k is made in step 1205k.
+const BYTE_BY_BYTE: [u32; 13] = [
+    0x03F0_0893,
+    0x0010_0613,
+    0x0001_0593,
+    0x2580_0293,
+    0xFFF2_8293,
+    0xFE02_9EE3,
+    0x0000_0513,
+    0x0000_0073,
+    0x00A3_0333,
+    0xFE05_14E3,
+    0x05D0_0893,
+    0x0003_0513,
+    0x0000_0073,
+];
+
+/// The same, with `addi a2, x0, 4`.
+const IN_ONE_GO: [u32; 13] = [
+    0x03F0_0893,
+    0x0040_0613,
+    0x0001_0593,
+    0x2580_0293,
+    0xFFF2_8293,
+    0xFE02_9EE3,
+    0x0000_0513,
+    0x0000_0073,
+    0x00A3_0333,
+    0xFE05_14E3,
+    0x05D0_0893,
+    0x0003_0513,
+    0x0000_0073,
+];
+
 /// The steps made on a trail so far; and of the machine that was asked for last its status, its pc and how many errors it has.
 type Told = (u64, Status, u32, usize);
 
@@ -54,6 +90,8 @@ enum Act {
     TakeMark,
     /// The input is another, from an offset on.
     ReplaceInput(u32, &'static [u8]),
+    /// The input has a byte more, at its end.
+    Append(u8),
     /// The red zone is another.
     SetRedZone(u32),
 }
@@ -61,7 +99,7 @@ enum Act {
 /// A program, with what is done to its trail, and what is told of each machine that was asked for.
 type Case = (&'static [u32], &'static [Act], &'static [Told]);
 
-const CASES: [Case; 4] = [
+const CASES: [Case; 8] = [
     // A word that isn't read by the step asked for, and one that is read in step 1201.
     (
         &READS_ON,
@@ -141,6 +179,103 @@ const CASES: [Case; 4] = [
             (10, Status::Exited(98), 0x10024, 0),
             (20, Status::Exited(7), 0x10024, 0),
             (25, RUNS, 0x10014, 0),
+        ],
+    ),
+    // Bytes put at the input's end and taken off it. Of n bytes each is read by a call of its own, and the end is seen in step
+    // 1205(n + 1): a trail with one byte more or less at the end than n has the machines up to there.
+    (
+        &BYTE_BY_BYTE,
+        &[
+            Act::Ask(5000),
+            Act::Append(b'a'),
+            Act::Ask(5000),
+            Act::ReplaceInput(0, b""),
+            Act::Ask(5000),
+            Act::Append(b'b'),
+            Act::Ask(5000),
+            Act::Append(b'c'),
+            Act::Ask(5000),
+            Act::ReplaceInput(1, b"b"),
+            Act::Ask(5000),
+        ],
+        &[
+            (5000, Status::Exited(0), 0x10030, 0),
+            (8976, Status::Exited(1), 0x10030, 0),
+            (12952, Status::Exited(0), 0x10030, 0),
+            (16928, Status::Exited(1), 0x10030, 0),
+            (19880, Status::Exited(2), 0x10030, 0),
+            (22832, Status::Exited(1), 0x10030, 0),
+        ],
+    ),
+    // From two bytes.
+    (
+        &BYTE_BY_BYTE,
+        &[
+            Act::ReplaceInput(0, b"ab"),
+            Act::Ask(5000),
+            Act::Append(b'c'),
+            Act::Ask(5000),
+            Act::ReplaceInput(2, b"ab"),
+            Act::Ask(5000),
+            Act::ReplaceInput(1, b"a"),
+            Act::Ask(5000),
+            Act::Append(b'b'),
+            Act::Ask(5000),
+        ],
+        &[
+            (5000, Status::Exited(2), 0x10030, 0),
+            (6928, Status::Exited(3), 0x10030, 0),
+            (8856, Status::Exited(2), 0x10030, 0),
+            (11808, Status::Exited(1), 0x10030, 0),
+            (14760, Status::Exited(2), 0x10030, 0),
+        ],
+    ),
+    // The first call asks for four bytes, and sees the end where there are fewer.
+    (
+        &IN_ONE_GO,
+        &[
+            Act::Ask(5000),
+            Act::Append(b'a'),
+            Act::Ask(5000),
+            Act::ReplaceInput(0, b""),
+            Act::Ask(5000),
+            Act::Append(b'b'),
+            Act::Ask(5000),
+            Act::Append(b'c'),
+            Act::Ask(5000),
+            Act::ReplaceInput(1, b"b"),
+            Act::Ask(5000),
+        ],
+        &[
+            (5000, Status::Exited(0), 0x10030, 0),
+            (8976, Status::Exited(1), 0x10030, 0),
+            (12952, Status::Exited(0), 0x10030, 0),
+            (16928, Status::Exited(1), 0x10030, 0),
+            (20904, Status::Exited(2), 0x10030, 0),
+            (24880, Status::Exited(1), 0x10030, 0),
+        ],
+    ),
+    // It sees no end where there are just four: that shows a call later.
+    (
+        &IN_ONE_GO,
+        &[
+            Act::ReplaceInput(0, b"abc"),
+            Act::Ask(5000),
+            Act::Append(b'd'),
+            Act::Ask(5000),
+            Act::Append(b'e'),
+            Act::Ask(5000),
+            Act::ReplaceInput(4, b"abcd"),
+            Act::Ask(5000),
+            Act::ReplaceInput(3, b"abc"),
+            Act::Ask(5000),
+        ],
+        &[
+            (5000, Status::Exited(3), 0x10030, 0),
+            (8976, Status::Exited(4), 0x10030, 0),
+            (11928, Status::Exited(5), 0x10030, 0),
+            (14880, Status::Exited(4), 0x10030, 0),
+            (18856, Status::Exited(3), 0x10030, 0),
         ],
     ),
 ];
@@ -226,6 +361,10 @@ impl<'a> Edited<'a> {
             Act::ReplaceInput(offset, bytes) => {
                 self.setup.input = Input::new(bytes.to_vec(self.alloc)?);
                 self.trail.cut_input(offset);
+            }
+            Act::Append(byte) => {
+                self.setup.input.push(byte)?;
+                self.trail.cut_end();
             }
             Act::SetRedZone(len) => {
                 self.setup.redzone = len;
