@@ -35,7 +35,7 @@ def faults(crate, path):
 
 def main():
     results = []
-    for path in [*sorted(TOP.glob("crates/*/must-fail/*.edit")), *sorted(TOP.glob("wrong-bodies/*/*.edit"))]:
+    for path in [*sorted(TOP.glob("crates/*/must-fail/*.edit")), *sorted(TOP.glob("crates/*/wrong-bodies/*.edit"))]:
         crate = pathlib.Path(path).relative_to(TOP).parts[1]
         wrong = list(faults(crate, path))
         results.append(bool(wrong))
