@@ -13,7 +13,7 @@ ghost use Rattle.guest_machine.specs.Doing.{Raises, Does};
 
 use crate::alu::{extended, passes};
 use crate::hint::StackHint;
-use crate::instruction::Test;
+use crate::instruction::Comparison;
 use crate::machine::Guest;
 use crate::register::Register;
 use crate::span::Span;
@@ -54,7 +54,7 @@ impl Guest {
     fn take(&mut self, start: u32, width: Width) -> Result<Bits, AllocError>
         ensures core { core_of self.new ≡ core_of self.old }
         ensures memory { self.new.memory ≡ self.old.memory }
-        ensures counts { self.new.counts ≡ self.old.counts }
+        ensures progress { self.new.progress ≡ self.old.progress }
         ensures groups { OnOk result (Raises self.old self.new (access_errors (core_of self.old) (ReadError (width_len width)) start (width_len width))) }
         ensures value { IfOk result (λ bits. bits.value ≡ little_word (window (bytes_of self.old) start (width_len width))) }
         ensures undef { IfOk result (λ bits. bits.undef ≡ taken_undef (core_of self.old) start (width_len width)) }
@@ -121,7 +121,7 @@ impl Guest {
         ensures fault { IfOk result (λ fault. fault ≡ first_inaccessible (core_of self.old).shadow start (width_len width)) }
         ensures core { OnOk result (core_of self.new ≡ stored_core (core_of self.old) start (width_len width) bits.undef) }
         ensures bytes { OnOk result (bytes_of self.new ≡ written (bytes_of self.old) start (width_len width) (byte_of bits.value)) }
-        ensures counts { self.new.counts ≡ self.old.counts }
+        ensures progress { self.new.progress ≡ self.old.progress }
         ensures groups { self.new.groups ≡ self.old.groups }
     {
         match width {
@@ -134,20 +134,20 @@ impl Guest {
     #[tactic(auto, unfolding(crate::specs::Effects::branched))]
     pub(super) fn branch(
         &mut self,
-        test: Test,
+        comparison: Comparison,
         rs1: Register,
         rs2: Register,
         imm: u32,
     ) -> Result<(), AllocError>
-        ensures { OnOk result (Does self.old self.new (branch (core_of self.old) test rs1 rs2 imm) nothing false no_intake) }
+        ensures { OnOk result (Does self.old self.new (branch (core_of self.old) comparison rs1 rs2 imm) nothing false no_intake) }
     {
         let taken = passes(
-            test,
+            comparison,
             self.read_register(rs1).value,
             self.read_register(rs2).value,
         );
         let to = self.pc.wrapping_add(imm);
-        self.test_branch(test, rs1, rs2)?;
+        self.test_branch(comparison, rs1, rs2)?;
         if taken {
             self.jump(to);
         } else {

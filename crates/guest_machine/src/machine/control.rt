@@ -1,98 +1,51 @@
-//! The changes to what decides a step: registers, pc and status.
+//! Where a machine goes next: pc, whether it runs, and the frames of the calls that it is in.
 ghost use Rattle.std.specs.Prelude.{◌≡◌, ◌%◌};
-ghost use Rattle.guest_machine.specs.Registers.{known, register, set_register, defined};
-ghost use Rattle.guest_machine.specs.Effects.{target, moved_to, advanced, stopped, exited, jumped, followed, linked_jump};
-ghost use Rattle.guest_machine.specs.Calls.{answered};
+ghost use Rattle.guest_machine.specs.Effects.{moved_to, advanced, stopped, exited, jumped, followed, linked_jump};
 ghost use Rattle.guest_machine.specs.NamedCalls.{returned_to};
 ghost use Rattle.guest_machine.specs.Shows.{core_of};
 
 use crate::hint::StackHint;
 use crate::machine::Guest;
+use crate::machine::registers::known;
 use crate::register::Register;
 use crate::status::{Status, Stop};
-use definedness::Bits;
-
-/// A number with no undefined bit.
-pub(crate) fn known(value: u32) -> Bits
-    ensures { result ≡ known value }
-{
-    Bits { value, undef: 0 }
-}
 
 impl Guest {
-    #[tactic(auto, unfolding(crate::specs::Registers::register))]
-    pub(super) fn read_register(&self, r: Register) -> Bits
-        ensures { result ≡ register (core_of self.now) r }
-    {
-        let i = r.number();
-        if i == 0 { known(0) } else { self.registers[i] }
-    }
-
-    #[tactic(auto, unfolding(crate::specs::Registers::set_register))]
-    pub(super) fn set_register(&mut self, r: Register, bits: Bits)
-        ensures core { core_of self.new ≡ set_register (core_of self.old) r bits }
-        ensures memory { self.new.memory ≡ self.old.memory }
-        ensures counts { self.new.counts ≡ self.old.counts }
-        ensures heap { self.new.heap ≡ self.old.heap }
-        ensures groups { self.new.groups ≡ self.old.groups }
-    {
-        let i = r.number();
-        if i != 0 {
-            self.registers[i] = bits;
-        }
-    }
-
-    /// Makes a register defined.
-    pub(super) fn define(&mut self, r: Register)
-        ensures core { core_of self.new ≡ defined (core_of self.old) r }
-        ensures memory { self.new.memory ≡ self.old.memory }
-        ensures counts { self.new.counts ≡ self.old.counts }
-        ensures heap { self.new.heap ≡ self.old.heap }
-        ensures groups { self.new.groups ≡ self.old.groups }
-    {
-        let value = self.read_register(r).value;
-        self.set_register(r, known(value));
-    }
-
-    /// Where a load, a store or JALR goes.
-    #[tactic(auto, unfolding(crate::specs::Effects::target))]
-    pub(super) fn target(&self, rs1: Register, imm: u32) -> u32
-        ensures { result ≡ target (core_of self.now) rs1 imm }
-    {
-        self.read_register(rs1).value.wrapping_add(imm)
-    }
-
+    /// Goes to an address.
     pub(super) fn move_to(&mut self, to: u32)
         ensures core { core_of self.new ≡ moved_to (core_of self.old) to }
         ensures memory { self.new.memory ≡ self.old.memory }
-        ensures counts { self.new.counts ≡ self.old.counts }
+        ensures progress { self.new.progress ≡ self.old.progress }
         ensures groups { self.new.groups ≡ self.old.groups }
     {
         self.pc = to;
     }
 
+    /// Goes on to the next instruction.
     pub(super) fn advance(&mut self)
         ensures core { core_of self.new ≡ advanced (core_of self.old) }
         ensures memory { self.new.memory ≡ self.old.memory }
-        ensures counts { self.new.counts ≡ self.old.counts }
+        ensures progress { self.new.progress ≡ self.old.progress }
         ensures groups { self.new.groups ≡ self.old.groups }
     {
         self.pc = self.pc.wrapping_add(4);
     }
 
+    /// Stops for good, at this pc.
     pub(super) fn stop(&mut self, stop: Stop)
         ensures core { core_of self.new ≡ stopped (core_of self.old) stop }
         ensures memory { self.new.memory ≡ self.old.memory }
-        ensures counts { self.new.counts ≡ self.old.counts }
+        ensures progress { self.new.progress ≡ self.old.progress }
         ensures groups { self.new.groups ≡ self.old.groups }
     {
         self.status = Status::Stopped(stop);
     }
 
+    /// Ends with an exit status.
     pub(super) fn exit(&mut self, code: u8)
         ensures core { core_of self.new ≡ exited (core_of self.old) code }
         ensures memory { self.new.memory ≡ self.old.memory }
-        ensures counts { self.new.counts ≡ self.old.counts }
+        ensures progress { self.new.progress ≡ self.old.progress }
         ensures groups { self.new.groups ≡ self.old.groups }
     {
         self.status = Status::Exited(code);
@@ -103,7 +56,7 @@ impl Guest {
     pub(super) fn jump(&mut self, to: u32)
         ensures core { core_of self.new ≡ jumped (core_of self.old) to }
         ensures memory { self.new.memory ≡ self.old.memory }
-        ensures counts { self.new.counts ≡ self.old.counts }
+        ensures progress { self.new.progress ≡ self.old.progress }
         ensures groups { self.new.groups ≡ self.old.groups }
     {
         if to % 4 == 0 {
@@ -118,7 +71,7 @@ impl Guest {
     fn follow(&mut self, hint: StackHint, to: u32)
         ensures core { core_of self.new ≡ followed (core_of self.old) hint to }
         ensures memory { self.new.memory ≡ self.old.memory }
-        ensures counts { self.new.counts ≡ self.old.counts }
+        ensures progress { self.new.progress ≡ self.old.progress }
         ensures groups { self.new.groups ≡ self.old.groups }
     {
         let after = self.pc.wrapping_add(4);
@@ -138,7 +91,7 @@ impl Guest {
     pub(super) fn linked_jump(&mut self, hint: StackHint, rd: Register, to: u32)
         ensures core { core_of self.new ≡ linked_jump (core_of self.old) hint rd to }
         ensures memory { self.new.memory ≡ self.old.memory }
-        ensures counts { self.new.counts ≡ self.old.counts }
+        ensures progress { self.new.progress ≡ self.old.progress }
         ensures groups { self.new.groups ≡ self.old.groups }
     {
         if to % 4 == 0 {
@@ -151,22 +104,12 @@ impl Guest {
         }
     }
 
-    /// Leaves a call's answer in a0.
-    pub(super) fn answer(&mut self, n: u32)
-        ensures core { core_of self.new ≡ answered (core_of self.old) n }
-        ensures memory { self.new.memory ≡ self.old.memory }
-        ensures counts { self.new.counts ≡ self.old.counts }
-        ensures groups { self.new.groups ≡ self.old.groups }
-    {
-        self.set_register(Register::new(10), known(n));
-    }
-
     /// Returns to an address.
     #[tactic(auto, unfolding(crate::specs::CallStack::hinted))]
     pub(super) fn return_to(&mut self, to: u32)
         ensures core { core_of self.new ≡ returned_to to (core_of self.old) }
         ensures memory { self.new.memory ≡ self.old.memory }
-        ensures counts { self.new.counts ≡ self.old.counts }
+        ensures progress { self.new.progress ≡ self.old.progress }
         ensures groups { self.new.groups ≡ self.old.groups }
     {
         self.frames.back_to(to);
