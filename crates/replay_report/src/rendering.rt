@@ -25,7 +25,8 @@ struct Moment<'a> {
 /// The first lines of a report.
 #[tactic(auto, unfolding(crate::specs::Report::head_lines), using(std::proofs::Common::append_assoc))]
 fn push_head(out: &mut Vec<u8>, moment: &Moment) -> Result<(), AllocError>
-    ensures { OnOk result ((s : State) → Shows moment.now.machine.now s → out.new.items ≡ out.old.items ++ head_lines s moment.now.step moment.now.input_len) }
+    ensures { OnOk result ((s : State) → Shows moment.now.machine.now s
+        → out.new.items ≡ out.old.items ++ head_lines s moment.now.step moment.now.input_len) }
 {
     let machine = moment.machine;
     push_step(out, moment.step)?;
@@ -89,7 +90,8 @@ pub fn render(
 ) -> Result<(), AllocError>
     requires some { 1 ≤ options.now.callers }
     requires few { options.now.callers ≤ 24 }
-    ensures ok { OnOk result ((s : State) → Shows machine.now s → AppendsReport (IsReport s image.now suppressions.now options.now step input_len) out.old.items out.new.items) }
+    ensures ok { OnOk result ((s : State) → Shows machine.now s
+        → AppendsReport (IsReport s image.now suppressions.now options.now step input_len) out.old.items out.new.items) }
     ensures err { OnErr result (out.new.items ≡ out.old.items) }
 {
     let moment = Moment {

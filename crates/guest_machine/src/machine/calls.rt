@@ -20,25 +20,25 @@ use guest_elf::Hook;
 use shadow_memory::Bad;
 use std::alloc::AllocError;
 
-// The registers of a call's arguments and of its number.
+/// The register of a call's first argument, and of its answer.
 pub(super) const A0: u8 = 10;
-
+/// The register of a call's second argument.
 pub(super) const A1: u8 = 11;
-
+/// The register of a call's third argument.
 const A2: u8 = 12;
-
+/// The register of a call's number.
 const A7: u8 = 17;
 
-// The most bytes that one call moves, and the bytes of output that there is room for.
+/// The most bytes that one call moves.
 const MOST_MOVED: u32 = 4096;
-
+/// The bytes of output that there is room for.
 const OUTPUT_ROOM: u64 = 65_536;
 
-// What a call that fails answers: EBADF, ENOSPC and ENOSYS negated, modulo 2^32.
+/// EBADF negated, modulo 2^32: what a call answers that names no open file.
 const BAD_DESCRIPTOR: u32 = u32::MAX - 8;
-
+/// ENOSPC negated: what a `write` answers that has no room.
 const NO_SPACE: u32 = u32::MAX - 27;
-
+/// ENOSYS negated: what a call answers whose number is unknown.
 const NO_SUCH_CALL: u32 = u32::MAX - 37;
 
 impl Guest {

@@ -78,7 +78,8 @@ impl Guest {
         rs1: Register,
         imm: u32,
     ) -> Result<Span, AllocError>
-        ensures does { IfOk result (λ span. Does self.old self.new (load (core_of self.old) width signed rd rs1 imm (taken_from (bytes_of self.old) (Some span))) nothing false no_intake) }
+        ensures does { IfOk result (λ span. Does self.old self.new
+            (load (core_of self.old) width signed rd rs1 imm (taken_from (bytes_of self.old) (Some span))) nothing false no_intake) }
         ensures reads { IfOk result (λ span. span ≡ accessed (core_of self.old) rs1 imm width) }
     {
         let start = self.target(rs1, imm);

@@ -246,7 +246,8 @@ impl Guest {
         volume: u32,
     ) -> Result<Used, AllocError>
         requires live { (core_of self.old).blocks.live block.start ≡ Some block }
-        ensures core { OnOk result (core_of self.new ≡ resized (core_of self.old) block.start size redzone volume (moving_in (core_of self.old).blocks block size redzone)) }
+        ensures core { OnOk result (core_of self.new
+            ≡ resized (core_of self.old) block.start size redzone volume (moving_in (core_of self.old).blocks block size redzone)) }
         ensures reads { IfOk result (λ used. used.reads ≡ moved_from (moving_in (core_of self.old).blocks block size redzone) block.start size) }
         ensures writes { IfOk result (λ used. used.writes ≡ moved_into (moving_in (core_of self.old).blocks block size redzone) size) }
         ensures bytes { IfOk result (λ used. bytes_of self.new ≡ written_to (bytes_of self.old) used.writes (taken_from (bytes_of self.old) used.reads)) }
