@@ -1,8 +1,8 @@
-// Call stacks.
+//! Call stacks.
 ghost use Rattle.std.specs.Prelude.{◌≡◌, ◌==◌, [], IfOk, position};
 ghost use Rattle.call_stacks.specs.Frames.{called, returned, trace_at};
 
-use crate::trace::{TRACE_LEN, Trace};
+use crate::trace::{LONGEST_TRACE, Trace};
 use circular_buffer::HeapCircularBuffer;
 use std::alloc::{AllocError, Global};
 use std::marker::Model;
@@ -67,7 +67,7 @@ impl CallStack {
         }
     }
 
-    // How many frames are newer than the newest one that returns to `target`.
+    /// How many frames are newer than the newest one that returns to `target`.
     fn newest_returning_to(&self, target: u32) -> Option<usize>
         ensures { result ≡ position (λ frame. frame.return_to == target) self.now }
     {
@@ -86,7 +86,7 @@ impl CallStack {
         ensures { result ≡ trace_at pc self.now }
     {
         let mut trace = Trace::of(pc);
-        for i in 0..(TRACE_LEN - 1).min(self.frames.len()) {
+        for i in 0..(LONGEST_TRACE - 1).min(self.frames.len()) {
             if let Some(frame) = self.frames.get(i) {
                 trace.push(frame.site);
             }

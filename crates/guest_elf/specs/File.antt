@@ -14,6 +14,7 @@ use Rattle.guest_elf.specs.Images.{contents_of, loaded_at, entry_of, name_at, ho
 use Rattle.guest_elf.specs.Names.{name_by, nearest}
 use Rattle.guest_elf.specs.Sections.{has_bad_section_table, is_bad_table, naming_in, strings_of, symbol_table}
 use Rattle.guest_elf.specs.Segments.{SegmentContent}
+use Rattle.guest_elf.specs.Regions.{heap_begin, heap_end, stack_begin, stack_end}
 
 -- e_entry: the address of the first instruction
 abbrev pub entry_in : List ℕ → ℕ
@@ -119,8 +120,8 @@ ranges_meet start end other_start other_end = nat_lt (max start other_start) (mi
 -- whether a segment has an address of the heap's region or of the stack's
 unfoldable pub meets_region : ProgramHeader → Bool
 meets_region header =
-    ranges_meet header.vaddr (header.vaddr + header.memsz) 0x40000000 0x60000000
-    || ranges_meet header.vaddr (header.vaddr + header.memsz) 0x7F000000 0x80000000
+    ranges_meet header.vaddr (header.vaddr + header.memsz) heap_begin heap_end
+    || ranges_meet header.vaddr (header.vaddr + header.memsz) stack_begin stack_end
 
 -- whether two segments have an address in common
 unfoldable pub segments_meet : ProgramHeader → ProgramHeader → Bool

@@ -26,7 +26,7 @@ const CALLOC: &[u8] = b"calloc";
 
 const REALLOC: &[u8] = b"realloc";
 
-// One more than the longest of these names has: no more of a name is looked at.
+/// One more than the longest of these names has: no more of a name is looked at.
 const ENOUGH: usize = 8;
 
 /// The function that a name is, byte for byte.

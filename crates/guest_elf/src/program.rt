@@ -3,6 +3,7 @@ ghost use Rattle.std.specs.Prelude.{◌≡◌, ◌+◌, ◌<◌};
 ghost use Rattle.guest_elf.specs.File.{header_at, header_count, is_interpreter, is_load, is_bad_segment, meets_region, ranges_meet, HasHeader, HasTable};
 
 use crate::fields::{E_PHNUM, E_PHOFF, half_at, word_at};
+use crate::regions::{HEAP_BEGIN, HEAP_END, STACK_BEGIN, STACK_END};
 
 /// PT_LOAD: a segment to load.
 const PT_LOAD: u32 = 1;
@@ -10,14 +11,6 @@ const PT_LOAD: u32 = 1;
 const PT_INTERP: u32 = 3;
 /// The size of a program header, in bytes.
 pub(crate) const PROGRAM_HEADER_SIZE: usize = 32;
-/// The heap's region ends before this address.
-const HEAP_END: u64 = 0x6000_0000;
-/// The heap's region begins at this address.
-const HEAP_START: u64 = 0x4000_0000;
-/// The stack's region ends before this address.
-const STACK_END: u64 = 0x8000_0000;
-/// The stack's region begins at this address.
-const STACK_START: u64 = 0x7F00_0000;
 
 /// The fields of a program header that matter here (Elf32_Phdr, figure 5-1).
 #[derive(Clone, Copy, Debug)]
@@ -67,14 +60,14 @@ impl ProgramHeader {
     pub(crate) fn meets_region(self) -> bool
         ensures { result ≡ meets_region self }
     {
-        self.meets(HEAP_START, HEAP_END) || self.meets(STACK_START, STACK_END)
+        self.meets(HEAP_BEGIN, HEAP_END) || self.meets(STACK_BEGIN, STACK_END)
     }
 
     /// Whether it has an address from `start` up to `end`, not with it.
-    fn meets(self, start: u64, end: u64) -> bool
+    fn meets(self, start: u32, end: u32) -> bool
         ensures { result ≡ ranges_meet self.vaddr (self.vaddr + self.memsz) start end }
     {
-        u64::from(self.vaddr).max(start) < self.end().min(end)
+        u64::from(self.vaddr.max(start)) < self.end().min(u64::from(end))
     }
 
     /// The address after its last byte, as a whole number.

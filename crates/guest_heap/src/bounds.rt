@@ -1,13 +1,13 @@
-// What is known of places, by sizes, so that most allocations pass no kept block. For each class of sizes there is a bound below which its
-// least size has no place, and a range further up with none either: after a low block leaves the queue, the range above its place stays known.
+//! What is known of places, by sizes, so that most allocations pass no kept block. For each class of sizes there is a bound below which its
+//! least size has no place, and a range further up with none either: after a low block leaves the queue, the range above its place stays known.
 ghost use Rattle.std.specs.Prelude.{◌≡◌, ◌<◌, ◌≤◌, ◌+◌, ◌%◌, ℕ, max, vec_len};
 ghost use Rattle.guest_heap.specs.Bounds.{lowered, IsSkipped};
 
 use crate::region::aligned;
 use std::alloc::{AllocError, Global};
 
-// Sizes up to 4,096 are in classes of 16 in a row, since blocks begin at multiples of 16: with one red zone for all, the sizes of a
-// class have the same places. Each further class has twice the sizes of the one before.
+/// Sizes up to 4,096 are in classes of 16 in a row, since blocks begin at multiples of 16: with one red zone for all, the sizes of a
+/// class have the same places. Each further class has twice the sizes of the one before.
 const STEP: u32 = 16;
 
 const FINE_SIZES: u32 = 4096;
@@ -61,7 +61,7 @@ pub(crate) struct Bound {
     pub(crate) until: u32,
 }
 
-// A bound that says nothing.
+/// A bound that says nothing.
 const NOTHING_KNOWN: Bound = Bound {
     size: 0,
     from: 0,
@@ -83,7 +83,7 @@ pub(crate) struct Opened {
     pub(crate) room: u64,
 }
 
-// What stays known: of the range below, what lies below the new places, or above them where that is more than was known there.
+/// What stays known: of the range below, what lies below the new places, or above them where that is more than was known there.
 fn lowered(bound: Bound, opened: &Opened) -> Bound
     ensures { result ≡ lowered opened.now bound }
 {

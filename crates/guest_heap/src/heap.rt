@@ -1,4 +1,4 @@
-// The heap: what it holds, and its changes.
+//! The heap: what it holds, and its changes.
 ghost use Rattle.std.specs.Prelude.{◌≡◌, ◌+◌, ◌≤◌, length};
 ghost use Rattle.guest_heap.specs.Tables.{entries_of};
 ghost use Rattle.guest_heap.specs.Queues.{queued};

@@ -1,4 +1,4 @@
-// The freed blocks, oldest first. Copies share all but the newest few.
+//! The freed blocks, oldest first. Copies share all but the newest few.
 ghost use Rattle.std.specs.Prelude.{◌≡◌, ◌<◌, ◌≤◌};
 ghost use Rattle.guest_heap.specs.Runs.{IsWithin};
 
@@ -49,7 +49,7 @@ impl Queue {
         self.tail.reserve(1)
     }
 
-    // The newest entries become a run, which copies share.
+    /// The newest entries become a run, which copies share.
     fn close_run(&mut self, alloc: Global) -> Result<(), AllocError>
         requires { 0 < tail_len self.old }
         ensures { queued self.new ≡ queued self.old }
@@ -91,7 +91,7 @@ impl Queue {
         }
     }
 
-    // How many the first run has, or where there is none the tail.
+    /// How many the first run has, or where there is none the tail.
     fn front_len(&self) -> usize
         ensures { result ≡ front_len self.now.runs.items self.now.tail.items }
     {
@@ -101,7 +101,7 @@ impl Queue {
         }
     }
 
-    // The first run leaves, or where there is none the tail.
+    /// The first run leaves, or where there is none the tail.
     fn drop_run(&mut self)
         ensures { queued self.new ≡ queued_behind self.old }
     {

@@ -1,4 +1,4 @@
-// The heap region, and the multiples of 16 in it, at which blocks begin.
+//! The heap region, and the multiples of 16 in it, at which blocks begin.
 ghost use Rattle.std.specs.Prelude.{◌≡◌, ◌<◌, ◌≤◌, ◌+◌, ◌%◌};
 ghost use Rattle.guest_heap.specs.States.{slot_of};
 

@@ -1,4 +1,4 @@
-// Blocks by their places: the multiples of 16 of the heap region in order. Copies share what neither has changed.
+//! Blocks by their places: the multiples of 16 of the heap region in order. Copies share what neither has changed.
 ghost use Rattle.std.specs.Prelude.{◌≤◌, vec_len};
 
 use crate::entry::Entry;
@@ -43,7 +43,7 @@ impl Table {
         }
     }
 
-    // Makes room for a branch, by its number.
+    /// Makes room for a branch, by its number.
     fn grow(&mut self, number: usize) -> Result<(), AllocError>
         requires { number < 512 }
         ensures same { entries_of self.new ≡ entries_of self.old }

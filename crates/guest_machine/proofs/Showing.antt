@@ -32,7 +32,7 @@ length_taken taken n = length-map-range_with_len taken 0 n
 
 -- the state that a guest holds, with the output and the errors of another
 shown : Guest → State → State
-shown m s = record { bytes = bytes_of m; core = core_of m; position = m.counts.position; end_seen = m.counts.end_seen; output = s.output; heap_calls = m.counts.heap_calls; events = s.events }
+shown m s = record { bytes = bytes_of m; core = core_of m; position = m.progress.position; end_seen = m.progress.end_seen; output = s.output; heap_calls = m.progress.heap_calls; events = s.events }
 
 -- a state that a guest holds is that one
 shown-is : (m : Guest) (s : State) → Holds m s → shown m s ≡ s
@@ -44,9 +44,9 @@ pub holds_exec : GroupsGrowBy → (old new : Guest) (setup : Setup)
     → DoesStep old new setup → (s : State) → Holds old s → Holds new (exec s setup)
 unfolding exec intake_at shown
 holds_exec grow old new setup d s h =
-    let n = old.counts.output_len in
-    let effect = effect_at (core_of old) (bytes_of old) old.counts.position n setup in
-    let uses = uses_at (core_of old) (bytes_of old) old.counts.position n setup in
+    let n = old.progress.output_len in
+    let effect = effect_at (core_of old) (bytes_of old) old.progress.position n setup in
+    let uses = uses_at (core_of old) (bytes_of old) old.progress.position n setup in
     let effects : effect ≡ effect_at s.core s.bytes s.position (length s.output) setup =
     λ i. effect_at (h.core i) (h.bytes i) (h.position i) (h.output i) setup in
     let usages : uses ≡ uses_at s.core s.bytes s.position (length s.output) setup =

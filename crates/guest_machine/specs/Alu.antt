@@ -7,8 +7,8 @@ use Rattle.definedness.specs.Operations as Value
 use Rattle.definedness.specs.Undefined as Undef
 use Rattle.guest_machine.specs.Widths.{width_len}
 use Rattle.guest_machine.specs.declared.width.Width.{Width}
-use Rattle.guest_machine.specs.declared.instruction.Test.{Test}
-use Rattle.guest_machine.specs.declared.instruction.Test.TheVariants.{Equal, NotEqual, Less, GreaterEqual, LessUnsigned, GreaterEqualUnsigned}
+use Rattle.guest_machine.specs.declared.instruction.Comparison.{Comparison}
+use Rattle.guest_machine.specs.declared.instruction.Comparison.TheVariants.{Equal, NotEqual, Less, GreaterEqual, LessUnsigned, GreaterEqualUnsigned}
 use Rattle.guest_machine.specs.declared.instruction.Operation.{Operation}
 use Rattle.guest_machine.specs.declared.instruction.Operation.TheVariants.{Add, Sub, ShiftLeft, SetLess, SetLessUnsigned, Xor, ShiftRight, ShiftArith, Or, And, Mul, MulHigh, MulHighSignedUnsigned, MulHighUnsigned, Div, DivUnsigned, Rem, RemUnsigned}
 
@@ -60,7 +60,7 @@ unfoldable pub computed : Operation → Bits → Bits → Bits
 computed operation x y = record { value = value_of operation x.value y.value; undef = undef_of operation x y }
 
 -- is the branch taken?
-unfoldable pub passes : Test → ℕ → ℕ → Bool
+unfoldable pub passes : Comparison → ℕ → ℕ → Bool
 passes Equal x y = x == y
 passes NotEqual x y = not (x == y)
 passes Less x y = Value.less_signed x y
@@ -69,7 +69,7 @@ passes LessUnsigned x y = Value.less_unsigned x y
 passes GreaterEqualUnsigned x y = not (Value.less_unsigned x y)
 
 -- does what a branch compares depend on an undefined bit?
-unfoldable pub is_undecided : Test → Bits → Bits → Bool
+unfoldable pub is_undecided : Comparison → Bits → Bits → Bool
 is_undecided Equal x y = Undef.undef_equal x y
 is_undecided NotEqual x y = Undef.undef_equal x y
 is_undecided Less x y = Undef.undef_branch x y

@@ -11,12 +11,12 @@ use Rattle.guest_machine.specs.Errors.{parameter_errors, buffer_errors}
 use Rattle.guest_machine.specs.Effects.{Effect, no_bytes, raising, advanced, exited, stored_core}
 use Rattle.guest_elf.specs.declared.hook.Hook.{Hook}
 use Rattle.guest_elf.specs.declared.hook.Hook.TheVariants.{Malloc, Free, Calloc, Realloc}
-use Rattle.guest_machine.specs.declared.call.Call.{Call}
-use Rattle.guest_machine.specs.declared.call.Call.TheVariants.{Read, Write, Exit, ExitGroup, Heap, Unknown}
+use Rattle.guest_machine.specs.declared.environment_call.EnvironmentCall.{EnvironmentCall}
+use Rattle.guest_machine.specs.declared.environment_call.EnvironmentCall.TheVariants.{Read, Write, Exit, ExitGroup, Heap, Unknown}
 
 -- which call --
 
-abbrev pub call_of : ℕ → Call
+abbrev pub call_of : ℕ → EnvironmentCall
 call_of n =
     if n == 63 then Read
     else if n == 64 then Write
@@ -33,11 +33,11 @@ abbrev pub argument : Core → ℕ → ℕ
 argument core r = (register core r).value
 
 -- the call that the registers ask for
-unfoldable pub call_at : Core → Call
+unfoldable pub call_at : Core → EnvironmentCall
 call_at core = call_of (argument core 17)
 
 -- does a call use the heap?
-abbrev pub is_heap : Call → Bool
+abbrev pub is_heap : EnvironmentCall → Bool
 is_heap (Heap function) = true
 is_heap _ = false
 
@@ -51,7 +51,7 @@ heap_parameters Calloc = CallocMembers ∷ CallocSize ∷ []
 heap_parameters Realloc = ReallocPointer ∷ ReallocSize ∷ []
 
 -- and of any call's
-unfoldable pub parameters_of : Call → List Parameter
+unfoldable pub parameters_of : EnvironmentCall → List Parameter
 parameters_of Read = ReadFd ∷ ReadBuffer ∷ ReadCount ∷ []
 parameters_of Write = WriteFd ∷ WriteBuffer ∷ WriteCount ∷ []
 parameters_of Exit = ExitStatus ∷ []
@@ -70,10 +70,10 @@ errors_from core r [] = []
 errors_from core r (parameter ∷ parameters) = parameter_errors core r parameter ++ errors_from (tested core r) (r + 1) parameters
 
 -- the number is tested first, and then the parameters in order
-abbrev pub call_tested : Core → Call → Core
+abbrev pub call_tested : Core → EnvironmentCall → Core
 call_tested core call = tested_from (tested core 17) 10 (parameters_of call)
 
-abbrev pub call_errors : Core → Call → List Event
+abbrev pub call_errors : Core → EnvironmentCall → List Event
 call_errors core call = parameter_errors core 17 SyscallNumber ++ errors_from (tested core 17) 10 (parameters_of call)
 
 -- answers --
@@ -96,7 +96,7 @@ abbrev pub enosys : ℕ
 enosys = 38
 
 -- a call that only answers
-abbrev pub answers : Core → Call → ℕ → Effect
+abbrev pub answers : Core → EnvironmentCall → ℕ → Effect
 answers core call n = raising (advanced (answered (call_tested core call) n)) (call_errors core call)
 
 -- read and write: the descriptor is in a0, the buffer in a1, the count in a2 --
@@ -154,7 +154,7 @@ write_call core written taken =
     else answers core Write (failure ebadf)
 
 -- the program ends with the low 8 bits of a0
-abbrev pub exit_call : Core → Call → Effect
+abbrev pub exit_call : Core → EnvironmentCall → Effect
 exit_call core call = raising (exited (call_tested core call) (argument core 10 % 256)) (call_errors core call)
 
 -- no such call

@@ -10,7 +10,7 @@ use Rattle.error_events.specs.Adding.{add_events}
 use Rattle.error_events.specs.Shown.{groups_of}
 use Rattle.error_events.specs.declared.event.Event.{Event}
 use Rattle.guest_elf.specs.declared.hook.Hook.{Hook}
-use Rattle.guest_machine.specs.declared.call.Call.TheVariants.{Read}
+use Rattle.guest_machine.specs.declared.environment_call.EnvironmentCall.TheVariants.{Read}
 use Rattle.guest_machine.specs.declared.instruction.Instruction.{Instruction}
 use Rattle.guest_machine.specs.declared.machine.Guest.{Guest}
 use Rattle.guest_machine.specs.declared.setup.Setup.{Setup}
@@ -24,15 +24,15 @@ Raises old new events = groups_of new.groups ≡ add_events (groups_of old.group
 pub record Does (old new : Guest) (effect : Effect) (uses : Uses) (heap : Bool) (intake : Intake) : Type 0 where
   pub core : core_of new ≡ effect.core
   pub bytes : bytes_of new ≡ written_to (bytes_of old) uses.writes effect.made
-  pub position : new.counts.position ≡ old.counts.position + intake.count
-  pub end_seen : new.counts.end_seen ≡ seen_also old.counts.end_seen intake.ends
-  pub output : new.counts.output_len ≡ old.counts.output_len + length effect.output
-  pub heap_calls : new.counts.heap_calls ≡ counted old.counts.heap_calls heap
+  pub position : new.progress.position ≡ old.progress.position + intake.count
+  pub end_seen : new.progress.end_seen ≡ seen_also old.progress.end_seen intake.ends
+  pub output : new.progress.output_len ≡ old.progress.output_len + length effect.output
+  pub heap_calls : new.progress.heap_calls ≡ counted old.progress.heap_calls heap
   pub groups : Raises old new effect.raised
 
 -- an instruction carried out by a machine: what it sees of the setup, what it uses, and that new is old after it
 abbrev pub row_terms : Guest → Option Instruction → Setup → Terms
-row_terms m row setup = terms_of (calls_heap (core_of m) row) (row_asks (core_of m) row) m.counts.position m.counts.output_len setup
+row_terms m row setup = terms_of (calls_heap (core_of m) row) (row_asks (core_of m) row) m.progress.position m.progress.output_len setup
 
 abbrev pub uses_by : Guest → Option Instruction → Setup → Uses
 uses_by m row setup = row_uses (core_of m) row (row_terms m row setup)
@@ -41,7 +41,7 @@ abbrev pub DoesRow : Guest → Guest → Option Instruction → Setup → Type 0
 DoesRow old new row setup =
     let uses = uses_by old row setup in
     let intake = (row_terms old row setup).intake in
-    let given = given_at old.counts.position intake.count setup in
+    let given = given_at old.progress.position intake.count setup in
     Does old new (row_effect (core_of old) row (row_terms old row setup) given (taken_from (bytes_of old) uses.reads)) uses (calls_heap (core_of old) row) intake
 
 -- the same between the test of its word and the stack pointer rule
@@ -49,36 +49,36 @@ abbrev pub DoesRound : Guest → Guest → Option Instruction → Setup → Type
 DoesRound old new row setup =
     let uses = uses_by old row setup in
     let intake = (row_terms old row setup).intake in
-    let given = given_at old.counts.position intake.count setup in
+    let given = given_at old.progress.position intake.count setup in
     let effect = row_effect (core_of old) row (row_terms old row setup) given (taken_from (bytes_of old) uses.reads) in
     Does old new (rounded (core_of old) effect) uses (calls_heap (core_of old) row) intake
 
 -- a whole step made by a machine, and what it touches
 abbrev pub DoesStep : Guest → Guest → Setup → Type 0
 DoesStep old new setup =
-    let counts = old.counts in
+    let progress = old.progress in
     Does old new
-    (effect_at (core_of old) (bytes_of old) counts.position counts.output_len setup)
-    (uses_at (core_of old) (bytes_of old) counts.position counts.output_len setup)
+    (effect_at (core_of old) (bytes_of old) progress.position progress.output_len setup)
+    (uses_at (core_of old) (bytes_of old) progress.position progress.output_len setup)
     (is_heap_deed (core_of old) (deed_at (core_of old) (bytes_of old) setup.hooks))
-    (intake_at (core_of old) (bytes_of old) counts.position setup)
+    (intake_at (core_of old) (bytes_of old) progress.position setup)
 
 abbrev pub touched_by : Guest → Setup → Touched
-touched_by m setup = touched_at (core_of m) (bytes_of m) m.counts.position m.counts.output_len setup
+touched_by m setup = touched_at (core_of m) (bytes_of m) m.progress.position m.progress.output_len setup
 
 -- read and write carried out
 abbrev pub read_intake : Guest → Setup → Intake
-read_intake m setup = intake_of (call_asks (core_of m) Read) (left_at m.counts.position setup)
+read_intake m setup = intake_of (call_asks (core_of m) Read) (left_at m.progress.position setup)
 
 abbrev pub DoesRead : Guest → Guest → Setup → Type 0
 DoesRead old new setup =
     let intake = read_intake old setup in
-    Does old new (read_call (core_of old) intake.count (given_at old.counts.position intake.count setup)) (read_uses (core_of old) intake.count) false intake
+    Does old new (read_call (core_of old) intake.count (given_at old.progress.position intake.count setup)) (read_uses (core_of old) intake.count) false intake
 
 abbrev pub DoesWrite : Guest → Guest → Type 0
 DoesWrite old new =
-    let uses = write_uses (core_of old) old.counts.output_len in
-    Does old new (write_call (core_of old) old.counts.output_len (taken_from (bytes_of old) uses.reads)) uses false no_intake
+    let uses = write_uses (core_of old) old.progress.output_len in
+    Does old new (write_call (core_of old) old.progress.output_len (taken_from (bytes_of old) uses.reads)) uses false no_intake
 
 -- what a heap call does; and the call by number, and by name
 abbrev pub DoesWork : Guest → Guest → Hook → ℕ → ℕ → Setup → Type 0
@@ -92,7 +92,7 @@ DoesHeapCall old new function setup =
     Does old new (heap_call function (core_of old) setup.redzone setup.volume (taken_from (bytes_of old) uses.reads)) uses true no_intake
 
 abbrev pub named_terms : Guest → Setup → Terms
-named_terms m setup = terms_of (returns (core_of m)) None m.counts.position m.counts.output_len setup
+named_terms m setup = terms_of (returns (core_of m)) None m.progress.position m.progress.output_len setup
 
 abbrev pub uses_by_name : Guest → Hook → Setup → Uses
 uses_by_name m function setup = named_uses function (core_of m) (named_terms m setup).red_zone

@@ -13,7 +13,7 @@ use Rattle.guest_machine.specs.Errors.{here, event_unless, value_errors, access_
 use Rattle.guest_machine.specs.CallStack.{jal_hint, jalr_hint, hinted}
 use Rattle.guest_machine.specs.declared.hint.StackHint.{StackHint}
 use Rattle.guest_machine.specs.declared.width.Width.{Width}
-use Rattle.guest_machine.specs.declared.instruction.Test.{Test}
+use Rattle.guest_machine.specs.declared.instruction.Comparison.{Comparison}
 use Rattle.guest_machine.specs.declared.instruction.Operation.{Operation}
 use Rattle.guest_machine.specs.declared.status.Status.TheVariants.{Exited, Stopped}
 use Rattle.guest_machine.specs.declared.status.Stop.{Stop}
@@ -104,15 +104,15 @@ unfoldable pub jumped : Core → ℕ → Core
 jumped core to = if to % 4 == 0 then moved_to core to else stopped core Misaligned
 
 -- does a branch depend on undefined bits?
-abbrev pub is_undefined : Core → Test → ℕ → ℕ → Bool
+abbrev pub is_undefined : Core → Comparison → ℕ → ℕ → Bool
 is_undefined core test rs1 rs2 = is_undecided test (register core rs1) (register core rs2)
 
 -- after the test of a branch: where it depends on undefined bits, both registers are made defined, else they stay
-unfoldable pub branch_tested : Core → Test → ℕ → ℕ → Core
+unfoldable pub branch_tested : Core → Comparison → ℕ → ℕ → Core
 branch_tested core test rs1 rs2 = if is_undefined core test rs1 rs2 then defined (defined core rs1) rs2 else core
 
 -- the error of a branch
-abbrev pub branch_errors : Core → Test → ℕ → ℕ → List Event
+abbrev pub branch_errors : Core → Comparison → ℕ → ℕ → List Event
 branch_errors core test rs1 rs2 = event_unless (not (is_undefined core test rs1 rs2)) (here core) Cond
 
 -- conditional branches (section 2.5)
@@ -120,7 +120,7 @@ unfoldable pub branched : Bool → Core → ℕ → Core
 branched true core to = jumped core to
 branched false core to = advanced core
 
-abbrev pub branch : Core → Test → ℕ → ℕ → ℕ → Effect
+abbrev pub branch : Core → Comparison → ℕ → ℕ → ℕ → Effect
 branch core test rs1 rs2 imm =
     raising
     (branched (passes test (register core rs1).value (register core rs2).value) (branch_tested core test rs1 rs2) ((core.pc + imm) % 2 ^ 32))

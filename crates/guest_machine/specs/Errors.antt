@@ -17,6 +17,7 @@ use Rattle.error_events.specs.declared.kind.Fault3.{Fault3}
 use Rattle.error_events.specs.declared.kind.Fault3.TheVariants.{Contains, Uninit, Unaddressable}
 use Rattle.error_events.specs.declared.parameter.Parameter.{Parameter}
 use Rattle.guest_machine.specs.State.{Core}
+use Rattle.guest_elf.specs.Regions.{stack_begin, stack_end}
 use Rattle.guest_machine.specs.Registers.{register}
 
 -- where the instruction at pc is
@@ -27,9 +28,9 @@ here core = trace_at core.pc core.frames
 abbrev pub event_of : List ℕ → Kind → Note → Event
 event_of trace kind note = record { kind = kind; trace = trace; note = note }
 
--- is an address in the stack region, from 0x7F000000 up to, not with, 0x80000000?
+-- is an address in the stack region?
 abbrev pub in_stack_region : ℕ → Bool
-in_stack_region a = nat_le 0x7F000000 a && nat_lt a 0x80000000
+in_stack_region a = nat_le stack_begin a && nat_lt a stack_end
 
 -- what is said of an address that is near no block
 abbrev pub region_note : ℕ → Note

@@ -16,8 +16,8 @@ use Rattle.guest_machine.specs.Errors.{here, event_about, fetch_undef, fetch_err
 use Rattle.guest_machine.specs.StackPointer.{stack_ruled}
 use Rattle.definedness.specs.declared.Bits.{Bits}
 use Rattle.guest_machine.specs.Registers.{register}
-use Rattle.guest_machine.specs.declared.call.Call.{Call}
-use Rattle.guest_machine.specs.declared.call.Call.TheVariants.{Read as ReadCall, Write as WriteCall, Exit as ExitCall, ExitGroup as ExitGroupCall, Heap as HeapCall, Unknown as UnknownCall}
+use Rattle.guest_machine.specs.declared.environment_call.EnvironmentCall.{EnvironmentCall}
+use Rattle.guest_machine.specs.declared.environment_call.EnvironmentCall.TheVariants.{Read as ReadCall, Write as WriteCall, Exit as ExitCall, ExitGroup as ExitGroupCall, Heap as HeapCall, Unknown as UnknownCall}
 use Rattle.std.specs.Option.{option_map}
 use Rattle.guest_elf.specs.declared.hook.Hook.{Hook}
 use Rattle.guest_elf.specs.declared.hook.Hook.TheVariants.{Malloc, Free, Calloc, Realloc}
@@ -29,7 +29,7 @@ use Rattle.guest_machine.specs.declared.span.Span.{Span}
 use Rattle.guest_machine.specs.declared.setup.Setup.{Setup}
 use Rattle.guest_machine.specs.declared.setup.Touched.{Touched}
 use Rattle.guest_machine.specs.declared.instruction.Instruction.{Instruction}
-use Rattle.guest_machine.specs.declared.instruction.Instruction.TheVariants.{LoadUpper, AddUpper, Jump, JumpRegister, Branch, Load, Store, Immediate, Registers, Fence, Call as CallRow, Breakpoint}
+use Rattle.guest_machine.specs.declared.instruction.Instruction.TheVariants.{LoadUpper, AddUpper, Jump, JumpRegister, Branch, Load, Store, Immediate, Registers, Fence, CallEnvironment as CallRow, Breakpoint}
 use Rattle.guest_machine.specs.declared.status.Status.{Status}
 use Rattle.guest_machine.specs.declared.status.Status.TheVariants.{Running, Exited, Stopped}
 use Rattle.guest_machine.specs.declared.status.Stop.TheVariants.{Jump as JumpStop, Break, Illegal, Misaligned}
@@ -174,7 +174,7 @@ abbrev pub named_uses : Hook → Core → ℕ → Uses
 named_uses function core redzone = named_uses_by (returns core) function core redzone
 
 -- what a call uses
-unfoldable pub call_uses : Core → Call → Terms → Uses
+unfoldable pub call_uses : Core → EnvironmentCall → Terms → Uses
 call_uses core ReadCall terms = read_uses core terms.intake.count
 call_uses core WriteCall terms = write_uses core terms.written
 call_uses core ExitCall terms = nothing
@@ -188,7 +188,7 @@ calls_heap core (Some CallRow) = is_heap (call_at core)
 calls_heap core _ = false
 
 -- how much of the input a call asks for: read does so, of descriptor 0
-unfoldable pub call_asks : Core → Call → Option ℕ
+unfoldable pub call_asks : Core → EnvironmentCall → Option ℕ
 call_asks core ReadCall = if argument core 10 == 0 then Some (moved_len core) else None
 call_asks core _ = None
 
@@ -206,7 +206,7 @@ row_uses core _ terms = nothing
 
 -- what a step leaves --
 
-unfoldable pub call_effect : Core → Call → Terms → List ℕ → (ℕ → ℕ) → Effect
+unfoldable pub call_effect : Core → EnvironmentCall → Terms → List ℕ → (ℕ → ℕ) → Effect
 call_effect core ReadCall terms given taken = read_call core terms.intake.count given
 call_effect core WriteCall terms given taken = write_call core terms.written taken
 call_effect core ExitCall terms given taken = exit_call core ExitCall

@@ -19,7 +19,7 @@ use Rattle.guest_machine.specs.StackPointer.{ranged}
 use Rattle.guest_machine.specs.Calls.{argument, answered, call_tested, call_errors}
 use Rattle.guest_elf.specs.declared.hook.Hook.{Hook}
 use Rattle.guest_elf.specs.declared.hook.Hook.TheVariants.{Malloc, Free, Calloc, Realloc}
-use Rattle.guest_machine.specs.declared.call.Call.TheVariants.{Heap}
+use Rattle.guest_machine.specs.declared.environment_call.EnvironmentCall.TheVariants.{Heap}
 
 -- allocating --
 

@@ -4,8 +4,8 @@ use Rattle.rv_decode.specs.Table.{insn}
 use Rattle.rv_decode.specs.declared.Insn.{Insn}
 use Rattle.rv_decode.specs.declared.Op.{Op}
 use Rattle.guest_machine.specs.declared.instruction.Instruction.{Instruction}
-use Rattle.guest_machine.specs.declared.instruction.Instruction.TheVariants.{LoadUpper, AddUpper, Jump, JumpRegister, Branch, Load, Store, Immediate, Registers, Fence, Call, Breakpoint}
-use Rattle.guest_machine.specs.declared.instruction.Test.TheVariants as Test
+use Rattle.guest_machine.specs.declared.instruction.Instruction.TheVariants.{LoadUpper, AddUpper, Jump, JumpRegister, Branch, Load, Store, Immediate, Registers, Fence, CallEnvironment, Breakpoint}
+use Rattle.guest_machine.specs.declared.instruction.Comparison.TheVariants as Comparison
 use Rattle.guest_machine.specs.declared.instruction.Operation.TheVariants as Operation
 use Rattle.guest_machine.specs.declared.width.Width.TheVariants.{Byte, Half, Word}
 
@@ -14,12 +14,12 @@ instruction_by Op.Lui rd rs1 rs2 imm = LoadUpper rd imm
 instruction_by Op.Auipc rd rs1 rs2 imm = AddUpper rd imm
 instruction_by Op.Jal rd rs1 rs2 imm = Jump rd imm
 instruction_by Op.Jalr rd rs1 rs2 imm = JumpRegister rd rs1 imm
-instruction_by Op.Beq rd rs1 rs2 imm = Branch Test.Equal rs1 rs2 imm
-instruction_by Op.Bne rd rs1 rs2 imm = Branch Test.NotEqual rs1 rs2 imm
-instruction_by Op.Blt rd rs1 rs2 imm = Branch Test.Less rs1 rs2 imm
-instruction_by Op.Bge rd rs1 rs2 imm = Branch Test.GreaterEqual rs1 rs2 imm
-instruction_by Op.Bltu rd rs1 rs2 imm = Branch Test.LessUnsigned rs1 rs2 imm
-instruction_by Op.Bgeu rd rs1 rs2 imm = Branch Test.GreaterEqualUnsigned rs1 rs2 imm
+instruction_by Op.Beq rd rs1 rs2 imm = Branch Comparison.Equal rs1 rs2 imm
+instruction_by Op.Bne rd rs1 rs2 imm = Branch Comparison.NotEqual rs1 rs2 imm
+instruction_by Op.Blt rd rs1 rs2 imm = Branch Comparison.Less rs1 rs2 imm
+instruction_by Op.Bge rd rs1 rs2 imm = Branch Comparison.GreaterEqual rs1 rs2 imm
+instruction_by Op.Bltu rd rs1 rs2 imm = Branch Comparison.LessUnsigned rs1 rs2 imm
+instruction_by Op.Bgeu rd rs1 rs2 imm = Branch Comparison.GreaterEqualUnsigned rs1 rs2 imm
 instruction_by Op.Lb rd rs1 rs2 imm = Load Byte true rd rs1 imm
 instruction_by Op.Lh rd rs1 rs2 imm = Load Half true rd rs1 imm
 instruction_by Op.Lw rd rs1 rs2 imm = Load Word true rd rs1 imm
@@ -56,7 +56,7 @@ instruction_by Op.Divu rd rs1 rs2 imm = Registers Operation.DivUnsigned rd rs1 r
 instruction_by Op.Rem rd rs1 rs2 imm = Registers Operation.Rem rd rs1 rs2
 instruction_by Op.Remu rd rs1 rs2 imm = Registers Operation.RemUnsigned rd rs1 rs2
 instruction_by Op.Fence rd rs1 rs2 imm = Fence
-instruction_by Op.Ecall rd rs1 rs2 imm = Call
+instruction_by Op.Ecall rd rs1 rs2 imm = CallEnvironment
 instruction_by Op.Ebreak rd rs1 rs2 imm = Breakpoint
 
 -- the instruction of a row of the table

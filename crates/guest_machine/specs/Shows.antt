@@ -20,10 +20,10 @@ bytes_of g = bytes_in g.memory
 pub record Holds (g : Guest) (s : State) : Type 0 where
   pub bytes : bytes_of g ≡ s.bytes
   pub core : core_of g ≡ s.core
-  pub position : g.counts.position ≡ s.position
-  pub end_seen : g.counts.end_seen ≡ s.end_seen
-  pub output : g.counts.output_len ≡ length s.output
-  pub heap_calls : g.counts.heap_calls ≡ s.heap_calls
+  pub position : g.progress.position ≡ s.position
+  pub end_seen : g.progress.end_seen ≡ s.end_seen
+  pub output : g.progress.output_len ≡ length s.output
+  pub heap_calls : g.progress.heap_calls ≡ s.heap_calls
   pub groups : groups_of g.groups ≡ grouped s.events
 
 -- the machine shows the state

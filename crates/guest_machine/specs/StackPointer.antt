@@ -5,12 +5,13 @@ use Rattle.definedness.specs.declared.Bits.{Bits}
 use Rattle.shadow_memory.specs.Shadows.{made_so}
 use Rattle.shadow_memory.specs.declared.cells.RangeKind.{RangeKind}
 use Rattle.shadow_memory.specs.declared.cells.RangeKind.TheVariants.{NoAccess, Undefined}
+use Rattle.guest_elf.specs.Regions.{stack_begin, stack_end}
 use Rattle.guest_machine.specs.State.{Core}
 use Rattle.guest_machine.specs.Registers.{register}
 
 -- does a stack pointer lie in the stack region? Both of its ends count.
 abbrev pub is_in_stack : ℕ → Bool
-is_in_stack a = nat_le 0x7F000000 a && nat_le a 0x80000000
+is_in_stack a = nat_le stack_begin a && nat_le a stack_end
 
 -- a defined stack pointer in the region
 abbrev pub is_stack_pointer : Bits → Bool

@@ -4,7 +4,7 @@ ghost use Rattle.guest_machine.specs.Widths.{width_limit};
 ghost use Rattle.definedness.specs.Operations.{less_signed, shift_of, upper_word, mulh_of, mulhsu_of, mulhu_of, div_of, rem_of};
 ghost use Rattle.guest_machine.specs.Alu.{number_of, value_of, undef_of, computed, passes, is_undecided, extended};
 
-use crate::instruction::{Operation, Test};
+use crate::instruction::{Comparison, Operation};
 use crate::width::Width;
 use definedness::signed::arithmetic_shift;
 use definedness::{
@@ -161,29 +161,30 @@ pub(crate) fn computed(operation: Operation, x: Bits, y: Bits) -> Bits
 
 /// Whether a branch is taken.
 #[tactic(auto, unfolding(crate::specs::Alu::passes, definedness::specs::Operations::less_unsigned))]
-pub(crate) fn passes(test: Test, x: u32, y: u32) -> bool
-    ensures { result ≡ passes test x y }
+pub(crate) fn passes(comparison: Comparison, x: u32, y: u32) -> bool
+    ensures { result ≡ passes comparison x y }
 {
-    match test {
-        Test::Equal => x == y,
-        Test::NotEqual => x != y,
-        Test::Less => less_signed(x, y),
-        Test::GreaterEqual => !less_signed(x, y),
-        Test::LessUnsigned => x < y,
-        Test::GreaterEqualUnsigned => x >= y,
+    match comparison {
+        Comparison::Equal => x == y,
+        Comparison::NotEqual => x != y,
+        Comparison::Less => less_signed(x, y),
+        Comparison::GreaterEqual => !less_signed(x, y),
+        Comparison::LessUnsigned => x < y,
+        Comparison::GreaterEqualUnsigned => x >= y,
     }
 }
 
 /// Whether a branch depends on undefined bits.
 #[tactic(auto, unfolding(crate::specs::Alu::is_undecided))]
-pub(crate) fn is_undecided(test: Test, x: Bits, y: Bits) -> bool
-    ensures { result ≡ is_undecided test x y }
+pub(crate) fn is_undecided(comparison: Comparison, x: Bits, y: Bits) -> bool
+    ensures { result ≡ is_undecided comparison x y }
 {
-    match test {
-        Test::Equal | Test::NotEqual => undef_equal(x, y),
-        Test::Less | Test::GreaterEqual | Test::LessUnsigned | Test::GreaterEqualUnsigned => {
-            undef_branch(x, y)
-        }
+    match comparison {
+        Comparison::Equal | Comparison::NotEqual => undef_equal(x, y),
+        Comparison::Less
+        | Comparison::GreaterEqual
+        | Comparison::LessUnsigned
+        | Comparison::GreaterEqualUnsigned => undef_branch(x, y),
     }
 }
 

@@ -7,7 +7,7 @@ ghost use Rattle.guest_machine.specs.Sieve.{slot_of, AreMarked};
 use guest_elf::Hook;
 use std::marker::Model;
 
-// How many marks a sieve has room for.
+/// How many marks a sieve has room for.
 const SLOTS: usize = 64;
 
 /// The functions of the heap that a program has under their own names, each with its first address. Contracts see them as their

@@ -8,7 +8,7 @@ use rv_decode::{Insn, Op, decode};
 
 /// What a branch compares (RISC-V Unprivileged ISA 20191213, section 2.5).
 #[derive(Clone, Copy, Debug, PartialEq, Eq)]
-pub(crate) enum Test {
+pub(crate) enum Comparison {
     Equal,
     NotEqual,
     Less,
@@ -61,7 +61,7 @@ pub(crate) enum Instruction {
         imm: u32,
     },
     Branch {
-        test: Test,
+        comparison: Comparison,
         rs1: Register,
         rs2: Register,
         imm: u32,
@@ -92,8 +92,82 @@ pub(crate) enum Instruction {
         rs2: Register,
     },
     Fence,
-    Call,
+    CallEnvironment,
     Breakpoint,
+}
+
+/// The operands of a row of the table, and the instructions that are made of them.
+#[derive(Clone, Copy)]
+struct Operands {
+    rd: Register,
+    rs1: Register,
+    rs2: Register,
+    imm: u32,
+}
+
+impl Operands {
+    ghost use Rattle.std.specs.Prelude.{◌≡◌};
+
+    fn branch(self, comparison: Comparison) -> Instruction
+        ensures { result ≡ Instruction.Branch comparison self.rs1 self.rs2 self.imm }
+    {
+        let Operands { rs1, rs2, imm, .. } = self;
+        Instruction::Branch {
+            comparison,
+            rs1,
+            rs2,
+            imm,
+        }
+    }
+
+    fn load(self, width: Width, signed: bool) -> Instruction
+        ensures { result ≡ Instruction.Load width signed self.rd self.rs1 self.imm }
+    {
+        let Operands { rd, rs1, imm, .. } = self;
+        Instruction::Load {
+            width,
+            signed,
+            rd,
+            rs1,
+            imm,
+        }
+    }
+
+    fn store(self, width: Width) -> Instruction
+        ensures { result ≡ Instruction.Store width self.rs1 self.rs2 self.imm }
+    {
+        let Operands { rs1, rs2, imm, .. } = self;
+        Instruction::Store {
+            width,
+            rs1,
+            rs2,
+            imm,
+        }
+    }
+
+    fn immediate(self, operation: Operation) -> Instruction
+        ensures { result ≡ Instruction.Immediate operation self.rd self.rs1 self.imm }
+    {
+        let Operands { rd, rs1, imm, .. } = self;
+        Instruction::Immediate {
+            operation,
+            rd,
+            rs1,
+            imm,
+        }
+    }
+
+    fn registers(self, operation: Operation) -> Instruction
+        ensures { result ≡ Instruction.Registers operation self.rd self.rs1 self.rs2 }
+    {
+        let Operands { rd, rs1, rs2, .. } = self;
+        Instruction::Registers {
+            operation,
+            rd,
+            rs1,
+            rs2,
+        }
+    }
 }
 
 /// The instruction of a row of the table.
@@ -108,264 +182,55 @@ fn instruction_of(insn: Insn) -> Instruction
     let rs1 = Register::new(insn.rs1);
     let rs2 = Register::new(insn.rs2);
     let imm = insn.imm;
+    let operands = Operands { rd, rs1, rs2, imm };
     match insn.op {
         Op::Lui => Instruction::LoadUpper { rd, imm },
         Op::Auipc => Instruction::AddUpper { rd, imm },
         Op::Jal => Instruction::Jump { rd, imm },
         Op::Jalr => Instruction::JumpRegister { rd, rs1, imm },
-        Op::Beq => Instruction::Branch {
-            test: Test::Equal,
-            rs1,
-            rs2,
-            imm,
-        },
-        Op::Bne => Instruction::Branch {
-            test: Test::NotEqual,
-            rs1,
-            rs2,
-            imm,
-        },
-        Op::Blt => Instruction::Branch {
-            test: Test::Less,
-            rs1,
-            rs2,
-            imm,
-        },
-        Op::Bge => Instruction::Branch {
-            test: Test::GreaterEqual,
-            rs1,
-            rs2,
-            imm,
-        },
-        Op::Bltu => Instruction::Branch {
-            test: Test::LessUnsigned,
-            rs1,
-            rs2,
-            imm,
-        },
-        Op::Bgeu => Instruction::Branch {
-            test: Test::GreaterEqualUnsigned,
-            rs1,
-            rs2,
-            imm,
-        },
-        Op::Lb => Instruction::Load {
-            width: Width::Byte,
-            signed: true,
-            rd,
-            rs1,
-            imm,
-        },
-        Op::Lh => Instruction::Load {
-            width: Width::Half,
-            signed: true,
-            rd,
-            rs1,
-            imm,
-        },
-        Op::Lw => Instruction::Load {
-            width: Width::Word,
-            signed: true,
-            rd,
-            rs1,
-            imm,
-        },
-        Op::Lbu => Instruction::Load {
-            width: Width::Byte,
-            signed: false,
-            rd,
-            rs1,
-            imm,
-        },
-        Op::Lhu => Instruction::Load {
-            width: Width::Half,
-            signed: false,
-            rd,
-            rs1,
-            imm,
-        },
-        Op::Sb => Instruction::Store {
-            width: Width::Byte,
-            rs1,
-            rs2,
-            imm,
-        },
-        Op::Sh => Instruction::Store {
-            width: Width::Half,
-            rs1,
-            rs2,
-            imm,
-        },
-        Op::Sw => Instruction::Store {
-            width: Width::Word,
-            rs1,
-            rs2,
-            imm,
-        },
-        Op::Addi => Instruction::Immediate {
-            operation: Operation::Add,
-            rd,
-            rs1,
-            imm,
-        },
-        Op::Slti => Instruction::Immediate {
-            operation: Operation::SetLess,
-            rd,
-            rs1,
-            imm,
-        },
-        Op::Sltiu => Instruction::Immediate {
-            operation: Operation::SetLessUnsigned,
-            rd,
-            rs1,
-            imm,
-        },
-        Op::Xori => Instruction::Immediate {
-            operation: Operation::Xor,
-            rd,
-            rs1,
-            imm,
-        },
-        Op::Ori => Instruction::Immediate {
-            operation: Operation::Or,
-            rd,
-            rs1,
-            imm,
-        },
-        Op::Andi => Instruction::Immediate {
-            operation: Operation::And,
-            rd,
-            rs1,
-            imm,
-        },
-        Op::Slli => Instruction::Immediate {
-            operation: Operation::ShiftLeft,
-            rd,
-            rs1,
-            imm,
-        },
-        Op::Srli => Instruction::Immediate {
-            operation: Operation::ShiftRight,
-            rd,
-            rs1,
-            imm,
-        },
-        Op::Srai => Instruction::Immediate {
-            operation: Operation::ShiftArith,
-            rd,
-            rs1,
-            imm,
-        },
-        Op::Add => Instruction::Registers {
-            operation: Operation::Add,
-            rd,
-            rs1,
-            rs2,
-        },
-        Op::Sub => Instruction::Registers {
-            operation: Operation::Sub,
-            rd,
-            rs1,
-            rs2,
-        },
-        Op::Sll => Instruction::Registers {
-            operation: Operation::ShiftLeft,
-            rd,
-            rs1,
-            rs2,
-        },
-        Op::Slt => Instruction::Registers {
-            operation: Operation::SetLess,
-            rd,
-            rs1,
-            rs2,
-        },
-        Op::Sltu => Instruction::Registers {
-            operation: Operation::SetLessUnsigned,
-            rd,
-            rs1,
-            rs2,
-        },
-        Op::Xor => Instruction::Registers {
-            operation: Operation::Xor,
-            rd,
-            rs1,
-            rs2,
-        },
-        Op::Srl => Instruction::Registers {
-            operation: Operation::ShiftRight,
-            rd,
-            rs1,
-            rs2,
-        },
-        Op::Sra => Instruction::Registers {
-            operation: Operation::ShiftArith,
-            rd,
-            rs1,
-            rs2,
-        },
-        Op::Or => Instruction::Registers {
-            operation: Operation::Or,
-            rd,
-            rs1,
-            rs2,
-        },
-        Op::And => Instruction::Registers {
-            operation: Operation::And,
-            rd,
-            rs1,
-            rs2,
-        },
-        Op::Mul => Instruction::Registers {
-            operation: Operation::Mul,
-            rd,
-            rs1,
-            rs2,
-        },
-        Op::Mulh => Instruction::Registers {
-            operation: Operation::MulHigh,
-            rd,
-            rs1,
-            rs2,
-        },
-        Op::Mulhsu => Instruction::Registers {
-            operation: Operation::MulHighSignedUnsigned,
-            rd,
-            rs1,
-            rs2,
-        },
-        Op::Mulhu => Instruction::Registers {
-            operation: Operation::MulHighUnsigned,
-            rd,
-            rs1,
-            rs2,
-        },
-        Op::Div => Instruction::Registers {
-            operation: Operation::Div,
-            rd,
-            rs1,
-            rs2,
-        },
-        Op::Divu => Instruction::Registers {
-            operation: Operation::DivUnsigned,
-            rd,
-            rs1,
-            rs2,
-        },
-        Op::Rem => Instruction::Registers {
-            operation: Operation::Rem,
-            rd,
-            rs1,
-            rs2,
-        },
-        Op::Remu => Instruction::Registers {
-            operation: Operation::RemUnsigned,
-            rd,
-            rs1,
-            rs2,
-        },
+        Op::Beq => operands.branch(Comparison::Equal),
+        Op::Bne => operands.branch(Comparison::NotEqual),
+        Op::Blt => operands.branch(Comparison::Less),
+        Op::Bge => operands.branch(Comparison::GreaterEqual),
+        Op::Bltu => operands.branch(Comparison::LessUnsigned),
+        Op::Bgeu => operands.branch(Comparison::GreaterEqualUnsigned),
+        Op::Lb => operands.load(Width::Byte, true),
+        Op::Lh => operands.load(Width::Half, true),
+        Op::Lw => operands.load(Width::Word, true),
+        Op::Lbu => operands.load(Width::Byte, false),
+        Op::Lhu => operands.load(Width::Half, false),
+        Op::Sb => operands.store(Width::Byte),
+        Op::Sh => operands.store(Width::Half),
+        Op::Sw => operands.store(Width::Word),
+        Op::Addi => operands.immediate(Operation::Add),
+        Op::Slti => operands.immediate(Operation::SetLess),
+        Op::Sltiu => operands.immediate(Operation::SetLessUnsigned),
+        Op::Xori => operands.immediate(Operation::Xor),
+        Op::Ori => operands.immediate(Operation::Or),
+        Op::Andi => operands.immediate(Operation::And),
+        Op::Slli => operands.immediate(Operation::ShiftLeft),
+        Op::Srli => operands.immediate(Operation::ShiftRight),
+        Op::Srai => operands.immediate(Operation::ShiftArith),
+        Op::Add => operands.registers(Operation::Add),
+        Op::Sub => operands.registers(Operation::Sub),
+        Op::Sll => operands.registers(Operation::ShiftLeft),
+        Op::Slt => operands.registers(Operation::SetLess),
+        Op::Sltu => operands.registers(Operation::SetLessUnsigned),
+        Op::Xor => operands.registers(Operation::Xor),
+        Op::Srl => operands.registers(Operation::ShiftRight),
+        Op::Sra => operands.registers(Operation::ShiftArith),
+        Op::Or => operands.registers(Operation::Or),
+        Op::And => operands.registers(Operation::And),
+        Op::Mul => operands.registers(Operation::Mul),
+        Op::Mulh => operands.registers(Operation::MulHigh),
+        Op::Mulhsu => operands.registers(Operation::MulHighSignedUnsigned),
+        Op::Mulhu => operands.registers(Operation::MulHighUnsigned),
+        Op::Div => operands.registers(Operation::Div),
+        Op::Divu => operands.registers(Operation::DivUnsigned),
+        Op::Rem => operands.registers(Operation::Rem),
+        Op::Remu => operands.registers(Operation::RemUnsigned),
         Op::Fence => Instruction::Fence,
-        Op::Ecall => Instruction::Call,
+        Op::Ecall => Instruction::CallEnvironment,
         Op::Ebreak => Instruction::Breakpoint,
     }
 }
@@ -375,8 +240,5 @@ fn instruction_of(insn: Insn) -> Instruction
 pub(crate) fn row_of(word: u32) -> Option<Instruction>
     ensures { result ≡ row_of word }
 {
-    match decode(word) {
-        Some(insn) => Some(instruction_of(insn)),
-        None => None,
-    }
+    Some(instruction_of(decode(word)?))
 }

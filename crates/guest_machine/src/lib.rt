@@ -25,8 +25,9 @@
 //! | [`laws::keeps_words`], [`laws::keeps_input`], [`laws::keeps_heap`], [`laws::keeps_pokes`], [`laws::reads_on`] | nothing: their contracts are laws of one step |
 //!
 //! [`Setup`], [`Input`], [`Hooks`], [`Mark`], [`Touched`], [`Span`], [`Register`], [`Status`] and [`Stop`] are the values that these take and
-//! answer; those of memory, traces, blocks and errors are of the crates `shadow_memory`, `call_stacks`, `guest_heap` and
-//! `error_events`. What consumes a machine and finds no memory drops it and answers `AllocError`; nothing else fails.
+//! answer, [`USUAL_REDZONE`] and [`USUAL_VOLUME`] Memcheck's settings of the heap; those of memory, traces, blocks and errors are of the
+//! crates `shadow_memory`, `call_stacks`, `guest_heap` and `error_events`. What consumes a machine and finds no memory drops it and answers
+//! `AllocError`; nothing else fails.
 //!
 //! # What a caller relies on
 //!
@@ -68,7 +69,7 @@
 #![tactic(auto)]
 
 mod alu;
-mod call;
+mod environment_call;
 mod hint;
 mod hooks;
 mod input;
@@ -87,6 +88,6 @@ pub use input::Input;
 pub use machine::Machine;
 pub use meter::Meter;
 pub use register::Register;
-pub use setup::{Mark, Setup, Touched};
+pub use setup::{Mark, Setup, Touched, USUAL_REDZONE, USUAL_VOLUME};
 pub use span::Span;
 pub use status::{Status, Stop};

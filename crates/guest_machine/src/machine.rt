@@ -2,11 +2,12 @@
 mod between;
 mod calls;
 mod checks;
-mod fields;
+mod control;
+mod execute;
 mod heap_calls;
 mod named_calls;
 mod observers;
-mod rows;
+mod registers;
 mod stack;
 mod step;
 
@@ -18,9 +19,9 @@ use guest_heap::Heap;
 use shadow_memory::Memory;
 use std::alloc::Global;
 
-/// What only adds up: bytes of input read and whether its end was seen, bytes of output, heap calls made.
+/// How far a program has come, which only adds up: bytes of input read and whether its end was seen, bytes of output, heap calls made.
 #[derive(Clone, Copy)]
-pub(crate) struct Counts {
+pub(crate) struct Progress {
     position: u64,
     end_seen: bool,
     output_len: u64,
@@ -33,7 +34,7 @@ pub struct Machine {
     guest: Box<Guest>,
 }
 
-/// What a machine holds: memory, registers, pc, status, calls, heap, counts and the groups of its errors.
+/// What a machine holds: memory, registers, pc, status, calls, heap, progress and the groups of its errors.
 #[derive(Drop)]
 pub(crate) struct Guest {
     alloc: Global,
@@ -43,6 +44,6 @@ pub(crate) struct Guest {
     status: Status,
     frames: CallStack,
     heap: Heap,
-    counts: Counts,
+    progress: Progress,
     groups: Groups,
 }

@@ -3,6 +3,11 @@ use crate::input::Input;
 use crate::span::Span;
 use shadow_memory::RangeKind;
 
+/// How many bytes beside each block of the heap are inaccessible unless something else is chosen (Memcheck manual, `--redzone-size`).
+pub const USUAL_REDZONE: u32 = 16;
+/// How many bytes the freed blocks may have unless something else is chosen (Memcheck manual, `--freelist-vol`).
+pub const USUAL_VOLUME: u32 = 20_000_000;
+
 /// What a run is given: its input, the options of its heap, and the functions in whose place a step does a heap call.
 #[derive(Drop)]
 pub struct Setup {

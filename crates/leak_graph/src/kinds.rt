@@ -9,7 +9,7 @@ use crate::passes::{definite_heads, lost_heads, reached};
 use error_events::LeakKind;
 use std::alloc::{AllocError, Global};
 
-// The kind that the marks of a block say.
+/// The kind that the marks of a block say.
 #[tactic(auto, unfolding(crate::specs::Marks::kind_by))]
 fn kind_of(reachable: bool, found: bool, definite: bool) -> LeakKind
     ensures { result ≡ kind_by reachable found definite }
@@ -25,7 +25,7 @@ fn kind_of(reachable: bool, found: bool, definite: bool) -> LeakKind
     }
 }
 
-// The kinds that the marks of all blocks say.
+/// The kinds that the marks of all blocks say.
 fn sort_out(
     alloc: Global,
     reachable: &[bool],
@@ -54,7 +54,8 @@ pub fn leak_kinds(
     requires roots { GoWithin roots.now (length edges.now) }
     requires edges { AllGoWithin edges.now (length edges.now) }
     ensures len { IfOk result (λ kinds. length kinds.items ≡ length edges.now) }
-    ensures kinds { IfOk result (λ kinds. (b : ℕ) (kind : LeakKind) → slice_get kinds.items b ≡ Some kind → HasKind (links_of roots.now edges.now) b kind) }
+    ensures kinds { IfOk result (λ kinds. (b : ℕ) (kind : LeakKind) → slice_get kinds.items b ≡ Some kind
+        → HasKind (links_of roots.now edges.now) b kind) }
 {
     let reachable = reached(alloc, roots, edges, true)?;
     let found = reached(alloc, roots, edges, false)?;

@@ -1,4 +1,4 @@
-// The live blocks.
+//! The live blocks.
 ghost use Rattle.std.specs.Prelude.{◌≡◌, IfOk};
 ghost use Rattle.guest_heap.specs.Heaps.{blocks_of};
 ghost use Rattle.guest_heap.specs.Steps.{live_list};
@@ -9,7 +9,7 @@ use guest_heap::Heap;
 use guest_heap::laws::live_goes_on;
 use std::alloc::{AllocError, Global};
 
-// Adds the first live block at an address or above, if there is one, and answers the address after its first byte.
+/// Adds the first live block at an address or above, if there is one, and answers the address after its first byte.
 fn add_live(heap: &Heap, from: u32, blocks: &mut Vec<Block>) -> Result<Option<u32>, AllocError>
     ensures { IfOk result (λ next. GoesOn (blocks_of heap.now) from next blocks.old.items blocks.new.items) }
 {

@@ -42,7 +42,7 @@ pub(crate) fn reach_of(blocks: &[Block]) -> Option<Reach>
     })
 }
 
-// How many of the blocks start at an address or below.
+/// How many of the blocks start at an address or below.
 fn up_to(blocks: &[Block], addr: u32) -> usize
     requires { IsPartitionedBy (λ b. nat_le b.start addr) blocks.now }
     ensures bound { result ≤ length blocks.now }
@@ -51,7 +51,7 @@ fn up_to(blocks: &[Block], addr: u32) -> usize
     blocks.partition_point(|b| b.start <= addr)
 }
 
-// The last block that starts at an address or below.
+/// The last block that starts at an address or below.
 #[tactic(auto, using(crate::proofs::FindSteps::partitioned, crate::proofs::FindSteps::last_none, crate::proofs::FindSteps::last_some))]
 fn last_at(blocks: &[Block], addr: u32) -> Option<usize>
     requires { AreOrdered blocks.now }
@@ -62,7 +62,7 @@ fn last_at(blocks: &[Block], addr: u32) -> Option<usize>
     if count == 0 { None } else { Some(count - 1) }
 }
 
-// What a value points to.
+/// What a value points to.
 pub(crate) fn pointer_to(blocks: &[Block], value: u32) -> Option<Pointer>
     requires { AreOrdered blocks.now }
     ensures none { IfNone result ((starts : Bool) (b : ℕ) → PointsTo starts blocks.now value b → ⊥) }
@@ -89,7 +89,7 @@ pub(crate) fn pointer_to(blocks: &[Block], value: u32) -> Option<Pointer>
     }
 }
 
-// Whose the word at an address is.
+/// Whose the word at an address is.
 pub(crate) fn owner_of(blocks: &[Block], word: u32) -> Owner
     requires ordered { AreOrdered blocks.now }
     requires aligned { word % 4 ≡ 0 }

@@ -22,14 +22,14 @@ use leak_graph::{Pointer, leak_kinds};
 use shadow_memory::Memory;
 use std::alloc::{AllocError, Global};
 
-// The pointers to blocks: those of the roots, and those of each block.
+/// The pointers to blocks: those of the roots, and those of each block.
 #[derive(Drop)]
 struct Graph {
     roots: Vec<Pointer>,
     edges: Vec<Vec<Pointer>>,
 }
 
-// A list of no pointers for each block.
+/// A list of no pointers for each block.
 fn no_edges(alloc: Global, count: usize) -> Result<Vec<Vec<Pointer>>, AllocError>
     ensures len { IfOk result (λ edges. length edges.items ≡ count) }
     ensures none { IfOk result (λ edges. HasNoEdge edges.items) }
@@ -41,7 +41,7 @@ fn no_edges(alloc: Global, count: usize) -> Result<Vec<Vec<Pointer>>, AllocError
     Ok(edges)
 }
 
-// Adds what the roots and the words of the blocks point to.
+/// Adds what the roots and the words of the blocks point to.
 fn gather(
     memory: &Memory,
     registers: &[Bits],
@@ -60,7 +60,7 @@ fn gather(
     Ok(())
 }
 
-// The records of the blocks with these kinds.
+/// The records of the blocks with these kinds.
 fn records(
     alloc: Global,
     blocks: &[Block],
@@ -82,7 +82,7 @@ fn records(
     Ok(entries)
 }
 
-// The pointers of the roots and of each block.
+/// The pointers of the roots and of each block.
 fn graph_of(
     alloc: Global,
     memory: &Memory,
@@ -118,7 +118,7 @@ pub(crate) fn search_in(
     Ok(entries)
 }
 
-// The registers of a machine, by their numbers.
+/// The registers of a machine, by their numbers.
 fn registers_of(machine: &Machine) -> [Bits; 32]
     ensures { (s : State) → Shows machine.now s → (r : ℕ) → r < 32 → listed result r ≡ register s.core r }
 {

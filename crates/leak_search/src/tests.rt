@@ -13,7 +13,7 @@ use shadow_memory::{Memory, RangeKind};
 use std::alloc::{AllocError, Global};
 use std::test::Fail;
 
-// Where the blocks are: each at the next multiple of 16, with no red zones.
+/// Where the blocks are: each at the next multiple of 16, with no red zones.
 const A: u32 = 0x4000_0000;
 
 const B: u32 = 0x4000_0010;
@@ -22,7 +22,7 @@ const C: u32 = 0x4000_0020;
 
 const D: u32 = 0x4000_0030;
 
-// A word of the stack.
+/// A word of the stack.
 const STACK: u32 = 0x7FFF_0000;
 
 // The sizes of blocks; a register that holds a value, by its number, the value and its undefined bits; words in the same form; and the
@@ -34,7 +34,7 @@ type Case = (
     &'static [LeakKind],
 );
 
-// What holds a block.
+/// What holds a block.
 const ROOTS: [Case; 16] = [
     // A register; one with an undefined bit; x31; x0, which holds no value.
     (&[8], (10, A, 0), &[], &[Reachable]),
@@ -87,7 +87,7 @@ const ROOTS: [Case; 16] = [
     ),
 ];
 
-// What leads from block to block.
+/// What leads from block to block.
 const PATHS: [Case; 10] = [
     // A chain, held or lost.
     (
@@ -245,7 +245,7 @@ fn kinds_after(alloc: Global, words: &[u32], steps: u32) -> Result<Vec<LeakKind>
     Ok(kinds)
 }
 
-// Two blocks of 8 bytes that point to each other, allocated by call 2001; x8 and x10 hold them, and are then set to 0.
+/// Two blocks of 8 bytes that point to each other, allocated by call 2001; x8 and x10 hold them, and are then set to 0.
 const RING: [u32; 10] = [
     0x7D10_0893,
     0x0080_0513,

@@ -1,4 +1,4 @@
-// The words of a memory.
+//! The words of a memory.
 ghost use Rattle.std.specs.Prelude.{◌≡◌, ℕ, ◌<◌, ◌≤◌, IfNone, IfSome, None};
 ghost use Rattle.leak_search.specs.Gathering.{words_within, IsNextIn};
 

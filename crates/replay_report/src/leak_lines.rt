@@ -5,14 +5,13 @@ ghost use Rattle.replay_report.specs.LeakLines.{leak_text, amount_text, leak_lin
 
 use crate::leaks::{BlockSum, LeakKey, is_shown, leak_groups, split_records, sum_of, sum_of_kind};
 use crate::lines::push_trace;
-use crate::options::Options;
+use crate::options::View;
 use crate::text::{push_number, push_text};
 use error_events::LeakKind;
 use guest_elf::Image;
 use indexmap::IndexMap;
 use leak_search::LeakRecord;
 use std::alloc::{AllocError, Global};
-use suppressions::Suppression;
 
 /// How a block was lost, or that it was not.
 fn leak_text(kind: LeakKind) -> &'static [u8]
@@ -28,27 +27,22 @@ fn leak_text(kind: LeakKind) -> &'static [u8]
 
 /// `N bytes in B blocks`
 #[tactic(auto, unfolding(crate::specs::LeakLines::amount_text), using(std::proofs::Common::append_assoc))]
-fn push_amount(alloc: Global, out: &mut Vec<u8>, sum: BlockSum) -> Result<(), AllocError>
+fn push_amount(out: &mut Vec<u8>, sum: BlockSum) -> Result<(), AllocError>
     ensures { OnOk result (out.new.items ≡ out.old.items ++ amount_text sum) }
 {
-    push_number(alloc, out, sum.bytes)?;
+    push_number(out, sum.bytes)?;
     push_text(out, b" bytes in ")?;
-    push_number(alloc, out, sum.blocks)?;
+    push_number(out, sum.blocks)?;
     push_text(out, b" blocks")
 }
 
 /// `leak N bytes in B blocks are K`
 #[tactic(auto, unfolding(crate::specs::LeakLines::leak_line), using(std::proofs::Common::append_assoc))]
-fn push_leak(
-    alloc: Global,
-    out: &mut Vec<u8>,
-    sum: BlockSum,
-    kind: LeakKind,
-) -> Result<(), AllocError>
+fn push_leak(out: &mut Vec<u8>, sum: BlockSum, kind: LeakKind) -> Result<(), AllocError>
     ensures { OnOk result (out.new.items ≡ out.old.items ++ leak_line sum kind) }
 {
     push_text(out, b"leak ")?;
-    push_amount(alloc, out, sum)?;
+    push_amount(out, sum)?;
     push_text(out, b" are ")?;
     push_text(out, leak_text(kind))?;
     push_text(out, b"\n")
@@ -57,7 +51,6 @@ fn push_leak(
 /// The lines of a group of leaks, if its kind is shown.
 #[tactic(auto, unfolding(crate::specs::LeakLines::leak_lines), using(std::proofs::Common::append_assoc))]
 fn push_group(
-    alloc: Global,
     out: &mut Vec<u8>,
     image: &Image,
     show: &[bool; 4],
@@ -69,13 +62,12 @@ fn push_group(
     if !is_shown(show, key.kind) {
         return Ok(());
     }
-    push_leak(alloc, out, sum, key.kind)?;
+    push_leak(out, sum, key.kind)?;
     push_trace(out, image, key.trace.addresses())
 }
 
 /// The groups of leaks whose kind is shown, in their order.
 pub(crate) fn push_leak_groups(
-    alloc: Global,
     out: &mut Vec<u8>,
     image: &Image,
     show: &[bool; 4],
@@ -84,54 +76,43 @@ pub(crate) fn push_leak_groups(
     ensures { OnOk result (out.new.items ≡ out.old.items ++ flat_map (leak_lines image.now show.now) groups.now.entries) }
 {
     for (key, sum) in groups.iter() {
-        push_group(alloc, out, image, show, key, *sum)?;
+        push_group(out, image, show, key, *sum)?;
     }
     Ok(())
 }
 
 /// `NAME: N bytes in B blocks`
 #[tactic(auto, unfolding(crate::specs::LeakLines::blocks_line), using(std::proofs::Common::append_assoc))]
-fn push_blocks(
-    alloc: Global,
-    out: &mut Vec<u8>,
-    name: &[u8],
-    sum: BlockSum,
-) -> Result<(), AllocError>
+fn push_blocks(out: &mut Vec<u8>, name: &[u8], sum: BlockSum) -> Result<(), AllocError>
     ensures { OnOk result (out.new.items ≡ out.old.items ++ blocks_line name.now sum) }
 {
     push_text(out, name)?;
     push_text(out, b": ")?;
-    push_amount(alloc, out, sum)?;
+    push_amount(out, sum)?;
     push_text(out, b"\n")
 }
 
 /// How much the blocks of a kind are.
-fn push_kind(
-    alloc: Global,
-    out: &mut Vec<u8>,
-    kind: LeakKind,
-    records: &[LeakRecord],
-) -> Result<(), AllocError>
+fn push_kind(out: &mut Vec<u8>, kind: LeakKind, records: &[LeakRecord]) -> Result<(), AllocError>
     ensures { OnOk result (out.new.items ≡ out.old.items ++ kind_line kind records.now) }
 {
-    push_blocks(alloc, out, leak_text(kind), sum_of_kind(records, kind))
+    push_blocks(out, leak_text(kind), sum_of_kind(records, kind))
 }
 
 /// How much was lost in each way, or was not, and how much of it is suppressed.
 #[tactic(auto, unfolding(crate::specs::LeakLines::total_lines), using(std::proofs::Common::append_assoc))]
 pub(crate) fn push_totals(
-    alloc: Global,
     out: &mut Vec<u8>,
     shown: &[LeakRecord],
     hidden: &[LeakRecord],
 ) -> Result<(), AllocError>
     ensures { OnOk result (out.new.items ≡ out.old.items ++ total_lines shown.now hidden.now) }
 {
-    push_kind(alloc, out, LeakKind::Definite, shown)?;
-    push_kind(alloc, out, LeakKind::Indirect, shown)?;
-    push_kind(alloc, out, LeakKind::Possible, shown)?;
-    push_kind(alloc, out, LeakKind::Reachable, shown)?;
-    push_blocks(alloc, out, b"suppressed", sum_of(hidden))
+    push_kind(out, LeakKind::Definite, shown)?;
+    push_kind(out, LeakKind::Indirect, shown)?;
+    push_kind(out, LeakKind::Possible, shown)?;
+    push_kind(out, LeakKind::Reachable, shown)?;
+    push_blocks(out, b"suppressed", sum_of(hidden))
 }
 
 /// The lines on leaked blocks, with these records of the live ones.
@@ -139,16 +120,14 @@ pub(crate) fn push_totals(
 pub(crate) fn push_leaks(
     alloc: Global,
     out: &mut Vec<u8>,
-    image: &Image,
-    suppressions: &[Suppression],
-    options: &Options,
+    view: &View,
     records: &[LeakRecord],
 ) -> Result<(), AllocError>
-    requires { 0 < options.now.callers }
-    ensures { OnOk result (out.new.items ≡ out.old.items ++ leak_section image.now suppressions.now options.now records.now) }
+    requires { 0 < view.now.options.now.callers }
+    ensures { OnOk result (out.new.items ≡ out.old.items ++ leak_section view.now.image.now view.now.suppressions.now view.now.options.now records.now) }
 {
-    let (shown, hidden) = split_records(alloc, records, image, suppressions)?;
-    let groups = leak_groups(alloc, &shown, options.callers)?;
-    push_leak_groups(alloc, out, image, &options.show, &groups)?;
-    push_totals(alloc, out, &shown, &hidden)
+    let (shown, hidden) = split_records(alloc, records, view.image, view.suppressions)?;
+    let groups = leak_groups(alloc, &shown, view.options.callers)?;
+    push_leak_groups(out, view.image, &view.options.show, &groups)?;
+    push_totals(out, &shown, &hidden)
 }

@@ -8,15 +8,15 @@ use call_stacks::{Block, Near, Place, Trace};
 use error_events::{Fault3, Group, Kind, Note, Parameter};
 use guest_elf::Image;
 use guest_machine::{Status, Stop};
-use std::alloc::{AllocError, Global};
+use std::alloc::AllocError;
 
 /// `step N`
 #[tactic(auto, unfolding(crate::specs::Lines::step_line), using(std::proofs::Common::append_assoc))]
-pub(crate) fn push_step(alloc: Global, out: &mut Vec<u8>, step: u32) -> Result<(), AllocError>
+pub(crate) fn push_step(out: &mut Vec<u8>, step: u32) -> Result<(), AllocError>
     ensures { OnOk result (out.new.items ≡ out.old.items ++ step_line step) }
 {
     push_text(out, b"step ")?;
-    push_number(alloc, out, u64::from(step))?;
+    push_number(out, u64::from(step))?;
     push_text(out, b"\n")
 }
 
@@ -34,12 +34,7 @@ fn stop_word(stop: Stop) -> &'static [u8]
 
 /// `state running A`, `state exited C` or `state stopped W A`, where A is pc.
 #[tactic(auto, unfolding(crate::specs::Lines::state_line), using(std::proofs::Common::append_assoc))]
-pub(crate) fn push_state(
-    alloc: Global,
-    out: &mut Vec<u8>,
-    status: Status,
-    pc: u32,
-) -> Result<(), AllocError>
+pub(crate) fn push_state(out: &mut Vec<u8>, status: Status, pc: u32) -> Result<(), AllocError>
     ensures { OnOk result (out.new.items ≡ out.old.items ++ state_line status pc) }
 {
     match status {
@@ -51,7 +46,7 @@ pub(crate) fn push_state(
         }
         Status::Exited(code) => {
             push_text(out, b"state exited ")?;
-            push_number(alloc, out, u64::from(code))?;
+            push_number(out, u64::from(code))?;
             push_text(out, b"\n")
         }
         Status::Stopped(stop) => {
@@ -66,28 +61,23 @@ pub(crate) fn push_state(
 
 /// `input P of L`, in bytes.
 #[tactic(auto, unfolding(crate::specs::Lines::input_line), using(std::proofs::Common::append_assoc))]
-pub(crate) fn push_input(
-    alloc: Global,
-    out: &mut Vec<u8>,
-    position: u64,
-    len: u64,
-) -> Result<(), AllocError>
+pub(crate) fn push_input(out: &mut Vec<u8>, position: u64, len: u64) -> Result<(), AllocError>
     ensures { OnOk result (out.new.items ≡ out.old.items ++ input_line position len) }
 {
     push_text(out, b"input ")?;
-    push_number(alloc, out, position)?;
+    push_number(out, position)?;
     push_text(out, b" of ")?;
-    push_number(alloc, out, len)?;
+    push_number(out, len)?;
     push_text(out, b"\n")
 }
 
 /// `output W`, in bytes.
 #[tactic(auto, unfolding(crate::specs::Lines::output_line), using(std::proofs::Common::append_assoc))]
-pub(crate) fn push_output(alloc: Global, out: &mut Vec<u8>, n: u64) -> Result<(), AllocError>
+pub(crate) fn push_output(out: &mut Vec<u8>, n: u64) -> Result<(), AllocError>
     ensures { OnOk result (out.new.items ≡ out.old.items ++ output_line n) }
 {
     push_text(out, b"output ")?;
-    push_number(alloc, out, n)?;
+    push_number(out, n)?;
     push_text(out, b"\n")
 }
 
@@ -115,17 +105,17 @@ fn push_param(out: &mut Vec<u8>, parameter: Parameter, fault: Fault3) -> Result<
 
 /// What an error is called.
 #[tactic(auto, unfolding(crate::specs::Lines::kind_text), using(std::proofs::Common::append_assoc))]
-fn push_kind(alloc: Global, out: &mut Vec<u8>, kind: Kind) -> Result<(), AllocError>
+fn push_kind(out: &mut Vec<u8>, kind: Kind) -> Result<(), AllocError>
     ensures { OnOk result (out.new.items ≡ out.old.items ++ kind_text kind) }
 {
     match kind {
         Kind::Read(n) => {
             push_text(out, b"Invalid read of size ")?;
-            push_number(alloc, out, u64::from(n))
+            push_number(out, u64::from(n))
         }
         Kind::Write(n) => {
             push_text(out, b"Invalid write of size ")?;
-            push_number(alloc, out, u64::from(n))
+            push_number(out, u64::from(n))
         }
         Kind::Value => push_text(out, b"Use of uninitialised value of size 4"),
         Kind::Cond => push_text(
@@ -140,13 +130,13 @@ fn push_kind(alloc: Global, out: &mut Vec<u8>, kind: Kind) -> Result<(), AllocEr
 
 /// `error COUNT: TEXT`
 #[tactic(auto, unfolding(crate::specs::Lines::error_line), using(std::proofs::Common::append_assoc))]
-fn push_error(alloc: Global, out: &mut Vec<u8>, count: u64, kind: Kind) -> Result<(), AllocError>
+fn push_error(out: &mut Vec<u8>, count: u64, kind: Kind) -> Result<(), AllocError>
     ensures { OnOk result (out.new.items ≡ out.old.items ++ error_line count kind) }
 {
     push_text(out, b"error ")?;
-    push_number(alloc, out, count)?;
+    push_number(out, count)?;
     push_text(out, b": ")?;
-    push_kind(alloc, out, kind)?;
+    push_kind(out, kind)?;
     push_text(out, b"\n")
 }
 
@@ -230,28 +220,23 @@ fn last_trace(block: &Block) -> Trace
 
 /// ` Address A is I bytes inside`
 #[tactic(auto, unfolding(crate::specs::Lines::near_front), using(std::proofs::Common::append_assoc))]
-fn push_near_front(
-    alloc: Global,
-    out: &mut Vec<u8>,
-    addr: u32,
-    near: &Near,
-) -> Result<(), AllocError>
+fn push_near_front(out: &mut Vec<u8>, addr: u32, near: &Near) -> Result<(), AllocError>
     ensures { OnOk result (out.new.items ≡ out.old.items ++ near_front addr near.now) }
 {
     push_text(out, b" Address ")?;
     push_address(out, addr)?;
     push_text(out, b" is ")?;
-    push_number(alloc, out, u64::from(near.distance))?;
+    push_number(out, u64::from(near.distance))?;
     push_text(out, place_text(near.place))
 }
 
 /// ` a block of size S alloc'd`
 #[tactic(auto, unfolding(crate::specs::Lines::near_back), using(std::proofs::Common::append_assoc))]
-fn push_near_back(alloc: Global, out: &mut Vec<u8>, block: &Block) -> Result<(), AllocError>
+fn push_near_back(out: &mut Vec<u8>, block: &Block) -> Result<(), AllocError>
     ensures { OnOk result (out.new.items ≡ out.old.items ++ near_back block.now) }
 {
     push_text(out, b" a block of size ")?;
-    push_number(alloc, out, u64::from(block.size))?;
+    push_number(out, u64::from(block.size))?;
     push_text(out, state_text(block.freed))?;
     push_text(out, b"\n")?;
     Ok(())
@@ -259,20 +244,14 @@ fn push_near_back(alloc: Global, out: &mut Vec<u8>, block: &Block) -> Result<(),
 
 /// What an error says of an address, if it says anything.
 #[tactic(auto, unfolding(crate::specs::Lines::note_lines), using(std::proofs::Common::append_assoc))]
-fn push_note(
-    alloc: Global,
-    out: &mut Vec<u8>,
-    image: &Image,
-    callers: u32,
-    note: &Note,
-) -> Result<(), AllocError>
+fn push_note(out: &mut Vec<u8>, image: &Image, callers: u32, note: &Note) -> Result<(), AllocError>
     ensures { OnOk result (out.new.items ≡ out.old.items ++ note_lines image.now callers note.now) }
 {
     match note {
         Note::Absent => Ok(()),
         Note::Near(addr, near) => {
-            push_near_front(alloc, out, *addr, near)?;
-            push_near_back(alloc, out, &near.block)?;
+            push_near_front(out, *addr, near)?;
+            push_near_back(out, &near.block)?;
             let trace = last_trace(&near.block);
             push_trace(out, image, front(trace.addresses(), callers))
         }
@@ -296,7 +275,6 @@ fn push_note(
 /// A group of errors, with at most `callers` addresses of its trace.
 #[tactic(auto, unfolding(crate::specs::Lines::group_lines), using(std::proofs::Common::append_assoc))]
 fn push_group(
-    alloc: Global,
     out: &mut Vec<u8>,
     image: &Image,
     callers: u32,
@@ -304,14 +282,13 @@ fn push_group(
 ) -> Result<(), AllocError>
     ensures { OnOk result (out.new.items ≡ out.old.items ++ group_lines image.now callers group.now) }
 {
-    push_error(alloc, out, group.count, group.kind)?;
+    push_error(out, group.count, group.kind)?;
     push_trace(out, image, front(group.trace.addresses(), callers))?;
-    push_note(alloc, out, image, callers, &group.note)
+    push_note(out, image, callers, &group.note)
 }
 
 /// The groups of errors, in their order.
 pub(crate) fn push_groups(
-    alloc: Global,
     out: &mut Vec<u8>,
     image: &Image,
     callers: u32,
@@ -320,7 +297,7 @@ pub(crate) fn push_groups(
     ensures { OnOk result (out.new.items ≡ out.old.items ++ flat_map (group_lines image.now callers) groups.now) }
 {
     for group in groups {
-        push_group(alloc, out, image, callers, group)?;
+        push_group(out, image, callers, group)?;
     }
     Ok(())
 }
@@ -338,26 +315,26 @@ fn error_total(groups: &[Group]) -> u64
 
 /// `ERROR SUMMARY: E errors from C contexts`
 #[tactic(auto, unfolding(crate::specs::Lines::shown_summary), using(std::proofs::Common::append_assoc))]
-fn push_shown_summary(alloc: Global, out: &mut Vec<u8>, groups: &[Group]) -> Result<(), AllocError>
+fn push_shown_summary(out: &mut Vec<u8>, groups: &[Group]) -> Result<(), AllocError>
     ensures { OnOk result (out.new.items ≡ out.old.items ++ shown_summary groups.now) }
 {
     push_text(out, b"ERROR SUMMARY: ")?;
-    push_number(alloc, out, error_total(groups))?;
+    push_number(out, error_total(groups))?;
     push_text(out, b" errors from ")?;
-    push_number(alloc, out, groups.len() as u64)?;
+    push_number(out, groups.len() as u64)?;
     push_text(out, b" contexts")?;
     Ok(())
 }
 
 /// ` (suppressed: E2 from C2)`
 #[tactic(auto, unfolding(crate::specs::Lines::hidden_summary), using(std::proofs::Common::append_assoc))]
-fn push_hidden_summary(alloc: Global, out: &mut Vec<u8>, groups: &[Group]) -> Result<(), AllocError>
+fn push_hidden_summary(out: &mut Vec<u8>, groups: &[Group]) -> Result<(), AllocError>
     ensures { OnOk result (out.new.items ≡ out.old.items ++ hidden_summary groups.now) }
 {
     push_text(out, b" (suppressed: ")?;
-    push_number(alloc, out, error_total(groups))?;
+    push_number(out, error_total(groups))?;
     push_text(out, b" from ")?;
-    push_number(alloc, out, groups.len() as u64)?;
+    push_number(out, groups.len() as u64)?;
     push_text(out, b")")?;
     push_text(out, b"\n")
 }
@@ -365,13 +342,12 @@ fn push_hidden_summary(alloc: Global, out: &mut Vec<u8>, groups: &[Group]) -> Re
 /// How many errors are shown and how many suppressed, each with the number of their groups.
 #[tactic(auto, using(std::proofs::Common::append_assoc))]
 pub(crate) fn push_summary(
-    alloc: Global,
     out: &mut Vec<u8>,
     shown: &[Group],
     hidden: &[Group],
 ) -> Result<(), AllocError>
     ensures { OnOk result (out.new.items ≡ out.old.items ++ summary_line shown.now hidden.now) }
 {
-    push_shown_summary(alloc, out, shown)?;
-    push_hidden_summary(alloc, out, hidden)
+    push_shown_summary(out, shown)?;
+    push_hidden_summary(out, hidden)
 }

@@ -7,28 +7,32 @@ ghost use Rattle.replay_report.specs.Report.{head_lines, report_text, IsReport, 
 use crate::filtering::split_groups;
 use crate::leak_lines::push_leaks;
 use crate::lines::{push_groups, push_input, push_output, push_state, push_step, push_summary};
-use crate::options::Options;
+use crate::options::{Options, View};
 use guest_elf::Image;
 use guest_machine::Machine;
 use leak_search::{LeakRecord, search};
 use std::alloc::{AllocError, Global};
 use suppressions::Suppression;
 
-/// The first lines of a report.
-#[tactic(auto, unfolding(crate::specs::Report::head_lines), using(std::proofs::Common::append_assoc))]
-fn push_head(
-    alloc: Global,
-    out: &mut Vec<u8>,
-    machine: &Machine,
+/// What is reported: a machine at a step, and how many bytes its input has.
+#[derive(Clone, Copy)]
+struct Moment<'a> {
+    machine: &'a Machine,
     step: u32,
     input_len: u64,
-) -> Result<(), AllocError>
-    ensures { OnOk result ((s : State) → Shows machine.now s → out.new.items ≡ out.old.items ++ head_lines s step input_len) }
+}
+
+/// The first lines of a report.
+#[tactic(auto, unfolding(crate::specs::Report::head_lines), using(std::proofs::Common::append_assoc))]
+fn push_head(out: &mut Vec<u8>, moment: &Moment) -> Result<(), AllocError>
+    ensures { OnOk result ((s : State) → Shows moment.now.machine.now s
+        → out.new.items ≡ out.old.items ++ head_lines s moment.now.step moment.now.input_len) }
 {
-    push_step(alloc, out, step)?;
-    push_state(alloc, out, machine.status(), machine.pc())?;
-    push_input(alloc, out, machine.position(), input_len)?;
-    push_output(alloc, out, machine.output_len())
+    let machine = moment.machine;
+    push_step(out, moment.step)?;
+    push_state(out, machine.status(), machine.pc())?;
+    push_input(out, machine.position(), moment.input_len)?;
+    push_output(out, machine.output_len())
 }
 
 /// The lines of a report, with these records of the live blocks.
@@ -36,50 +40,37 @@ fn push_head(
 fn push_report(
     alloc: Global,
     out: &mut Vec<u8>,
-    machine: &Machine,
-    image: &Image,
-    suppressions: &[Suppression],
-    options: &Options,
-    step: u32,
-    input_len: u64,
+    moment: &Moment,
+    view: &View,
     records: &[LeakRecord],
 ) -> Result<(), AllocError>
-    requires { 0 < options.now.callers }
-    ensures { OnOk result ((s : State) → Shows machine.now s → out.new.items ≡ out.old.items ++ report_text s image.now suppressions.now options.now step input_len records.now) }
+    requires { 0 < view.now.options.now.callers }
+    ensures { OnOk result ((s : State) → Shows moment.now.machine.now s → out.new.items ≡ out.old.items
+        ++ report_text s view.now.image.now view.now.suppressions.now view.now.options.now moment.now.step moment.now.input_len records.now) }
 {
-    push_head(alloc, out, machine, step, input_len)?;
-    let (shown, hidden) = split_groups(alloc, machine, image, suppressions, options.callers)?;
-    push_groups(alloc, out, image, options.callers, &shown)?;
-    push_leaks(alloc, out, image, suppressions, options, records)?;
-    push_summary(alloc, out, &shown, &hidden)
+    let callers = view.options.callers;
+    push_head(out, moment)?;
+    let (shown, hidden) = split_groups(
+        alloc,
+        moment.machine,
+        view.image,
+        view.suppressions,
+        callers,
+    )?;
+    push_groups(out, view.image, callers, &shown)?;
+    push_leaks(alloc, out, view, records)?;
+    push_summary(out, &shown, &hidden)
 }
 
 /// The report.
-fn report_of(
-    alloc: Global,
-    machine: &Machine,
-    image: &Image,
-    suppressions: &[Suppression],
-    options: &Options,
-    step: u32,
-    input_len: u64,
-) -> Result<Vec<u8>, AllocError>
-    requires { 0 < options.now.callers }
-    ensures { IfOk result (λ text. (s : State) → Shows machine.now s → IsReport s image.now suppressions.now options.now step input_len text.items) }
+fn report_of(alloc: Global, moment: &Moment, view: &View) -> Result<Vec<u8>, AllocError>
+    requires { 0 < view.now.options.now.callers }
+    ensures { IfOk result (λ text. (s : State) → Shows moment.now.machine.now s
+        → IsReport s view.now.image.now view.now.suppressions.now view.now.options.now moment.now.step moment.now.input_len text.items) }
 {
-    let records = search(alloc, machine)?;
+    let records = search(alloc, moment.machine)?;
     let mut text = Vec::new(alloc);
-    push_report(
-        alloc,
-        &mut text,
-        machine,
-        image,
-        suppressions,
-        options,
-        step,
-        input_len,
-        &records,
-    )?;
+    push_report(alloc, &mut text, moment, view, &records)?;
     Ok(text)
 }
 
@@ -99,18 +90,21 @@ pub fn render(
 ) -> Result<(), AllocError>
     requires some { 1 ≤ options.now.callers }
     requires few { options.now.callers ≤ 24 }
-    ensures ok { OnOk result ((s : State) → Shows machine.now s → AppendsReport (IsReport s image.now suppressions.now options.now step input_len) out.old.items out.new.items) }
+    ensures ok { OnOk result ((s : State) → Shows machine.now s
+        → AppendsReport (IsReport s image.now suppressions.now options.now step input_len) out.old.items out.new.items) }
     ensures err { OnErr result (out.new.items ≡ out.old.items) }
 {
-    let text = report_of(
-        alloc,
+    let moment = Moment {
         machine,
+        step,
+        input_len,
+    };
+    let view = View {
         image,
         suppressions,
         options,
-        step,
-        input_len,
-    )?;
+    };
+    let text = report_of(alloc, &moment, &view)?;
     out.extend_from_slice(&text)?;
     Ok(())
 }

@@ -3,7 +3,8 @@ ghost use Rattle.std.specs.Prelude.{◌≡◌, ◌++◌, ◌/◌, ◌%◌, ◌^�
 ghost use Rattle.std.specs.Fmt.{decimal, digit_glyph};
 ghost use Rattle.replay_report.specs.Text.{address_text, shown_byte, shown_name};
 
-use std::alloc::{AllocError, Global};
+use itoa::Buffer;
+use std::alloc::AllocError;
 
 /// Bytes put at the end.
 pub(crate) fn push_text(out: &mut Vec<u8>, text: &[u8]) -> Result<(), AllocError>
@@ -14,11 +15,11 @@ pub(crate) fn push_text(out: &mut Vec<u8>, text: &[u8]) -> Result<(), AllocError
 }
 
 /// A number, decimal.
-pub(crate) fn push_number(alloc: Global, out: &mut Vec<u8>, n: u64) -> Result<(), AllocError>
+pub(crate) fn push_number(out: &mut Vec<u8>, n: u64) -> Result<(), AllocError>
     ensures { OnOk result (out.new.items ≡ out.old.items ++ decimal n) }
 {
-    let text = n.to_string(alloc)?;
-    push_text(out, text.as_bytes())
+    let mut buffer = Buffer::new();
+    push_text(out, buffer.format(n).as_bytes())
 }
 
 /// A hexadecimal digit, in lower case.

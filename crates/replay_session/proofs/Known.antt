@@ -1,7 +1,8 @@
 -- Known bytes that grow.
-use Rattle.std.proofs.Common.{◌≡◌, ℕ, List, [], ◌++◌, Option, None, Some, ◌∙◌, refl, ap, sym, append_assoc, arith, ◌+◌, ◌-◌, ◌<◌, ◌≤◌, length, take, drop, length-drop, subst}
+use Rattle.std.proofs.Common.{Result, Ok, Err, ◌≡◌, ℕ, List, [], ◌++◌, Option, None, Some, ◌∙◌, refl, ap, sym, append_assoc, arith, ◌+◌, ◌-◌, ◌<◌, ◌≤◌, length, take, drop, length-drop, subst}
 use Rattle.std.proofs.Math.Seq.{take-add, take-length}
 use Rattle.std.specs.Io.KnownBytes.{Appends, Consumes, Keeps}
+use Rattle.std.specs.Result.{OnErr}
 
 pub appends-then : (a b c : Option (List ℕ)) (p q : List ℕ) → Appends a b p → Appends b c q → Appends a c (p ++ q)
 appends-then None b c p q f g = tt
@@ -48,3 +49,8 @@ appends-keeps None b c p f k = tt
 appends-keeps (Some x) None c p f k = absurd f
 appends-keeps (Some x) (Some y) None p f k = absurd k
 appends-keeps (Some x) (Some y) (Some z) p f k = k ∙ f
+
+-- what holds at any result holds at a refusal
+pub at_refusal : {T E P : Type 0} (r : Result T E) → P → OnErr r P
+at_refusal (Ok x) p = tt
+at_refusal (Err e) p = p

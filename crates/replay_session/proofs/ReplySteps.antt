@@ -7,7 +7,7 @@ use Rattle.replay_session.specs.Session.{HasScenario, Meets, AppendsFor, TakesMe
 use Rattle.replay_session.specs.declared.command.Command.{Command}
 use Rattle.replay_session.specs.declared.command.Command.TheVariants.{Report, Worked}
 use Rattle.replay_session.specs.declared.fault.Fault.{Fault}
-use Rattle.replay_session.specs.declared.keeper.Session.{Session}
+use Rattle.replay_session.specs.declared.session.Session.{Session}
 use Rattle.replay_session.specs.declared.reply.Reply.{Reply}
 
 -- what is written is a reply

@@ -10,9 +10,9 @@ use Rattle.replay_session.specs.Scenario.{Scenario, accepted, accepted_in, longe
 use Rattle.replay_session.specs.Served.{standing}
 use Rattle.replay_session.specs.Serving.{Answered, Cut, Fed, Over, Broken, Ended}
 use Rattle.replay_session.specs.Session.{HasScenario}
-use Rattle.replay_session.specs.declared.answering.Counts.{Counts}
-use Rattle.replay_session.specs.declared.keeper.Session.{Session}
-use Rattle.replay_session.specs.declared.server.Server.{Server}
+use Rattle.replay_session.specs.declared.serving.answer.Written.{Written}
+use Rattle.replay_session.specs.declared.session.Session.{Session}
+use Rattle.replay_session.specs.declared.serving.server.Server.{Server}
 use Rattle.replay_session.proofs.Known.{appends-then}
 use Rattle.replay_session.proofs.ReplySteps.{replies-alike}
 
@@ -74,7 +74,7 @@ appends-none None = tt
 appends-none (Some xs) = sym (append-nil xs)
 
 -- a byte of a line is kept
-pub keep-fed : (sc : Scenario) (old new : Server) (held : Option (List ℕ)) (byte : ℕ) → byte ≢ 10 → new.session ≡ old.session → new.counts ≡ old.counts → KeepsByte old.kept.items new.kept.items byte → HasScenario old.session sc → Fed sc old new held held (byte ∷ [])
+pub keep-fed : (sc : Scenario) (old new : Server) (held : Option (List ℕ)) (byte : ℕ) → byte ≢ 10 → new.session ≡ old.session → new.written ≡ old.written → KeepsByte old.kept.items new.kept.items byte → HasScenario old.session sc → Fed sc old new held held (byte ∷ [])
 keep-fed sc old new held byte other session counts kept has = record {
   done = [];
   after = sc;
@@ -110,7 +110,7 @@ under-both true P Q p q = p
 under-both false P Q p q = q
 
 -- a line was answered, and more may come
-pub answer-fed : (sc : Scenario) (old new : Server) (held held' : Option (List ℕ)) (line : List ℕ) → Answered sc new.session old.counts new.counts held held' line → line ≡ strip_carriage_return old.kept.items → is_over sc ≡ false → new.kept.items ≡ [] → Fed sc old new held held' (10 ∷ [])
+pub answer-fed : (sc : Scenario) (old new : Server) (held held' : Option (List ℕ)) (line : List ℕ) → Answered sc new.session old.written new.written held held' line → line ≡ strip_carriage_return old.kept.items → is_over sc ≡ false → new.kept.items ≡ [] → Fed sc old new held held' (10 ∷ [])
 answer-fed sc old new held held' line a whole going empty = record {
   done = a.reply ∷ [];
   after = a.after;
@@ -129,7 +129,7 @@ answer-fed sc old new held held' line a whole going empty = record {
 }
 
 -- a line was answered that tells that the session is over
-pub answer-over : (sc : Scenario) (session : Session) (old new : Server) (counts : Counts) (held held' : Option (List ℕ)) (line : List ℕ) → Answered sc session old.counts counts held held' line → line ≡ strip_carriage_return old.kept.items → is_over sc ≡ true → Over sc old new held held' (10 ∷ [])
+pub answer-over : (sc : Scenario) (session : Session) (old new : Server) (counts : Written) (held held' : Option (List ℕ)) (line : List ℕ) → Answered sc session old.written counts held held' line → line ≡ strip_carriage_return old.kept.items → is_over sc ≡ true → Over sc old new held held' (10 ∷ [])
 answer-over sc session old new counts held held' line a whole over = record {
   done = a.reply ∷ [];
   appended = subst (Appends held held') (sym (joined-one a.reply)) a.appended;
@@ -141,7 +141,7 @@ answer-over sc session old new counts held held' line a whole over = record {
 }
 
 -- a reply was cut off
-pub answer-broken : (sc : Scenario) (old new : Server) (held held' : Option (List ℕ)) (line : List ℕ) → Cut sc old.counts new.counts held held' line
+pub answer-broken : (sc : Scenario) (old new : Server) (held held' : Option (List ℕ)) (line : List ℕ) → Cut sc old.written new.written held held' line
     → (lines : List (List ℕ)) → Broken sc old new held held' (line ∷ lines)
 answer-broken sc old new held held' line a lines = record {
   done = [];
@@ -158,15 +158,15 @@ ok_is : (E : Type 0) (x y : Bool) → ◌≡◌ {A = Result Bool E} (Ok x) (Ok y
 ok_is E x y e = cc
 
 module _ (E : Type 0) (sc : Scenario) (old new : Server) (held held' : Option (List ℕ)) (line : List ℕ) (byte : ℕ) (newline : byte ≡ 10) (whole : line ≡ strip_carriage_return old.kept.items) where
-  pub taken-fed : (over : Bool) → over ≡ is_over sc → Answered sc new.session old.counts new.counts held held' line → new.kept.items ≡ [] → ◌≡◌ {A = Result Bool E} (Ok over) (Ok false) → Fed sc old new held held' (byte ∷ [])
+  pub taken-fed : (over : Bool) → over ≡ is_over sc → Answered sc new.session old.written new.written held held' line → new.kept.items ≡ [] → ◌≡◌ {A = Result Bool E} (Ok over) (Ok false) → Fed sc old new held held' (byte ∷ [])
   taken-fed over says a empty e =
       subst (λ (b : ℕ). Fed sc old new held held' (b ∷ [])) (sym newline) (answer-fed sc old new held held' line a whole (sym says ∙ ok_is E over false e) empty)
 
-  pub taken-over : (over : Bool) → over ≡ is_over sc → Answered sc new.session old.counts new.counts held held' line → ◌≡◌ {A = Result Bool E} (Ok over) (Ok true) → Over sc old new held held' (byte ∷ [])
+  pub taken-over : (over : Bool) → over ≡ is_over sc → Answered sc new.session old.written new.written held held' line → ◌≡◌ {A = Result Bool E} (Ok over) (Ok true) → Over sc old new held held' (byte ∷ [])
   taken-over over says a e =
-      subst (λ (b : ℕ). Over sc old new held held' (b ∷ [])) (sym newline) (answer-over sc new.session old new new.counts held held' line a whole (sym says ∙ ok_is E over true e))
+      subst (λ (b : ℕ). Over sc old new held held' (b ∷ [])) (sym newline) (answer-over sc new.session old new new.written held held' line a whole (sym says ∙ ok_is E over true e))
 
-  pub taken-broken : Cut sc old.counts new.counts held held' line → (more : List ℕ) → Broken sc old new held held' (lines_by true old.kept.items (byte ∷ more))
+  pub taken-broken : Cut sc old.written new.written held held' line → (more : List ℕ) → Broken sc old new held held' (lines_by true old.kept.items (byte ∷ more))
   taken-broken a more =
       subst (λ (b : ℕ). Broken sc old new held held' (lines_by true old.kept.items (b ∷ more))) (sym newline)
       (subst (λ (l : List ℕ). Broken sc old new held held' (l ∷ lines_by true [] more)) whole (answer-broken sc old new held held' line a (lines_by true [] more)))
@@ -212,11 +212,11 @@ module _ (sc : Scenario) (a b c : Server) (h0 h1 h2 : Option (List ℕ)) (xs ys 
   appended-then : (zs : List ℕ) → Appends h1 h2 zs → Appends h0 h2 (joined f.done ++ zs)
   appended-then zs k = appends-then h0 h1 h2 (joined f.done) zs f.appended k
 
-  replies-then : (n : ℕ) → standing c.counts.replies ≡ standing (b.counts.replies + n) → standing c.counts.replies ≡ standing (a.counts.replies + (length f.done + n))
-  replies-then n e = standing-twice a.counts.replies b.counts.replies c.counts.replies (length f.done) n f.replies e
+  replies-then : (n : ℕ) → standing c.written.replies ≡ standing (b.written.replies + n) → standing c.written.replies ≡ standing (a.written.replies + (length f.done + n))
+  replies-then n e = standing-twice a.written.replies b.written.replies c.written.replies (length f.done) n f.replies e
 
-  bytes-then : (n : ℕ) → standing c.counts.bytes ≡ standing (b.counts.bytes + n) → standing c.counts.bytes ≡ standing (a.counts.bytes + (length (joined f.done) + n))
-  bytes-then n e = standing-twice a.counts.bytes b.counts.bytes c.counts.bytes (length (joined f.done)) n f.written e
+  bytes-then : (n : ℕ) → standing c.written.bytes ≡ standing (b.written.bytes + n) → standing c.written.bytes ≡ standing (a.written.bytes + (length (joined f.done) + n))
+  bytes-then n e = standing-twice a.written.bytes b.written.bytes c.written.bytes (length (joined f.done)) n f.written e
 
   pub fed-then : Fed f.after b c h1 h2 ys → Fed sc a c h0 h2 (xs ++ ys)
   fed-then g = record {
@@ -246,8 +246,8 @@ module _ (sc : Scenario) (a b c : Server) (h0 h1 h2 : Option (List ℕ)) (xs ys 
     sent = g.sent;
     within = g.within;
     appended = rw (joined-append, append_assoc (joined f.done) (joined g.done) (take g.sent g.last)) (appended-then (joined g.done ++ take g.sent g.last) g.appended);
-    replies = rw length-append (standing-thrice a.counts.replies b.counts.replies c.counts.replies (length f.done) (length g.done) (if g.sent == length g.last then 1 else 0) f.replies g.replies);
-    written = rw (joined-append, length-append) (standing-thrice a.counts.bytes b.counts.bytes c.counts.bytes (length (joined f.done)) (length (joined g.done)) g.sent f.written g.written);
+    replies = rw length-append (standing-thrice a.written.replies b.written.replies c.written.replies (length f.done) (length g.done) (if g.sent == length g.last then 1 else 0) f.replies g.replies);
+    written = rw (joined-append, length-append) (standing-thrice a.written.bytes b.written.bytes c.written.bytes (length (joined f.done)) (length (joined g.done)) g.sent f.written g.written);
     answers =
         let both : length (f.done ++ g.done) + 1 ≡ (length g.done + 1) + length f.done = rw length-append (omega arith) in
         rw (append_assoc f.done g.done (g.last ∷ [])) (f.goes true ys (length g.done + 1) (length (f.done ++ g.done) + 1) (g.done ++ g.last ∷ []) both g.answers);
@@ -268,7 +268,7 @@ over-more sc a b h0 h1 xs zs g = record {
 }
 
 -- a last line with no newline
-pub answer-ended : (sc : Scenario) (old : Server) (session : Session) (new : Counts) (held held' : Option (List ℕ)) (line : List ℕ) → Answered sc session old.counts new held held' line → line ≡ old.kept.items → (length old.kept.items == 0) ≡ false → Ended sc old held held'
+pub answer-ended : (sc : Scenario) (old : Server) (session : Session) (new : Written) (held held' : Option (List ℕ)) (line : List ℕ) → Answered sc session old.written new held held' line → line ≡ old.kept.items → (length old.kept.items == 0) ≡ false → Ended sc old held held'
 answer-ended sc old session new held held' line a whole some = record {
   done = a.reply ∷ [];
   appended = subst (Appends held held') (sym (joined-one a.reply)) a.appended;
@@ -287,7 +287,7 @@ none-ended sc old held none = record {
 }
 
 -- a last line with no newline, of whose reply a front was written
-pub answer-broken-end : (sc : Scenario) (old new : Server) (held held' : Option (List ℕ)) (line : List ℕ) → Cut sc old.counts new.counts held held' line → line ≡ old.kept.items
+pub answer-broken-end : (sc : Scenario) (old new : Server) (held held' : Option (List ℕ)) (line : List ℕ) → Cut sc old.written new.written held held' line → line ≡ old.kept.items
     → (length old.kept.items == 0) ≡ false → Broken sc old new held held' (lines_by true old.kept.items [])
 answer-broken-end sc old new held held' line a whole some =
     subst (λ t. Broken sc old new held held' (cond (not t) (old.kept.items ∷ []) [])) (sym some)

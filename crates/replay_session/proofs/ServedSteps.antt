@@ -7,7 +7,7 @@ use Rattle.replay_session.specs.Replies.{Answers, joined}
 use Rattle.replay_session.specs.Scenario.{Scenario}
 use Rattle.replay_session.specs.Served.{ServedAll, ServedRead, WholeReplies, CutReplies, standing}
 use Rattle.replay_session.specs.Serving.{Fed, Over, Broken, Ended}
-use Rattle.replay_session.specs.declared.server.Server.{Server}
+use Rattle.replay_session.specs.declared.serving.server.Server.{Server}
 use Rattle.replay_session.proofs.Known.{consumes-then}
 use Rattle.replay_session.proofs.LineSteps.{lines-is, closed_lines-is}
 use Rattle.replay_session.proofs.ServeSteps.{goes-whole, over-then, ended-then, broken-then}
@@ -68,19 +68,19 @@ module _ (sc : Scenario) (a : Server) (kept : a.kept.items ≡ []) where
         let d = ended-then sc a b b h0 h1 h2 seen seen fed ended refl in
         (seen, all-seen more, (d.0, as-lines seen d.0 d.1, d.2))
 
-  module _ (replies : a.counts.replies ≡ 0) (bytes : a.counts.bytes ≡ 0) where
-    pub stops-whole : (b : Server) (h0 h1 : Option (List ℕ)) (seen : List ℕ) (r n : ℕ) → r ≡ b.counts.replies → n ≡ b.counts.bytes → r < 2 ^ 64 → n < 2 ^ 64 → Fed sc a b h0 h1 seen → WholeReplies sc seen h0 h1 r n
+  module _ (replies : a.written.replies ≡ 0) (bytes : a.written.bytes ≡ 0) where
+    pub stops-whole : (b : Server) (h0 h1 : Option (List ℕ)) (seen : List ℕ) (r n : ℕ) → r ≡ b.written.replies → n ≡ b.written.bytes → r < 2 ^ 64 → n < 2 ^ 64 → Fed sc a b h0 h1 seen → WholeReplies sc seen h0 h1 r n
     stops-whole b h0 h1 seen r n r-is n-is r-small n-small fed = record {
       replies = fed.done;
       answers = as-closed seen fed.done (
           subst (λ (xs : List ℕ). Answers sc (lines_by false a.kept.items xs) fed.done) (append-nil seen)
           (subst (λ (rs : List (List ℕ)). Answers sc (lines_by false a.kept.items (seen ++ [])) rs) (append-nil fed.done) (goes-whole sc a b h0 h1 seen fed false [] [] refl)));
       appended = fed.appended;
-      count_is = from-zero a.counts.replies r (length fed.done) replies r-small (ap standing r-is ∙ fed.replies);
-      bytes_is = from-zero a.counts.bytes n (length (joined fed.done)) bytes n-small (ap standing n-is ∙ fed.written);
+      count_is = from-zero a.written.replies r (length fed.done) replies r-small (ap standing r-is ∙ fed.replies);
+      bytes_is = from-zero a.written.bytes n (length (joined fed.done)) bytes n-small (ap standing n-is ∙ fed.written);
     }
 
-    pub stops-cut : (b c : Server) (h0 h1 h2 : Option (List ℕ)) (seen more : List ℕ) (r n : ℕ) → r ≡ c.counts.replies → n ≡ c.counts.bytes → r < 2 ^ 64 → n < 2 ^ 64 → (fed : Fed sc a b h0 h1 seen) → Broken fed.after b c h1 h2 (lines_by true b.kept.items more) → CutReplies sc (seen ++ more) h0 h2 r n
+    pub stops-cut : (b c : Server) (h0 h1 h2 : Option (List ℕ)) (seen more : List ℕ) (r n : ℕ) → r ≡ c.written.replies → n ≡ c.written.bytes → r < 2 ^ 64 → n < 2 ^ 64 → (fed : Fed sc a b h0 h1 seen) → Broken fed.after b c h1 h2 (lines_by true b.kept.items more) → CutReplies sc (seen ++ more) h0 h2 r n
     stops-cut b c h0 h1 h2 seen more r n r-is n-is r-small n-small fed broken =
         let k = broken-then sc a b c h0 h1 h2 seen more fed broken in
         record {
@@ -91,6 +91,6 @@ module _ (sc : Scenario) (a : Server) (kept : a.kept.items ≡ []) where
           answers = subst (λ (ls : List (List ℕ)). Answers sc (take (length k.done + 1) ls) (k.done ++ k.last ∷ [])) (lines-is (seen ++ more))
               (subst (λ (ks : List ℕ). Answers sc (take (length k.done + 1) (lines_by true ks (seen ++ more))) (k.done ++ k.last ∷ [])) kept k.answers);
           appended = k.appended;
-          count_is = from-zero-and a.counts.replies r (length k.done) (if k.sent == length k.last then 1 else 0) replies r-small (ap standing r-is ∙ k.replies);
-          bytes_is = from-zero-and a.counts.bytes n (length (joined k.done)) k.sent bytes n-small (ap standing n-is ∙ k.written);
+          count_is = from-zero-and a.written.replies r (length k.done) (if k.sent == length k.last then 1 else 0) replies r-small (ap standing r-is ∙ k.replies);
+          bytes_is = from-zero-and a.written.bytes n (length (joined k.done)) k.sent bytes n-small (ap standing n-is ∙ k.written);
         }

@@ -19,7 +19,7 @@ use Rattle.replay_session.specs.declared.command.Command.TheVariants.{Report, Ad
 use Rattle.replay_session.specs.declared.fault.Fault.{Fault}
 use Rattle.replay_session.specs.declared.fault.Fault.TheVariants.{Memory}
 use Rattle.replay_session.specs.declared.reply.Reply.{Reply}
-use Rattle.replay_session.specs.declared.keeper.Session.{Session}
+use Rattle.replay_session.specs.declared.session.Session.{Session}
 
 -- a line is counted below the greatest number of lines
 pub lines-counted : (now n : ℕ) → now ≡ n → now < most_lines → now + 1 ≡ cond (nat_le most_lines n) n (n + 1)

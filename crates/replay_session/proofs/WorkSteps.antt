@@ -1,5 +1,5 @@
 -- How commands move the work of a session.
-use Rattle.std.proofs.Common.{◌≡◌, ℕ, zero, suc, ◌+◌, ◌<◌, List, [], ◌∷◌, length, get_or, Option, None, Some, Result, Ok, Err, inl, inr, refl, ap, sym, ◌∙◌, subst, arith}
+use Rattle.std.proofs.Common.{◌≡◌, ℕ, zero, suc, ◌<◌, List, [], ◌∷◌, length, get_or, Option, None, Some, Result, Ok, Err, inl, inr, refl, ap, sym, ◌∙◌, subst, arith}
 use Rattle.std.proofs.Math.Path.{transport}
 use Rattle.std.specs.Prelude.{slice_get}
 use Rattle.guest_machine.specs.declared.setup.Mark.{Mark}
@@ -18,7 +18,7 @@ use Rattle.replay_session.specs.declared.command.Command.{Command}
 use Rattle.replay_session.specs.declared.command.Command.TheVariants.{Report, Patch}
 use Rattle.replay_session.specs.declared.fault.Fault.{Fault}
 use Rattle.replay_session.specs.declared.fault.Fault.TheVariants.{Memory}
-use Rattle.replay_session.specs.declared.keeper.Session.{Session}
+use Rattle.replay_session.specs.declared.session.Session.{Session}
 
 -- what shows nowhere leaves the work
 pub unmoved : (P : ℕ → Type 0) (work : Work) → ((k : ℕ) → P k → ⊥) → EditMoves P work work

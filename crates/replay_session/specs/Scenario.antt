@@ -45,6 +45,15 @@ most_lines = 100000
 abbrev pub longest_line : ℕ
 longest_line = 4096
 
+abbrev pub most_callers : ℕ
+most_callers = 24
+
+abbrev pub largest_redzone : ℕ
+largest_redzone = 4096
+
+abbrev pub largest_queue : ℕ
+largest_queue = 1000000000
+
 -- the state before step 0: the start of the program, with the patched byte values
 unfoldable pub first_state : Scenario → State
 first_state sc = record (start_state sc.image) { bytes = sc.bytes }
@@ -102,9 +111,9 @@ command_refusal room (Mark mark) = mark_refusal room.marks mark
 command_refusal room (Unmark i) = refused_if (nat_le room.marks i) NoSuchMark
 command_refusal room (Switch i on) = refused_if (nat_le room.rules i) NoSuchSuppression
 command_refusal room (Add rule) = None
-command_refusal room (Callers n) = refused_if (nat_lt n 1 || nat_lt 24 n) BadOption
-command_refusal room (Redzone n) = refused_if (nat_lt 4096 n) BadOption
-command_refusal room (Queue n) = refused_if (nat_lt 1000000000 n) BadOption
+command_refusal room (Callers n) = refused_if (nat_lt n 1 || nat_lt most_callers n) BadOption
+command_refusal room (Redzone n) = refused_if (nat_lt largest_redzone n) BadOption
+command_refusal room (Queue n) = refused_if (nat_lt largest_queue n) BadOption
 command_refusal room (Show kinds) = None
 command_refusal room Worked = None
 

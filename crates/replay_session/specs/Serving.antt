@@ -6,12 +6,12 @@ use Rattle.replay_session.specs.Replies.{Answers, Replies, joined}
 use Rattle.replay_session.specs.Scenario.{Scenario}
 use Rattle.replay_session.specs.Served.{standing}
 use Rattle.replay_session.specs.Session.{HasScenario}
-use Rattle.replay_session.specs.declared.answering.Counts.{Counts}
-use Rattle.replay_session.specs.declared.keeper.Session.{Session}
-use Rattle.replay_session.specs.declared.server.Server.{Server}
+use Rattle.replay_session.specs.declared.serving.answer.Written.{Written}
+use Rattle.replay_session.specs.declared.session.Session.{Session}
+use Rattle.replay_session.specs.declared.serving.server.Server.{Server}
 
 -- a reply to the line was written
-pub record Answered (sc : Scenario) (session : Session) (old new : Counts) (held-old held-new : Option (List ℕ)) (line : List ℕ) : Type 0 where
+pub record Answered (sc : Scenario) (session : Session) (old new : Written) (held-old held-new : Option (List ℕ)) (line : List ℕ) : Type 0 where
   pub reply : List ℕ
   pub after : Scenario
   pub replies_to : Replies sc line reply after
@@ -21,7 +21,7 @@ pub record Answered (sc : Scenario) (session : Session) (old new : Counts) (held
   pub bytes : new.bytes ≡ standing (old.bytes + length reply)
 
 -- a front of a reply to the line was written
-pub record Cut (sc : Scenario) (old new : Counts) (held-old held-new : Option (List ℕ)) (line : List ℕ) : Type 0 where
+pub record Cut (sc : Scenario) (old new : Written) (held-old held-new : Option (List ℕ)) (line : List ℕ) : Type 0 where
   pub reply : List ℕ
   pub sent : ℕ
   pub after : Scenario
@@ -37,8 +37,8 @@ pub record Fed (sc : Scenario) (old new : Server) (held-old held-new : Option (L
   pub after : Scenario
   pub has : HasScenario new.session after
   pub appended : Appends held-old held-new (joined done)
-  pub replies : standing new.counts.replies ≡ standing (old.counts.replies + length done)
-  pub written : standing new.counts.bytes ≡ standing (old.counts.bytes + length (joined done))
+  pub replies : standing new.written.replies ≡ standing (old.written.replies + length done)
+  pub written : standing new.written.bytes ≡ standing (old.written.bytes + length (joined done))
   pub goes : (last : Bool) (more : List ℕ) (n all : ℕ) (rs : List (List ℕ)) → all ≡ n + length done → Answers after (take n (lines_by last new.kept.items more)) rs
       → Answers sc (take all (lines_by last old.kept.items (bytes ++ more))) (done ++ rs)
 
@@ -55,8 +55,8 @@ pub record Broken (sc : Scenario) (old new : Server) (held-old held-new : Option
   pub sent : ℕ
   pub within : sent ≤ length last
   pub appended : Appends held-old held-new (joined done ++ take sent last)
-  pub replies : standing new.counts.replies ≡ standing (old.counts.replies + length done + (if sent == length last then 1 else 0))
-  pub written : standing new.counts.bytes ≡ standing (old.counts.bytes + length (joined done) + sent)
+  pub replies : standing new.written.replies ≡ standing (old.written.replies + length done + (if sent == length last then 1 else 0))
+  pub written : standing new.written.bytes ≡ standing (old.written.bytes + length (joined done) + sent)
   pub answers : Answers sc (take (length done + 1) lines) (done ++ last ∷ [])
 
 -- the bytes end here: these are all the replies

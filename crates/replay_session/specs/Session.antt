@@ -3,9 +3,9 @@ use Rattle.std.specs.Prelude.{◌≡◌, ◌<◌, ◌≤◌, ◌⊎◌, ℕ, Lis
 use Rattle.checkpoints.specs.Trails.{IsRightFor, meter_of}
 use Rattle.checkpoints.specs.declared.trail.Trail.{Trail}
 use Rattle.replay_report.specs.Report.{AppendsReport}
-use Rattle.replay_session.specs.Scenario.{Scenario, Room, IsReportOf, first_state, is_word, accepted, applied, counted, changed}
+use Rattle.replay_session.specs.Scenario.{Scenario, Room, IsReportOf, first_state, is_word, most_callers, accepted, applied, counted, changed}
 use Rattle.replay_session.specs.Setups.{longest_input}
-use Rattle.replay_session.specs.declared.keeper.Session.{Session}
+use Rattle.replay_session.specs.declared.session.Session.{Session}
 use Rattle.replay_session.specs.declared.fault.Fault.{Fault}
 use Rattle.replay_session.specs.declared.fault.Fault.TheVariants.{Memory}
 use Rattle.replay_session.specs.declared.reply.Reply.{Reply}
@@ -54,7 +54,7 @@ IsWithin room Cut = 0 < room.input
 IsWithin room (Patch addr word) = is_word room.image addr ≡ true
 IsWithin room (Unmark i) = i < room.marks
 IsWithin room (Switch i on) = i < room.rules
-IsWithin room (Callers n) = (1 ≤ n) × (n ≤ 24)
+IsWithin room (Callers n) = (1 ≤ n) × (n ≤ most_callers)
 IsWithin room _ = Unit {0}
 
 -- memory may be wanting at a report, a byte put at the end of the input, a patch, a mark and a new suppression

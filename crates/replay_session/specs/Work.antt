@@ -7,7 +7,7 @@ use Rattle.checkpoints.specs.Work.{Work, ReportMoves, EditMoves, LeavesWork}
 use Rattle.checkpoints.specs.declared.trail.Trail.{Trail}
 use Rattle.replay_session.specs.Scenario.{Scenario, first_state, accepted}
 use Rattle.replay_session.specs.Session.{HasScenario, trail_of}
-use Rattle.replay_session.specs.declared.keeper.Session.{Session}
+use Rattle.replay_session.specs.declared.session.Session.{Session}
 use Rattle.replay_session.specs.declared.fault.Fault.{Fault}
 use Rattle.replay_session.specs.declared.fault.Fault.TheVariants.{Memory}
 use Rattle.replay_session.specs.declared.reply.Reply.{Reply}

@@ -1,7 +1,10 @@
 //! Why a line is refused, and why no session begins.
 ghost use Rattle.std.specs.Prelude.{◌≡◌};
 ghost use Rattle.replay_session.specs.Faults.{number_of};
+ghost use Rattle.replay_session.specs.declared.fault.Fault.TheVariants.{Memory};
+ghost use Rattle.replay_session.specs.declared.fault.BeginFault.TheVariants.{Memory as NoMemory};
 
+use std::alloc::{AllocError, AllocFailed};
 use thiserror::Error;
 
 /// Why a line is refused. A refused line changes nothing but the number of lines.
@@ -76,6 +79,22 @@ impl Fault {
     }
 }
 
+impl From<AllocError> for Fault {
+    ghost from_gives = { λ _ fault. fault ≡ Memory };
+
+    fn from(_error: AllocError) -> Self {
+        Fault::Memory
+    }
+}
+
+impl<T: Drop> From<AllocFailed<T>> for Fault {
+    ghost from_gives = { λ _ fault. fault ≡ Memory };
+
+    fn from(_error: AllocFailed<T>) -> Self {
+        Fault::Memory
+    }
+}
+
 /// Why no session begins.
 #[derive(Clone, Copy, Debug, PartialEq, Eq, Error)]
 pub enum BeginFault {
@@ -85,4 +104,12 @@ pub enum BeginFault {
     /// An input of more than 1,048,576 bytes.
     #[error("the input is too large")]
     InputTooLarge,
+}
+
+impl From<AllocError> for BeginFault {
+    ghost from_gives = { λ _ fault. fault ≡ NoMemory };
+
+    fn from(_error: AllocError) -> Self {
+        BeginFault::Memory
+    }
 }

@@ -13,7 +13,7 @@
 //! | [`Session::trail`] | the machines that are held, on whose meter each step of a report was made |
 //! | [`serve`] | answers each line of any reader to any writer, or stops with a [`ServeFault`] |
 //! | [`setup_with`] | an input, Memcheck's settings of the heap, and the functions of the heap that a program has by name |
-//! | [`send`] | writes all of some bytes and flushes |
+//! | [`send`] | writes all of some bytes and flushes; a [`Sent`] says how many were taken |
 //! | [`laws::work_of_lines`] | nothing: its contract says what any lines cost in steps |
 //! | [`fakes`] | for tests: a reader and a writer over memory that fail where they are told to |
 //!
@@ -76,23 +76,18 @@
 //! and the limits are this project's.
 #![tactic(auto)]
 
-mod answering;
 mod command;
-mod endings;
 pub mod fakes;
 mod fault;
-mod keeper;
 pub mod laws;
 mod numbers;
 mod parsing;
 mod reply;
-mod sending;
-mod server;
 mod serving;
-mod texts;
+mod session;
 
 pub use fault::{BeginFault, Fault};
-pub use keeper::{LONGEST_INPUT, MOST_STEPS, Session, setup_with};
 pub use reply::Reply;
-pub use sending::send;
+pub use serving::send::{Sent, send};
 pub use serving::{READS, ServeFault, serve};
+pub use session::{LONGEST_INPUT, MOST_STEPS, Session, setup_with};

@@ -1,10 +1,16 @@
 //! A session over any reader and any writer.
+mod answer;
+mod line_end;
+pub(crate) mod send;
+mod server;
+mod texts;
+
 ghost use Rattle.std.specs.Prelude.{OnOk, IfErr};
 ghost use Rattle.replay_session.specs.Served.{ServedAll, ServedRead, StoppedBy};
 ghost use Rattle.replay_session.specs.Session.{ForEachScenario};
 
-use crate::keeper::Session;
-use crate::server::Server;
+use crate::serving::server::Server;
+use crate::session::Session;
 use std::io::{ErrorKind, Read, Write};
 use thiserror::Error;
 

@@ -7,7 +7,7 @@ use checkpoints::run_to;
 use guest_elf::Image;
 use guest_machine::{Machine, Meter};
 use replay_report::{Options, render};
-use replay_session::{LONGEST_INPUT, send, setup_with};
+use replay_session::{LONGEST_INPUT, Sent, send, setup_with};
 use std::alloc::{AllocError, Global};
 use std::io::Write;
 use suppressions::Suppression;
@@ -75,12 +75,12 @@ pub fn run_once<W: Write>(
     let Ok(text) = report_once(alloc, image, input, suppressions, step) else {
         return Err(RunFault::NoMemory);
     };
-    let (bytes, all) = send(writer, &text);
-    if all {
+    let Sent { taken, whole } = send(writer, &text);
+    if whole {
         Ok(())
     } else {
         Err(RunFault::WriteFailed {
-            bytes: bytes as u64,
+            bytes: taken as u64,
         })
     }
 }

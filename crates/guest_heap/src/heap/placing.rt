@@ -1,4 +1,4 @@
-// Places for new blocks.
+//! Places for new blocks.
 ghost use Rattle.std.specs.Prelude.{◌≡◌, ◌<◌, ◌≤◌, ◌+◌, ◌%◌, ◌^◌, ℕ, None};
 
 use crate::bounds::{Bound, SizeClass, class_of, past};
@@ -19,7 +19,7 @@ impl Heap {
     ghost use Rattle.guest_heap.specs.States.{AreNoPlaces};
     ghost use Rattle.guest_heap.specs.Bounds.{Holds};
 
-    // The least place from an address on, where there is none below it.
+    /// The least place from an address on, where there is none below it.
     fn place_from(&self, from: u64, size: u32, redzone: u32, known: &Bound) -> Option<u32>
         requires multiple { from % 16 ≡ 0 }
         requires above { 0x40000000 + redzone ≤ from }
@@ -44,7 +44,7 @@ impl Heap {
         None
     }
 
-    // The bounds are those of a red zone.
+    /// The bounds are those of a red zone.
     #[tactic(auto, unfolding(crate::specs::Heaps::blocks_of, crate::specs::Heaps::redzone_in))]
     fn use_redzone(&mut self, redzone: u32) -> Result<(), AllocError>
         ensures same { blocks_of self.new ≡ blocks_of self.old }
@@ -57,7 +57,7 @@ impl Heap {
         Ok(())
     }
 
-    // Raises the bound of a class to the least place of its least block, and answers it.
+    /// Raises the bound of a class to the least place of its least block, and answers it.
     #[tactic(auto, unfolding(crate::specs::Heaps::blocks_of, crate::specs::Heaps::redzone_in))]
     fn raise_bound(&mut self, class: &SizeClass) -> Bound
         requires index { class.now.index < 268 }
@@ -84,7 +84,7 @@ impl Heap {
         raised
     }
 
-    // The least place for a block.
+    /// The least place for a block.
     fn place(&mut self, size: u32, redzone: u32) -> Result<Option<u32>, AllocError>
         ensures same { blocks_of self.new ≡ blocks_of self.old }
         ensures place { IfOk result (λ start. Places (blocks_of self.new) size redzone start) }
@@ -98,7 +98,7 @@ impl Heap {
         Ok(self.place_from(from, size, redzone, &bound))
     }
 
-    // A new live block at a place.
+    /// A new live block at a place.
     fn put(&mut self, alloc: Global, block: Block) -> Result<(), AllocError>
         requires place { IsPlace (blocks_of self.old) block.size block.redzone block.start }
         requires live { block.freed ≡ None }

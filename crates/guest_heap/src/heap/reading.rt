@@ -1,4 +1,4 @@
-// What a heap answers of its blocks.
+//! What a heap answers of its blocks.
 ghost use Rattle.std.specs.Prelude.{◌≡◌, ◌≤◌, ℕ, None};
 ghost use Rattle.guest_heap.specs.Blocks.{near_of, high_end};
 
@@ -43,7 +43,7 @@ impl Heap {
     ghost use Rattle.guest_heap.specs.Steps.{near, live_from};
     ghost use Rattle.guest_heap.specs.Heaps.{blocks_of, live_in};
 
-    // The first live block from a place on.
+    /// The first live block from a place on.
     fn first_live(&self, slot: usize) -> Option<&Block>
         requires { slot ≤ 33554432 }
         ensures { IsNextKept (live_block (live_in self.now)) slot (option_copied result) }
@@ -57,7 +57,7 @@ impl Heap {
         }
     }
 
-    // The live block with the least start that isn't below an address.
+    /// The live block with the least start that isn't below an address.
     fn next_live(&self, from: u32) -> Option<Block>
         ensures some { IfSome result (λ b. IsFirstLive (blocks_of self.now).live from b) }
         ensures none { IfNone result ((a : ℕ) → from ≤ a → (blocks_of self.now).live a ≡ None) }
@@ -79,7 +79,7 @@ impl Heap {
         self.next_live(from)
     }
 
-    // The kept block whose interval holds an address, of which there is at most one, and how far from it the address is.
+    /// The kept block whose interval holds an address, of which there is at most one, and how far from it the address is.
     fn holding(&self, address: u32) -> Option<Near>
         ensures kept { IfSome result (λ near. IsKept (blocks_of self.now) near.block) }
         ensures holds { IfSome result (λ near. Holds near.block address) }

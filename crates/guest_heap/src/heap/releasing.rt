@@ -1,4 +1,4 @@
-// Blocks that are freed, and blocks that are forgotten.
+//! Blocks that are freed, and blocks that are forgotten.
 ghost use Rattle.std.specs.Prelude.{◌≡◌, ◌<◌, ◌≤◌, ◌∷◌, ◌++◌, [], None, Some};
 ghost use Rattle.guest_heap.specs.Blocks.{freed_by};
 
@@ -31,7 +31,7 @@ impl Heap {
     ghost use Rattle.guest_heap.specs.Steps.{released_blocks};
     ghost use Rattle.guest_heap.specs.Heaps.{blocks_of};
 
-    // The live block that begins at an address.
+    /// The live block that begins at an address.
     fn live_at(&self, address: u32) -> Option<&Block>
         ensures { option_copied result ≡ (blocks_of self.now).live address }
     {
@@ -52,7 +52,7 @@ impl Heap {
         }
     }
 
-    // A live block goes to the end of the queue.
+    /// A live block goes to the end of the queue.
     fn enqueue(&mut self, alloc: Global, block: &Block, trace: Trace) -> Result<(), AllocError>
         requires { (blocks_of self.old).live block.now.start ≡ Some block.now }
         ensures ok { OnOk result (blocks_of self.new ≡ queue_with (blocks_of self.old) (freed_by trace block.now)) }
@@ -83,7 +83,7 @@ impl Heap {
         Ok(())
     }
 
-    // The oldest block leaves the queue.
+    /// The oldest block leaves the queue.
     fn forget_oldest(&mut self, alloc: Global)
         ensures live { (blocks_of self.new).live ≡ (blocks_of self.old).live }
         ensures queue { (blocks_of self.new).queue ≡ drop 1 (blocks_of self.old).queue }
@@ -104,7 +104,7 @@ impl Heap {
         let _ = self.freed.set(alloc, slot_of(start), None);
     }
 
-    // The oldest blocks leave the queue, until the sizes in it sum to no more than a volume.
+    /// The oldest blocks leave the queue, until the sizes in it sum to no more than a volume.
     fn forget(&mut self, alloc: Global, volume: u32)
         ensures live { (blocks_of self.new).live ≡ (blocks_of self.old).live }
         ensures queue { IsLongestFitting volume (blocks_of self.old).queue (blocks_of self.new).queue }

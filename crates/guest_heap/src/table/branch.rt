@@ -1,4 +1,4 @@
-// 256 leaves in a row.
+//! 256 leaves in a row.
 ghost use Rattle.std.specs.Prelude.{◌≡◌, ℕ, ◌<◌, ◌≤◌, ◌%◌, ◌/◌, vec_len, OnOk, OnErr, IfOk, None};
 ghost use Rattle.guest_heap.specs.Unused.{AreUnused};
 
@@ -72,7 +72,7 @@ impl Branch {
         Ok(())
     }
 
-    // Leaves that went from the end are no longer in use.
+    /// Leaves that went from the end are no longer in use.
     fn shrink(&mut self)
         ensures { entries_under self.new ≡ entries_under self.old }
     {

@@ -1,4 +1,4 @@
-// Parts of a table that may be absent, or shared.
+//! Parts of a table that may be absent, or shared.
 ghost use Rattle.std.specs.Prelude.{◌≡◌, ◌<◌, ◌≤◌, OnOk, OnErr};
 ghost use Rattle.guest_heap.specs.Entries.{entry_of, with_entry, IsNext, IsLast};
 ghost use Rattle.guest_heap.specs.Branches.{entries_at};

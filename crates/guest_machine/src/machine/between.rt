@@ -6,8 +6,8 @@ ghost use Rattle.guest_machine.specs.State.{State};
 ghost use Rattle.guest_machine.specs.Run.{start_state, marked, poked};
 ghost use Rattle.guest_machine.specs.Shows.{Holds, Shows};
 
-use crate::machine::fields::known;
-use crate::machine::{Counts, Guest, Machine};
+use crate::machine::registers::known;
+use crate::machine::{Guest, Machine, Progress};
 use crate::setup::Mark;
 use crate::status::Status;
 use call_stacks::CallStack;
@@ -17,10 +17,10 @@ use guest_heap::Heap;
 use shadow_memory::Memory;
 use std::alloc::{AllocError, Global};
 
-// Where the stack pointer points at the start, at sixteen bytes that may be used.
-const STACK_START: u32 = 0x7FFF_FFF0;
-
-const STACK_ROOM: u32 = 16;
+/// Where the stack pointer points at the start.
+const FIRST_STACK_POINTER: u32 = 0x7FFF_FFF0;
+/// How many bytes may be used from there on.
+const FIRST_STACK_BYTES: u32 = 16;
 
 impl Guest {
     fn start(alloc: Global, image: &Image) -> Result<Guest, AllocError>
@@ -28,9 +28,9 @@ impl Guest {
     {
         let mut memory = Memory::new(alloc);
         load_segments(&mut memory, image.segments())?;
-        memory.fill(STACK_START, STACK_ROOM, &[])?;
+        memory.fill(FIRST_STACK_POINTER, FIRST_STACK_BYTES, &[])?;
         let mut registers = [known(0); 32];
-        registers[2] = known(STACK_START);
+        registers[2] = known(FIRST_STACK_POINTER);
         Ok(Guest {
             alloc,
             memory,
@@ -39,7 +39,7 @@ impl Guest {
             status: Status::Running,
             frames: CallStack::new(alloc)?,
             heap: Heap::new(alloc),
-            counts: Counts {
+            progress: Progress {
                 position: 0,
                 end_seen: false,
                 output_len: 0,
@@ -74,7 +74,7 @@ impl Guest {
             status: self.status,
             frames: self.frames.share()?,
             heap: self.heap.share()?,
-            counts: self.counts,
+            progress: self.progress,
             groups: self.groups.share()?,
         })
     }

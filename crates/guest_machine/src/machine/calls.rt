@@ -8,7 +8,7 @@ ghost use Rattle.guest_machine.specs.Exec.{no_intake, nothing, given_at, read_us
 ghost use Rattle.guest_machine.specs.Shows.{core_of, bytes_of};
 ghost use Rattle.guest_machine.specs.Doing.{uses_by, read_intake, Raises, Does, DoesRow, DoesRead, DoesWrite};
 
-use crate::call::Call;
+use crate::environment_call::EnvironmentCall;
 use crate::instruction::Instruction;
 use crate::machine::Guest;
 use crate::machine::step::{NOTHING, Used};
@@ -20,25 +20,25 @@ use guest_elf::Hook;
 use shadow_memory::Bad;
 use std::alloc::AllocError;
 
-// The registers of a call's arguments and of its number.
+/// The register of a call's first argument, and of its answer.
 pub(super) const A0: u8 = 10;
-
+/// The register of a call's second argument.
 pub(super) const A1: u8 = 11;
-
+/// The register of a call's third argument.
 const A2: u8 = 12;
-
+/// The register of a call's number.
 const A7: u8 = 17;
 
-// The most bytes that one call moves, and the bytes of output that there is room for.
+/// The most bytes that one call moves.
 const MOST_MOVED: u32 = 4096;
-
+/// The bytes of output that there is room for.
 const OUTPUT_ROOM: u64 = 65_536;
 
-// What a call that fails answers: EBADF, ENOSPC and ENOSYS negated, modulo 2^32.
+/// EBADF negated, modulo 2^32: what a call answers that names no open file.
 const BAD_DESCRIPTOR: u32 = u32::MAX - 8;
-
+/// ENOSPC negated: what a `write` answers that has no room.
 const NO_SPACE: u32 = u32::MAX - 27;
-
+/// ENOSYS negated: what a call answers whose number is unknown.
 const NO_SUCH_CALL: u32 = u32::MAX - 37;
 
 impl Guest {
@@ -64,7 +64,7 @@ impl Guest {
     fn test_one(&mut self, first: Parameter) -> Result<(), AllocError>
         ensures core { OnOk result (core_of self.new ≡ tested_from (core_of self.old) 10 (first ∷ [])) }
         ensures memory { self.new.memory ≡ self.old.memory }
-        ensures counts { self.new.counts ≡ self.old.counts }
+        ensures progress { self.new.progress ≡ self.old.progress }
         ensures heap { self.new.heap ≡ self.old.heap }
         ensures groups { OnOk result (Raises self.old self.new (errors_from (core_of self.old) 10 (first ∷ []))) }
     {
@@ -76,7 +76,7 @@ impl Guest {
     fn test_two(&mut self, first: Parameter, second: Parameter) -> Result<(), AllocError>
         ensures core { OnOk result (core_of self.new ≡ tested_from (core_of self.old) 10 (first ∷ second ∷ [])) }
         ensures memory { self.new.memory ≡ self.old.memory }
-        ensures counts { self.new.counts ≡ self.old.counts }
+        ensures progress { self.new.progress ≡ self.old.progress }
         ensures heap { self.new.heap ≡ self.old.heap }
         ensures groups { OnOk result (Raises self.old self.new (errors_from (core_of self.old) 10 (first ∷ second ∷ []))) }
     {
@@ -94,7 +94,7 @@ impl Guest {
     ) -> Result<(), AllocError>
         ensures core { OnOk result (core_of self.new ≡ tested_from (core_of self.old) 10 (first ∷ second ∷ third ∷ [])) }
         ensures memory { self.new.memory ≡ self.old.memory }
-        ensures counts { self.new.counts ≡ self.old.counts }
+        ensures progress { self.new.progress ≡ self.old.progress }
         ensures heap { self.new.heap ≡ self.old.heap }
         ensures groups { OnOk result (Raises self.old self.new (errors_from (core_of self.old) 10 (first ∷ second ∷ third ∷ []))) }
     {
@@ -108,7 +108,7 @@ impl Guest {
     pub(super) fn test_heap(&mut self, function: Hook) -> Result<(), AllocError>
         ensures core { OnOk result (core_of self.new ≡ tested_from (core_of self.old) 10 (heap_parameters function)) }
         ensures memory { self.new.memory ≡ self.old.memory }
-        ensures counts { self.new.counts ≡ self.old.counts }
+        ensures progress { self.new.progress ≡ self.old.progress }
         ensures heap { self.new.heap ≡ self.old.heap }
         ensures groups { OnOk result (Raises self.old self.new (errors_from (core_of self.old) 10 (heap_parameters function))) }
     {
@@ -122,35 +122,35 @@ impl Guest {
 
     /// Tests a call's number, and then its parameters in order.
     #[tactic(auto, unfolding(crate::specs::Calls::parameters_of, crate::specs::Calls::tested_from, crate::specs::Calls::errors_from, error_events::specs::Adding::add_events), using(crate::proofs::Showing::add_events_append))]
-    pub(super) fn test_call(&mut self, call: Call) -> Result<(), AllocError>
+    pub(super) fn test_call(&mut self, call: EnvironmentCall) -> Result<(), AllocError>
         ensures core { OnOk result (core_of self.new ≡ call_tested (core_of self.old) call) }
         ensures memory { self.new.memory ≡ self.old.memory }
-        ensures counts { self.new.counts ≡ self.old.counts }
+        ensures progress { self.new.progress ≡ self.old.progress }
         ensures heap { self.new.heap ≡ self.old.heap }
         ensures groups { OnOk result (Raises self.old self.new (call_errors (core_of self.old) call)) }
     {
         self.test_parameter(Register::new(A7), Parameter::SyscallNumber)?;
         match call {
-            Call::Read => self.test_three(
+            EnvironmentCall::Read => self.test_three(
                 Parameter::ReadFd,
                 Parameter::ReadBuffer,
                 Parameter::ReadCount,
             ),
-            Call::Write => self.test_three(
+            EnvironmentCall::Write => self.test_three(
                 Parameter::WriteFd,
                 Parameter::WriteBuffer,
                 Parameter::WriteCount,
             ),
-            Call::Exit => self.test_one(Parameter::ExitStatus),
-            Call::ExitGroup => self.test_one(Parameter::ExitGroupStatus),
-            Call::Heap(function) => self.test_heap(function),
-            Call::Unknown => Ok(()),
+            EnvironmentCall::Exit => self.test_one(Parameter::ExitStatus),
+            EnvironmentCall::ExitGroup => self.test_one(Parameter::ExitGroupStatus),
+            EnvironmentCall::Heap(function) => self.test_heap(function),
+            EnvironmentCall::Unknown => Ok(()),
         }
     }
 
     /// A call that only answers.
     #[tactic(auto, unfolding(error_events::specs::Adding::add_events))]
-    fn test_and_answer(&mut self, call: Call, n: u32) -> Result<(), AllocError>
+    fn test_and_answer(&mut self, call: EnvironmentCall, n: u32) -> Result<(), AllocError>
         ensures { OnOk result (Does self.old self.new (answers (core_of self.old) call n) nothing false no_intake) }
     {
         self.test_call(call)?;
@@ -164,7 +164,7 @@ impl Guest {
         requires { length given.now ≤ 4096 }
         ensures core { OnOk result (core_of self.new ≡ stored_core (core_of self.old) start (length given.now) 0) }
         ensures bytes { OnOk result (bytes_of self.new ≡ written (bytes_of self.old) start (length given.now) (slice_index given.now)) }
-        ensures counts { self.new.counts ≡ self.old.counts }
+        ensures progress { self.new.progress ≡ self.old.progress }
         ensures groups { self.new.groups ≡ self.old.groups }
     {
         self.memory.store_bytes(start, given)?;
@@ -182,7 +182,7 @@ impl Guest {
     ) -> Result<(), AllocError>
         ensures core { core_of self.new ≡ core_of self.old }
         ensures memory { self.new.memory ≡ self.old.memory }
-        ensures counts { self.new.counts ≡ self.old.counts }
+        ensures progress { self.new.progress ≡ self.old.progress }
         ensures groups { OnOk result (Raises self.old self.new (buffer_errors (core_of self.old) parameter need_defined start n)) }
     {
         if let Some(bad) = self.memory.first_bad(start, n, need_defined) {
@@ -195,22 +195,22 @@ impl Guest {
 
     /// Counts n bytes of the input as read, of those that were asked for.
     fn note_read(&mut self, asked: u32, n: u32)
-        requires { self.old.counts.position + n < 2 ^ 64 }
+        requires { self.old.progress.position + n < 2 ^ 64 }
         ensures core { core_of self.new ≡ core_of self.old }
         ensures memory { self.new.memory ≡ self.old.memory }
-        ensures position { self.new.counts.position ≡ self.old.counts.position + n }
-        ensures end_seen { self.new.counts.end_seen ≡ seen_also self.old.counts.end_seen (nat_lt n asked) }
-        ensures output { self.new.counts.output_len ≡ self.old.counts.output_len }
-        ensures heap_calls { self.new.counts.heap_calls ≡ self.old.counts.heap_calls }
+        ensures position { self.new.progress.position ≡ self.old.progress.position + n }
+        ensures end_seen { self.new.progress.end_seen ≡ seen_also self.old.progress.end_seen (nat_lt n asked) }
+        ensures output { self.new.progress.output_len ≡ self.old.progress.output_len }
+        ensures heap_calls { self.new.progress.heap_calls ≡ self.old.progress.heap_calls }
         ensures groups { self.new.groups ≡ self.old.groups }
     {
-        self.counts.position += u64::from(n);
+        self.progress.position += u64::from(n);
         if n < asked {
-            self.counts.end_seen = true;
+            self.progress.end_seen = true;
         }
     }
 
-    fn exit_call(&mut self, call: Call) -> Result<(), AllocError>
+    fn exit_call(&mut self, call: EnvironmentCall) -> Result<(), AllocError>
         ensures { OnOk result (Does self.old self.new (exit_call (core_of self.old) call) nothing false no_intake) }
     {
         let code = (self.argument(A0) % 256) as u8;
@@ -225,14 +225,14 @@ impl Guest {
         ensures writes { IfOk result (λ written. written ≡ (read_uses (core_of self.old) (read_intake self.old setup.now).count).writes) }
     {
         if self.argument(A0) != 0 {
-            self.test_and_answer(Call::Read, BAD_DESCRIPTOR)?;
+            self.test_and_answer(EnvironmentCall::Read, BAD_DESCRIPTOR)?;
             return Ok(None);
         }
         let start = self.argument(A1);
         let asked = self.moved_len();
-        let given = given(setup, self.counts.position, asked);
+        let given = given(setup, self.progress.position, asked);
         let n = given.len() as u32;
-        self.test_call(Call::Read)?;
+        self.test_call(EnvironmentCall::Read)?;
         self.test_buffer(Parameter::ReadBuffer, false, start, asked)?;
         self.store_input(start, given)?;
         self.note_read(asked, n);
@@ -244,22 +244,22 @@ impl Guest {
     #[tactic(auto, unfolding(crate::specs::Calls::write_call, crate::specs::Calls::appends, error_events::specs::Adding::add_events), using(crate::proofs::Showing::add_events_append, crate::proofs::Showing::length_taken))]
     fn write_call(&mut self) -> Result<Option<Span>, AllocError>
         ensures does { OnOk result (DoesWrite self.old self.new) }
-        ensures reads { IfOk result (λ taken. taken ≡ (write_uses (core_of self.old) self.old.counts.output_len).reads) }
+        ensures reads { IfOk result (λ taken. taken ≡ (write_uses (core_of self.old) self.old.progress.output_len).reads) }
     {
         let descriptor = self.argument(A0);
         if descriptor != 1 && descriptor != 2 {
-            self.test_and_answer(Call::Write, BAD_DESCRIPTOR)?;
+            self.test_and_answer(EnvironmentCall::Write, BAD_DESCRIPTOR)?;
             return Ok(None);
         }
         let start = self.argument(A1);
         let len = self.moved_len();
         if !self.has_room(len) {
-            self.test_and_answer(Call::Write, NO_SPACE)?;
+            self.test_and_answer(EnvironmentCall::Write, NO_SPACE)?;
             return Ok(None);
         }
-        self.test_call(Call::Write)?;
+        self.test_call(EnvironmentCall::Write)?;
         self.test_buffer(Parameter::WriteBuffer, true, start, len)?;
-        self.counts.output_len += u64::from(len);
+        self.progress.output_len += u64::from(len);
         self.answer(len);
         self.advance();
         Ok(Some(Span { start, len }))
@@ -268,42 +268,42 @@ impl Guest {
     /// Is there room for so many more bytes of output?
     fn has_room(&self, len: u32) -> bool
         requires { len ≤ 4096 }
-        ensures { result ≡ nat_le (self.now.counts.output_len + len) output_room }
+        ensures { result ≡ nat_le (self.now.progress.output_len + len) output_room }
     {
-        let written = self.counts.output_len;
+        let written = self.progress.output_len;
         written <= OUTPUT_ROOM && written + u64::from(len) <= OUTPUT_ROOM
     }
 
     /// Carries ECALL out, and says which bytes it took and which it wrote.
     #[tactic(auto, unfolding(crate::specs::Calls::call_at, crate::specs::Exec::call_effect, crate::specs::Exec::call_uses, crate::specs::Exec::calls_heap, crate::specs::Exec::row_asks, crate::specs::Exec::call_asks, crate::specs::Exec::row_uses, crate::specs::Exec::row_effect))]
-    pub(super) fn call(&mut self, setup: &Setup) -> Result<Used, AllocError>
-        ensures does { OnOk result (DoesRow self.old self.new (Some Instruction.Call) setup.now) }
-        ensures reads { IfOk result (λ used. used.reads ≡ (uses_by self.old (Some Instruction.Call) setup.now).reads) }
-        ensures writes { IfOk result (λ used. used.writes ≡ (uses_by self.old (Some Instruction.Call) setup.now).writes) }
+    pub(super) fn call_environment(&mut self, setup: &Setup) -> Result<Used, AllocError>
+        ensures does { OnOk result (DoesRow self.old self.new (Some Instruction.CallEnvironment) setup.now) }
+        ensures reads { IfOk result (λ used. used.reads ≡ (uses_by self.old (Some Instruction.CallEnvironment) setup.now).reads) }
+        ensures writes { IfOk result (λ used. used.writes ≡ (uses_by self.old (Some Instruction.CallEnvironment) setup.now).writes) }
     {
-        let call = Call::of(self.argument(A7));
+        let call = EnvironmentCall::of(self.argument(A7));
         match call {
-            Call::Read => {
+            EnvironmentCall::Read => {
                 let writes = self.read_call(setup)?;
                 Ok(Used {
                     reads: None,
                     writes,
                 })
             }
-            Call::Write => {
+            EnvironmentCall::Write => {
                 let reads = self.write_call()?;
                 Ok(Used {
                     reads,
                     writes: None,
                 })
             }
-            Call::Exit | Call::ExitGroup => {
+            EnvironmentCall::Exit | EnvironmentCall::ExitGroup => {
                 self.exit_call(call)?;
                 Ok(NOTHING)
             }
-            Call::Heap(function) => self.heap_call(function, setup),
-            Call::Unknown => {
-                self.test_and_answer(Call::Unknown, NO_SUCH_CALL)?;
+            EnvironmentCall::Heap(function) => self.heap_call(function, setup),
+            EnvironmentCall::Unknown => {
+                self.test_and_answer(EnvironmentCall::Unknown, NO_SUCH_CALL)?;
                 Ok(NOTHING)
             }
         }

@@ -7,17 +7,18 @@ ghost use Rattle.guest_machine.specs.Shows.{core_of};
 ghost use Rattle.guest_machine.specs.Doing.{Raises};
 
 use crate::alu::is_undecided;
-use crate::instruction::Test;
+use crate::instruction::Comparison;
 use crate::machine::Guest;
 use crate::register::Register;
 use error_events::{Event, Fault3, Kind, Note, Parameter};
+use guest_elf::{STACK_BEGIN, STACK_END};
 use std::alloc::AllocError;
 
 /// What is said of an address that is near no block.
 fn region_note(addr: u32) -> Note
     ensures { result ≡ region_note addr }
 {
-    if 0x7F00_0000 <= addr && addr < 0x8000_0000 {
+    if STACK_BEGIN <= addr && addr < STACK_END {
         Note::Stack(addr)
     } else {
         Note::Elsewhere(addr)
@@ -41,7 +42,7 @@ impl Guest {
     pub(super) fn raise(&mut self, kind: Kind, note: Note) -> Result<(), AllocError>
         ensures core { core_of self.new ≡ core_of self.old }
         ensures memory { self.new.memory ≡ self.old.memory }
-        ensures counts { self.new.counts ≡ self.old.counts }
+        ensures progress { self.new.progress ≡ self.old.progress }
         ensures heap { self.new.heap ≡ self.old.heap }
         ensures groups { OnOk result (Raises self.old self.new (event_of (here (core_of self.old)) kind note ∷ [])) }
     {
@@ -54,7 +55,7 @@ impl Guest {
     pub(super) fn raise_unless(&mut self, fine: bool, kind: Kind) -> Result<(), AllocError>
         ensures core { core_of self.new ≡ core_of self.old }
         ensures memory { self.new.memory ≡ self.old.memory }
-        ensures counts { self.new.counts ≡ self.old.counts }
+        ensures progress { self.new.progress ≡ self.old.progress }
         ensures groups { OnOk result (Raises self.old self.new (event_unless fine (here (core_of self.old)) kind)) }
     {
         if !fine {
@@ -69,7 +70,7 @@ impl Guest {
     pub(super) fn raise_about(&mut self, kind: Kind, fault: Option<u32>) -> Result<(), AllocError>
         ensures core { core_of self.new ≡ core_of self.old }
         ensures memory { self.new.memory ≡ self.old.memory }
-        ensures counts { self.new.counts ≡ self.old.counts }
+        ensures progress { self.new.progress ≡ self.old.progress }
         ensures groups { OnOk result (Raises self.old self.new (event_about (core_of self.old).blocks (here (core_of self.old)) kind fault)) }
     {
         if let Some(addr) = fault {
@@ -84,7 +85,7 @@ impl Guest {
     fn test(&mut self, r: Register, kind: Kind) -> Result<(), AllocError>
         ensures core { OnOk result (core_of self.new ≡ tested (core_of self.old) r) }
         ensures memory { self.new.memory ≡ self.old.memory }
-        ensures counts { self.new.counts ≡ self.old.counts }
+        ensures progress { self.new.progress ≡ self.old.progress }
         ensures heap { self.new.heap ≡ self.old.heap }
         ensures groups { OnOk result (Raises self.old self.new (register_errors (core_of self.old) r kind)) }
     {
@@ -99,7 +100,7 @@ impl Guest {
     pub(super) fn test_value(&mut self, r: Register) -> Result<(), AllocError>
         ensures core { OnOk result (core_of self.new ≡ tested (core_of self.old) r) }
         ensures memory { self.new.memory ≡ self.old.memory }
-        ensures counts { self.new.counts ≡ self.old.counts }
+        ensures progress { self.new.progress ≡ self.old.progress }
         ensures heap { self.new.heap ≡ self.old.heap }
         ensures groups { OnOk result (Raises self.old self.new (value_errors (core_of self.old) r)) }
     {
@@ -114,7 +115,7 @@ impl Guest {
     ) -> Result<(), AllocError>
         ensures core { OnOk result (core_of self.new ≡ tested (core_of self.old) r) }
         ensures memory { self.new.memory ≡ self.old.memory }
-        ensures counts { self.new.counts ≡ self.old.counts }
+        ensures progress { self.new.progress ≡ self.old.progress }
         ensures heap { self.new.heap ≡ self.old.heap }
         ensures groups { OnOk result (Raises self.old self.new (parameter_errors (core_of self.old) r parameter)) }
     {
@@ -125,16 +126,16 @@ impl Guest {
     #[tactic(auto, unfolding(crate::specs::Effects::branch_tested, crate::specs::Errors::event_unless, error_events::specs::Adding::add_events))]
     pub(super) fn test_branch(
         &mut self,
-        test: Test,
+        comparison: Comparison,
         rs1: Register,
         rs2: Register,
     ) -> Result<(), AllocError>
-        ensures core { OnOk result (core_of self.new ≡ branch_tested (core_of self.old) test rs1 rs2) }
+        ensures core { OnOk result (core_of self.new ≡ branch_tested (core_of self.old) comparison rs1 rs2) }
         ensures memory { self.new.memory ≡ self.old.memory }
-        ensures counts { self.new.counts ≡ self.old.counts }
-        ensures groups { OnOk result (Raises self.old self.new (branch_errors (core_of self.old) test rs1 rs2)) }
+        ensures progress { self.new.progress ≡ self.old.progress }
+        ensures groups { OnOk result (Raises self.old self.new (branch_errors (core_of self.old) comparison rs1 rs2)) }
     {
-        if is_undecided(test, self.read_register(rs1), self.read_register(rs2)) {
+        if is_undecided(comparison, self.read_register(rs1), self.read_register(rs2)) {
             self.raise(Kind::Cond, Note::Absent)?;
             self.define(rs1);
             self.define(rs2);

@@ -3,6 +3,7 @@ ghost use Rattle.std.specs.Prelude.{◌≡◌, ◌+◌, ◌*◌, ◌≤◌, ◌<
 ghost use Rattle.std.specs.Option.{option_map};
 ghost use Rattle.shadow_memory.specs.Ranges.{written, window};
 ghost use Rattle.shadow_memory.specs.Changes.{AreApart};
+ghost use Rattle.guest_heap.specs.Blocks.{heap_end};
 ghost use Rattle.guest_heap.specs.Steps.{place};
 ghost use Rattle.guest_machine.specs.StackPointer.{ranged};
 ghost use Rattle.guest_machine.specs.HeapCalls.{placed, closed, carved, copied, IsClearOf, given_block, freed, released_here, is_invalid, free_errors, moving_in, resizing, resized, resize_errors};
@@ -13,7 +14,7 @@ ghost use Rattle.guest_machine.specs.Spans.{span_at};
 ghost use Rattle.guest_machine.specs.Shows.{core_of, bytes_of};
 ghost use Rattle.guest_machine.specs.Doing.{Raises, DoesWork, DoesHeapCall};
 
-use crate::call::Call;
+use crate::environment_call::EnvironmentCall;
 use crate::machine::Guest;
 use crate::machine::calls::{A0, A1};
 use crate::machine::step::{NOTHING, Used};
@@ -32,10 +33,10 @@ impl Guest {
     fn take_place(&mut self, size: u32, redzone: u32) -> Result<Option<u32>, AllocError>
         ensures place { IfOk result (λ found. found ≡ place (core_of self.old).blocks size redzone) }
         ensures core { IfOk result (λ found. core_of self.new ≡ placed (core_of self.old) found size redzone) }
-        ensures within { IfOk result (λ found. IfSome found (λ p. (redzone ≤ p) × (p + max size 1 + redzone ≤ 0x60000000))) }
+        ensures within { IfOk result (λ found. IfSome found (λ p. (redzone ≤ p) × (p + max size 1 + redzone ≤ heap_end))) }
         ensures apart { IfOk result (λ found. IfSome found (IsClearOf (core_of self.old).blocks size redzone)) }
         ensures memory { self.new.memory ≡ self.old.memory }
-        ensures counts { self.new.counts ≡ self.old.counts }
+        ensures progress { self.new.progress ≡ self.old.progress }
         ensures groups { self.new.groups ≡ self.old.groups }
     {
         let trace = self.frames.trace(self.pc);
@@ -46,10 +47,10 @@ impl Guest {
     /// Makes a block's interval inaccessible.
     fn close(&mut self, p: u32, size: u32, redzone: u32) -> Result<(), AllocError>
         requires low { redzone ≤ p }
-        requires high { p + max size 1 + redzone ≤ 0x60000000 }
+        requires high { p + max size 1 + redzone ≤ heap_end }
         ensures core { OnOk result (core_of self.new ≡ closed (core_of self.old) p size redzone) }
         ensures bytes { OnOk result (bytes_of self.new ≡ bytes_of self.old) }
-        ensures counts { self.new.counts ≡ self.old.counts }
+        ensures progress { self.new.progress ≡ self.old.progress }
         ensures groups { self.new.groups ≡ self.old.groups }
     {
         let len = redzone + size.max(1) + redzone;
@@ -59,10 +60,10 @@ impl Guest {
     /// Makes a block's interval inaccessible, and then its bytes accessible and undefined.
     fn carve(&mut self, p: u32, size: u32, redzone: u32) -> Result<(), AllocError>
         requires low { redzone ≤ p }
-        requires high { p + max size 1 + redzone ≤ 0x60000000 }
+        requires high { p + max size 1 + redzone ≤ heap_end }
         ensures core { OnOk result (core_of self.new ≡ carved (core_of self.old) p size redzone RangeKind.Undefined) }
         ensures bytes { OnOk result (bytes_of self.new ≡ bytes_of self.old) }
-        ensures counts { self.new.counts ≡ self.old.counts }
+        ensures progress { self.new.progress ≡ self.old.progress }
         ensures groups { self.new.groups ≡ self.old.groups }
     {
         self.close(p, size, redzone)?;
@@ -74,7 +75,7 @@ impl Guest {
     fn write_zeros(&mut self, start: u32, len: u32) -> Result<(), AllocError>
         ensures core { OnOk result (core_of self.new ≡ ranged (core_of self.old) start len RangeKind.Defined) }
         ensures bytes { OnOk result (bytes_of self.new ≡ written (bytes_of self.old) start len no_bytes) }
-        ensures counts { self.new.counts ≡ self.old.counts }
+        ensures progress { self.new.progress ≡ self.old.progress }
         ensures groups { self.new.groups ≡ self.old.groups }
     {
         self.memory.fill(start, len, &[])?;
@@ -86,7 +87,7 @@ impl Guest {
     fn give_block(&mut self, size: u32, redzone: u32) -> Result<(), AllocError>
         ensures core { OnOk result (core_of self.new ≡ given_block (core_of self.old) size redzone RangeKind.Undefined) }
         ensures bytes { OnOk result (bytes_of self.new ≡ bytes_of self.old) }
-        ensures counts { self.new.counts ≡ self.old.counts }
+        ensures progress { self.new.progress ≡ self.old.progress }
         ensures groups { self.new.groups ≡ self.old.groups }
     {
         match self.take_place(size, redzone)? {
@@ -105,7 +106,7 @@ impl Guest {
         ensures core { OnOk result (core_of self.new ≡ given_block (core_of self.old) size redzone RangeKind.Defined) }
         ensures span { IfOk result (λ span. span ≡ option_map (λ p. span_at p size) (place (core_of self.old).blocks size redzone)) }
         ensures bytes { IfOk result (λ span. bytes_of self.new ≡ written_to (bytes_of self.old) span no_bytes) }
-        ensures counts { self.new.counts ≡ self.old.counts }
+        ensures progress { self.new.progress ≡ self.old.progress }
         ensures groups { self.new.groups ≡ self.old.groups }
     {
         match self.take_place(size, redzone)? {
@@ -139,14 +140,14 @@ impl Guest {
     fn count_heap_call(&mut self)
         ensures core { core_of self.new ≡ core_of self.old }
         ensures memory { self.new.memory ≡ self.old.memory }
-        ensures position { self.new.counts.position ≡ self.old.counts.position }
-        ensures end_seen { self.new.counts.end_seen ≡ self.old.counts.end_seen }
-        ensures output { self.new.counts.output_len ≡ self.old.counts.output_len }
-        ensures counted { self.new.counts.heap_calls ≡ min (self.old.counts.heap_calls + 1) u64.MAX }
+        ensures position { self.new.progress.position ≡ self.old.progress.position }
+        ensures end_seen { self.new.progress.end_seen ≡ self.old.progress.end_seen }
+        ensures output { self.new.progress.output_len ≡ self.old.progress.output_len }
+        ensures counted { self.new.progress.heap_calls ≡ min (self.old.progress.heap_calls + 1) u64.MAX }
         ensures heap { self.new.heap ≡ self.old.heap }
         ensures groups { self.new.groups ≡ self.old.groups }
     {
-        self.counts.heap_calls = self.counts.heap_calls.saturating_add(1);
+        self.progress.heap_calls = self.progress.heap_calls.saturating_add(1);
     }
 
     /// A block for so many members of a size, with zeros in it; where they are is told.
@@ -160,7 +161,7 @@ impl Guest {
         ensures core { OnOk result (core_of self.new ≡ given_block (core_of self.old) (members * size) redzone RangeKind.Defined) }
         ensures span { IfOk result (λ span. span ≡ (calloc_uses (core_of self.old).blocks (members * size) redzone).writes) }
         ensures bytes { IfOk result (λ span. bytes_of self.new ≡ written_to (bytes_of self.old) span no_bytes) }
-        ensures counts { self.new.counts ≡ self.old.counts }
+        ensures progress { self.new.progress ≡ self.old.progress }
         ensures groups { self.new.groups ≡ self.old.groups }
     {
         let size = u64::from(members) * u64::from(size);
@@ -180,7 +181,7 @@ impl Guest {
         ensures core { OnOk result (core_of self.new ≡ freed (core_of self.old) (released_here (core_of self.old) p) volume) }
         ensures invalid { IfOk result (λ invalid. invalid ≡ is_invalid (released_here (core_of self.old) p)) }
         ensures bytes { OnOk result (bytes_of self.new ≡ bytes_of self.old) }
-        ensures counts { self.new.counts ≡ self.old.counts }
+        ensures progress { self.new.progress ≡ self.old.progress }
         ensures groups { self.new.groups ≡ self.old.groups }
     {
         let trace = self.frames.trace(self.pc);
@@ -200,7 +201,7 @@ impl Guest {
     fn free(&mut self, p: u32, volume: u32) -> Result<(), AllocError>
         ensures core { OnOk result (core_of self.new ≡ answered (freed (core_of self.old) (released_here (core_of self.old) p) volume) 0) }
         ensures bytes { OnOk result (bytes_of self.new ≡ bytes_of self.old) }
-        ensures counts { self.new.counts ≡ self.old.counts }
+        ensures progress { self.new.progress ≡ self.old.progress }
         ensures groups { OnOk result (Raises self.old self.new (free_errors (core_of self.old) (released_here (core_of self.old) p) p)) }
     {
         if self.release(p, volume)? {
@@ -228,7 +229,7 @@ impl Guest {
         requires { AreApart from to n }
         ensures core { OnOk result (core_of self.new ≡ copied (core_of self.old) from to n) }
         ensures bytes { OnOk result (bytes_of self.new ≡ written (bytes_of self.old) to n (window (bytes_of self.old) from n)) }
-        ensures counts { self.new.counts ≡ self.old.counts }
+        ensures progress { self.new.progress ≡ self.old.progress }
         ensures groups { self.new.groups ≡ self.old.groups }
     {
         self.memory.copy_with_shadow(from, to, n)?;
@@ -245,11 +246,12 @@ impl Guest {
         volume: u32,
     ) -> Result<Used, AllocError>
         requires live { (core_of self.old).blocks.live block.start ≡ Some block }
-        ensures core { OnOk result (core_of self.new ≡ resized (core_of self.old) block.start size redzone volume (moving_in (core_of self.old).blocks block size redzone)) }
+        ensures core { OnOk result (core_of self.new
+            ≡ resized (core_of self.old) block.start size redzone volume (moving_in (core_of self.old).blocks block size redzone)) }
         ensures reads { IfOk result (λ used. used.reads ≡ moved_from (moving_in (core_of self.old).blocks block size redzone) block.start size) }
         ensures writes { IfOk result (λ used. used.writes ≡ moved_into (moving_in (core_of self.old).blocks block size redzone) size) }
         ensures bytes { IfOk result (λ used. bytes_of self.new ≡ written_to (bytes_of self.old) used.writes (taken_from (bytes_of self.old) used.reads)) }
-        ensures counts { self.new.counts ≡ self.old.counts }
+        ensures progress { self.new.progress ≡ self.old.progress }
         ensures groups { self.new.groups ≡ self.old.groups }
     {
         self.heap.in_region();
@@ -280,7 +282,7 @@ impl Guest {
         ensures reads { IfOk result (λ used. used.reads ≡ moved_from (resizing (core_of self.old).blocks p size redzone) p size) }
         ensures writes { IfOk result (λ used. used.writes ≡ moved_into (resizing (core_of self.old).blocks p size redzone) size) }
         ensures bytes { IfOk result (λ used. bytes_of self.new ≡ written_to (bytes_of self.old) used.writes (taken_from (bytes_of self.old) used.reads)) }
-        ensures counts { self.new.counts ≡ self.old.counts }
+        ensures progress { self.new.progress ≡ self.old.progress }
         ensures groups { OnOk result (Raises self.old self.new (resize_errors (core_of self.old) p (resizing (core_of self.old).blocks p size redzone))) }
     {
         if p == 0 {
@@ -344,7 +346,7 @@ impl Guest {
     {
         let x = self.argument(A0);
         let y = self.argument(A1);
-        self.test_call(Call::Heap(function))?;
+        self.test_call(EnvironmentCall::Heap(function))?;
         let used = self.heap_work(function, x, y, setup)?;
         self.advance();
         Ok(used)

@@ -11,7 +11,7 @@ use crate::status::Stop;
 use guest_elf::Hook;
 use std::alloc::AllocError;
 
-// The register of the address that a function returns to.
+/// The register of the address that a function returns to.
 const RA: u8 = 1;
 
 impl Guest {

@@ -36,28 +36,28 @@ impl Machine {
     pub fn position(&self) -> u64
         ensures { (s : State) → Shows self.now s → result ≡ s.position }
     {
-        self.guest.counts.position
+        self.guest.progress.position
     }
 
     /// Whether a read of the input has asked for more bytes than were left.
     pub fn end_seen(&self) -> bool
         ensures { (s : State) → Shows self.now s → result ≡ s.end_seen }
     {
-        self.guest.counts.end_seen
+        self.guest.progress.end_seen
     }
 
     /// How many bytes were written out.
     pub fn output_len(&self) -> u64
         ensures { (s : State) → Shows self.now s → result ≡ length s.output }
     {
-        self.guest.counts.output_len
+        self.guest.progress.output_len
     }
 
     /// How many heap calls were made.
     pub fn heap_calls(&self) -> u64
         ensures { (s : State) → Shows self.now s → result ≡ s.heap_calls }
     {
-        self.guest.counts.heap_calls
+        self.guest.progress.heap_calls
     }
 
     /// A register's value and undefined bits; x0 is 0.

@@ -6,17 +6,18 @@ ghost use Rattle.guest_machine.specs.Shows.{core_of, bytes_of};
 use crate::machine::Guest;
 use crate::register::Register;
 use definedness::Bits;
+use guest_elf::{STACK_BEGIN, STACK_END};
 use shadow_memory::RangeKind;
 use std::alloc::AllocError;
 
-// The most bytes that a stack frame may have.
+/// The most bytes that a stack frame may have.
 const LARGEST_FRAME: u32 = 2_000_000;
 
 /// Is it a defined address in the stack region, its end included?
 fn is_stack_pointer(bits: Bits) -> bool
     ensures { result ≡ is_stack_pointer bits }
 {
-    bits.undef == 0 && 0x7F00_0000 <= bits.value && bits.value <= 0x8000_0000
+    bits.undef == 0 && STACK_BEGIN <= bits.value && bits.value <= STACK_END
 }
 
 impl Guest {
@@ -24,7 +25,7 @@ impl Guest {
     pub(super) fn make(&mut self, start: u32, len: u32, kind: RangeKind) -> Result<(), AllocError>
         ensures core { OnOk result (core_of self.new ≡ ranged (core_of self.old) start len kind) }
         ensures bytes { OnOk result (bytes_of self.new ≡ bytes_of self.old) }
-        ensures counts { self.new.counts ≡ self.old.counts }
+        ensures progress { self.new.progress ≡ self.old.progress }
         ensures groups { self.new.groups ≡ self.old.groups }
     {
         self.memory.set_range(start, len, kind)?;
@@ -36,7 +37,7 @@ impl Guest {
         requires { low ≤ high }
         ensures core { OnOk result (core_of self.new ≡ framed (core_of self.old) low high kind) }
         ensures bytes { OnOk result (bytes_of self.new ≡ bytes_of self.old) }
-        ensures counts { self.new.counts ≡ self.old.counts }
+        ensures progress { self.new.progress ≡ self.old.progress }
         ensures groups { self.new.groups ≡ self.old.groups }
     {
         if high - low <= LARGEST_FRAME {
@@ -50,7 +51,7 @@ impl Guest {
     pub(super) fn stack_rule(&mut self, old: Bits) -> Result<(), AllocError>
         ensures core { OnOk result (core_of self.new ≡ stack_ruled old (core_of self.old)) }
         ensures bytes { OnOk result (bytes_of self.new ≡ bytes_of self.old) }
-        ensures counts { self.new.counts ≡ self.old.counts }
+        ensures progress { self.new.progress ≡ self.old.progress }
         ensures groups { self.new.groups ≡ self.old.groups }
     {
         let new = self.read_register(Register::new(2));

@@ -10,7 +10,7 @@ ghost use Rattle.guest_machine.specs.Doing.{uses_by, touched_by, Does, DoesRow, 
 use crate::alu::computed;
 use crate::hooks::Hooks;
 use crate::instruction::{Instruction, row_of};
-use crate::machine::fields::known;
+use crate::machine::registers::known;
 use crate::machine::{Guest, Machine};
 use crate::meter::Meter;
 use crate::register::Register;
@@ -80,12 +80,12 @@ impl Guest {
                 Ok(NOTHING)
             }
             Instruction::Branch {
-                test,
+                comparison,
                 rs1,
                 rs2,
                 imm,
             } => {
-                self.branch(test, rs1, rs2, imm)?;
+                self.branch(comparison, rs1, rs2, imm)?;
                 Ok(NOTHING)
             }
             Instruction::Load {
@@ -137,7 +137,7 @@ impl Guest {
                 self.advance();
                 Ok(NOTHING)
             }
-            Instruction::Call => self.call(setup),
+            Instruction::CallEnvironment => self.call_environment(setup),
             Instruction::Breakpoint => {
                 self.stop(Stop::Break);
                 Ok(NOTHING)
@@ -233,10 +233,10 @@ impl Guest {
         Ok(used)
     }
 
-    /// One step, and the bytes that it took or wrote.
+    /// Calls the function of the heap that begins at pc, carries out the word there, or halts; and says which bytes that took or wrote.
     #[inline(always)]
     #[tactic(auto, unfolding(crate::specs::Exec::fetched, crate::specs::Exec::uses_at, crate::specs::Exec::intake_at, crate::specs::Exec::effect_at, crate::specs::Exec::touched_at))]
-    fn act(&mut self, setup: &Setup) -> Result<Touched, AllocError>
+    fn perform(&mut self, setup: &Setup) -> Result<Touched, AllocError>
         ensures does { OnOk result (DoesStep self.old self.new setup.now) }
         ensures touched { IfOk result (λ t. t ≡ touched_by self.old setup.now) }
     {
@@ -257,7 +257,7 @@ impl Guest {
         }
     }
 
-    /// One step, and the bytes that it took or wrote.
+    /// The same, said of each state that is held.
     #[inline(always)]
     #[tactic(auto, using(crate::proofs::Showing::holds_exec, crate::proofs::Showing::touched_exec))]
     fn step(&mut self, setup: &Setup) -> Result<Touched, AllocError>
@@ -265,7 +265,7 @@ impl Guest {
         ensures touched { IfOk result (λ t. (s : State) → Holds self.old s → has_touched t ≡ touches s setup.now) }
     {
         groups_grow();
-        self.act(setup)
+        self.perform(setup)
     }
 }
 

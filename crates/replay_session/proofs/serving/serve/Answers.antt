@@ -1,7 +1,7 @@
 use Rattle.std.proofs.Common.{arith, ap, sym, subst, Ok, ◌<◌, ◌^◌, ◌++◌, [], length}
 use Rattle.std.specs.Io.KnownBytes.{IsAtEnd}
 use Rattle.replay_session.specs.Session.{HasScenario}
-use Rattle.replay_session.specs.declared.keeper.Session.{Session}
+use Rattle.replay_session.specs.declared.session.Session.{Session}
 use Rattle.replay_session.proofs.Known.{consumes-then, consumes-keeps, consumes-nothing, consumes-none}
 use Rattle.replay_session.proofs.ServeSteps.{fed-none, fed-then}
 use Rattle.replay_session.proofs.ServedSteps.{served-over, served-ended, stops-whole, stops-cut, seen-over, seen-ended}

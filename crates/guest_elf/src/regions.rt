@@ -1,0 +1,10 @@
+//! The regions of memory that aren't a program's own: the heap's and the stack's. Each reaches from its begin up to its end, not with it.
+
+/// The first address of the heap's region.
+pub const HEAP_BEGIN: u32 = 0x4000_0000;
+/// The first address behind it.
+pub const HEAP_END: u32 = 0x6000_0000;
+/// The first address of the stack's region.
+pub const STACK_BEGIN: u32 = 0x7F00_0000;
+/// The first address behind it.
+pub const STACK_END: u32 = 0x8000_0000;

@@ -1,0 +1,71 @@
+//! The registers.
+ghost use Rattle.std.specs.Prelude.{◌≡◌};
+ghost use Rattle.guest_machine.specs.Registers.{known, register, set_register, defined};
+ghost use Rattle.guest_machine.specs.Effects.{target};
+ghost use Rattle.guest_machine.specs.Calls.{answered};
+ghost use Rattle.guest_machine.specs.Shows.{core_of};
+
+use crate::machine::Guest;
+use crate::register::Register;
+use definedness::Bits;
+
+/// A number with no undefined bit.
+pub(crate) fn known(value: u32) -> Bits
+    ensures { result ≡ known value }
+{
+    Bits { value, undef: 0 }
+}
+
+impl Guest {
+    #[tactic(auto, unfolding(crate::specs::Registers::register))]
+    pub(super) fn read_register(&self, r: Register) -> Bits
+        ensures { result ≡ register (core_of self.now) r }
+    {
+        let i = r.number();
+        if i == 0 { known(0) } else { self.registers[i] }
+    }
+
+    #[tactic(auto, unfolding(crate::specs::Registers::set_register))]
+    pub(super) fn set_register(&mut self, r: Register, bits: Bits)
+        ensures core { core_of self.new ≡ set_register (core_of self.old) r bits }
+        ensures memory { self.new.memory ≡ self.old.memory }
+        ensures progress { self.new.progress ≡ self.old.progress }
+        ensures heap { self.new.heap ≡ self.old.heap }
+        ensures groups { self.new.groups ≡ self.old.groups }
+    {
+        let i = r.number();
+        if i != 0 {
+            self.registers[i] = bits;
+        }
+    }
+
+    /// Makes a register defined.
+    pub(super) fn define(&mut self, r: Register)
+        ensures core { core_of self.new ≡ defined (core_of self.old) r }
+        ensures memory { self.new.memory ≡ self.old.memory }
+        ensures progress { self.new.progress ≡ self.old.progress }
+        ensures heap { self.new.heap ≡ self.old.heap }
+        ensures groups { self.new.groups ≡ self.old.groups }
+    {
+        let value = self.read_register(r).value;
+        self.set_register(r, known(value));
+    }
+
+    /// Where a load, a store or JALR goes.
+    #[tactic(auto, unfolding(crate::specs::Effects::target))]
+    pub(super) fn target(&self, rs1: Register, imm: u32) -> u32
+        ensures { result ≡ target (core_of self.now) rs1 imm }
+    {
+        self.read_register(rs1).value.wrapping_add(imm)
+    }
+
+    /// Leaves a call's answer in a0.
+    pub(super) fn answer(&mut self, n: u32)
+        ensures core { core_of self.new ≡ answered (core_of self.old) n }
+        ensures memory { self.new.memory ≡ self.old.memory }
+        ensures progress { self.new.progress ≡ self.old.progress }
+        ensures groups { self.new.groups ≡ self.old.groups }
+    {
+        self.set_register(Register::new(10), known(n));
+    }
+}

@@ -1,0 +1,26 @@
+use Rattle.std.proofs.Common.{rules, refl, inl, ◌∙◌, ◌++◌, ◌∷◌, [], ap}
+use Rattle.replay_session.specs.Scenario.{first_state}
+use Rattle.replay_session.specs.Session.{trail_of}
+use Rattle.replay_session.proofs.WorkSteps.{right-of, moves-kept}
+use Rattle.replay_session.proofs.session.Session.append.Goals as goal
+
+pub returns-clause-edits : goal.returns-clause-edits
+unfolding first_state
+returns-clause-edits c sc out h =
+    let is = c.in_ok-push.ensures.ok ∙ ap (λ bytes. bytes ++ c.args.byte ∷ []) (λ i. (h.setup i).input) in
+    inl (record {
+      replies = refl;
+      appends = refl;
+      has = record { image = h.image; trail = c.cut_end.ensures.right (first_state sc) _ _ _ (record { redzone = refl; volume = refl; hooks = refl; input = (c.args.byte, c.in_ok-push.ensures.ok) }) h.trail; setup = λ i. record { input = is i; redzone = (h.setup i).redzone; volume = (h.setup i).volume; hooks = (h.setup i).hooks }; marks = h.marks; rules = h.rules; options = h.options; step = h.step; lines = h.lines };
+    })
+
+pub returns-clause-work : goal.returns-clause-work
+unfolding trail_of
+returns-clause-work c = (
+  c.cut_end.ensures.short,
+  λ wanted whole sc h. moves-kept c.keeps_lower.ensures _ _ _ (c.cut_end.ensures.kept (first_state sc) sc.setup sc.marks (right-of c.args.self.now sc h)) c.cut_end.ensures.meter,
+)
+
+pub returns-in_err-push-clause-work : goal.returns-in_err-push-clause-work
+unfolding trail_of
+returns-in_err-push-clause-work c = (refl, λ wanted whole sc h. absurd (wanted (search rules)))

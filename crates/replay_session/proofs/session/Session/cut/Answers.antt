@@ -1,0 +1,34 @@
+use Rattle.std.proofs.Common.{◌≡◌, refl, inl, ◌∙◌, ◌-◌, ap, subst, take, length, List, ℕ, arith}
+use Rattle.std.proofs.lemmas.List.{length-take}
+use Rattle.checkpoints.specs.FirstEffects.{IsBelowFirst, InputShows}
+use Rattle.checkpoints.specs.Trails.{KeepsJust}
+use Rattle.replay_session.proofs.EditSteps.{loses_last}
+use Rattle.replay_session.specs.Scenario.{first_state}
+use Rattle.replay_session.specs.Session.{trail_of}
+use Rattle.replay_session.proofs.WorkSteps.{right-of, moves-kept}
+use Rattle.replay_session.proofs.session.Session.cut.Goals as goal
+
+pub returns-clause-edits : goal.returns-clause-edits
+unfolding first_state
+returns-clause-edits c sc out h =
+    let is = c.pop.ensures ∙ ap (λ (bytes : List ℕ). take (length bytes - 1) bytes) (λ i. (h.setup i).input) in
+    inl (record {
+      replies = refl;
+      appends = refl;
+      has = record { image = h.image; trail = c.cut_input.ensures.shorter (first_state sc) _ _ _ (loses_last _ _ c.len-last.result c.requires c.pop.ensures c.len-last.ensures refl refl refl) h.trail; setup = λ i. record { input = is i; redzone = (h.setup i).redzone; volume = (h.setup i).volume; hooks = (h.setup i).hooks }; marks = h.marks; rules = h.rules; options = h.options; step = h.step; lines = h.lines };
+    })
+
+-- one byte less
+shorter : (bytes : List ℕ) → length (take (length bytes - 1) bytes) ≡ length bytes - 1
+shorter bytes = omega (arith, length-take (length bytes - 1) bytes)
+
+pub returns-clause-work : goal.returns-clause-work
+unfolding trail_of
+returns-clause-work c = (
+  c.cut_input.ensures.short,
+  λ wanted whole sc h.
+      let last : c.len-last.result ≡ length sc.setup.input - 1 =
+      c.len-last.ensures ∙ ap length c.pop.ensures ∙ shorter c.args.self.now.setup.input ∙ ap (λ (bytes : List ℕ). length bytes - 1) (λ i. (h.setup i).input) in
+      let P : ℕ → Type 0 = λ o. KeepsJust (IsBelowFirst (InputShows o (first_state sc) sc.setup sc.marks)) c.args.self.now.trail c.cut_input.new.self in
+      moves-kept c.keeps_lower.ensures _ _ _ (subst P last (c.cut_input.ensures.kept (first_state sc) sc.setup sc.marks (right-of c.args.self.now sc h))) c.cut_input.ensures.meter,
+)

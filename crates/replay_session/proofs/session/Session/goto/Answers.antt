@@ -1,0 +1,18 @@
+use Rattle.std.proofs.Common.{refl, inl}
+use Rattle.replay_session.specs.Scenario.{first_state}
+use Rattle.replay_session.specs.Session.{trail_of}
+use Rattle.replay_session.proofs.WorkSteps.{unmoved}
+use Rattle.replay_session.proofs.session.Session.goto.Goals as goal
+
+pub returns-clause-edits : goal.returns-clause-edits
+unfolding first_state
+returns-clause-edits c sc out h =
+    inl (record {
+      replies = refl;
+      appends = refl;
+      has = record { image = h.image; trail = h.trail; setup = h.setup; marks = h.marks; rules = h.rules; options = h.options; step = refl; lines = h.lines };
+    })
+
+pub returns-clause-work : goal.returns-clause-work
+unfolding trail_of
+returns-clause-work c = (refl, λ wanted whole sc h. unmoved _ _ (λ k e. e))

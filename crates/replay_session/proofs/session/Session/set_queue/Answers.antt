@@ -1,0 +1,21 @@
+use Rattle.std.proofs.Common.{refl, inl}
+use Rattle.replay_session.specs.Scenario.{first_state}
+use Rattle.replay_session.specs.Session.{trail_of}
+use Rattle.replay_session.proofs.WorkSteps.{right-of, moves-kept}
+use Rattle.replay_session.proofs.session.Session.set_queue.Goals as goal
+
+pub returns-clause-edits : goal.returns-clause-edits
+unfolding first_state
+returns-clause-edits c sc out h =
+    inl (record {
+      replies = refl;
+      appends = refl;
+      has = record { image = h.image; trail = c.cut_heap.ensures.right (first_state sc) _ _ _ (record { input = refl; hooks = refl }) h.trail; setup = λ i. record { input = (h.setup i).input; redzone = (h.setup i).redzone; volume = c.args.n; hooks = (h.setup i).hooks }; marks = h.marks; rules = h.rules; options = h.options; step = h.step; lines = h.lines };
+    })
+
+pub returns-clause-work : goal.returns-clause-work
+unfolding trail_of
+returns-clause-work c = (
+  c.cut_heap.ensures.short,
+  λ wanted whole sc h. moves-kept c.keeps_lower.ensures _ _ _ (c.cut_heap.ensures.kept (first_state sc) sc.setup sc.marks (right-of c.args.self.now sc h)) c.cut_heap.ensures.meter,
+)
