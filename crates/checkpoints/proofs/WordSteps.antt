@@ -129,7 +129,7 @@ meets-at (suc (suc zero)) p a l h = or-later (p a) _ (or-later (p (a + 1)) _ (or
 meets-at (suc (suc (suc zero))) p a l h = or-later (p a) _ (or-later (p (a + 1)) _ (or-later (p (a + 2)) _ h))
 meets-at (suc (suc (suc (suc n)))) p a l h = absurd (omega arith)
 
-meets-nowhere : (p : ℕ → Bool) (a : ℕ) → ((j : ℕ) → j < 4 → p (a + j) ≡ false) → meets p a ≡ false
+pub meets-nowhere : (p : ℕ → Bool) (a : ℕ) → ((j : ℕ) → j < 4 → p (a + j) ≡ false) → meets p a ≡ false
 meets-nowhere p a h = or-none (p a) _ (ap p (sym (add-zero a)) ∙ h 0 (omega arith)) (or-none (p (a + 1)) _ (h 1 (omega arith)) (or-none (p (a + 2)) _ (h 2 (omega arith)) (h 3 (omega arith))))
 
 pub unmet : (p : ℕ → Bool) (addr a : ℕ) → meets p addr ≡ false → addr % 4 ≡ 0 → a / 4 ≡ addr / 4 → p a ≡ false
