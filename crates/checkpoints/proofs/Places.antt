@@ -92,6 +92,17 @@ found (r ∷ rs) before end w (suc i) d e low within at first =
     let place = place-after-it r rs w (ends-before r w (omega arith)) in
     omega arith
 
+pub found-placed : (rs : List Span) (before end w i : ℕ) (d : Row) → end ≤ w → ((k : ℕ) → k < i → (get_or (rows_from before end rs) k d).end ≤ w) → i < length (rows_from before end rs)
+    → w < (get_or (rows_from before end rs) i d).end → (get_or (rows_from before end rs) i d).first ≤ w → place_in rs w < words_of rs
+unfolding rows_from words_of
+found-placed [] before end w i d e low within at first = absurd (omega arith)
+found-placed (r ∷ rs) before end w zero d e low within at first = let place = place-in-it r rs w (has-it r w first (omega arith)) in omega arith
+found-placed (r ∷ rs) before end w (suc i) d e low within at first =
+    let here = low 0 (omega arith) in
+    let later = found-placed rs (before + words_in r) (max end (word_end r)) w i d here (λ k l. low (suc k) (omega arith)) (omega arith) at first in
+    let place = place-after-it r rs w (ends-before r w (omega arith)) in
+    omega arith
+
 pub missing : (rs : List Span) (before end w i : ℕ) (d : Row) → IsNonDecreasingBy (λ (r : Span). r.start) rs → ((k : ℕ) → k < i → (get_or (rows_from before end rs) k d).end ≤ w) → i ≤ length (rows_from before end rs)
     → (i < length (rows_from before end rs) → w < (get_or (rows_from before end rs) i d).first) → place_in rs w ≡ words_of rs
 unfolding rows_from words_of place_in

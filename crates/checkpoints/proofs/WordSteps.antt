@@ -1,5 +1,5 @@
 -- Places of words in a table, and the words that a range meets.
-use Rattle.std.proofs.Common.{◌≡◌, ℕ, zero, suc, ◌+◌, ◌-◌, ◌*◌, ◌/◌, ◌%◌, ◌^◌, ◌<◌, ◌≤◌, ◌==◌, ◌||◌, nat_lt, Bool, true, false, cond, List, [], ◌∷◌, refl, ap, sym, add-zero, ◌++◌, ◌⊎◌, ◌∙◌, inl, inr, arith, min, map, subst, length, get_or, eq-eqb, ne_eqb}
+use Rattle.std.proofs.Common.{◌≡◌, ℕ, zero, suc, ◌+◌, ◌-◌, ◌*◌, ◌/◌, ◌%◌, ◌^◌, ◌<◌, ◌≤◌, ◌||◌, nat_lt, Bool, true, false, cond, List, [], ◌∷◌, refl, ap, sym, add-zero, ◌++◌, ◌⊎◌, ◌∙◌, inl, inr, arith, min, map, subst, length, get_or}
 use Rattle.std.proofs.Math.ListN.{set, get_or-map}
 use Rattle.std.proofs.lemmas.Bool.{cases_eq, cases_lt, false≢true}
 use Rattle.std.proofs.lemmas.Bool.Decides.{nat_tests}
@@ -9,7 +9,7 @@ use Rattle.guest_machine.specs.Spans.{covers}
 use Rattle.guest_machine.specs.declared.span.Span.{Span}
 use Rattle.guest_machine.specs.declared.setup.Touched.{Touched}
 use Rattle.guest_machine.specs.Exec.{has_touched}
-use Rattle.checkpoints.specs.Words.{meets, has_address, is_among, IsWordIn, words_in, words_of, has_word, place_in, IsPlaced, never, AreBelow}
+use Rattle.checkpoints.specs.Words.{meets, has_address, is_among, is_from, IsWordIn, words_in, words_of, has_word, place_in, IsPlaced, never, AreBelow}
 
 -- words in and out of a range
 inside : (r : Span) (w : ℕ) → has_word r w ≡ true → (r.start / 4 ≤ w) × (w < r.start / 4 + words_in r)
@@ -46,20 +46,26 @@ place-of-address (r ∷ rs) a w h e = go (λ m. place-of-address rs a w m e) (ha
 pub placed-word : (rs : List Span) (addr : ℕ) → IsWordIn rs addr → IsPlaced rs (addr / 4)
 placed-word rs addr h = place-of-address rs (addr + 0) (addr / 4) (h.loaded 0 (omega arith)) (omega arith)
 
--- an entry, after a step was entered for a word that has a place, or that has none
+-- an entry, after a step was entered for a word that has a place
 pub entered-there : (rs : List Span) (ss : List ℕ) (v w step first : ℕ) (d : ℕ) → length ss ≡ words_of rs → IsPlaced rs w → place_in rs v < length ss → first ≡ min (get_or ss (place_in rs v) d) step
-    → get_or (set ss (place_in rs v) first) (place_in rs w) d ≡ cond (w == v) (min (get_or ss (place_in rs w) d) step) (get_or ss (place_in rs w) d)
+    → get_or (set ss (place_in rs v) first) (place_in rs w) d ≡ cond (is_from v 1 w) (min (get_or ss (place_in rs w) d) step) (get_or ss (place_in rs w) d)
 entered-there rs ss v w step first d size h l e = elim (cases_eq w v) [
   | inl same ↦ (
       let here : place_in rs w ≡ place_in rs v = ap (place_in rs) same in
       ap (λ k. get_or (set ss (place_in rs v) first) k d) here ∙ get_or-set_same ss (place_in rs v) first d l ∙ e ∙ ap (λ k. min (get_or ss k d) step) (sym here)
-      ∙ sym (ap (λ b. cond b (min (get_or ss (place_in rs w) d) step) (get_or ss (place_in rs w) d)) (eq-eqb w v same))
+      ∙ sym (ap (λ b. cond b (min (get_or ss (place_in rs w) d) step) (get_or ss (place_in rs w) d)) (is-one same))
       )
   | inr other ↦ (
       get_or-set_other ss (place_in rs v) (place_in rs w) first d (λ k. other (sym (place-apart rs v w (sym k) h)))
-      ∙ sym (ap (λ b. cond b (min (get_or ss (place_in rs w) d) step) (get_or ss (place_in rs w) d)) (ne_eqb w v other))
+      ∙ sym (ap (λ b. cond b (min (get_or ss (place_in rs w) d) step) (get_or ss (place_in rs w) d)) (is-other other))
       )
 ]
+  where
+    is-one : w ≡ v → is_from v 1 w ≡ true
+    is-one h = grind (arith, nat_tests)
+
+    is-other : (w ≡ v → ⊥) → is_from v 1 w ≡ false
+    is-other h = grind (arith, nat_tests)
 
 -- how far a word lies above another, where the one after the last is the first
 distance : ℕ → ℕ → ℕ
@@ -74,26 +80,27 @@ pub no-word : (first w x y : ℕ) → x ≡ cond (word_in first 0 w) y x
 unfolding word_in distance
 no-word first w x y = grind (arith, nat_tests)
 
--- the word i above the first
-reaches : (first i w : ℕ) → first < 2 ^ 30 → w < 2 ^ 30 → w ≡ (first + i) % 2 ^ 30 → word_in first (i + 1) w ≡ true
+-- the words from the one that lies i above the first
+reaches : (first i n word w : ℕ) → first < 2 ^ 30 → w < 2 ^ 30 → word ≡ (first + i) % 2 ^ 30 → word + n ≤ 2 ^ 30 → is_from word n w ≡ true → word_in first (i + n) w ≡ true
 unfolding word_in distance
-reaches first i w a b e = grind (arith, nat_tests)
+reaches first i n word w a b e c h = grind (arith, nat_tests)
 
-passes : (first i w : ℕ) → first < 2 ^ 30 → w < 2 ^ 30 → (w ≡ (first + i) % 2 ^ 30 → ⊥) → word_in first (i + 1) w ≡ word_in first i w
+passes : (first i n word w : ℕ) → first < 2 ^ 30 → w < 2 ^ 30 → word ≡ (first + i) % 2 ^ 30 → word + n ≤ 2 ^ 30 → is_from word n w ≡ false → word_in first (i + n) w ≡ word_in first i w
 unfolding word_in distance
-passes first i w a b e = grind (arith, nat_tests)
+passes first i n word w a b e c h = grind (arith, nat_tests)
 
--- one more word of a range is entered
-pub next-word : (first i w x now new step : ℕ) → first < 2 ^ 30 → w < 2 ^ 30 → now ≡ cond (word_in first i w) (min x step) x → new ≡ cond (w == (first + i) % 2 ^ 30) (min now step) now
-    → new ≡ cond (word_in first (i + 1) w) (min x step) x
-next-word first i w x now new step a b e f = elim (cases_eq w ((first + i) % 2 ^ 30)) [
-  | inl same ↦ (f ∙ ap (λ t. cond t (min now step) now) (eq-eqb w _ same) ∙ twice (word_in first i w) e ∙ sym (ap (λ t. cond t (min x step) x) (reaches first i w a b same)))
-  | inr other ↦ (f ∙ ap (λ t. cond t (min now step) now) (ne_eqb w _ other) ∙ e ∙ sym (ap (λ t. cond t (min x step) x) (passes first i w a b other)))
-]
+-- some more words of a range are entered
+pub next-words : (first i n word w x now new step : ℕ) → first < 2 ^ 30 → w < 2 ^ 30 → word ≡ (first + i) % 2 ^ 30 → word + n ≤ 2 ^ 30 → now ≡ cond (word_in first i w) (min x step) x → new ≡ cond (is_from word n w) (min now step) now
+    → new ≡ cond (word_in first (i + n) w) (min x step) x
+next-words first i n word w x now new step a b is c e f = go (is_from word n w) refl f
   where
     twice : (t : Bool) → now ≡ cond t (min x step) x → min now step ≡ min x step
     twice true k = omega arith
     twice false k = omega arith
+
+    go : (t : Bool) → is_from word n w ≡ t → new ≡ cond t (min now step) now → new ≡ cond (word_in first (i + n) w) (min x step) x
+    go true h k = k ∙ twice (word_in first i w) e ∙ sym (ap (λ t. cond t (min x step) x) (reaches first i n word w a b is c h))
+    go false h k = k ∙ e ∙ sym (ap (λ t. cond t (min x step) x) (passes first i n word w a b is c h))
 
 -- tests of several
 or-first : (a b : Bool) → a ≡ true → (a || b) ≡ true
@@ -122,7 +129,7 @@ meets-at (suc (suc zero)) p a l h = or-later (p a) _ (or-later (p (a + 1)) _ (or
 meets-at (suc (suc (suc zero))) p a l h = or-later (p a) _ (or-later (p (a + 1)) _ (or-later (p (a + 2)) _ h))
 meets-at (suc (suc (suc (suc n)))) p a l h = absurd (omega arith)
 
-meets-nowhere : (p : ℕ → Bool) (a : ℕ) → ((j : ℕ) → j < 4 → p (a + j) ≡ false) → meets p a ≡ false
+pub meets-nowhere : (p : ℕ → Bool) (a : ℕ) → ((j : ℕ) → j < 4 → p (a + j) ≡ false) → meets p a ≡ false
 meets-nowhere p a h = or-none (p a) _ (ap p (sym (add-zero a)) ∙ h 0 (omega arith)) (or-none (p (a + 1)) _ (h 1 (omega arith)) (or-none (p (a + 2)) _ (h 2 (omega arith)) (h 3 (omega arith))))
 
 pub unmet : (p : ℕ → Bool) (addr a : ℕ) → meets p addr ≡ false → addr % 4 ≡ 0 → a / 4 ≡ addr / 4 → p a ≡ false

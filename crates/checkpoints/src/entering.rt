@@ -9,10 +9,10 @@ ghost use Rattle.guest_machine.specs.Exec.{has_touched};
 ghost use Rattle.guest_machine.specs.Spans.{span_at};
 ghost use Rattle.guest_machine.specs.Spans.{covers};
 ghost use Rattle.guest_elf.specs.declared.segment.Segment.{Segment as SegmentOf};
-ghost use Rattle.checkpoints.specs.Words.{meets, is_among, words_in, word_end, place_in, IsPlaced, never};
+ghost use Rattle.checkpoints.specs.Words.{meets, is_among, is_from, words_in, word_end, IsPlaced, IsPlace, never};
 ghost use Rattle.checkpoints.specs.Entries.{ranges_of, entry_of, below, EntersAt};
 
-use crate::uses::{FirstUses, Row};
+use crate::uses::{FirstUses, Place, Row};
 use guest_elf::Segment;
 use guest_machine::{Span, Touched};
 use std::alloc::{AllocError, Global};
@@ -76,8 +76,7 @@ impl FirstUses {
     {
         let mut ranges = spans_of(alloc, segments)?;
         ranges.sort_unstable_by_key(|range| range.start);
-        let uses = FirstUses::over(alloc, ranges)?;
-        Ok(uses)
+        FirstUses::over(alloc, ranges)
     }
 
     /// A table over ranges in the order of their addresses, with no step in it.
@@ -107,19 +106,20 @@ impl FirstUses {
         })
     }
 
-    /// The place of a word in the table; the table's length, where it has none.
+    /// Where a word stands in the table.
     #[tactic(auto, unfolding(crate::specs::Entries::ranges_of))]
-    fn place_of(&self, word: u32) -> usize
-        ensures { result ≡ place_in (ranges_of self.now) word }
+    fn place_of(&self, word: u32) -> Place
+        ensures { IsPlace (ranges_of self.now) word result }
     {
         let index = ended_by(&self.rows, word);
-        if index < self.rows.len() {
-            let row = self.rows[index];
-            if row.first <= word {
-                return row.before + (word - row.first) as usize;
-            }
+        if index == self.rows.len() {
+            return Place::NoneBelow(ALL_WORDS);
         }
-        self.steps.len()
+        let row = self.rows[index];
+        if word < row.first {
+            return Place::NoneBelow(row.first.min(ALL_WORDS));
+        }
+        Place::At(row.before + (word - row.first) as usize)
     }
 
     /// The first step that was entered for a word, if it lies below another.
@@ -127,24 +127,32 @@ impl FirstUses {
     pub(crate) fn first_below(&self, word: u32, step: u32) -> Option<u32>
         ensures { result ≡ below step (entry_of self.now word) }
     {
-        let place = self.place_of(word);
-        if place < self.steps.len() && self.steps[place] < step {
-            return Some(self.steps[place]);
+        match self.place_of(word) {
+            Place::At(place) => {
+                let first = self.steps[place];
+                if first < step { Some(first) } else { None }
+            }
+            Place::NoneBelow(_) => None,
         }
-        None
     }
 
-    /// Enters a step for a word.
+    /// Enters a step for a word that has a place, or passes a word that has none and those like it above it. Returns how many words it is done with.
     #[tactic(auto, unfolding(crate::specs::Entries::ranges_of, crate::specs::Entries::entry_of))]
-    fn enter(&mut self, word: u32, step: u32)
+    fn enter(&mut self, word: u32, most: u32, step: u32) -> u32
         ensures ranges { ranges_of self.new ≡ ranges_of self.old }
-        ensures entries { (w : ℕ) → IsPlaced (ranges_of self.old) w → entry_of self.new w ≡ (if w == word then min (entry_of self.old w) step else entry_of self.old w) }
+        ensures some { 0 < most → word < 2 ^ 30 → 0 < result }
+        ensures within { 0 < most → result ≤ most }
+        ensures inside { word < 2 ^ 30 → word + result ≤ 2 ^ 30 }
+        ensures entries { (w : ℕ) → w < 2 ^ 30 → IsPlaced (ranges_of self.old) w → entry_of self.new w ≡ (if is_from word result w then min (entry_of self.old w) step else entry_of self.old w) }
     {
-        let place = self.place_of(word);
-        if place < self.steps.len() {
-            let first = self.steps[place].min(step);
-            self.entered = self.entered.max(step.saturating_add(1));
-            self.steps[place] = first;
+        match self.place_of(word) {
+            Place::At(place) => {
+                let first = self.steps[place].min(step);
+                self.entered = self.entered.max(step.saturating_add(1));
+                self.steps[place] = first;
+                1
+            }
+            Place::NoneBelow(end) => end.saturating_sub(word).min(most),
         }
     }
 
@@ -161,8 +169,9 @@ impl FirstUses {
         }
         let first = span.start / 4;
         let words = words_in(span) as u32;
-        for i in 0..words {
-            self.enter((first + i) % ALL_WORDS, step);
+        let mut done = 0;
+        while done < words {
+            done += self.enter((first + done) % ALL_WORDS, words - done, step);
         }
     }
 

@@ -4,6 +4,7 @@ ghost use Rattle.suppressions.specs.Words.{are_frames};
 ghost use Rattle.suppressions.specs.Added.{framed, parameter_rule, leak_rule, added, Gives};
 
 use crate::fault::SuppFault;
+use crate::frames::Frames;
 use crate::leak_kinds::{EACH_KIND, LeakKinds};
 use crate::parts::Parts;
 use crate::subject::Subject;
@@ -26,7 +27,7 @@ fn framed(alloc: Global, subject: Subject, words: Parts<'_>) -> Result<Suppressi
     let frames = frames_among(alloc, words)?;
     Ok(Suppression {
         subject,
-        frames,
+        frames: Frames::new(frames),
         on: true,
     })
 }

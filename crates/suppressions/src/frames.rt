@@ -2,10 +2,12 @@
 ghost use Rattle.std.specs.Prelude.{◌≡◌, ◌↔◌, ◌∷◌, [], IsTrue, false, map};
 ghost use Rattle.suppressions.specs.Fitting.{IsStar, IsSingle};
 ghost use Rattle.suppressions.specs.Frames.{FitsFrame, matches_trace};
+ghost use Rattle.suppressions.specs.Initials.{initial_of, innermost_initial, may_match};
 
-use crate::glob::fits;
+use crate::glob::{ANY_BYTE, ANY_BYTES, fits};
 use crate::pieces::{Piece, walk};
 use crate::text::Text;
+use std::marker::Model;
 
 /// The one object that all code lies in.
 const GUEST: &[u8] = b"guest";
@@ -45,8 +47,77 @@ impl<'a> Piece<&'a [u8]> for Frame {
     }
 }
 
-/// Whether some frames at the front of a trace, given by their names, fit the frame lines one by one.
-pub(crate) fn matches_trace(frames: &[Frame], names: &[&[u8]]) -> bool
+/// The byte that each text begins with which fits a pattern, where the pattern's first byte stands for itself.
+fn initial_of(pattern: &[u8]) -> Option<u8>
+    ensures { result ≡ initial_of pattern.now }
+{
+    match pattern.first() {
+        Some(&byte) if byte != ANY_BYTES && byte != ANY_BYTE => Some(byte),
+        _ => None,
+    }
+}
+
+/// The byte that the name of the innermost frame begins with in each trace that frame lines match, where the first of them says so.
+fn innermost_initial(lines: &[Frame]) -> Option<u8>
+    ensures { result ≡ innermost_initial lines.now }
+{
+    match lines.first() {
+        Some(Frame::Function(pattern)) => initial_of(pattern.as_slice()),
+        _ => None,
+    }
+}
+
+/// Whether the innermost frame of a trace, given by the names of its frames, begins with a byte, where one is known.
+fn may_match(initial: Option<u8>, names: &[&[u8]]) -> bool
+    ensures { result ≡ may_match initial (map (λ name. name.now) names.now) }
+{
+    let Some(byte) = initial else {
+        return true;
+    };
+    match names.first() {
+        Some(name) => name.first() == Some(&byte),
+        None => false,
+    }
+}
+
+/// The frame lines of a suppression, with what can be told of most traces at a glance. Contracts see their list.
+#[derive(Drop)]
+pub(crate) struct Frames {
+    lines: Vec<Frame>,
+    initial: Option<u8>,
+}
+
+impl Model for Frames {
+    ghost use Rattle.std.specs.Prelude.{◌≡◌, List};
+    ghost use Rattle.suppressions.specs.declared.frames.Frame.{Frame};
+    ghost use Rattle.suppressions.specs.Initials.{innermost_initial};
+
+    ghost Value = { List Frame };
+
+    ghost view = { λ frames. frames.lines.items };
+
+    ghost invariant = { λ frames. frames.initial ≡ innermost_initial frames.lines.items };
+}
+
+impl Frames {
+    /// Some frame lines.
+    pub(crate) fn new(lines: Vec<Frame>) -> Self
+        ensures { result ≡ lines.items }
+    {
+        let initial = innermost_initial(&lines);
+        Frames { lines, initial }
+    }
+
+    /// Whether some frames at the front of a trace, given by their names, fit the frame lines one by one.
+    pub(crate) fn matches(&self, names: &[&[u8]]) -> bool
+        ensures { result ≡ matches_trace self.now (map (λ name. name.now) names.now) }
+    {
+        may_match(self.initial, names) && matches_trace(&self.lines, names)
+    }
+}
+
+/// The same of any frame lines, by the walk alone.
+fn matches_trace(frames: &[Frame], names: &[&[u8]]) -> bool
     ensures { result ≡ matches_trace frames.now (map (λ name. name.now) names.now) }
 {
     walk(frames, names, true)

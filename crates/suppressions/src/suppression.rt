@@ -4,7 +4,7 @@ ghost use Rattle.suppressions.specs.Added.{Gives, added};
 
 use crate::adding;
 use crate::fault::SuppFault;
-use crate::frames::{Frame, matches_trace};
+use crate::frames::Frames;
 use crate::subject::Subject;
 use crate::target::Target;
 use std::alloc::Global;
@@ -14,7 +14,7 @@ use std::marker::Model;
 #[derive(Drop)]
 pub struct Suppression {
     pub(crate) subject: Subject,
-    pub(crate) frames: Vec<Frame>,
+    pub(crate) frames: Frames,
     pub(crate) on: bool,
 }
 
@@ -23,7 +23,7 @@ impl Model for Suppression {
 
     ghost Value = { Rule };
 
-    ghost view = { λ s. record { subject = s.subject; frames = s.frames.items; on = s.on } };
+    ghost view = { λ s. record { subject = s.subject; frames = s.frames; on = s.on } };
 }
 
 impl Suppression {
@@ -40,7 +40,7 @@ impl Suppression {
         ensures value { result ≡ matches self.now target.now (map (λ name. name.now) names.now) }
         ensures meaning { IsTrue result ↔ Matches self.now target.now (map (λ name. name.now) names.now) }
     {
-        self.subject.is_for(target) && matches_trace(&self.frames, names)
+        self.subject.is_for(target) && self.frames.matches(names)
     }
 
     /// Whether it is switched on.

@@ -1,25 +1,34 @@
-use Rattle.std.proofs.Common.{◌≡◌, ◌/◌, ◌<◌, ◌*◌, ◌∙◌, ap, cond, min, sym, subst, refl, List, arith}
+use Rattle.std.proofs.Common.{◌≡◌, ◌+◌, ◌/◌, ◌%◌, ◌-◌, ◌<◌, ◌≤◌, ◌^◌, ◌*◌, ◌∙◌, ap, cond, min, sym, subst, refl, List, arith}
 use Rattle.guest_machine.specs.declared.span.Span.{Span}
 use Rattle.guest_machine.specs.Spans.{covers}
 use Rattle.checkpoints.specs.Words.{meets, words_in, IsPlaced}
 use Rattle.checkpoints.specs.Entries.{entry_of}
-use Rattle.checkpoints.proofs.WordSteps.{no-word, next-word, span-words}
+use Rattle.checkpoints.proofs.WordSteps.{no-word, next-words, span-words}
 use Rattle.checkpoints.proofs.uses.FirstUses.enter_span.Goals as goal
 
-pub loop-i-init : goal.loop-i-init
-loop-i-init c = record {
+pub loop-done-init : goal.loop-done-init
+loop-done-init c = record {
+  within = omega arith;
   ranges = refl;
   entries = λ w few placed. no-word (c.in-Some.span.start / 4) w _ _;
 }
 
-pub loop-i-preserved : goal.loop-i-preserved
-loop-i-preserved c = record {
-  ranges = c.enter.ensures.ranges ∙ c.loop-i.invariant.ranges;
-  entries = λ w few placed.
-      let P : List Span → Type 0 = λ rs. IsPlaced rs w in
-      next-word (c.in-Some.span.start / 4) c.loop-i.i w (entry_of c.args.self.now w) (entry_of c.loop-i.self w) (entry_of c.enter.new.self w) c.args.step (omega arith) few
-      (c.loop-i.invariant.entries w few placed) (c.enter.ensures.entries w (subst P (sym c.loop-i.invariant.ranges) placed));
-}
+pub loop-done-preserved : goal.loop-done-preserved
+loop-done-preserved c =
+    let first = c.in-Some.span.start / 4 in
+    let done = c.loop-done.done in
+    let n = c.enter-done.result in
+    let small : first < 2 ^ 30 = omega arith in
+    let inside : (first + done) % 2 ^ 30 + n ≤ 2 ^ 30 = c.enter-done.ensures.inside (omega arith) in
+    let within : n ≤ words_in c.in-Some.span - done = omega arith in
+    record {
+      within = omega arith;
+      ranges = c.enter-done.ensures.ranges ∙ c.loop-done.invariant.ranges;
+      entries = λ w few placed.
+          let P : List Span → Type 0 = λ rs. IsPlaced rs w in
+          next-words first done n ((first + done) % 2 ^ 30) w (entry_of c.args.self.now w) (entry_of c.loop-done.self w) (entry_of c.enter-done.new.self w) c.args.step small few refl inside
+          (c.loop-done.invariant.entries w few placed) (c.enter-done.ensures.entries w few (subst P (sym c.loop-done.invariant.ranges) placed));
+    }
 
 pub returns-clause-entries : goal.returns-clause-entries
 returns-clause-entries c w few placed =
@@ -27,7 +36,7 @@ returns-clause-entries c w few placed =
     let y = min x c.args.step in
     let span = c.in-Some.span in
     let some : 0 < span.len = omega arith in
-    let end : c.loop-i.i ≡ words_in span = omega arith in
-    c.loop-i.invariant.entries w few placed
-    ∙ ap (λ b. cond b y x) (sym (span-words span w c.loop-i.i (omega arith) some few end))
+    let end : c.loop-done.done ≡ words_in span = omega arith in
+    c.loop-done.invariant.entries w few placed
+    ∙ ap (λ b. cond b y x) (sym (span-words span w c.loop-done.done (omega arith) some few end))
     ∙ ap (λ s. cond (meets (covers s) (4 * w)) y x) (sym c.in-Some.is)
