@@ -38,6 +38,25 @@ value-more bytes shadows low high from word before here a start below aligned = 
   | inr late ↦ let e : a ≡ 4 * word = omega arith in ap (holds_in_range bytes shadows low high) e ∙ here
 ]
 
+-- what the highest of four bytes tells of their value
+is-below : (low n : ℕ) → n < low → nat_le low n ≡ false
+is-below low n h = grind (arith, nat_tests)
+
+is-above : (n high : ℕ) → high ≤ n → nat_lt n high ≡ false
+is-above n high h = grind (arith, nat_tests)
+
+pub highest-below : (byte : ℕ → ℕ) (low high : ℕ) → byte 0 < 256 → byte 1 < 256 → byte 2 < 256 → byte 3 < low / 16777216 → (nat_le low (little_word byte) && nat_lt (little_word byte) high) ≡ false
+unfolding little_word
+highest-below byte low high first second third h = ap (λ b. b && nat_lt (little_word byte) high) (is-below low (little_word byte) (omega arith))
+
+pub highest-above : (byte : ℕ → ℕ) (low high : ℕ) → high ≤ byte 3 * 16777216 → (nat_le low (little_word byte) && nat_lt (little_word byte) high) ≡ false
+unfolding little_word
+highest-above byte low high h = later-false (nat_le low (little_word byte)) (nat_lt (little_word byte) high) (is-above (little_word byte) high (omega arith))
+  where
+    later-false : (p q : Bool) → q ≡ false → (p && q) ≡ false
+    later-false false q e = refl
+    later-false true q e = e
+
 bad-first : (b p q r : Bool) → b ≡ true → (not b && p && q && r) ≡ false
 bad-first true p q r h = refl
 bad-first false p q r h = absurd (false≢true h)

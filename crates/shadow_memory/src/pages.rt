@@ -15,7 +15,7 @@ use crate::edits::{Each, Edit};
 use crate::laws::all_are;
 use crate::marks::Marks;
 use crate::slices::{set_all, write_at};
-use crate::words::{ABSENT, loaded_from, word};
+use crate::words::{ABSENT, loaded_from, may_lie_within, word};
 use std::alloc::{AllocError, Global};
 
 /// How many bytes a page has.
@@ -130,6 +130,9 @@ impl Page {
         requires { at + 4 ≤ 4096 }
         ensures { result ≡ holds_in_range (λ k. (cells_in self.now k).byte) (λ k. shadow_in (cells_in self.now k)) low high at }
     {
+        if !may_lie_within(&self.bytes[at..at + 4], low, high) {
+            return false;
+        }
         let value = self.number(at, 4);
         low <= value && (value as u64) < high && self.marks.holds_word(at)
     }

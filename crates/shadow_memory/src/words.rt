@@ -1,5 +1,5 @@
 //! The bytes of words, and the cells that they are stored in or loaded from.
-ghost use Rattle.std.specs.Prelude.{◌≡◌, ℕ, ◌<◌, slice_index, if◌then◌else◌};
+ghost use Rattle.std.specs.Prelude.{◌≡◌, ℕ, ◌<◌, ◌&&◌, IsFalse, false, length, nat_le, nat_lt, slice_index, if◌then◌else◌};
 ghost use Rattle.shadow_memory.specs.Ranges.{byte_of, little_word};
 ghost use Rattle.shadow_memory.specs.Cells.{shadow_in, IsClean};
 ghost use Rattle.shadow_memory.specs.Shadows.{loaded_undef};
@@ -15,6 +15,9 @@ pub(crate) const ABSENT: Cell = Cell {
     accessible: true,
     undef: 0,
 };
+
+/// What one is worth in the highest byte of a word.
+const HIGHEST: u32 = 1 << 24;
 
 /// Byte i of a word, from the low end.
 #[tactic(auto, unfolding(crate::specs::Ranges::byte_of))]
@@ -49,6 +52,16 @@ pub(crate) fn word(first: u8, second: u8, third: u8, fourth: u8) -> u32
     ensures { result ≡ little_word (four first second third fourth) }
 {
     u32::from_le_bytes([first, second, third, fourth])
+}
+
+/// Whether four bytes may have a value from low up to, not with, high, as far as the highest of them tells.
+#[inline(always)]
+pub(crate) fn may_lie_within(bytes: &[u8], low: u32, high: u64) -> bool
+    requires { length bytes.now ≡ 4 }
+    ensures { IsFalse result → (nat_le low (little_word (slice_index bytes.now)) && nat_lt (little_word (slice_index bytes.now)) high) ≡ false }
+{
+    let highest = bytes[3];
+    low / HIGHEST <= u32::from(highest) && u64::from(highest) * u64::from(HIGHEST) < high
 }
 
 // The undefined bits that a load takes of a cell.
