@@ -17,7 +17,7 @@ fn known(value: u32) -> Bits {
 }
 
 /// Whether the machine runs.
-#[derive(Clone, Copy, PartialEq, Eq)]
+#[derive(Clone, Copy, Debug, PartialEq, Eq)]
 pub enum Status {
     Running,
     Exited(u8),
@@ -28,7 +28,7 @@ pub enum Status {
 }
 
 /// What an error is.
-#[derive(Clone, Copy, PartialEq, Eq, Hash)]
+#[derive(Clone, Copy, Debug, PartialEq, Eq, Hash)]
 pub enum Kind {
     Read(u8),
     Write(u8),
@@ -45,6 +45,8 @@ pub struct Machine {
     pub status: Status,
     /// How many errors there are of each kind at each instruction.
     pub errors: HashMap<(Kind, u32), u64>,
+    /// The address of the first of these, where one has an address.
+    pub addresses: HashMap<(Kind, u32), u32>,
 }
 
 /// Where the stack pointer points at the start, at sixteen bytes that may be used.
@@ -177,7 +179,7 @@ impl Machine {
         memory.set_range(STACK_START, STACK_ROOM, RangeKind::Defined);
         let mut registers = [known(0); 32];
         registers[STACK_POINTER] = known(STACK_START);
-        Machine { memory, registers, pc: at, status: Status::Running, errors: HashMap::new() }
+        Machine { memory, registers, pc: at, status: Status::Running, errors: HashMap::new(), addresses: HashMap::new() }
     }
 
     #[cold]
@@ -185,6 +187,14 @@ impl Machine {
     fn raise(&mut self, kind: Kind) {
         let count = self.errors.entry((kind, self.pc)).or_insert(0);
         *count = count.saturating_add(1);
+    }
+
+    /// The same with the first inaccessible address.
+    #[cold]
+    #[inline(never)]
+    fn raise_at(&mut self, kind: Kind, bad: u32) {
+        self.addresses.entry((kind, self.pc)).or_insert(bad);
+        self.raise(kind);
     }
 
     fn register(&self, r: u32) -> Bits {
@@ -238,8 +248,8 @@ impl Machine {
         let start = self.register(rs1).value.wrapping_add(imm_i(word));
         self.test(rs1, Kind::Value);
         let loaded = self.memory.load::<N>(start);
-        if loaded.bad.is_some() {
-            self.raise(Kind::Read(N as u8));
+        if let Some(bad) = loaded.bad {
+            self.raise_at(Kind::Read(N as u8), bad);
         }
         let unused = 32 - 8 * N as u32;
         let extended = |x: u32| if signed { arithmetic(x << unused, unused) } else { x };
@@ -253,8 +263,8 @@ impl Machine {
         let start = self.register(rs1).value.wrapping_add(imm_s(word));
         self.test(rs1, Kind::Value);
         let stored = self.register(field(word, 24, 20));
-        if self.memory.store::<N>(start, stored.value, stored.undef).is_some() {
-            self.raise(Kind::Write(N as u8));
+        if let Some(bad) = self.memory.store::<N>(start, stored.value, stored.undef) {
+            self.raise_at(Kind::Write(N as u8), bad);
         }
     }
 
@@ -413,8 +423,8 @@ impl Machine {
             return;
         }
         let word = self.memory.load::<4>(self.pc);
-        if word.bad.is_some() {
-            self.raise(Kind::Jump);
+        if let Some(bad) = word.bad {
+            self.raise_at(Kind::Jump, bad);
             self.status = Status::Jump;
             return;
         }

@@ -1,5 +1,5 @@
 //! A plain interpreter of RV32IM with accessible and undefined bits: what a step costs where nothing is proved. It runs the loop
-//! that `step_bench steps` runs, and prints the same lines.
+//! that `step_bench steps` runs, and prints the same lines; or a program of words from a file, and prints where it is after them.
 
 mod machine;
 mod memory;
@@ -18,18 +18,47 @@ const PROGRAM_START: u32 = 0x0001_0000;
 const MEMORY: u32 = 0x2000;
 
 fn main() {
-    let Some(steps) = std::env::args().nth(1).and_then(|text| text.parse().ok()) else {
-        println!("usage: twin STEPS");
-        return;
-    };
+    let words: Vec<String> = std::env::args().skip(1).collect();
+    let number = |at: usize| words.get(at).and_then(|word| word.parse().ok());
+    match (words.len(), number(0), number(1)) {
+        (1, Some(steps), _) => time(steps),
+        (3, Some(steps), Some(memory)) => match std::fs::read(&words[2]) {
+            Ok(bytes) => tell(steps, memory as u32, &bytes),
+            Err(fault) => println!("twin: {fault}"),
+        },
+        _ => println!("usage: twin STEPS | twin STEPS MEMORY FILE"),
+    }
+}
+
+/// Makes so many steps of the loop, and prints what each took.
+fn time(steps: u64) {
     let mut machine = Machine::start(PROGRAM_START, &WORDS, MEMORY);
     let began = Instant::now();
-    let mut made = 0u64;
+    let made = make(&mut machine, steps);
+    let each = began.elapsed().as_secs_f64() * 1e9 / made.max(1) as f64;
+    println!("step: {made} calls, {each:.1} ns each");
+    println!("after {made} steps: pc {:#010x}, x8 {:#010x}", machine.pc, machine.registers[8].value);
+}
+
+/// Makes so many steps, or those to the program's end, and answers how many.
+fn make(machine: &mut Machine, steps: u64) -> u64 {
+    let mut made = 0;
     while made < steps && machine.status == Status::Running {
         machine.step();
         made += 1;
     }
-    let each = began.elapsed().as_secs_f64() * 1e9 / made.max(1) as f64;
-    println!("step: {made} calls, {each:.1} ns each");
-    println!("after {made} steps: pc {:#010x}, x8 {:#010x}", machine.pc, machine.registers[8].value);
+    made
+}
+
+/// Makes so many steps of a program whose words are the bytes of a file, in so many bytes of memory, and prints the state, and each
+/// error: its kind, its instruction, how often it came, and its first address.
+fn tell(steps: u64, memory: u32, bytes: &[u8]) {
+    let words: Vec<u32> = bytes.as_chunks().0.iter().map(|word| u32::from_le_bytes(*word)).collect();
+    let mut machine = Machine::start(PROGRAM_START, &words, memory);
+    make(&mut machine, steps);
+    println!("{:?} {:#010x}", machine.status, machine.pc);
+    for (error, count) in &machine.errors {
+        let address = machine.addresses.get(error).map_or(String::new(), |address| format!(" {address:#010x}"));
+        println!("{:?} {:#010x} {count}{address}", error.0, error.1);
+    }
 }
