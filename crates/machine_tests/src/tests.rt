@@ -99,7 +99,7 @@ fn a_program_starts_at_its_entry(rt: HostRuntime) -> Result<(), Fail> {
     Ok(())
 }
 
-// `addi a7, x0, CALL; addi a0, x0, STATUS; ecall`: the low 8 bits count, and pc stays at the ECALL.
+/// `addi a7, x0, CALL; addi a0, x0, STATUS; ecall`: the low 8 bits count, and pc stays at the ECALL.
 #[test]
 fn exit_ends_a_run(rt: HostRuntime) -> Result<(), Fail> {
     for (call, status, want) in [
@@ -114,7 +114,7 @@ fn exit_ends_a_run(rt: HostRuntime) -> Result<(), Fail> {
     Ok(())
 }
 
-// `addi a7, x0, 1234; ecall`
+/// `addi a7, x0, 1234; ecall`
 #[test]
 fn an_unknown_call_is_refused(rt: HostRuntime) -> Result<(), Fail> {
     let machine = run(rt.alloc(), &[0x4D20_0893, 0x0000_0073], 2)?;
@@ -124,7 +124,7 @@ fn an_unknown_call_is_refused(rt: HostRuntime) -> Result<(), Fail> {
     Ok(())
 }
 
-// Jumps to an address that is no multiple of 4 (JALR, JAL and a taken BEQ), no instruction, and EBREAK.
+/// Jumps to an address that is no multiple of 4 (JALR, JAL and a taken BEQ), no instruction, and EBREAK.
 #[test]
 fn a_stop_leaves_pc(rt: HostRuntime) -> Result<(), Fail> {
     for (word, want) in [
@@ -145,7 +145,7 @@ fn a_stop_leaves_pc(rt: HostRuntime) -> Result<(), Fail> {
     Ok(())
 }
 
-// `lw a0, 0(x2); beq a0, x0, +8`: the branch depends on undefined bits, and the jump goes past the program.
+/// `lw a0, 0(x2); beq a0, x0, +8`: the branch depends on undefined bits, and the jump goes past the program.
 #[test]
 fn an_undefined_branch_is_an_error(rt: HostRuntime) -> Result<(), Fail> {
     let start = started(rt.alloc(), &[0x0001_2503, 0x0005_0463])?;
@@ -170,9 +170,9 @@ fn an_undefined_branch_is_an_error(rt: HostRuntime) -> Result<(), Fail> {
     Ok(())
 }
 
-// `addi x2, x2, -16; lbu a0, 0(x2)` takes eight undefined bits. Then `andi a0, a0, 16; add a0, a0, a0; andi a1, a0, MASK; beq a1, x0, 4`:
-// the sum is 0 or 32, and its bits 4 and 5 are undefined. Or `ori a1, a0, 256; beq a1, x0, 4`: a defined 1 differs from x0's 0, which
-// decides BEQ and not BLT. Each time the error of the branch, if it has one, and the undefined bits of a1 after it.
+/// `addi x2, x2, -16; lbu a0, 0(x2)` takes eight undefined bits. Then `andi a0, a0, 16; add a0, a0, a0; andi a1, a0, MASK; beq a1, x0, 4`:
+/// the sum is 0 or 32, and its bits 4 and 5 are undefined. Or `ori a1, a0, 256; beq a1, x0, 4`: a defined 1 differs from x0's 0, which
+/// decides BEQ and not BLT. Each time the error of the branch, if it has one, and the undefined bits of a1 after it.
 #[test]
 fn a_branch_is_tested_by_what_it_compares(rt: HostRuntime) -> Result<(), Fail> {
     let (move_stack, load, keep_16, double) = (0xFF01_0113, 0x0001_4503, 0x0105_7513, 0x00A5_0533);
@@ -201,7 +201,7 @@ fn a_branch_is_tested_by_what_it_compares(rt: HostRuntime) -> Result<(), Fail> {
     Ok(())
 }
 
-// `lw a0, 0(x2); beq a0, x0, -4`, round and round.
+/// `lw a0, 0(x2); beq a0, x0, -4`, round and round.
 #[test]
 fn the_same_error_is_counted(rt: HostRuntime) -> Result<(), Fail> {
     let start = started(rt.alloc(), &[0x0001_2503, 0xFE05_0EE3])?;
@@ -212,7 +212,7 @@ fn the_same_error_is_counted(rt: HostRuntime) -> Result<(), Fail> {
     Ok(())
 }
 
-// `jalr x0, -16(x2)`: below the sixteen bytes that may be accessed, in the stack region.
+/// `jalr x0, -16(x2)`: below the sixteen bytes that may be accessed, in the stack region.
 #[test]
 fn a_jump_to_the_stack_is_noted(rt: HostRuntime) -> Result<(), Fail> {
     let machine = run(rt.alloc(), &[0xFF01_0067], 2)?;
@@ -221,7 +221,7 @@ fn a_jump_to_the_stack_is_noted(rt: HostRuntime) -> Result<(), Fail> {
     Ok(())
 }
 
-// `lui x5, 0x10; lw x7, 16(x5); sh x7, 22(x5); ebreak; .word 0x12345678; .word 0`
+/// `lui x5, 0x10; lw x7, 16(x5); sh x7, 22(x5); ebreak; .word 0x12345678; .word 0`
 #[test]
 fn a_step_tells_what_it_touched(rt: HostRuntime) -> Result<(), Fail> {
     let words = [
@@ -257,7 +257,7 @@ fn a_step_tells_what_it_touched(rt: HostRuntime) -> Result<(), Fail> {
     Ok(())
 }
 
-// `lw a0, 0(x2)` of a word that is written by hand, and marked.
+/// `lw a0, 0(x2)` of a word that is written by hand, and marked.
 #[test]
 fn marks_and_pokes_are_seen(rt: HostRuntime) -> Result<(), Fail> {
     for (kind, undef) in [
@@ -279,7 +279,7 @@ fn marks_and_pokes_are_seen(rt: HostRuntime) -> Result<(), Fail> {
     Ok(())
 }
 
-// `lw a0, 0(x2); beq a0, x0, -4`
+/// `lw a0, 0(x2); beq a0, x0, -4`
 #[test]
 fn a_copy_stays_as_it_was(rt: HostRuntime) -> Result<(), Fail> {
     let start = started(rt.alloc(), &[0x0001_2503, 0xFE05_0EE3])?;
@@ -301,8 +301,8 @@ fn a_copy_stays_as_it_was(rt: HostRuntime) -> Result<(), Fail> {
     Ok(())
 }
 
-// A load that runs over the accessible bytes, a store that begins below them, a load from an address with undefined bits, and calls
-// whose parameters are undefined: how many errors there are. What they say is compared in reports.
+/// A load that runs over the accessible bytes, a store that begins below them, a load from an address with undefined bits, and calls
+/// whose parameters are undefined: how many errors there are. What they say is compared in reports.
 #[test]
 fn accesses_are_tested(rt: HostRuntime) -> Result<(), Fail> {
     for (words, errors) in [
@@ -350,8 +350,8 @@ const LOAD_8: u32 = 0x0085_2503;
 
 const LOAD_124: u32 = 0x07C5_2503;
 
-// The last value of a0 with its undefined bits, how many errors there are, and how many calls of the heap. A first block is at
-// 0x40000010, and one that is freed isn't used again yet.
+/// The last value of a0 with its undefined bits, how many errors there are, and how many calls of the heap. A first block is at
+/// 0x40000010, and one that is freed isn't used again yet.
 #[test]
 fn the_heap_is_called(rt: HostRuntime) -> Result<(), Fail> {
     let malloc = &[MALLOC, EIGHT, ECALL];

@@ -5,8 +5,8 @@ use std::alloc::{AllocError, Global};
 use std::process::Abort;
 use std::test::Fail;
 
-// A page that is held, with some bytes inaccessible, undefined and defined in part; two blank pages of undefined bytes; one of
-// zeros; and inaccessible ones after them. The same stands at each base.
+/// A page that is held, with some bytes inaccessible, undefined and defined in part; two blank pages of undefined bytes; one of
+/// zeros; and inaccessible ones after them. The same stands at each base.
 fn lay_out(memory: &mut Memory, base: u32) -> Result<(), AllocError> {
     memory.fill(base, 0x1000, b"abcdefghijklmnopqrstuvw")?;
     memory.set_range(base.wrapping_add(0x1000), 0x2000, RangeKind::Undefined)?;
@@ -26,7 +26,7 @@ fn lay_out(memory: &mut Memory, base: u32) -> Result<(), AllocError> {
     Ok(())
 }
 
-// Copies, if the ranges are apart.
+/// Copies, if the ranges are apart.
 fn copy_apart(memory: &mut Memory, from: u32, to: u32, len: u32) -> Result<bool, AllocError> {
     if from.wrapping_sub(to) < len || to.wrapping_sub(from) < len {
         return Ok(false);
@@ -35,7 +35,7 @@ fn copy_apart(memory: &mut Memory, from: u32, to: u32, len: u32) -> Result<bool,
     Ok(true)
 }
 
-// What a target's byte is after a copy of a source's.
+/// What a target's byte is after a copy of a source's.
 fn copied(source: Cell, target: Cell) -> Cell {
     Cell {
         byte: source.byte,
@@ -44,7 +44,7 @@ fn copied(source: Cell, target: Cell) -> Cell {
     }
 }
 
-// The first offset of 16 more bytes than were copied whose byte isn't what it should be.
+/// The first offset of 16 more bytes than were copied whose byte isn't what it should be.
 fn first_wrong(old: &Memory, new: &Memory, from: u32, to: u32, len: u32) -> Option<u32> {
     for i in 0..len.wrapping_add(16) {
         let at = to.wrapping_add(i);
@@ -61,7 +61,7 @@ fn first_wrong(old: &Memory, new: &Memory, from: u32, to: u32, len: u32) -> Opti
     None
 }
 
-// Where a copy leaves a memory that it shouldn't; none where all is well.
+/// Where a copy leaves a memory that it shouldn't; none where all is well.
 fn wrong_copy(alloc: Global, from: u32, to: u32, len: u32) -> Result<Option<u32>, AllocError> {
     let mut memory = Memory::new(alloc);
     lay_out(&mut memory, 0x1_0000)?;
@@ -87,7 +87,7 @@ const COPIES: [Copy; 8] = [
     ("round the end", 0x1_0F80, 0xFFFF_FFC0, 0x90),
 ];
 
-// Each offset of a source and of a target in 16 bytes.
+/// Each offset of a source and of a target in 16 bytes.
 #[test]
 fn copies_at_each_offset(rt: HostRuntime) -> Result<(), Fail> {
     for (shows, from, to, len) in COPIES {
@@ -110,7 +110,7 @@ const PAGES: [Copy; 4] = [
     ("within blank pages", 0x1_1008, 0x1_2010, 0xF80),
 ];
 
-// Whole pages.
+/// Whole pages.
 #[test]
 fn copies_of_pages(rt: HostRuntime) -> Result<(), Fail> {
     for (shows, from, to, len) in PAGES {

@@ -94,7 +94,7 @@ fn a_copy_stays_as_it_was(rt: HostRuntime) -> Result<(), Fail> {
     Ok(())
 }
 
-// One more error of a group after a copy was made; the copy's count stays.
+/// One more error of a group after a copy was made; the copy's count stays.
 fn raised_apart(rt: &impl Abort, groups: &mut Groups, address: u32) -> Result<(), AllocError> {
     let early = groups.share()?;
     let trace = Trace::of(address);
@@ -106,7 +106,7 @@ fn raised_apart(rt: &impl Abort, groups: &mut Groups, address: u32) -> Result<()
     Ok(())
 }
 
-// Of 600 groups one in the first chunk of counts, one at the end of a chunk, and one after the chunks.
+/// Of 600 groups one in the first chunk of counts, one at the end of a chunk, and one after the chunks.
 #[test]
 fn copies_have_counts_of_their_own(rt: HostRuntime) -> Result<(), Fail> {
     let mut groups = Groups::new(rt.alloc());

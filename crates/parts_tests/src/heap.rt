@@ -6,8 +6,8 @@ use std::test::Fail;
 
 const TRACE: [u32; 1] = [0x10008];
 
-// Sizes, red zones and places in one heap, one after another: a place is a multiple of 16, and a red zone's length away from the
-// interval before it.
+/// Sizes, red zones and places in one heap, one after another: a place is a multiple of 16, and a red zone's length away from the
+/// interval before it.
 const PLACES: [(u32, u32, Option<u32>); 8] = [
     (8, 0, Some(0x4000_0000)),
     (8, 0, Some(0x4000_0010)),
@@ -19,7 +19,7 @@ const PLACES: [(u32, u32, Option<u32>); 8] = [
     (1, 0x2000_0000, None),
 ];
 
-// What is near an address, of a block of 8 bytes at 0x40000010 with a red zone of 16.
+/// What is near an address, of a block of 8 bytes at 0x40000010 with a red zone of 16.
 const NEAR: [(u32, Option<(Place, u32)>); 7] = [
     (0x3fff_ffff, None),
     (0x4000_0000, Some((Place::Before, 16))),
@@ -30,7 +30,7 @@ const NEAR: [(u32, Option<(Place, u32)>); 7] = [
     (0x4000_0028, None),
 ];
 
-// The volume of the queue, and where a block then goes after one of 8 bytes at 0x40000010 is freed.
+/// The volume of the queue, and where a block then goes after one of 8 bytes at 0x40000010 is freed.
 const AFTER_RELEASE: [(u32, Option<u32>); 3] = [
     (8, Some(0x4000_0040)),
     (7, Some(0x4000_0010)),
@@ -88,7 +88,7 @@ fn tells_what_is_near(rt: HostRuntime) -> Result<(), Fail> {
     Ok(())
 }
 
-// Where a block goes after one of the same size was freed.
+/// Where a block goes after one of the same size was freed.
 fn placed_after_release(
     alloc: Global,
     trace: Trace,

@@ -5,7 +5,7 @@ use shadow_memory::laws::{all_are, first_not};
 use shadow_memory::{Bad, Cell, Memory, RangeKind};
 use std::test::Fail;
 
-// A cell.
+/// A cell.
 const fn cell(byte: u8, accessible: bool, undef: u8) -> Cell {
     Cell {
         byte,
@@ -14,8 +14,8 @@ const fn cell(byte: u8, accessible: bool, undef: u8) -> Cell {
     }
 }
 
-// One byte is written into each of 1,025 memories that share their pages; after each write, the ones before it have theirs and
-// the ones after it have none.
+/// One byte is written into each of 1,025 memories that share their pages; after each write, the ones before it have theirs and
+/// the ones after it have none.
 #[test]
 fn shares_are_apart(rt: HostRuntime) -> Result<(), Fail> {
     let alloc = rt.alloc();
@@ -43,7 +43,7 @@ fn shares_are_apart(rt: HostRuntime) -> Result<(), Fail> {
     Ok(())
 }
 
-// Loads and stores across the end of a page and of the address space.
+/// Loads and stores across the end of a page and of the address space.
 #[test]
 fn accesses_cross_pages(rt: HostRuntime) -> Result<(), Fail> {
     let alloc = rt.alloc();
@@ -75,7 +75,7 @@ fn accesses_cross_pages(rt: HostRuntime) -> Result<(), Fail> {
     Ok(())
 }
 
-// A page of one kind is split by a range and by a partly defined byte, and made one again.
+/// A page of one kind is split by a range and by a partly defined byte, and made one again.
 #[test]
 fn pages_split_and_fold(rt: HostRuntime) -> Result<(), Fail> {
     let alloc = rt.alloc();
@@ -115,7 +115,7 @@ fn pages_split_and_fold(rt: HostRuntime) -> Result<(), Fail> {
     Ok(())
 }
 
-// Bytes from outside the program.
+/// Bytes from outside the program.
 #[test]
 fn bytes_come_and_go(rt: HostRuntime) -> Result<(), Fail> {
     let alloc = rt.alloc();
@@ -177,7 +177,7 @@ const SEARCHES: [Search; 11] = [
     ("not across two words", 0, 0x9090_9090, 0x9090_9091, None),
 ];
 
-// Words whose values lie in a range.
+/// Words whose values lie in a range.
 #[test]
 fn values_are_found(rt: HostRuntime) -> Result<(), Fail> {
     let alloc = rt.alloc();

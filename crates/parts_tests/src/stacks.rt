@@ -2,7 +2,7 @@
 use call_stacks::{CallStack, Trace};
 use std::test::Fail;
 
-// Calls from 0x1000, 0x1010, 0x1020 and on, each of which returns to the next instruction.
+/// Calls from 0x1000, 0x1010, 0x1020 and on, each of which returns to the next instruction.
 const FIRST: u32 = 0x1000;
 
 #[test]

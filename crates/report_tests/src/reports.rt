@@ -198,7 +198,7 @@ fn a_stop_is_named(rt: HostRuntime) -> Result<(), Fail> {
     Ok(())
 }
 
-// `addi a7, x0, 93; addi a0, x0, -1; ecall`
+/// `addi a7, x0, 93; addi a0, x0, -1; ecall`
 #[test]
 fn numbers_are_decimal(rt: HostRuntime) -> Result<(), Fail> {
     let words = [0x05D0_0893, 0xFFF0_0513, 0x0000_0073];
@@ -335,7 +335,7 @@ ERROR SUMMARY: 0 errors from 0 contexts (suppressed: 0 from 0)\n",
     Ok(())
 }
 
-// `malloc(0x1000000)` again and again: 31 blocks have room, and one group has them all.
+/// `malloc(0x1000000)` again and again: 31 blocks have room, and one group has them all.
 #[test]
 fn suppressed_blocks_count_apart_and_like_ones_together(rt: HostRuntime) -> Result<(), Fail> {
     let loops = [0x7D10_0893, 0x0100_0537, 0x0000_0073, 0xFF9F_F06F];

@@ -7,7 +7,7 @@ use std::alloc::AllocError;
 use std::io;
 use std::time::Instant;
 
-// How many errors are counted, in all rounds.
+/// How many errors are counted, in all rounds.
 const ERRORS: u32 = 1_000_000;
 
 /// A branch on undefined bits at one of the instructions.

@@ -23,7 +23,7 @@ const NAMES_ASKED: u32 = 1_000_000;
 /// Where the first segment and the first function begin.
 const BEGIN: u32 = 0x0001_0000;
 
-// The sizes of the ELF header, a program header, a section header and a symbol.
+/// The sizes of the ELF header, a program header, a section header and a symbol.
 const HEADER: u32 = 52;
 
 const PROGRAM_HEADER: u32 = 32;

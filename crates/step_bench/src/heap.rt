@@ -8,13 +8,13 @@ use std::alloc::{AllocError, Global};
 use std::io;
 use std::time::Instant;
 
-// Memcheck's default for `--redzone-size`.
+/// Memcheck's default for `--redzone-size`.
 const REDZONE: u32 = 16;
 
-// Memcheck's default for `--freelist-vol`.
+/// Memcheck's default for `--freelist-vol`.
 const VOLUME: u32 = 20_000_000;
 
-// The lowest place of a block with this red zone.
+/// The lowest place of a block with this red zone.
 const FIRST: u32 = 0x4000_0010;
 
 /// So many allocations of one size, or of sizes that change.

@@ -8,10 +8,10 @@ use std::alloc::{AllocError, Global};
 use std::io;
 use std::time::Instant;
 
-// How many bytes of memory the program has: 16 MiB.
+/// How many bytes of memory the program has: 16 MiB.
 const MEMORY: u32 = 0x0100_0000;
 
-// The pages that are touched: 4 MiB.
+/// The pages that are touched: 4 MiB.
 const PAGES: u32 = 1024;
 
 const PAGE: u32 = 4096;

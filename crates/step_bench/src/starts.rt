@@ -6,7 +6,7 @@ use guest_machine::Machine;
 use std::io;
 use std::time::Instant;
 
-// How many bytes of memory the program has: 16 MiB.
+/// How many bytes of memory the program has: 16 MiB.
 const MEMORY: u32 = 0x0100_0000;
 
 const STARTS: u32 = 100;

@@ -8,7 +8,7 @@ use std::alloc::{AllocError, Global};
 use std::io;
 use std::time::Instant;
 
-// How many bytes of memory the program has.
+/// How many bytes of memory the program has.
 const MEMORY: u32 = 0x2000;
 
 /// Makes so many steps.

@@ -13,7 +13,7 @@ use std::time::Instant;
 /// How many steps are made.
 const STEPS: u32 = 4_194_304;
 
-// addi x5,x5,0, whose immediate stands in the upper twelve bits.
+/// addi x5,x5,0, whose immediate stands in the upper twelve bits.
 const ADVANCE: u32 = 0x0002_8293;
 
 /// lui x5,0x20; lui x7,0x30; sw x6,0(x5); addi x5,x5,APART; addi x6,x6,1; bltu x5,x7,-12; jal x0,-24: writes words so many bytes

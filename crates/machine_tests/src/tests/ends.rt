@@ -129,7 +129,7 @@ fn input_of(alloc: Global, bytes: &[u8]) -> Result<Input, AllocError> {
     Ok(Input::new(bytes.to_vec(alloc)?))
 }
 
-// An input with a byte put at its end, and with its last byte taken off.
+/// An input with a byte put at its end, and with its last byte taken off.
 #[test]
 fn an_input_grows_and_shrinks_at_its_end(rt: HostRuntime) -> Result<(), Fail> {
     for (bytes, pushed, popped) in [

@@ -60,8 +60,8 @@ fn called(alloc: Global, values: [u32; 4]) -> Result<Machine, Fail> {
     Ok(stepped(alloc, machine, 6)?)
 }
 
-// The number, the parameters and then the buffer: `read` to nowhere, `write` of four undefined bytes, and of four that may not be
-// accessed.
+/// The number, the parameters and then the buffer: `read` to nowhere, `write` of four undefined bytes, and of four that may not be
+/// accessed.
 #[test]
 fn parameters_are_tested_in_order(rt: HostRuntime) -> Result<(), Fail> {
     let number = undefined(Parameter::SyscallNumber);
@@ -92,7 +92,7 @@ fn parameters_are_tested_in_order(rt: HostRuntime) -> Result<(), Fail> {
     Ok(())
 }
 
-// `lw a0, 14(x2); sw a1, 14(x2); sw a1, -2(x2)`: the first inaccessible byte is the third, the third and the first.
+/// `lw a0, 14(x2); sw a1, 14(x2); sw a1, -2(x2)`: the first inaccessible byte is the third, the third and the first.
 #[test]
 fn the_first_inaccessible_byte_is_told(rt: HostRuntime) -> Result<(), Fail> {
     let machine = run(rt.alloc(), &[0x00E1_2503, 0x00B1_2723, 0xFEB1_2F23], 3)?;
@@ -105,7 +105,7 @@ fn the_first_inaccessible_byte_is_told(rt: HostRuntime) -> Result<(), Fail> {
     Ok(())
 }
 
-// `addi a0, x0, 8; sw a0, 16(x2); lw a1, 16(x2)`: above the bytes that may be accessed, until they are marked.
+/// `addi a0, x0, 8; sw a0, 16(x2); lw a1, 16(x2)`: above the bytes that may be accessed, until they are marked.
 #[test]
 fn an_inaccessible_byte_takes_its_value(rt: HostRuntime) -> Result<(), Fail> {
     let stored = run(rt.alloc(), &[0x0080_0513, 0x00A1_2823, 0x0101_2583], 2)?;
@@ -124,7 +124,7 @@ fn calls_and_a_return(alloc: Global, calls: usize) -> Result<Vec<u32>, AllocErro
     Ok(words)
 }
 
-// Of 257 calls the first is forgotten: of those before the one that is returned to, the second alone is left.
+/// Of 257 calls the first is forgotten: of those before the one that is returned to, the second alone is left.
 #[test]
 fn the_oldest_of_257_calls_is_forgotten(rt: HostRuntime) -> Result<(), Fail> {
     let words = calls_and_a_return(rt.alloc(), 257)?;

@@ -39,7 +39,7 @@ fn run_with(alloc: Global, words: &[u32], redzone: u32, volume: u32) -> Result<M
     Ok(machine)
 }
 
-// The red zone, the volume, and the last answer.
+/// The red zone, the volume, and the last answer.
 #[test]
 fn blocks_go_to_the_least_place(rt: HostRuntime) -> Result<(), Fail> {
     let one = &[MALLOC, EIGHT, ECALL];
@@ -84,7 +84,7 @@ fn blocks_go_to_the_least_place(rt: HostRuntime) -> Result<(), Fail> {
     Ok(())
 }
 
-// An address inside a block is freed, and one whose block was freed is resized: nothing else changes, and 0 is answered.
+/// An address inside a block is freed, and one whose block was freed is resized: nothing else changes, and 0 is answered.
 #[test]
 fn no_block_begins_there(rt: HostRuntime) -> Result<(), Fail> {
     let inside = &[MALLOC, EIGHT, ECALL, ONE_MORE, FREE, ECALL];

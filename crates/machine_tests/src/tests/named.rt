@@ -79,7 +79,7 @@ fn nowhere() -> Touched {
     }
 }
 
-// The last value of a0, how many calls of the heap there are, and what the last step touches: of a function's word nothing.
+/// The last value of a0, how many calls of the heap there are, and what the last step touches: of a function's word nothing.
 #[test]
 fn each_function_is_called_by_name(rt: HostRuntime) -> Result<(), Fail> {
     let malloc = &[EIGHT, call(4, 0)];
@@ -128,8 +128,8 @@ fn each_function_is_called_by_name(rt: HostRuntime) -> Result<(), Fail> {
     Ok(())
 }
 
-// `addi x2, x2, -16; lw x1, 0(x2)` or `lw x1, 16(x2)`; `jal x0, malloc`: x1 with undefined bits or without, and where that leads. At an
-// address that is no multiple of 4 nothing is called, and pc stays.
+/// `addi x2, x2, -16; lw x1, 0(x2)` or `lw x1, 16(x2)`; `jal x0, malloc`: x1 with undefined bits or without, and where that leads. At an
+/// address that is no multiple of 4 nothing is called, and pc stays.
 #[test]
 fn x1_tells_where_to_return(rt: HostRuntime) -> Result<(), Fail> {
     let (undefined, defined) = (0x0001_2083, 0x0101_2083);
@@ -190,7 +190,7 @@ fn x1_tells_where_to_return(rt: HostRuntime) -> Result<(), Fail> {
     Ok(())
 }
 
-// `addi x2, x2, -16; lw a0, 0(x2); lw a1, 4(x2); lw a7, 8(x2); jal x1, ..`: a7 is not looked at.
+/// `addi x2, x2, -16; lw a0, 0(x2); lw a1, 4(x2); lw a7, 8(x2); jal x1, ..`: a7 is not looked at.
 #[test]
 fn the_functions_parameters_are_tested(rt: HostRuntime) -> Result<(), Fail> {
     let malloc = [undefined(Parameter::MallocSize)];
@@ -224,8 +224,8 @@ fn the_functions_parameters_are_tested(rt: HostRuntime) -> Result<(), Fail> {
     Ok(())
 }
 
-// `jal x1, +8; ebreak; addi a0, x0, 8; jal x1, free; lw a0, 0(a0)`: the error inside `free` begins its trace there, and after the return
-// its call has ended.
+/// `jal x1, +8; ebreak; addi a0, x0, 8; jal x1, free; lw a0, 0(a0)`: the error inside `free` begins its trace there, and after the return
+/// its call has ended.
 #[test]
 fn a_trace_begins_at_the_function(rt: HostRuntime) -> Result<(), Fail> {
     let words = [0x0080_00EF, 0x0010_0073, EIGHT, call(12, FREE), LOAD];
@@ -239,7 +239,7 @@ fn a_trace_begins_at_the_function(rt: HostRuntime) -> Result<(), Fail> {
     Ok(())
 }
 
-// `malloc` at the entry, whose word is no instruction: it is called whatever the word is, and whether or not it may be accessed.
+/// `malloc` at the entry, whose word is no instruction: it is called whatever the word is, and whether or not it may be accessed.
 #[test]
 fn a_functions_word_is_not_taken(rt: HostRuntime) -> Result<(), Fail> {
     for kind in [
@@ -259,7 +259,7 @@ fn a_functions_word_is_not_taken(rt: HostRuntime) -> Result<(), Fail> {
     Ok(())
 }
 
-// A program whose entry is 0x10002 (e_entry is at byte 24), and `malloc` there.
+/// A program whose entry is 0x10002 (e_entry is at byte 24), and `malloc` there.
 #[test]
 fn no_function_is_called_where_pc_is_no_multiple_of_4(rt: HostRuntime) -> Result<(), Fail> {
     let mut file = program(rt.alloc(), &[EIGHT])?;

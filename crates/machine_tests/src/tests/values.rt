@@ -201,7 +201,7 @@ fn quotients_and_remainders(rt: HostRuntime) -> Result<(), Fail> {
     check(&rt, rt.alloc(), &OTHERS)
 }
 
-// `OP x5, x6, +16`: pc goes on by 4, or by 16.
+/// `OP x5, x6, +16`: pc goes on by 4, or by 16.
 #[test]
 fn branches(rt: HostRuntime) -> Result<(), Fail> {
     let minus = 0xFFFF_FFFF;
@@ -226,7 +226,7 @@ fn branches(rt: HostRuntime) -> Result<(), Fail> {
     Ok(())
 }
 
-// `lui x5, 0x10; LOAD x7, OFFSET(x5)`, of the bytes 80, 7F, 01, 80, FF from 0x10010 on.
+/// `lui x5, 0x10; LOAD x7, OFFSET(x5)`, of the bytes 80, 7F, 01, 80, FF from 0x10010 on.
 #[test]
 fn loads(rt: HostRuntime) -> Result<(), Fail> {
     for (word, want) in [
@@ -247,7 +247,7 @@ fn loads(rt: HostRuntime) -> Result<(), Fail> {
     Ok(())
 }
 
-// `lui x5, 0x10; lui x6, 0x12345; addi x6, x6, 0x678; STORE x6, 32(x5); lw x7, 32(x5)`, over the word FFFFFFFF.
+/// `lui x5, 0x10; lui x6, 0x12345; addi x6, x6, 0x678; STORE x6, 32(x5); lw x7, 32(x5)`, over the word FFFFFFFF.
 #[test]
 fn stores(rt: HostRuntime) -> Result<(), Fail> {
     let [upper, low] = put_words(0x1234_5678, 6);
@@ -273,7 +273,7 @@ fn stores(rt: HostRuntime) -> Result<(), Fail> {
     Ok(())
 }
 
-// `addi x0, x0, 5`
+/// `addi x0, x0, 5`
 #[test]
 fn x0_stays_0(rt: HostRuntime) -> Result<(), Fail> {
     let machine = run(rt.alloc(), &[0x0050_0013], 1)?;
@@ -281,7 +281,7 @@ fn x0_stays_0(rt: HostRuntime) -> Result<(), Fail> {
     Ok(())
 }
 
-// `lui x5, 0x10; jalr x5, 13(x5)`: the target is computed before x5 is written, and its lowest bit is cleared. `jal x1, 8`.
+/// `lui x5, 0x10; jalr x5, 13(x5)`: the target is computed before x5 is written, and its lowest bit is cleared. `jal x1, 8`.
 #[test]
 fn jumps_leave_the_next_address(rt: HostRuntime) -> Result<(), Fail> {
     let far = run(rt.alloc(), &[0x0001_02B7, 0x00D2_82E7], 2)?;
