@@ -6,3 +6,4 @@ pub mod PokeLaw
 pub mod SetupLaw
 pub mod HeapSteps
 pub mod HookSteps
+pub mod Halted

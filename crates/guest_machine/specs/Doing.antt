@@ -1,5 +1,5 @@
 -- What the machine's private functions do to the parts that it shows.
-use Rattle.std.specs.Prelude.{◌≡◌, ℕ, ◌+◌, ◌-◌, true, false, Bool, length, List, Option, None}
+use Rattle.std.specs.Prelude.{◌≡◌, ℕ, ◌+◌, true, false, Bool, length, List, Option, None}
 use Rattle.guest_machine.specs.Effects.{Effect}
 use Rattle.guest_machine.specs.Calls.{read_call, write_call}
 use Rattle.guest_machine.specs.HeapCalls.{heap_work, heap_call}

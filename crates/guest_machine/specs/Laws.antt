@@ -3,7 +3,7 @@ use Rattle.std.specs.Prelude.{◌≡◌, ℕ, ◌/◌, ◌%◌, ◌^◌, ◌<◌
 use Rattle.guest_elf.specs.declared.hook.Hook.{Hook}
 use Rattle.guest_machine.specs.State.{State}
 use Rattle.guest_machine.specs.Run.{poked}
-use Rattle.guest_machine.specs.Exec.{exec, touches, counted, is_heap_deed, deed_at}
+use Rattle.guest_machine.specs.Exec.{exec, touches, counted, is_heap_deed, is_running, deed_at}
 use Rattle.guest_machine.specs.declared.setup.Setup.{Setup}
 
 -- the addresses of the word at an address
@@ -80,3 +80,7 @@ pub record KeepsEnd : Type 0 where
 -- the end of the input, once seen, stays seen
 abbrev pub EndStays : Type 0
 EndStays = (setup : Setup) (s : State) → s.end_seen ≡ true → (exec s setup).end_seen ≡ true
+
+-- a step of a machine that doesn't run leaves the state as it is, and touches nothing
+abbrev pub StaysHalted : Type 0
+StaysHalted = (setup : Setup) (s : State) → is_running s.core.status ≡ false → (exec s setup ≡ s) × ((a : ℕ) → touches s setup a ≡ false)

@@ -13,6 +13,7 @@
 //! |---|---|
 //! | [`Machine::start`] | the machine before the first step of an image |
 //! | [`Machine::step`] | the machine after one step, and the addresses whose bytes it took or wrote |
+//! | [`Machine::rest`] | nothing: it makes steps of a machine that doesn't run, which stays as it is |
 //! | [`Machine::mark`] | the machine with a range made inaccessible, undefined or defined |
 //! | [`Machine::poke_word`] | the machine with the four bytes at an address changed |
 //! | [`Machine::share`] | a copy, which later changes of the other don't reach |
@@ -21,8 +22,8 @@
 //! | [`Machine::memory`], [`Machine::heap`] | the bytes with what is known of them, and the blocks of the heap |
 //! | [`Machine::groups`] | the errors so far, in order of first occurrence |
 //! | [`Hooks::new`], [`Hooks::at`] | the functions of the heap that are called by name, from a list in order of address; the one that begins at an address |
-//! | [`Meter::new`], [`Meter::read`] | a count of steps, raised by `step` alone |
-//! | [`laws::keeps_words`], [`laws::keeps_input`], [`laws::keeps_heap`], [`laws::keeps_pokes`], [`laws::reads_on`] | nothing: their contracts are laws of one step |
+//! | [`Meter::new`], [`Meter::read`] | a count of steps, raised by `step` and `rest` alone |
+//! | [`laws::keeps_words`], [`laws::keeps_input`], [`laws::keeps_heap`], [`laws::keeps_pokes`], [`laws::reads_on`], [`laws::stays_halted`] | nothing: their contracts are laws of one step |
 //!
 //! [`Setup`], [`Input`], [`Hooks`], [`Mark`], [`Touched`], [`Span`], [`Register`], [`Status`] and [`Stop`] are the values that these take and
 //! answer, [`USUAL_REDZONE`] and [`USUAL_VOLUME`] Memcheck's settings of the heap; those of memory, traces, blocks and errors are of the

@@ -1,4 +1,4 @@
-ghost use Rattle.std.specs.Prelude.{◌≡◌, ◌+◌, min};
+ghost use Rattle.std.specs.Prelude.{◌≡◌, ◌+◌, ◌≤◌, min};
 
 use std::marker::Model;
 
@@ -35,5 +35,14 @@ impl Meter {
         ensures { self.new ≡ min (self.old + 1) u64.MAX }
     {
         self.steps = self.steps.saturating_add(1);
+    }
+
+    pub(crate) fn rise_by(&mut self, steps: u32)
+        requires { self.old ≤ u64.MAX }
+        ensures { self.new ≡ min (self.old + steps) u64.MAX }
+    {
+        for _step in 0..steps {
+            self.rise();
+        }
     }
 }

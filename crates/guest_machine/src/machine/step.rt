@@ -1,5 +1,5 @@
 //! One step.
-ghost use Rattle.std.specs.Prelude.{◌≡◌, ◌+◌, ◌&&◌, min, false, Option, Some, None, IfOk, IfSome, IfNone, OnErr, OnOk};
+ghost use Rattle.std.specs.Prelude.{◌≡◌, ◌+◌, ◌&&◌, ◌≤◌, min, false, Option, Some, None, IfOk, IfSome, IfNone, OnErr, OnOk};
 ghost use Rattle.guest_machine.specs.State.{State};
 ghost use Rattle.guest_machine.specs.Errors.{fetch_undef};
 ghost use Rattle.guest_machine.specs.Instructions.{row_of};
@@ -284,5 +284,14 @@ impl Machine {
         let touched = machine.guest.step(setup)?;
         meter.rise();
         Ok((machine, touched))
+    }
+
+    /// Makes so many steps of a machine that doesn't run. Each leaves it as it is and touches nothing, and the meter rises by one for each.
+    pub fn rest(&self, steps: u32, meter: &mut Meter)
+        requires halted { (s : State) → Shows self.now s → is_running s.core.status ≡ false }
+        requires metered { meter.old ≤ u64.MAX }
+        ensures { meter.new ≡ min (meter.old + steps) u64.MAX }
+    {
+        meter.rise_by(steps);
     }
 }

@@ -1,0 +1,78 @@
+-- A machine that doesn't run stays as it is, and touches nothing.
+use Rattle.std.proofs.Common.{◌≡◌, ℕ, ◌+◌, ◌++◌, ◌&&◌, List, length, false, cond, Some, None, ap, ◌∙◌, add-zero, append-nil}
+use Rattle.std.specs.Prelude.{is_none}
+use Rattle.guest_elf.specs.declared.hook.Hook.{Hook}
+use Rattle.guest_elf.specs.Hooks.{hook_at}
+use Rattle.shadow_memory.specs.Ranges.{window, little_word}
+use Rattle.guest_machine.specs.State.{State, Core}
+use Rattle.guest_machine.specs.Exec.{exec, touches, touched_at, uses_at, intake_at, effect_at, has_touched, Deed, deed_by, deed_at, called_here, fetched, fetches, fetch_span, fetch_fault, unfetched, jump_fault, is_running, is_aligned, is_heap_deed, plan, outcome, deed_terms, deed_asks, intake_of, left_at, given_at, taken_from, written_to, seen_also, counted}
+use Rattle.guest_machine.specs.Effects.{Effect, quiet, stops}
+use Rattle.guest_machine.specs.Laws.{StaysHalted}
+use Rattle.guest_machine.specs.declared.status.Stop.TheVariants.{Misaligned}
+use Rattle.guest_machine.specs.declared.setup.Setup.{Setup}
+
+halts : (core : Core) (bytes : ℕ → ℕ) (hooks : List (ℕ × Hook)) → is_running core.status ≡ false → deed_at core bytes hooks ≡ Deed.Halts
+unfolding called_here fetched fetches
+halts core bytes hooks h =
+    ap (λ b. deed_by (cond (b && is_aligned core.pc) (hook_at hooks core.pc) None) (fetched core bytes)) h
+    ∙ ap (λ b. deed_by None (cond (b && (is_aligned core.pc && is_none (fetch_fault core))) (Some (little_word (window bytes core.pc 4))) None)) h
+
+touches-nothing : (s : State) (setup : Setup) (a : ℕ) → is_running s.core.status ≡ false → touches s setup a ≡ false
+unfolding touches touched_at uses_at
+touches-nothing s setup a h =
+    let n = length s.output in
+    ap (λ deed. has_touched (record {
+      fetch = fetch_span s.core deed;
+      reads = (plan s.core (deed_terms s.core deed s.position n setup) deed).reads;
+      writes = (plan s.core (deed_terms s.core deed s.position n setup) deed).writes;
+    }) a) (halts s.core s.bytes setup.hooks h)
+
+-- a state after an effect that uses nothing
+after : State → Effect → State
+after s e =
+    record {
+      bytes = s.bytes;
+      core = e.core;
+      position = s.position + 0;
+      end_seen = s.end_seen;
+      output = s.output ++ e.output;
+      heap_calls = s.heap_calls;
+      events = s.events ++ e.raised;
+    }
+
+after-quiet : (s : State) → after s (quiet s.core) ≡ s
+unfolding after
+after-quiet s = λ i. record {
+  bytes = s.bytes;
+  core = s.core;
+  position = add-zero s.position i;
+  end_seen = s.end_seen;
+  output = append-nil s.output i;
+  heap_calls = s.heap_calls;
+  events = append-nil s.events i;
+}
+
+halted-step : (s : State) (setup : Setup) → is_running s.core.status ≡ false → exec s setup ≡ s
+unfolding exec intake_at uses_at effect_at unfetched after
+halted-step s setup h =
+    let n = length s.output in
+    let by : Deed → State = λ deed.
+    let terms = deed_terms s.core deed s.position n setup in
+    let uses = plan s.core terms deed in
+    let effect = outcome s.core terms deed (given_at s.position terms.intake.count setup) (taken_from s.bytes uses.reads) in
+    let intake = intake_of (deed_asks s.core deed) (left_at s.position setup) in
+    record {
+      bytes = written_to s.bytes uses.writes effect.made;
+      core = effect.core;
+      position = s.position + intake.count;
+      end_seen = seen_also s.end_seen intake.ends;
+      output = s.output ++ effect.output;
+      heap_calls = counted s.heap_calls (is_heap_deed s.core deed);
+      events = s.events ++ effect.raised;
+    } in
+    ap by (halts s.core s.bytes setup.hooks h)
+    ∙ ap (λ b. after s (cond b (cond (is_aligned s.core.pc) (jump_fault s.core (fetch_fault s.core)) (stops s.core Misaligned)) (quiet s.core))) h
+    ∙ after-quiet s
+
+pub stays-halted : StaysHalted
+stays-halted setup s h = (halted-step s setup h, λ a. touches-nothing s setup a h)
