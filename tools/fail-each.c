@@ -1,22 +1,26 @@
 // An allocator that refuses growths, to be loaded before the C library's (LD_PRELOAD). A growth is a call for memory.
 // FAIL_AT=N refuses the Nth, counted from 1, and with FAIL_ON=1 each after it too. At the end of the process the
-// numbers of growths asked for and refused are written to the file that FAIL_TELL names, where it names one.
+// numbers of growths asked for and refused are written to the file that FAIL_TELL names, where it names one. With
+// FAIL_READS=1 each read of standard input is interrupted, and their number is written after the other two.
 #include <errno.h>
 #include <stdio.h>
 #include <stdlib.h>
+#include <sys/syscall.h>
+#include <unistd.h>
 
 void *__libc_malloc(size_t);
 void *__libc_calloc(size_t, size_t);
 void *__libc_realloc(void *, size_t);
 void *__libc_memalign(size_t, size_t);
 
-static unsigned long asked, refused, first;
-static int ready, onward;
+static unsigned long asked, refused, interrupted, first;
+static int ready, onward, interrupting;
 
 static void begin(void) {
-  const char *at = getenv("FAIL_AT"), *on = getenv("FAIL_ON");
+  const char *at = getenv("FAIL_AT"), *on = getenv("FAIL_ON"), *reads = getenv("FAIL_READS");
   first = at ? strtoul(at, 0, 10) : 0;
   onward = on && *on == '1';
+  interrupting = reads && *reads == '1';
   ready = 1;
 }
 
@@ -46,12 +50,20 @@ int posix_memalign(void **place, size_t align, size_t size) {
   return 0;
 }
 
+ssize_t read(int file, void *bytes, size_t count) {
+  if (!ready) begin();
+  if (!interrupting || file != 0) return syscall(SYS_read, file, bytes, count);
+  interrupted++;
+  errno = EINTR;
+  return -1;
+}
+
 __attribute__((destructor)) static void end(void) {
-  unsigned long asked_then = asked, refused_then = refused;
+  unsigned long asked_then = asked, refused_then = refused, interrupted_then = interrupted;
   const char *path = getenv("FAIL_TELL");
   first = 0;
   FILE *file = path ? fopen(path, "w") : 0;
   if (!file) return;
-  fprintf(file, "%lu %lu\n", asked_then, refused_then);
+  fprintf(file, "%lu %lu %lu\n", asked_then, refused_then, interrupted_then);
   fclose(file);
 }

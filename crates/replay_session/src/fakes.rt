@@ -3,46 +3,105 @@ use std::alloc::Global;
 use std::io;
 use std::io::{Error, ErrorKind, Read, Write};
 
-/// A reader of some bytes, so many at a time.
+/// Which reads are interrupted.
+#[derive(Clone, Copy, Debug, PartialEq, Eq)]
+pub enum Interruptions {
+    None,
+    /// The first, and every second after it.
+    EverySecond,
+    All,
+}
+
+/// A reader of some bytes, which fails from a call or from a byte on.
 #[derive(Drop)]
 pub struct Script<'a> {
     /// What is left.
     pub rest: &'a [u8],
+    /// Whether letters `a` follow without an end.
+    pub endless: bool,
     /// How many bytes a read gives at most; one in place of none.
     pub most: usize,
-    /// Whether a read fails after the last byte, in place of telling the end.
-    pub fails: bool,
-    /// Whether the next read is interrupted. Where the first is, every second one is.
-    pub interrupted: Option<bool>,
+    /// How many reads were made.
+    pub reads: u64,
+    /// The first read that fails, counted from 0; each later one does too.
+    pub failing_read: u64,
+    /// How many bytes are still given before each read fails.
+    pub bytes: usize,
+    /// Which of the reads that don't fail are interrupted.
+    pub interruptions: Interruptions,
+}
+
+impl<'a> Script<'a> {
+    ghost use Rattle.std.specs.Prelude.{◌≡◌, ◌-◌, ◌^◌, false};
+
+    /// A reader of some bytes that doesn't fail.
+    pub fn new(rest: &'a [u8]) -> Self
+        ensures bytes { (result.rest.now ≡ rest.now) × (result.endless ≡ false) × (result.most ≡ 2 ^ 64 - 1) × (result.bytes ≡ 2 ^ 64 - 1) }
+        ensures reads { (result.reads ≡ 0) × (result.failing_read ≡ 2 ^ 64 - 1) × (result.interruptions ≡ Interruptions.None) }
+    {
+        Script {
+            rest,
+            endless: false,
+            most: usize::MAX,
+            reads: 0,
+            failing_read: u64::MAX,
+            bytes: usize::MAX,
+            interruptions: Interruptions::None,
+        }
+    }
 }
 
 impl Read for Script<'_> {
-    ghost use Rattle.std.specs.Prelude.{Some};
+    ghost use Rattle.std.specs.Prelude.{None, Some, if◌then◌else◌};
 
-    ghost remaining = { λ s. Some s.rest.now };
+    ghost remaining = { λ s. if s.endless then None else Some s.rest.now };
 
     fn read(&mut self, buf: &mut [u8]) -> io::Result<usize> {
-        if let Some(now) = self.interrupted {
-            self.interrupted = Some(!now);
-            if now {
-                return Err(Error::from(ErrorKind::Interrupted));
-            }
-        }
-        if self.rest.is_empty() && self.fails {
+        if self.reads >= self.failing_read || self.bytes == 0 {
             return Err(Error::from(ErrorKind::Other));
         }
-        let n = self.rest.len().min(buf.len()).min(self.most.max(1));
+        let interrupted = match self.interruptions {
+            Interruptions::None => false,
+            Interruptions::EverySecond => self.reads % 2 == 0,
+            Interruptions::All => true,
+        };
+        self.reads = self.reads.wrapping_add(1);
+        if interrupted {
+            return Err(Error::from(ErrorKind::Interrupted));
+        }
+        let room = buf.len().min(self.most.max(1)).min(self.bytes);
+        if self.endless && self.rest.is_empty() {
+            buf[..room].fill(b'a');
+            self.bytes -= room;
+            return Ok(room);
+        }
+        let n = self.rest.len().min(room);
         buf[..n].copy_from_slice(&self.rest[..n]);
         self.rest = &self.rest[n..];
+        self.bytes -= n;
         Ok(n)
     }
 }
 
-/// A writer with room for so many bytes, which fails once they are taken, and of which so many flushes succeed.
+/// How a write that doesn't succeed is answered.
+#[derive(Clone, Copy, Debug, PartialEq, Eq)]
+pub enum Refusal {
+    Fails,
+    TakesNothing,
+    IsInterrupted,
+}
+
+/// A writer that refuses from a call or from a byte on, and whose flushes fail from one on.
 #[derive(Drop)]
 pub struct Room {
     /// How many bytes are still taken.
     pub left: usize,
+    /// How many bytes a write takes at most.
+    pub most: usize,
+    /// How many writes are still taken.
+    pub writes: u64,
+    /// How a write is answered that isn't taken.
+    pub refusal: Refusal,
     /// How many flushes still succeed.
     pub flushes: usize,
     /// The bytes that were taken.
@@ -52,14 +111,18 @@ pub struct Room {
 }
 
 impl Room {
-    ghost use Rattle.std.specs.Prelude.{◌≡◌, []};
+    ghost use Rattle.std.specs.Prelude.{◌≡◌, ◌-◌, ◌^◌, []};
 
     /// A writer with room for so many bytes, of which each flush succeeds.
     pub fn new(alloc: Global, left: usize) -> Self
-        ensures { (result.left ≡ left) × (result.taken.items ≡ []) }
+        ensures bytes { (result.left ≡ left) × (result.most ≡ 2 ^ 64 - 1) × (result.taken.items ≡ []) × (result.flushed ≡ 0) }
+        ensures calls { (result.writes ≡ 2 ^ 64 - 1) × (result.flushes ≡ 2 ^ 64 - 1) × (result.refusal ≡ Refusal.Fails) }
     {
         Room {
             left,
+            most: usize::MAX,
+            writes: u64::MAX,
+            refusal: Refusal::Fails,
             flushes: usize::MAX,
             taken: Vec::new(alloc),
             flushed: 0,
@@ -73,12 +136,17 @@ impl Write for Room {
     ghost contents = { λ s. Some s.taken.items };
 
     fn write(&mut self, bytes: &[u8]) -> io::Result<usize> {
-        let n = bytes.len().min(self.left);
-        if n == 0 && !bytes.is_empty() {
-            return Err(Error::from(ErrorKind::BrokenPipe));
+        let n = bytes.len().min(self.left).min(self.most);
+        if self.writes == 0 || (n == 0 && !bytes.is_empty()) {
+            return match self.refusal {
+                Refusal::Fails => Err(Error::from(ErrorKind::BrokenPipe)),
+                Refusal::TakesNothing => Ok(0),
+                Refusal::IsInterrupted => Err(Error::from(ErrorKind::Interrupted)),
+            };
         }
         self.taken.extend_from_slice(&bytes[..n])?;
         self.left -= n;
+        self.writes -= 1;
         Ok(n)
     }
 

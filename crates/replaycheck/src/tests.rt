@@ -6,10 +6,17 @@ use crate::files::{Files, ReadFault, front_of};
 use crate::run_once::{RunFault, run_once};
 use guest_elf::{ElfFault, read};
 use guest_programs::program;
-use replay_session::fakes::{Room, Script};
+use replay_session::LONGEST_INPUT;
+use replay_session::fakes::{Refusal, Room, Script};
 use std::alloc::Global;
 use std::test::Fail;
 use suppressions::SuppFault;
+
+/// Three words: exit with status 0.
+const EXITS: [u32; 3] = [0x05D0_0893, 0x0000_0513, 0x0000_0073];
+
+/// How its report at step 3 begins, without an input.
+const BEGINNING: &[u8] = b"step 3\nstate exited 0\ninput 0 of 0\n";
 
 /// Files in memory, each with its path.
 #[derive(Drop)]
@@ -104,7 +111,7 @@ const ROWS: [Row; 9] = [
 #[test]
 fn commands(rt: HostRuntime) -> Result<(), Fail> {
     let alloc = rt.alloc();
-    let file = program(alloc, &[0x05D0_0893, 0x0000_0513, 0x0000_0073])?;
+    let file = program(alloc, &EXITS)?;
     let files: [(&str, &[u8]); 4] = [
         ("p", &file),
         ("s", b"{\n x\n Memcheck:Cond\n fun:*\n}\n"),
@@ -119,12 +126,7 @@ fn commands(rt: HostRuntime) -> Result<(), Fail> {
             suppressions,
             step,
         };
-        let mut reader = Script {
-            rest: b"supp off 0\ninput 2 1\nsupp off 1\ninput 3 1\n",
-            most: 100,
-            fails: false,
-            interrupted: None,
-        };
+        let mut reader = Script::new(b"supp off 0\ninput 2 1\nsupp off 1\ninput 3 1\n");
         let (mut writer, mut told) = (Room::new(alloc, 1000), Room::new(alloc, 1000));
         let end = carry_out(alloc, &order, &shelf, &mut reader, &mut writer);
         assert_eq!(rt; tell(&end, &mut told), status);
@@ -138,7 +140,7 @@ fn commands(rt: HostRuntime) -> Result<(), Fail> {
 #[test]
 fn full_output(rt: HostRuntime) -> Result<(), Fail> {
     let alloc = rt.alloc();
-    let file = program(alloc, &[0x05D0_0893, 0x0000_0513, 0x0000_0073])?;
+    let file = program(alloc, &EXITS)?;
     let files: [(&str, &[u8]); 1] = [("p", &file)];
     for step in [None, Some(3)] {
         let order = Order {
@@ -147,12 +149,7 @@ fn full_output(rt: HostRuntime) -> Result<(), Fail> {
             suppressions: None,
             step,
         };
-        let mut reader = Script {
-            rest: b"report\n",
-            most: 100,
-            fails: false,
-            interrupted: None,
-        };
+        let mut reader = Script::new(b"report\n");
         let end = carry_out(
             alloc,
             &order,
@@ -165,29 +162,56 @@ fn full_output(rt: HostRuntime) -> Result<(), Fail> {
     Ok(())
 }
 
+/// A whole report, and an input above the limit, which comes before all else.
 #[test]
 fn one_report(rt: HostRuntime) -> Result<(), Fail> {
     let alloc = rt.alloc();
-    let file = program(alloc, &[0x05D0_0893, 0x0000_0513, 0x0000_0073])?;
+    let file = program(alloc, &EXITS)?;
     let image = read(alloc, &file).map_err(|_| Fail::from("the image is refused"))?;
     let mut all = Room::new(alloc, 1000);
-    assert_eq!(rt;
-        run_once(alloc, &image, Vec::new(alloc), &[], 3, &mut all),
-        Ok(())
-    );
+    let ended = run_once(alloc, &image, Vec::new(alloc), &[], 3, &mut all);
+    assert_eq!(rt; ended, Ok(()));
     assert_eq!(rt; all.flushed, 285);
-    assert!(rt;
-        all.taken
-            .starts_with(b"step 3\nstate exited 0\ninput 0 of 0\n")
-    );
-    let mut some = Room::new(alloc, 100);
-    let stopped = run_once(alloc, &image, Vec::new(alloc), &[], 3, &mut some);
-    assert_eq!(rt; stopped, Err(RunFault::WriteFailed { bytes: 100 }));
-    assert!(rt; all.taken.starts_with(some.taken.as_slice()));
-    let mut unflushed = Room::new(alloc, 1000);
-    unflushed.flushes = 0;
-    let stopped = run_once(alloc, &image, Vec::new(alloc), &[], 3, &mut unflushed);
-    assert_eq!(rt; stopped, Err(RunFault::WriteFailed { bytes: 285 }));
+    assert!(rt; all.taken.starts_with(BEGINNING));
+    let mut none = Room::new(alloc, 1000);
+    let large = vec![in alloc; 0u8; LONGEST_INPUT + 1]?;
+    let stopped = run_once(alloc, &image, large, &[], 3, &mut none);
+    assert_eq!(rt; stopped, Err(RunFault::InputTooLarge));
+    assert_eq!(rt; none.taken.len(), 0);
+    Ok(())
+}
+
+/// A report of 285 bytes in writes of 50: each is refused in turn, and then the flush.
+#[test]
+fn each_write_of_a_report_fails(rt: HostRuntime) -> Result<(), Fail> {
+    let alloc = rt.alloc();
+    let file = program(alloc, &EXITS)?;
+    let image = read(alloc, &file).map_err(|_| Fail::from("the image is refused"))?;
+    // how many writes are taken, how the next is refused, how many flushes succeed, and how many bytes are taken
+    for (writes, refusal, flushes, bytes) in [
+        (0, Refusal::Fails, 1, 0),
+        (1, Refusal::Fails, 1, 50),
+        (2, Refusal::Fails, 1, 100),
+        (3, Refusal::TakesNothing, 1, 150),
+        (4, Refusal::TakesNothing, 1, 200),
+        (5, Refusal::IsInterrupted, 1, 250),
+        (6, Refusal::Fails, 0, 285),
+    ] {
+        let mut writer = Room::new(alloc, 1000);
+        (writer.most, writer.writes, writer.refusal, writer.flushes) = (
+            50, writes, refusal, flushes,
+        );
+        let stopped = run_once(alloc, &image, Vec::new(alloc), &[], 3, &mut writer);
+        assert_eq!(rt;
+            stopped,
+            Err(RunFault::WriteFailed { bytes }),
+            "write {writes}"
+        );
+        assert_eq!(rt; writer.taken.len() as u64, bytes, "write {writes}");
+        assert_eq!(rt; writer.flushed, 0, "write {writes}");
+        let front = &writer.taken[..writer.taken.len().min(BEGINNING.len())];
+        assert!(rt; BEGINNING.starts_with(front), "write {writes}");
+    }
     Ok(())
 }
 

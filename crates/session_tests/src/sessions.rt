@@ -1,7 +1,7 @@
 //! Lines and their answers, and readers and writers that fail.
 use guest_elf::read;
 use guest_programs::program;
-use replay_session::fakes::{Room, Script};
+use replay_session::fakes::{Interruptions, Refusal, Room, Script};
 use replay_session::laws::work_of_lines;
 use replay_session::{BeginFault, LONGEST_INPUT, Reply, ServeFault, Session, serve};
 use std::alloc::Global;
@@ -58,99 +58,10 @@ fn served(
     Ok((writer.taken, end))
 }
 
-fn script(rest: &[u8]) -> Script<'_> {
-    Script {
-        rest,
-        most: 4096,
-        fails: false,
-        interrupted: None,
-    }
-}
-
 /// Whether some lines are answered with these bytes.
 fn answers(alloc: Global, words: &[u32], lines: &[u8], want: &[u8]) -> Result<bool, Fail> {
-    let (taken, end) = served(alloc, words, &mut script(lines), 1 << 20)?;
+    let (taken, end) = served(alloc, words, &mut Script::new(lines), 1 << 20)?;
     Ok(end.is_ok() && taken.as_slice() == want)
-}
-
-/// Fields, numbers and limits: what is taken, and what each other line is refused with.
-#[test]
-fn lines_and_refusals(rt: HostRuntime) -> Result<(), Fail> {
-    let cases = [
-        (b"goto 4194304".as_slice(), b"ok\n".as_slice()),
-        (b"goto 4194305", b"refused 5\n"),
-        (b"goto", b"refused 2\n"),
-        (b"goto  1", b"refused 2\n"),
-        (b"goto 1 ", b"refused 2\n"),
-        (b" goto 1", b"refused 2\n"),
-        (b"goto 1 2", b"refused 2\n"),
-        (b"Goto 1", b"refused 2\n"),
-        (b"goto 0000000001", b"ok\n"),
-        (b"goto 00000000001", b"refused 2\n"),
-        (b"goto 0x00000010", b"ok\n"),
-        (b"goto 0x000000001", b"refused 2\n"),
-        (b"goto 0xFf", b"ok\n"),
-        (b"goto 0x", b"refused 2\n"),
-        (b"goto 0X10", b"refused 2\n"),
-        (b"goto 0x1g", b"refused 2\n"),
-        (b"goto 0x/", b"refused 2\n"),
-        (b"goto 0x`", b"refused 2\n"),
-        (b"goto 1f", b"refused 2\n"),
-        (b"goto +1", b"refused 2\n"),
-        (b"goto -1", b"refused 2\n"),
-        (b"goto ", b"refused 2\n"),
-        (b"goto 4294967296", b"refused 2\n"),
-        (b"goto 4294967295", b"refused 5\n"),
-        (b"mark 0 0xabcdef01 1 defined", b"ok\n"),
-        (b"mark 0 9999999999 1 defined", b"refused 2\n"),
-        (b"report now", b"refused 2\n"),
-        (b"\n", b"refused 2\n"),
-        (b"worked", b"worked 0\n"),
-        (b"worked 1", b"refused 2\n"),
-        (b"input 1 0xff", b"ok\n"),
-        (b"input 1 256", b"refused 2\n"),
-        (b"input 2 0", b"refused 3\n"),
-        (b"input append 0xff", b"ok\n"),
-        (b"input append 256", b"refused 2\n"),
-        (b"input append", b"refused 2\n"),
-        (b"input append 1 2", b"refused 2\n"),
-        (b"input cut\ninput cut\ninput cut", b"ok\nok\nrefused 3\n"),
-        (b"input cut 1", b"refused 2\n"),
-        (b"patch 0x10008 0", b"ok\n"),
-        (b"patch 0x10002 0", b"refused 4\n"),
-        (b"patch 0x1000c 0", b"refused 4\n"),
-        (b"mark 0 0xffffffff 1 noaccess", b"ok\n"),
-        (b"mark 0 0xffffffff 2 defined", b"refused 6\n"),
-        (b"mark 0 0 0 defined", b"refused 6\n"),
-        (b"mark 0 0 1048577 defined", b"refused 6\n"),
-        (b"mark 4194305 0 0 defined", b"refused 5\n"),
-        (b"mark 0 0 1 Defined", b"refused 2\n"),
-        (b"unmark 0", b"refused 7\n"),
-        (b"supp on 0", b"refused 8\n"),
-        (b"supp", b"refused 2\n"),
-        (b"supp add", b"refused 2\n"),
-        (b"supp add Foo fun:a", b"refused 13\n"),
-        (b"supp add Param", b"refused 13\n"),
-        (b"supp add Cond  fun:a", b"refused 2\n"),
-        (b"supp add Leak match-leak-kinds:none", b"ok\n"),
-        (b"option callers 24", b"ok\n"),
-        (b"option callers 25", b"refused 9\n"),
-        (b"option callers 0", b"refused 9\n"),
-        (b"option callers x", b"refused 2\n"),
-        (b"option redzone 4096", b"ok\n"),
-        (b"option redzone 4097", b"refused 9\n"),
-        (b"option queue 1000000000", b"ok\n"),
-        (b"option queue 1000000001", b"refused 9\n"),
-        (b"option show all,none,all", b"ok\n"),
-        (b"option show all,", b"refused 9\n"),
-        (b"option colour 1", b"refused 9\n"),
-        (b"option colour", b"refused 2\n"),
-        (b"option colour ", b"refused 2\n"),
-    ];
-    for (line, want) in cases {
-        assert!(rt; answers(rt.alloc(), &EXITS, line, want)?, "{line:?}");
-    }
-    Ok(())
 }
 
 /// An input byte, a suppression and its switch, and a refused line between two reports. By the law of work, three reports at step 3, with no
@@ -162,7 +73,9 @@ fn edits_show(rt: HostRuntime) -> Result<(), Fail> {
     let (taken, end) = served(
         alloc,
         &BRANCHES,
-        &mut script(b"goto 3\nreport\nsupp add Cond ...\nreport\nsupp off 0\nreport\nworked\n"),
+        &mut Script::new(
+            b"goto 3\nreport\nsupp add Cond ...\nreport\nsupp off 0\nreport\nworked\n",
+        ),
         1 << 20,
     )?;
     assert!(rt; end.is_ok());
@@ -193,9 +106,9 @@ fn any_reader(rt: HostRuntime) -> Result<(), Fail> {
     let want = b"ok\nrefused 2\nrefused 2\nrefused 7\n";
     assert!(rt; answers(alloc, &EXITS, lines, want)?);
     assert!(rt; answers(alloc, &EXITS, b"goto 3\r", b"refused 2\n")?);
-    let mut slow = script(lines);
+    let mut slow = Script::new(lines);
     slow.most = 1;
-    slow.interrupted = Some(true);
+    slow.interruptions = Interruptions::EverySecond;
     let (taken, end) = served(alloc, &EXITS, &mut slow, 1 << 20)?;
     assert!(rt; end.is_ok());
     assert_eq!(rt; taken.as_slice(), want.as_slice());
@@ -210,30 +123,201 @@ fn faults_tell_what_was_written(rt: HostRuntime) -> Result<(), Fail> {
         replies: 2,
         bytes: 288,
     };
-    let write_failed = |replies, bytes| ServeFault::WriteFailed { replies, bytes };
-    // how many bytes are taken, how many flushes succeed; the fault, how many bytes were flushed
-    let cases = [
-        ("a read fails", 1 << 20, usize::MAX, read_failed, 288),
-        ("a write fails", 100, usize::MAX, write_failed(1, 100), 3),
-        ("the first flush fails", 1 << 20, 0, write_failed(1, 3), 0),
-        (
-            "the second flush fails",
-            1 << 20,
-            1,
-            write_failed(2, 288),
-            3,
-        ),
-    ];
-    for (label, left, flushes, fault, flushed) in cases {
-        let mut failing = script(b"goto 3\nreport\nunm");
-        failing.fails = true;
-        let mut writer = Room::new(alloc, left);
-        writer.flushes = flushes;
-        let end = served_to(alloc, &EXITS, &mut failing, &mut writer)?;
+    let write_failed = ServeFault::WriteFailed {
+        replies: 1,
+        bytes: 100,
+    };
+    for (label, left, fault) in [
+        ("a read fails", 1 << 20, read_failed),
+        ("a write fails", 100, write_failed),
+    ] {
+        let lines = b"goto 3\nreport\n";
+        let mut failing = Script::new(lines);
+        failing.bytes = lines.len();
+        let (taken, end) = served(alloc, &EXITS, &mut failing, left)?;
         assert_eq!(rt; end, Err(fault), "{label}");
-        assert_eq!(rt; writer.flushed, flushed, "{label}");
-        let front = &writer.taken[..writer.taken.len().min(BEGINNING.len())];
+        let front = &taken[..taken.len().min(BEGINNING.len())];
         assert!(rt; BEGINNING.starts_with(front), "{label}");
+    }
+    Ok(())
+}
+
+/// Four lines, of which the last has no newline, and the others seven bytes each.
+const LINES: &[u8] = b"goto 3\nreport\nworked\nunm";
+
+/// How many bytes the replies to none, one, two, three and all of them have.
+const REPLIED: [usize; 5] = [0, 3, 288, 297, 307];
+
+/// How many replies are whole in so many bytes, and how many bytes those have.
+fn whole_replies(bytes: usize) -> (u64, usize) {
+    match bytes {
+        0..=2 => (0, 0),
+        3..=287 => (1, 3),
+        288..=296 => (2, 288),
+        297..=306 => (3, 297),
+        _ => (4, 307),
+    }
+}
+
+/// Whether a reader of `LINES` that fails after so many bytes, or doesn't fail, has the replies to the lines whose newline it gave, or all.
+fn is_served(
+    alloc: Global,
+    reader: &mut Script<'_>,
+    given: usize,
+    fails: bool,
+) -> Result<bool, Fail> {
+    let (whole, _) = served(alloc, &EXITS, &mut Script::new(LINES), 1 << 20)?;
+    let (taken, end) = served(alloc, &EXITS, reader, 1 << 20)?;
+    if !fails {
+        return Ok(end.is_ok() && taken == whole && whole.len() == REPLIED[4]);
+    }
+    let replies = (given / 7).min(3);
+    let fault = ServeFault::ReadFailed {
+        replies: replies as u64,
+        bytes: REPLIED[replies] as u64,
+    };
+    Ok(end == Err(fault) && taken.len() == REPLIED[replies] && whole.starts_with(&taken))
+}
+
+/// Reads fail from each call and from each byte on; those that are interrupted are made again.
+#[test]
+fn each_read_fails_in_turn(rt: HostRuntime) -> Result<(), Fail> {
+    let alloc = rt.alloc();
+    // how many bytes a read gives, which are interrupted, how many bytes two reads give, and how many reads there are
+    for (label, most, interruptions, by_two, reads) in [
+        ("five bytes each", 5, Interruptions::None, 10usize, 6),
+        (
+            "a byte each, every second interrupted",
+            1,
+            Interruptions::EverySecond,
+            1,
+            50,
+        ),
+    ] {
+        for n in 0..=reads {
+            let mut reader = Script::new(LINES);
+            (reader.most, reader.interruptions) = (most, interruptions);
+            reader.failing_read = n as u64;
+            let given = by_two.wrapping_mul(n) / 2;
+            assert!(rt;
+                is_served(alloc, &mut reader, given, n < reads)?,
+                "{label}, from read {n} on"
+            );
+        }
+    }
+    for n in 0..=LINES.len() {
+        let mut reader = Script::new(LINES);
+        reader.bytes = n;
+        assert!(rt; is_served(alloc, &mut reader, n, true)?, "from byte {n} on");
+    }
+    Ok(())
+}
+
+/// Reads that are all interrupted, and a line that never ends, until a read fails.
+#[test]
+fn without_an_end(rt: HostRuntime) -> Result<(), Fail> {
+    let alloc = rt.alloc();
+    for (label, interruptions, endless, replies) in [
+        ("interrupted", Interruptions::All, false, 0),
+        ("one line", Interruptions::None, true, 1),
+    ] {
+        let mut reader = Script::new(b"goto 3\n");
+        (reader.interruptions, reader.endless, reader.failing_read) = (
+            interruptions,
+            endless,
+            10_000,
+        );
+        let (taken, end) = served(alloc, &EXITS, &mut reader, 1 << 20)?;
+        let bytes = 3 * replies;
+        assert_eq!(rt;
+            end,
+            Err(ServeFault::ReadFailed { replies, bytes }),
+            "{label}"
+        );
+        assert_eq!(rt; taken.len() as u64, bytes, "{label}");
+        assert_eq!(rt; reader.reads, 10_000, "{label}");
+    }
+    Ok(())
+}
+
+/// Whether a writer that takes so many bytes of the replies to `LINES` has them, and those flushed that this many replies have.
+fn is_written(
+    alloc: Global,
+    writer: &mut Room,
+    bytes: usize,
+    flushed: usize,
+) -> Result<bool, Fail> {
+    let (whole, _) = served(alloc, &EXITS, &mut Script::new(LINES), 1 << 20)?;
+    let end = served_to(alloc, &EXITS, &mut Script::new(LINES), writer)?;
+    let fault = ServeFault::WriteFailed {
+        replies: whole_replies(bytes).0,
+        bytes: bytes as u64,
+    };
+    let ends = if flushed == REPLIED[4] {
+        Ok(())
+    } else {
+        Err(fault)
+    };
+    Ok(
+        end == ends
+            && writer.flushed == flushed
+            && writer.taken.len() == bytes
+            && whole.starts_with(&writer.taken),
+    )
+}
+
+/// Writes of at most 50 bytes are refused from each on, in each way.
+#[test]
+fn each_write_fails_in_turn(rt: HostRuntime) -> Result<(), Fail> {
+    let alloc = rt.alloc();
+    // how many bytes are taken and how many flushed before each write
+    let written = [
+        (0, 0),
+        (3, 3),
+        (53, 3),
+        (103, 3),
+        (153, 3),
+        (203, 3),
+        (253, 3),
+        (288, 288),
+        (297, 297),
+        (307, 307),
+    ];
+    for (label, refusal) in [
+        ("fails", Refusal::Fails),
+        ("takes nothing", Refusal::TakesNothing),
+        ("is interrupted", Refusal::IsInterrupted),
+    ] {
+        for (n, (bytes, flushed)) in written.into_iter().enumerate() {
+            let mut writer = Room::new(alloc, 1 << 20);
+            (writer.most, writer.refusal, writer.writes) = (50, refusal, n as u64);
+            assert!(rt;
+                is_written(alloc, &mut writer, bytes, flushed)?,
+                "write {n} {label}"
+            );
+        }
+    }
+    Ok(())
+}
+
+/// Writes fail from each byte on, and each flush fails.
+#[test]
+fn each_byte_and_flush_fails_in_turn(rt: HostRuntime) -> Result<(), Fail> {
+    let alloc = rt.alloc();
+    for bytes in 0..=REPLIED[4] {
+        let (_, flushed) = whole_replies(bytes);
+        assert!(rt;
+            is_written(alloc, &mut Room::new(alloc, bytes), bytes, flushed)?,
+            "byte {bytes}"
+        );
+    }
+    for n in 0..4 {
+        let mut writer = Room::new(alloc, 1 << 20);
+        writer.flushes = n;
+        assert!(rt;
+            is_written(alloc, &mut writer, REPLIED[n + 1], REPLIED[n])?,
+            "flush {n}"
+        );
     }
     Ok(())
 }
@@ -248,7 +332,7 @@ fn many_short_reads(rt: HostRuntime) -> Result<(), Fail> {
         lines.extend_from_slice(b"goto 0\n")?;
         want.extend_from_slice(b"ok\n")?;
     }
-    let mut slow = script(&lines);
+    let mut slow = Script::new(&lines);
     slow.most = 1;
     let (taken, end) = served(alloc, &EXITS, &mut slow, 1 << 20)?;
     assert!(rt; end.is_ok());
