@@ -9,7 +9,7 @@ use definedness::Bits;
 use error_events::Kind;
 use guest_elf::read;
 use guest_machine::laws::{
-    end_stays, keeps_end, keeps_heap, keeps_input, keeps_pokes, keeps_words, reads_on,
+    end_stays, keeps_end, keeps_heap, keeps_input, keeps_pokes, keeps_words, reads_on, stays_halted,
 };
 use guest_machine::{
     Hooks, Input, Machine, Mark, Meter, Register, Setup, Span, Status, Stop, Touched,
@@ -110,6 +110,11 @@ fn exit_ends_a_run(rt: HostRuntime) -> Result<(), Fail> {
         let machine = run(rt.alloc(), &[call, status, 0x0000_0073], 5)?;
         assert_eq!(rt; machine.status(), Status::Exited(want));
         assert_eq!(rt; machine.pc(), 0x10008);
+        let mut meter = Meter::new();
+        if let Status::Exited(_) = machine.status() {
+            machine.rest(3, &mut meter);
+        }
+        assert_eq!(rt; meter.read(), 3);
     }
     Ok(())
 }
@@ -400,6 +405,7 @@ fn the_laws_can_be_called() {
     reads_on();
     keeps_end();
     end_stays();
+    stays_halted();
 }
 
 #[test]
