@@ -3,7 +3,7 @@ import pathlib
 import struct
 
 TOP = pathlib.Path(__file__).resolve().parent.parent
-DATA = TOP / "crates" / "session_cases" / "data"
+DATA = TOP / "examples" / "sessions"
 ENTRY = 0x10000
 
 
@@ -45,7 +45,7 @@ class Worked:
     """A worked session's program, input, suppressions, lines and replies. An edit is a line with a report after it."""
 
     def __init__(self, name):
-        self.name, self.input, self.lines = name, b"", []
+        self.name, self.input, self.lines, self.edits = name, b"", [], []
         words, memory, supp, told = [], 0, [], []
         for line in (DATA / (name + ".session")).read_text().splitlines():
             first, _, rest = line.partition(" ")
@@ -53,6 +53,7 @@ class Worked:
                 self.lines.append(rest)
             elif first == "edit":
                 self.lines += [rest, "report"]
+                self.edits.append(rest)
             elif self.lines and first != "#":
                 told.append(line)
             elif first == "words":
