@@ -1,12 +1,12 @@
 -- Records, their sums and their groups, as one more record is taken.
-use Rattle.std.proofs.Common.{◌≡◌, ℕ, ◌+◌, ◌-◌, zero-add, Bool, true, false, not, cond, ◌&&◌, List, [], ◌∷◌, ◌++◌, filter, length, min, sum_by, take, Option, None, Some, unwrap_or, refl, ap, ap₂, sym, ◌∙◌, append-nil, arith}
+use Rattle.std.proofs.Common.{◌≡◌, ℕ, ◌+◌, ◌-◌, zero-add, Bool, true, false, not, cond, ◌&&◌, List, [], ◌∷◌, ◌++◌, filter, length, min, sum_by, Some, unwrap_or, refl, ap, ap₂, ◌∙◌, append-nil, arith}
 use Rattle.std.proofs.lemmas.List.{length-append}
 use Rattle.std.proofs.lemmas.List.Elements.{filter-append}
 use Rattle.std.proofs.lemmas.List.Sums.{sum_by-append, fold-append}
 use Rattle.indexmap.specs.IndexMap.{insert_entry}
 use Rattle.std.specs.Map.{lookup}
 use Rattle.guest_elf.specs.declared.image.Image.{Image}
-use Rattle.error_events.specs.Groups.{most, same_trace}
+use Rattle.error_events.specs.Groups.{most}
 use Rattle.error_events.proofs.KeySteps.{filled-eq}
 use Rattle.error_events.specs.declared.leak_kind.LeakKind.{LeakKind}
 use Rattle.error_events.specs.declared.leak_kind.LeakKind.TheVariants.{Definite, Indirect, Possible, Reachable}

@@ -1,5 +1,5 @@
 -- A state has one report, since it has one list of records.
-use Rattle.std.proofs.Common.{◌≡◌, ap, sym, ◌∙◌}
+use Rattle.std.proofs.Common.{ap, sym, ◌∙◌}
 use Rattle.leak_search.specs.Laws.{RecordsAreOne}
 use Rattle.replay_report.specs.Report.{report_text, IsReport}
 use Rattle.replay_report.specs.Laws.{ReportIsOne}

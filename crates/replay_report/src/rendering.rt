@@ -74,6 +74,19 @@ fn report_of(alloc: Global, moment: &Moment, view: &View) -> Result<Vec<u8>, All
     Ok(text)
 }
 
+/// A text put at the end, and not copied where it is all.
+fn append(out: &mut Vec<u8>, text: Vec<u8>) -> Result<(), AllocError>
+    ensures ok { OnOk result (out.new.items ≡ out.old.items ++ text.items) }
+    ensures err { OnErr result (out.new.items ≡ out.old.items) }
+{
+    if out.is_empty() {
+        *out = text;
+        return Ok(());
+    }
+    out.extend_from_slice(&text)?;
+    Ok(())
+}
+
 /// Appends the report of a machine at a step, for an input of `input_len` bytes, with names from the image. `callers` of the
 /// options is from 1 to 24. Errors and blocks that a suppression matches are only counted.
 ///
@@ -105,6 +118,5 @@ pub fn render(
         options,
     };
     let text = report_of(alloc, &moment, &view)?;
-    out.extend_from_slice(&text)?;
-    Ok(())
+    append(out, text)
 }
