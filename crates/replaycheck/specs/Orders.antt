@@ -13,9 +13,13 @@ use Rattle.replaycheck.specs.declared.arguments.Order.{Order}
 abbrev pub option : Text → Rule
 option name = record (new_rule name) { long = Some name; value_names = 1 }
 
--- a command on a program: its file, which must be there, and two options
+-- the program's file, which must be there
+abbrev pub file_argument : Rule
+file_argument = record (new_rule (codes "FILE")) { required = true }
+
+-- a command on a program: its file and two options
 abbrev pub program_command : Text → App
-program_command name = with_rule (with_rule (with_rule (new_app name) (record (new_rule (codes "FILE")) { required = true })) (option (codes "input"))) (option (codes "supp"))
+program_command name = with_rule (with_rule (with_rule (new_app name) file_argument) (option (codes "input"))) (option (codes "supp"))
 
 -- `--step`, from 0 to 4,194,304, and 1,048,576 where it isn't given
 abbrev pub step_option : Rule

@@ -3,7 +3,7 @@ ghost use Rattle.std.specs.Prelude.{◌≡◌, IfErr, IfOk, IfSome, IsSomeAnd, c
 ghost use Rattle.std.specs.Str.{bytes_eq};
 ghost use Rattle.clap.specs.Words.{app_of, found_of, kind_of, rows_of, rule_of, subcommand_rows_of, takes};
 ghost use Rattle.clap.specs.declared.builder.command.Command.TheViews.{out-Command};
-ghost use Rattle.replaycheck.specs.Orders.{IsOrderFor, IsOrderOf, command_line, program_command, step_option, IsStepOf};
+ghost use Rattle.replaycheck.specs.Orders.{IsOrderFor, IsOrderOf, command_line, file_argument, option, program_command, step_option, IsStepOf};
 
 use crate::help::{ABOUT, AFTER_RUN, AFTER_SESSION, RUN, SESSION};
 use clap::error::ErrorKind;
@@ -21,6 +21,24 @@ pub(crate) struct Order<'a> {
     pub(crate) step: Option<u32>,
 }
 
+/// The program's file, which must be given.
+fn file_argument<'a>(alloc: Global) -> Arg<'a>
+    ensures rule { rule_of result ≡ file_argument }
+    ensures local { result.global ≡ false }
+{
+    Arg::new(alloc, "FILE")
+        .required(true)
+        .help("A static ELF32 program for RV32IM")
+}
+
+/// An option with a value, under its long name.
+fn option<'a>(alloc: Global, name: &'a str, value: &'a str, help: &'a str) -> Arg<'a>
+    ensures rule { rule_of result ≡ option name.entry.now }
+    ensures local { result.global ≡ false }
+{
+    Arg::new(alloc, name).long(name).value_name(value).help(help)
+}
+
 /// A command on a program, with an input and suppressions.
 fn program_command<'a>(
     alloc: Global,
@@ -31,16 +49,11 @@ fn program_command<'a>(
     ensures shape { IfOk result (λ command. app_of command ≡ program_command name.entry.now) }
     ensures globals { IfOk result (λ command. (out-Command command).has_globals ≡ false) }
 {
-    let file = Arg::new(alloc, "FILE")
-        .required(true)
-        .help("A static ELF32 program for RV32IM");
-    let input = Arg::new(alloc, "input").long("input").value_name("F").help(
-        "A file with the bytes that the program can read; none without it",
-    );
-    let supp = Arg::new(alloc, "supp")
-        .long("supp")
-        .value_name("F")
-        .help("A file of suppressions, in Valgrind's form");
+    let file = file_argument(alloc);
+    let bytes = "A file with the bytes that the program can read; none without it";
+    let input = option(alloc, "input", "F", bytes);
+    let rules = "A file of suppressions, in Valgrind's form";
+    let supp = option(alloc, "supp", "F", rules);
     Command::new(alloc, name)
         .about(about)
         .after_help(after)
@@ -54,12 +67,10 @@ fn step_argument<'a>(alloc: Global) -> Arg<'a>
     ensures rule { rule_of result ≡ step_option }
     ensures local { result.global ≡ false }
 {
-    Arg::new(alloc, "step")
-        .long("step")
-        .value_name("N")
+    let help = "The step to report at, from 0 to 4194304";
+    option(alloc, "step", "N", help)
         .value_parser(value_parser!(u32).range(0..=i64::from(MOST_STEPS)))
         .default_value("1048576")
-        .help("The step to report at, from 0 to 4194304")
 }
 
 /// The whole command line.
