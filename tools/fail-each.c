@@ -1,7 +1,9 @@
 // An allocator that refuses growths, to be loaded before the C library's (LD_PRELOAD). A growth is a call for memory.
 // FAIL_AT=N refuses the Nth, counted from 1, and with FAIL_ON=1 each after it too. At the end of the process the
 // numbers of growths asked for and refused are written to the file that FAIL_TELL names, where it names one. With
-// FAIL_READS=1 each read of standard input is interrupted, and their number is written after the other two.
+// FAIL_READS=1 each read of standard input is interrupted, and their number is written after the other two. With FAIL_HOW
+// set, each write to standard output takes at most FAIL_MOST bytes, and from the one after FAIL_WRITES on it fails
+// (FAIL_HOW=fails), takes nothing (nothing) or is interrupted (interrupted).
 #include <errno.h>
 #include <stdio.h>
 #include <stdlib.h>
@@ -13,14 +15,22 @@ void *__libc_calloc(size_t, size_t);
 void *__libc_realloc(void *, size_t);
 void *__libc_memalign(size_t, size_t);
 
-static unsigned long asked, refused, interrupted, first;
+static unsigned long asked, refused, interrupted, first, writes, most;
 static int ready, onward, interrupting;
+static const char *how;
+
+static unsigned long number(const char *name) {
+  const char *text = getenv(name);
+  return text ? strtoul(text, 0, 10) : 0;
+}
 
 static void begin(void) {
-  const char *at = getenv("FAIL_AT"), *on = getenv("FAIL_ON"), *reads = getenv("FAIL_READS");
-  first = at ? strtoul(at, 0, 10) : 0;
-  onward = on && *on == '1';
-  interrupting = reads && *reads == '1';
+  first = number("FAIL_AT");
+  onward = number("FAIL_ON") == 1;
+  interrupting = number("FAIL_READS") == 1;
+  how = getenv("FAIL_HOW");
+  writes = number("FAIL_WRITES");
+  most = number("FAIL_MOST");
   ready = 1;
 }
 
@@ -55,6 +65,18 @@ ssize_t read(int file, void *bytes, size_t count) {
   if (!interrupting || file != 0) return syscall(SYS_read, file, bytes, count);
   interrupted++;
   errno = EINTR;
+  return -1;
+}
+
+ssize_t write(int file, const void *bytes, size_t count) {
+  if (!ready) begin();
+  if (!how || file != 1) return syscall(SYS_write, file, bytes, count);
+  if (writes) {
+    writes--;
+    return syscall(SYS_write, file, bytes, count < most ? count : most);
+  }
+  if (*how == 'n') return 0;
+  errno = *how == 'i' ? EINTR : EIO;
   return -1;
 }
 

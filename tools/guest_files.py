@@ -1,4 +1,5 @@
 """Files for tools that try the built program: programs of a few words, and the worked sessions."""
+import itertools
 import pathlib
 import struct
 
@@ -7,13 +8,14 @@ DATA = TOP / "examples" / "sessions"
 ENTRY = 0x10000
 
 
-def elf(words, memory=0, symbols=(), data=b""):
+def elf(words, memory=0, symbols=(), data=b"", entry=ENTRY):
     """A static program for RV32: a segment of these words at ENTRY and the data after them, of so many bytes where that is
-    more, and functions, each a name, an address and a size."""
+    more, functions, each a name, an address and a size, and its entry."""
     content = b"".join(struct.pack("<I", word) for word in words) + data
-    names = [name.encode() + b"\0" for name in sorted({symbol[0] for symbol in symbols})]
-    places = {name[:-1].decode(): 1 + sum(map(len, names[:i])) for i, name in enumerate(names)}
-    strings = b"\0" + b"".join(names)
+    names = sorted({symbol[0] for symbol in symbols})
+    texts = [name.encode() + b"\0" for name in names]
+    places = dict(zip(names, itertools.accumulate(map(len, texts), initial=1)))
+    strings = b"\0" + b"".join(texts)
     table = b"".join(struct.pack("<IIIBBH", places[name], at, size, 2, 0, 1) for name, at, size in symbols)
     sections = [(0, 0, 0, 0, 0), (2, 84 + len(content), len(table), 2, 16)]
     sections += [(3, 84 + len(content) + len(table), len(strings), 0, 0)]
@@ -22,7 +24,7 @@ def elf(words, memory=0, symbols=(), data=b""):
     tail = table + strings + headers if symbols else b""
     place = 84 + len(content) + len(table) + len(strings) if symbols else 0
     header = b"\x7fELF\x01\x01\x01" + bytes(9)
-    header += struct.pack("<HHIIIIIHHHHHH", 2, 243, 1, ENTRY, 52, place, 0, 52, 32, 1, 40, 3 if symbols else 0, 0)
+    header += struct.pack("<HHIIIIIHHHHHH", 2, 243, 1, entry, 52, place, 0, 52, 32, 1, 40, 3 if symbols else 0, 0)
     segment = struct.pack("<8I", 1, 84, ENTRY, ENTRY, len(content), max(memory, len(content)), 7, 4)
     return header + segment + content + tail
 

@@ -1,25 +1,16 @@
 """The cases that tools/try-hostile tries, a generator for each class."""
 import struct
 
+from assembly import EBREAK, ECALL, addi, load_number
 from guest_files import ENTRY, TOP, elf
 
 LONGEST, MILLION = 4194304, 1048576
 NUMBERS = [0, 1, 0x7FFFFFFF, 0x80000000, 0xFFFFFFFF]
 EDGES = [0, ENTRY, ENTRY + 4096, 0x40000000, 0x50000000, 0x60000000, 0x7F000000, 0x7FFFFFF0, 0x80000000]
-EBREAK, ECALL = 0x00100073, 0x00000073
 EXITS = [0x05D00893, 0x00000513, ECALL]  # addi a7, x0, 93; addi a0, x0, 0; ecall
 LOOPS = [0x0000006F]  # jal x0, 0
 # addi t0, x0, 30; addi t0, t0, -1; beq t0, x0, 8; jal ra, -8; lw a0, 0(x0); ebreak
 DEEP = [0x01E00293, 0xFFF28293, 0x00028463, 0xFF9FF0EF, 0x00002503, EBREAK]
-
-
-def addi(to, source, number):
-    return (number & 0xFFF) << 20 | source << 15 | to << 7 | 0x13
-
-
-def load_number(register, number):
-    """lui and addi."""
-    return [(number + 0x800 & 0xFFFFF000) | register << 7 | 0x37, addi(register, register, number)]
 
 
 def case(name, program, lines=None, supp=b"", given=b"", step=4096):

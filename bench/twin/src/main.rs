@@ -1,5 +1,5 @@
 //! A plain interpreter of RV32IM with accessible and undefined bits: what a step costs where nothing is proved. It runs the loop
-//! that `step_bench steps` runs, and prints the same lines; or a program of words from a file, and prints where it is after them.
+//! that `bench/run` gives the program too, and prints where it leads; or a program of words from a file, and prints where it is after them.
 
 mod machine;
 mod memory;

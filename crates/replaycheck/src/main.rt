@@ -10,8 +10,6 @@ mod ends;
 mod files;
 mod help;
 mod run_once;
-#[cfg(test)]
-mod tests;
 
 use crate::arguments::read_order;
 use crate::carrying::carry_out;
