@@ -99,7 +99,7 @@ around (x ∷ xs) last (suc k) c h s =
       long = omega (arith, first, sum, more);
       was = append_assoc x.value.items (in_chunks xs) last ∙ ap (λ l. x.value.items ++ l) rest.was ∙ sym (append_assoc x.value.items rest.front (c.value.items ++ rest.back));
       becomes = λ new. append_assoc x.value.items (in_chunks (slice_set xs k new)) last ∙ ap (λ l. x.value.items ++ l) (rest.becomes new)
-        ∙ sym (append_assoc x.value.items rest.front (new.value.items ++ rest.back));
+          ∙ sym (append_assoc x.value.items rest.front (new.value.items ++ rest.back));
     }
 
 module _ (counts : Counts) (k : ℕ) (c d : Chunk) (within : k < length counts.chunks.items) (is : c ≡ get_or counts.chunks.items k d) where

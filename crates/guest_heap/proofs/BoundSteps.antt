@@ -96,8 +96,7 @@ option_map-some f (Some x) y h = (x, refl, some-same h)
 
 module _ (live : ℕ → Option Block) (queue rest : List Block) (e : Block) (is : queue ≡ e ∷ rest)
     (apart : (b c : Block) → IsKept (record { live = live; queue = queue }) b → IsKept (record { live = live; queue = queue }) c → b.start < c.start
-      → high_end b ≤ low_end c)
-    where
+    → high_end b ≤ low_end c) where
   abbrev with_oldest : Blocks
   with_oldest = record { live = live; queue = queue }
 
@@ -292,7 +291,7 @@ forgotten_bounds live freed (x ∷ xs) rest number sound e h d redzone end o low
     let R : List Entry → Type 0 = λ es. AreBounds (shown live es) redzone new in
     let S : List Bound → Type 0 = λ bs. AreBounds (shown live xs) redzone bs in
     let holds = bounds_hold (shown live (x ∷ xs)).live (map (λ y. y.block) (x ∷ xs)) (map (λ y. y.block) xs) x.block refl sound.apart redzone end o
-      (subst P same low) (subst Q same high) even near fits old hold in
+    (subst P same low) (subst Q same high) even near fits old hold in
     subst R (sym d) (subst S (sym made) holds)
 
 -- a bound that was taken, once it is raised

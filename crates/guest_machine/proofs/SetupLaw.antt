@@ -41,7 +41,7 @@ same-step one other s k t g =
           end_seen = seen_also s.end_seen x.intake.ends;
           output = s.output ++ effect.output;
           heap_calls = counted s.heap_calls (is_heap_deed s.core d);
-          events = s.events ++ effect.raised
+          events = s.events ++ effect.raised;
         }
 
 -- lists that are equal below a place have equal parts there

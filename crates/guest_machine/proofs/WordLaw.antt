@@ -88,7 +88,7 @@ module _ (W : ℕ → Type 0) (core : Core) (position output : ℕ) (setup : Set
   unfolding effect_at uses_at
   effect-same =
       ap (λ t. outcome core (deed_terms core (deed_at core f setup.hooks) position output setup) (deed_at core f setup.hooks)
-        (given_at position (deed_terms core (deed_at core f setup.hooks) position output setup).intake.count setup) t)
+      (given_at position (deed_terms core (deed_at core f setup.hooks) position output setup).intake.count setup) t)
       (taken-outside W f g _ e reads-avoid)
       ∙ ap (λ d. let terms = deed_terms core d position output setup in outcome core terms d (given_at position terms.intake.count setup) (taken_from g (plan core terms d).reads)) deed-same
 
@@ -110,8 +110,8 @@ module _ (W : ℕ → Type 0) (setup : Setup) (s : State) (g : ℕ → ℕ) (e :
         ap has_touched (touched-same W s.core s.position (length s.output) setup s.bytes g e h),
         record {
           bytes = λ a n. written-outside W s.bytes g (uses_at s.core s.bytes s.position (length s.output) setup).writes
-            (effect_at s.core s.bytes s.position (length s.output) setup).made e a n
-            ∙ ap₂ (λ v y. written_to g v.writes y.made a) u x;
+              (effect_at s.core s.bytes s.position (length s.output) setup).made e a n
+              ∙ ap₂ (λ v y. written_to g v.writes y.made a) u x;
           core = ap (λ y. y.core) x;
           position = ap (λ d. s.position + (intake_of (deed_asks s.core d) (left_at s.position setup)).count) d;
           end_seen = ap (λ d. seen_also s.end_seen (intake_of (deed_asks s.core d) (left_at s.position setup)).ends) d;

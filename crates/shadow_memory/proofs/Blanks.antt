@@ -41,7 +41,7 @@ all-cleared cells at n change made fits whole is = λ k low.
 pub page-swept : (first place : ℕ) (pages : List PageSlot) (old made : PageSlot) (each : Each) → place < length pages → old ≡ slice_index_or pages place old
     → cells_at made ≡ (λ k. each_of each (cells_at old k))
     → (λ a. cells_at (page_of first (set pages place made) (a / 4096)) (a % 4096))
-      ≡ changed_from (λ a. cells_at (page_of first pages (a / 4096)) (a % 4096)) (4096 * (first + place)) 4096 (λ i cell. each_of each cell)
+    ≡ changed_from (λ a. cells_at (page_of first pages (a / 4096)) (a % 4096)) (4096 * (first + place)) 4096 (λ i cell. each_of each cell)
 page-swept first place pages old made each within there is =
     let at = 4096 * (first + place) in
     let here : at / 4096 ≡ first + place = omega arith in
@@ -49,5 +49,5 @@ page-swept first place pages old made each within there is =
     let fits : at % 4096 + 4096 ≤ 4096 = omega arith in
     page-changed first place pages old made at 4096 (λ i cell. each_of each cell) here within fits there
     (λ k low. ap (λ (f : ℕ → Cell). f k) is
-      ∙ sym
-        (first-way (is_between (at % 4096) (at % 4096 + 4096) k) (each_of each (cells_at old k)) (cells_at old k) (in-whole (at % 4096) 4096 k fits refl low)))
+    ∙ sym
+    (first-way (is_between (at % 4096) (at % 4096 + 4096) k) (each_of each (cells_at old k)) (cells_at old k) (in-whole (at % 4096) 4096 k fits refl low)))

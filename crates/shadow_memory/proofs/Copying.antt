@@ -28,7 +28,7 @@ copy-joins old now new from to d n len small long within apart was is =
     let here : above (above from d) i ≡ above from (d + i) = omega arith in
     let inside : d + i < len = omega arith in
     ap (λ (s : Cell). taken_cell s x) (ap now here ∙ ap (λ (f : ℕ → Cell). f (above from (d + i))) was
-      ∙ range-apart old to d len (above from (d + i)) (copied_cell old from) front (apart (d + i) inside)))
+    ∙ range-apart old to d len (above from (d + i)) (copied_cell old from) front (apart (d + i) inside)))
 
 -- a copy of zeros of one kind
 pub zeros-copied : (old new : ℕ → Cell) (from to n count : ℕ) (kind : RangeKind) → n ≤ count → ((i : ℕ) → i < count → old (above from i) ≡ blank kind)

@@ -49,7 +49,7 @@ pub page-changed : (first place : ℕ) (pages : List PageSlot) (old made : PageS
     → place < length pages → at % 4096 + n ≤ 4096 → old ≡ slice_index_or pages place old
     → AgreeInPage (cells_at made) (changed_from (cells_at old) (at % 4096) n change)
     → (λ a. cells_at (page_of first (set pages place made) (a / 4096)) (a % 4096))
-      ≡ changed_from (λ a. cells_at (page_of first pages (a / 4096)) (a % 4096)) at n change
+    ≡ changed_from (λ a. cells_at (page_of first pages (a / 4096)) (a % 4096)) at n change
 page-changed first place pages old made at n change here within fits there is =
     let number = at / 4096 in
     let now = page-from first number place (set pages place made) here ∙ get_or-set_at pages place place made (Blank NoAccess) refl within in
@@ -62,7 +62,7 @@ page-changed first place pages old made at n change here within fits there is =
 pub page-same : (first place : ℕ) (pages : List PageSlot) (old made : PageSlot) (at : ℕ) → at / 4096 ≡ first + place → place < length pages → old ≡ slice_index_or pages place old
     → AgreeInPage (cells_at made) (cells_at old)
     → ◌≡◌ {A = ℕ → Cell} (λ a. cells_at (page_of first (set pages place made) (a / 4096)) (a % 4096))
-      (λ a. cells_at (page_of first pages (a / 4096)) (a % 4096))
+    (λ a. cells_at (page_of first pages (a / 4096)) (a % 4096))
 page-same first place pages old made at here within there is =
     let number = at / 4096 in
     let now = page-from first number place (set pages place made) here ∙ get_or-set_at pages place place made (Blank NoAccess) refl within in

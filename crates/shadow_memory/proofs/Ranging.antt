@@ -80,7 +80,7 @@ module _ (cells seen : ℕ → Cell) (start low high : ℕ) (page : start % 4096
 
   holds-seen : (k : ℕ) → k % 4 ≡ 0 → k < 4096
       → holds_in_range (λ a. (cells a).byte) (λ a. shadow_in (cells a)) low high (start + k)
-        ≡ holds_in_range (λ a. (seen a).byte) (λ a. shadow_in (seen a)) low high k
+      ≡ holds_in_range (λ a. (seen a).byte) (λ a. shadow_in (seen a)) low high k
   holds-seen k aligned below = ap₂ (λ (n : ℕ) (b : Bool). nat_le low n && nat_lt n high && b) (value-seen k aligned below) (word-seen cells seen start page same k aligned below)
 
   pub page-holds-none : (addr from to : ℕ) → to ≤ 4096 → HoldNoneInRange (λ a. (seen a).byte) (λ a. shadow_in (seen a)) low high from to

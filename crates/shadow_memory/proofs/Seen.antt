@@ -18,7 +18,7 @@ use Rattle.definedness.specs.declared.Bits.{Bits}
 
 stored-cell-seen : (accessible : Bool) (undef made byte : ℕ)
     → shadow_in (record { byte = byte; accessible = accessible; undef = if accessible then made else undef })
-      ≡ stored_shadow made (record { accessible = accessible; undef = undef })
+    ≡ stored_shadow made (record { accessible = accessible; undef = undef })
 stored-cell-seen true undef made byte = refl
 stored-cell-seen false undef made byte = refl
 
@@ -27,8 +27,8 @@ unfolding bytes_in shadows_in written stored_undef
 stored-seen old new start n bits is = (
   ap (λ (f : ℕ → Cell). λ a. (f a).byte) is ∙ range-seen (λ c. c.byte) (cells_of old) start n (stored bits) (λ i b. byte_of bits.value i) (λ i c. refl),
   ap (λ (f : ℕ → Cell). λ a. shadow_in (f a)) is
-  ∙ range-seen shadow_in (cells_of old) start n (stored bits) (λ i s. stored_shadow (byte_of bits.undef i) s)
-    (λ i c. stored-cell-seen c.accessible c.undef (byte_of bits.undef i) (byte_of bits.value i)),
+      ∙ range-seen shadow_in (cells_of old) start n (stored bits) (λ i s. stored_shadow (byte_of bits.undef i) s)
+      (λ i c. stored-cell-seen c.accessible c.undef (byte_of bits.undef i) (byte_of bits.value i)),
 )
 
 kind-seen : (kind : RangeKind) (i : ℕ) (c : Cell) → shadow_in (ranged kind i c) ≡ shadow_of kind
@@ -62,12 +62,12 @@ received-seen old new start n bytes is = (
   ap (λ (f : ℕ → Cell). λ a. (f a).byte) is ∙ range-seen (λ c. c.byte) (cells_of old) start n (received (slice_index bytes)) (λ i b. slice_index bytes i) (λ i c. refl),
   ap (λ (f : ℕ → Cell). λ a. shadow_in (f a)) is
       ∙ range-seen shadow_in (cells_of old) start n (received (slice_index bytes)) (λ i s. stored_shadow (byte_of 0 i) s)
-        (λ i c. stored-cell-seen c.accessible c.undef 0 (slice_index bytes i) ∙ ap (λ b. stored_shadow b (shadow_in c)) (sym (zero-byte i))),
+      (λ i c. stored-cell-seen c.accessible c.undef 0 (slice_index bytes i) ∙ ap (λ b. stored_shadow b (shadow_in c)) (sym (zero-byte i))),
 )
 
 copied-cell-seen : (source target : Cell)
     → shadow_in (record { byte = source.byte; accessible = target.accessible; undef = if target.accessible then loaded_undef (shadow_in source) else target.undef })
-      ≡ stored_shadow (loaded_undef (shadow_in source)) (shadow_in target)
+    ≡ stored_shadow (loaded_undef (shadow_in source)) (shadow_in target)
 copied-cell-seen source target = stored-cell-seen target.accessible target.undef (loaded_undef (shadow_in source)) source.byte
 
 pub copied-seen : (old new : Memory) (from to n : ℕ) → cells_of new ≡ changed_in (cells_of old) to n (copied_cell (cells_of old) from) → HasCopied old new from to n
@@ -75,8 +75,8 @@ unfolding bytes_in shadows_in written copied copied_undef
 copied-seen old new from to n is = (
   ap (λ (f : ℕ → Cell). λ a. (f a).byte) is ∙ range-seen (λ c. c.byte) (cells_of old) to n (copied_cell (cells_of old) from) (λ i b. (cells_of old (above from i)).byte) (λ i c. refl),
   ap (λ (f : ℕ → Cell). λ a. shadow_in (f a)) is
-  ∙ range-seen shadow_in (cells_of old) to n (copied_cell (cells_of old) from) (λ i s. stored_shadow (loaded_undef (shadow_in (cells_of old (above from i)))) s)
-    (λ i c. copied-cell-seen (cells_of old (above from i)) c),
+      ∙ range-seen shadow_in (cells_of old) to n (copied_cell (cells_of old) from) (λ i s. stored_shadow (loaded_undef (shadow_in (cells_of old (above from i)))) s)
+      (λ i c. copied-cell-seen (cells_of old (above from i)) c),
 )
 
 -- one cell that takes a byte, and keeps what else is known of it

@@ -10,7 +10,7 @@ use Rattle.shadow_memory.proofs.Seen.{zero-byte}
 
 same-stored : (x : Cell) (a b p q : ℕ) → a ≡ b → p ≡ q
     → ◌≡◌ {A = Cell} (record { byte = a; accessible = x.accessible; undef = if x.accessible then p else x.undef })
-      (record { byte = b; accessible = x.accessible; undef = if x.accessible then q else x.undef })
+    (record { byte = b; accessible = x.accessible; undef = if x.accessible then q else x.undef })
 same-stored x a b p q e f = λ i. record { byte = e i; accessible = x.accessible; undef = if x.accessible then f i else x.undef }
 
 pub store-word : (old new : ℕ → Cell) (addr n value : ℕ) (bytes : List ℕ) → addr < 2 ^ 32 → addr % 4096 + n ≤ 4096 → n ≤ 4 → length bytes ≡ 4

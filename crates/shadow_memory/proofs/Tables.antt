@@ -48,13 +48,13 @@ pub directory-changed : {S : Type 0} (shown : S → ℕ → Cell) (d : S) (xs : 
     → at / 4194304 < length xs → at % 4194304 + n ≤ 4194304 → old ≡ get_or xs (at / 4194304) old
     → AgreeInDirectory (shown made) (changed_from (shown old) (at % 4194304) n change)
     → (λ a. shown (get_or (set xs (at / 4194304) made) (a / 4194304) d) (a % 4194304))
-      ≡ changed_from (λ a. shown (get_or xs (a / 4194304) d) (a % 4194304)) at n change
+    ≡ changed_from (λ a. shown (get_or xs (a / 4194304) d) (a % 4194304)) at n change
 directory-changed shown d xs old made at n change within fits there is =
     let i = at / 4194304 in
     slot-changed shown (λ k. get_or xs k d) (λ k. get_or (set xs i made) k d) 4194304 at (λ a. omega arith) (λ k away. get_or-set_other xs i k made d away) n
     change (λ a here. same-in-directory at n a fits here) (λ a here. omega arith) (λ a away. away-from-directory at n a fits away)
     (λ k low. from-there shown (get_or (set xs i made) i d) made old (get_or xs i d) (at % 4194304) n change k (get_or-set_at xs i i made d refl within)
-      (there ∙ get_or_default xs i old d within) (is k low))
+    (there ∙ get_or_default xs i old d within) (is k low))
 
 pub directory-kept : {S : Type 0} (shown : S → ℕ → Cell) (d : S) (xs : List S) (old made : S) (at : ℕ) → at / 4194304 < length xs → old ≡ get_or xs (at / 4194304) old
     → AgreeInDirectory (shown made) (shown old)

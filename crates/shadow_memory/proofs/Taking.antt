@@ -40,7 +40,7 @@ take-joins from at next k made old now new order more was is = elim (cases_Bool 
 
 by-tests : (kind : RangeKind) (a b c : Bool) (partly : ℕ)
     → mark_by (cond a 0 (loaded_code (code_of kind))) partly
-      ≡ taken (mark_of kind) (cond a (mark_of NoAccess) (cond b (mark_of Undefined) (cond c (mark_of Defined) (record { accessible = true; undef = partly }))))
+    ≡ taken (mark_of kind) (cond a (mark_of NoAccess) (cond b (mark_of Undefined) (cond c (mark_of Defined) (record { accessible = true; undef = partly }))))
 by-tests NoAccess true b c partly = refl
 by-tests NoAccess false true c partly = refl
 by-tests NoAccess false false true partly = refl
@@ -124,13 +124,13 @@ four-copied packed source at from made aligned from-aligned within is k = elim (
       ap (λ b. part_of b (k % 4)) (ap (slice_index (set packed (at / 4) made)) here ∙ get_or-set_at packed (at / 4) (at / 4) made 0 refl within) ∙ is (k % 4) small
       ∙ ap₂ (λ s t. taken_code (loaded_code s) t) (sym (ap₂ (λ b p. part_of (slice_index source b) p) byte place)) (ap (λ b. part_of (slice_index packed b) (k % 4)) (sym here))
       ∙ sym (ap (λ b. cond b (taken_code (loaded_code (part_of (slice_index source ((from + (k - at)) / 4)) ((from + (k - at)) % 4)))
-              (part_of (slice_index packed (k / 4)) (k % 4)))
-            (part_of (slice_index packed (k / 4)) (k % 4)))
-          (four-inside at k aligned here))
+      (part_of (slice_index packed (k / 4)) (k % 4)))
+      (part_of (slice_index packed (k / 4)) (k % 4)))
+      (four-inside at k aligned here))
   | inr away ↦
       ap (λ b. part_of b (k % 4)) (get_or-set_other packed (at / 4) (k / 4) made 0 away)
       ∙ sym (ap (λ b. cond b (taken_code (loaded_code (part_of (slice_index source ((from + (k - at)) / 4)) ((from + (k - at)) % 4)))
-              (part_of (slice_index packed (k / 4)) (k % 4)))
-            (part_of (slice_index packed (k / 4)) (k % 4)))
-          (four-outside at k aligned away))
+      (part_of (slice_index packed (k / 4)) (k % 4)))
+      (part_of (slice_index packed (k / 4)) (k % 4)))
+      (four-outside at k aligned away))
 ]

@@ -14,5 +14,5 @@ returns-in-Some c =
     record {
       begin =
           subst P (sym c.low_end.ensures) (begins_above (entries_of heap.live) (entries_of heap.freed) (queued heap.queue) heap.first heap.sound
-            (c.slot_of.result + 1) c.args.start c.in-Some.block.now c.in-Some.ensures (omega (arith, c.slot_of.ensures)))
+          (c.slot_of.result + 1) c.args.start c.in-Some.block.now c.in-Some.ensures (omega (arith, c.slot_of.ensures)));
     }

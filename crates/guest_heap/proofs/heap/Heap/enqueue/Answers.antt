@@ -39,7 +39,7 @@ invariant_of-self-2 c =
           _ _ _ _ _ _ _ c.in_ok-set-2.ensures.ok c.in_ok-set.ensures.ok c.push.ensures c.in_ok-prepare.ensures.same c.slot_of-slot.ensures c.in_ok-shared.ensures.cases
           (c.in_ok-entry.ensures.ok ∙ let P : Block → ℕ → Entry = λ v n. record { block = v; number = n } in ap₂ P c.freed_by-freed.ensures heap.numbered)))
           (no_more_freed (shown (entries_of heap.live) (queued heap.queue)) c.args.block.now c.args.trace heap.redzone heap.bounds.list.items c.requires
-            heap.bounded));
+          heap.bounded));
     }
 
 pub returns-clause-ok : goal.returns-clause-ok
@@ -59,5 +59,5 @@ invariant_of-self-in-Break-branch-5 c =
       numbered = search rules;
       volume = search rules;
       bounded = same_bounds (entries_of heap.live) (entries_of c.set-2.new.self) (queued heap.queue) (queued c.prepare.new.self) heap.redzone
-        heap.bounds.list.items (search rules) (search rules) heap.bounded;
+          heap.bounds.list.items (search rules) (search rules) heap.bounded;
     }

@@ -61,8 +61,8 @@ invariant_of-self c =
     let volumes = ap volume_in c.pop_front.ensures in
     record {
       sound = forget_sound (entries_of old.live) (entries_of old.freed) (entries_of c.set.new.self) (queued old.queue) (queued c.pop_front.new.self) old.first e
-        old.sound c.in-Some.ensures c.pop_front.ensures
-        (elim (either_way c.set.result c.set.ensures.ok c.set.ensures.err)
+          old.sound c.in-Some.ensures c.pop_front.ensures
+          (elim (either_way c.set.result c.set.ensures.ok c.set.ensures.err)
           [ inl h ↦ inl (h ∙ ap (λ n. with_entry (entries_of old.freed) n None) c.slot_of.ensures) | inr h ↦ inr h ]);
       numbered = omega (arith, old.numbered, lengths, rest);
       volume = omega (arith, old.volume, sizes, volumes, c.from.ensures);

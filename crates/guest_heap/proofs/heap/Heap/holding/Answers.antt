@@ -33,4 +33,4 @@ returns-in-Some-clause-only c b kept holds =
     let here : Holds c.in-Some.block.now c.args.address = (omega arith, omega arith) in
     ap (λ near. near.block) c.near_of.ensures ∙ near_block c.in-Some.block.now c.args.address
     ∙ one_holds (entries_of c.args.self.now.live) (entries_of c.args.self.now.freed) (queued c.args.self.now.queue) c.args.self.now.first c.args.self.now.sound
-      c.args.address c.in-Some.block.now b c.in-Some.ensures.some kept here holds
+    c.args.address c.in-Some.block.now b c.in-Some.ensures.some kept here holds

@@ -29,5 +29,5 @@ returns-in_err-count-clause-err c =
     let full : c.args.addr / 4194304 < vec_len c.grow.new.self.directories = c.in_ok-grow.ensures.room in
     let within : c.args.addr / 4194304 < length c.grow.new.self.directories.items = omega arith in
     at_refusal c.from_residual-in_err-count.result (directory-kept cells_below Blank c.grow.new.self.directories.items c.index_mut.result.now
-      c.change_some.new.self c.args.addr within c.index_mut.ensures.value c.in_err-count.ensures.err
-      ∙ c.grow.ensures.same)
+    c.change_some.new.self c.args.addr within c.index_mut.ensures.value c.in_err-count.ensures.err
+    ∙ c.grow.ensures.same)

@@ -30,6 +30,6 @@ loop-page-preserved c =
       none =
           subst (λ (to : ℕ). HoldNoneInRange (bytes_in c.args.self.now) (shadows_in c.args.self.now) c.args.low c.args.high c.args.addr to) next
           (page-holds-none (cells_of c.args.self.now) (cells_seen c.view.result) start c.args.low c.args.high page c.view.ensures c.args.addr c.loop-page.from
-            4096 (omega arith) c.in_default.ensures.none
-            (subst (λ (to : ℕ). HoldNoneInRange (bytes_in c.args.self.now) (shadows_in c.args.self.now) c.args.low c.args.high c.args.addr to) here c.loop-page.invariant.none));
+          4096 (omega arith) c.in_default.ensures.none
+          (subst (λ (to : ℕ). HoldNoneInRange (bytes_in c.args.self.now) (shadows_in c.args.self.now) c.args.low c.args.high c.args.addr to) here c.loop-page.invariant.none));
     }

@@ -23,7 +23,7 @@ returns-clause-ok c =
     let bytes = take c.args.n c.word_bytes-bytes.result in
     let same = ap (λ (f : ℕ → Cell). changed_from f c.args.addr (length bytes) (received (slice_index bytes))) (c.put.ensures.kept c.if-put.false) in
     on_ok_weaker c.change.result (λ h. store-word (cells_of c.args.self.now) (cells_of c.change.new.self) c.args.addr c.args.n c.args.value
-      c.word_bytes-bytes.result small c.requires.one_page c.requires.width long c.word_bytes-bytes.ensures (h ∙ same))
+    c.word_bytes-bytes.result small c.requires.one_page c.requires.width long c.word_bytes-bytes.ensures (h ∙ same))
     c.change.ensures.ok
 
 pub returns-clause-err : goal.returns-clause-err
