@@ -23,25 +23,30 @@ fails frames target n within none k less =
     none k less (get_or frames k some_frame) (slice_get-get_or frames k some_frame (omega arith))
 
 -- the one that is found
-pub found : (frames : List Frame) (target i : ℕ) (f : Frame) → NoneBelow frames target i → slice_get frames i ≡ Some f → f.return_to ≡ target → position (λ frame. frame.return_to == target) frames ≡ Some i
+pub found : (frames : List Frame) (target i : ℕ) (f : Frame) → NoneBelow frames target i → slice_get frames i ≡ Some f → f.return_to ≡ target
+    → position (λ frame. frame.return_to == target) frames ≡ Some i
 found frames target i f none there is =
     let inside : i < length frames = slice_get_within frames i f there in
     let test_is : (f.return_to == target) ≡ true = grind (arith, nat_tests) in
     let P : Frame → Type 0 = λ g. (g.return_to == target) ≡ true in
     let here = subst P (sym (get_or_from_slice_get frames i f some_frame there)) test_is in
-    let at : position_or_len (λ frame. frame.return_to == target) frames ≡ i = position_or_len_is (λ frame. frame.return_to == target) frames i some_frame (omega arith) (fails frames target i (omega arith) none) (λ _. here) in
+    let at : position_or_len (λ frame. frame.return_to == target) frames ≡ i =
+    position_or_len_is (λ frame. frame.return_to == target) frames i some_frame (omega arith) (fails frames target i (omega arith) none) (λ _. here) in
     let test : nat_lt i (length frames) ≡ true = grind (arith, nat_tests) in
     ap (λ n. cond (nat_lt n (length frames)) (Some n) None) at ∙ ap (λ t. cond t (Some i) None) test
 
 -- there is none
 pub missing : (frames : List Frame) (target n : ℕ) → n ≡ length frames → NoneBelow frames target n → position (λ frame. frame.return_to == target) frames ≡ None
 missing frames target n is none =
-    let at : position_or_len (λ frame. frame.return_to == target) frames ≡ n = position_or_len_is (λ frame. frame.return_to == target) frames n some_frame (omega arith) (fails frames target n (omega arith) none) (λ h. absurd (omega arith)) in
+    let at : position_or_len (λ frame. frame.return_to == target) frames ≡ n =
+    position_or_len_is (λ frame. frame.return_to == target) frames n some_frame (omega arith) (fails frames target n (omega arith) none)
+    (λ h. absurd (omega arith)) in
     let test : nat_lt n (length frames) ≡ false = grind (arith, nat_tests) in
     ap (λ k. cond (nat_lt k (length frames)) (Some k) None) at ∙ ap (λ t. cond t (Some n) None) test
 
 -- the frames that stay when the newest of them go
-pub cut : (items frames : List Frame) (target newer kept : ℕ) → items ≡ frames → Some newer ≡ position (λ frame. frame.return_to == target) frames → kept ≡ length items - (newer + 1) → keep_last kept items ≡ returned target frames
+pub cut : (items frames : List Frame) (target newer kept : ℕ) → items ≡ frames → Some newer ≡ position (λ frame. frame.return_to == target) frames
+    → kept ≡ length items - (newer + 1) → keep_last kept items ≡ returned target frames
 unfolding returned
 cut items frames target newer kept same at is =
     let inside : newer < length frames = (position-Some (λ frame. frame.return_to == target) frames newer some_frame (sym at)).0 in
@@ -59,7 +64,8 @@ kept_whole n frames fits =
     ap (λ k. drop k frames) none
 
 -- one more site
-pub sites_more : (pc i : ℕ) (frames : List Frame) (f : Frame) → i < 23 → slice_get frames i ≡ Some f → take 24 ((pc ∷ map (λ frame. frame.site) (take i frames)) ++ f.site ∷ []) ≡ pc ∷ map (λ frame. frame.site) (take (i + 1) frames)
+pub sites_more : (pc i : ℕ) (frames : List Frame) (f : Frame) → i < 23 → slice_get frames i ≡ Some f
+    → take 24 ((pc ∷ map (λ frame. frame.site) (take i frames)) ++ f.site ∷ []) ≡ pc ∷ map (λ frame. frame.site) (take (i + 1) frames)
 sites_more pc i frames f few there =
     let inside : i < length frames = slice_get_within frames i f there in
     let sites : List ℕ = map (λ frame. frame.site) (take i frames) in
@@ -81,7 +87,9 @@ sites_all pc n frames is =
     ap (λ xs. pc ∷ map (λ frame. frame.site) xs) taken ∙ ap (λ xs. pc ∷ xs) (sym (take-map (λ frame. frame.site) 23 frames))
 
 -- a copy, made of two parts
-pub copied : (made one both : Buffer Frame) (newer older frames : List Frame) (n : ℕ) → made ≡ buffer [] n → one ≡ buffer (keep_last made.capacity (made.items ++ newer)) made.capacity → both ≡ buffer (keep_last one.capacity (one.items ++ older)) one.capacity → newer ++ older ≡ frames → length frames ≤ n → both.items ≡ frames
+pub copied : (made one both : Buffer Frame) (newer older frames : List Frame) (n : ℕ) → made ≡ buffer [] n
+    → one ≡ buffer (keep_last made.capacity (made.items ++ newer)) made.capacity → both ≡ buffer (keep_last one.capacity (one.items ++ older)) one.capacity
+    → newer ++ older ≡ frames → length frames ≤ n → both.items ≡ frames
 copied made one both newer older frames n empty first second parts fits =
     let count : length newer + length older ≡ length frames = omega (arith, length-append newer older, ap length parts) in
     let P : Buffer Frame → Type 0 = λ b. one ≡ buffer (keep_last b.capacity (b.items ++ newer)) b.capacity in

@@ -37,7 +37,8 @@ module _ (law : StaysHalted) (start : State) (setup : Setup) (marks : List Mark)
   stays-there : (j : ℕ) → ((k : ℕ) → from ≤ k → k < from + j → marks_at k marks ≡ []) → pre start setup marks (from + j) ≡ pre start setup marks from
   stays-there zero none = ap (pre start setup marks) (omega arith)
   stays-there (suc j) none =
-      one-more j (halted-later j) ∙ after-no_marks (from + j) marks (pre start setup marks (from + j)) (none (from + j) (omega arith) (omega arith)) ∙ stays-there j (λ k low high. none k low (omega arith))
+      one-more j (halted-later j) ∙ after-no_marks (from + j) marks (pre start setup marks (from + j)) (none (from + j) (omega arith) (omega arith))
+      ∙ stays-there j (λ k low high. none k low (omega arith))
 
   pub rests : (to : ℕ) → from ≤ to → ((k : ℕ) → from ≤ k → k < to → marks_at k marks ≡ []) → pre start setup marks to ≡ pre start setup marks from
   rests to l none =

@@ -103,7 +103,8 @@ found-placed (r ∷ rs) before end w (suc i) d e low within at first =
     let place = place-after-it r rs w (ends-before r w (omega arith)) in
     omega arith
 
-pub missing : (rs : List Span) (before end w i : ℕ) (d : Row) → IsNonDecreasingBy (λ (r : Span). r.start) rs → ((k : ℕ) → k < i → (get_or (rows_from before end rs) k d).end ≤ w) → i ≤ length (rows_from before end rs)
+pub missing : (rs : List Span) (before end w i : ℕ) (d : Row) → IsNonDecreasingBy (λ (r : Span). r.start) rs
+    → ((k : ℕ) → k < i → (get_or (rows_from before end rs) k d).end ≤ w) → i ≤ length (rows_from before end rs)
     → (i < length (rows_from before end rs) → w < (get_or (rows_from before end rs) i d).first) → place_in rs w ≡ words_of rs
 unfolding rows_from words_of place_in
 missing [] before end w i d sorted low within at = refl
@@ -114,4 +115,5 @@ missing (r ∷ rs) before end w (suc i) d sorted low within at =
     let here = low 0 (omega arith) in
     place-after-it r rs w (ends-before r w (omega arith))
     ∙ ap (λ n. words_in r + n)
-    (missing rs (before + words_in r) (max end (word_end r)) w i d (λ j k e l h. sorted (suc j) (suc k) e (omega arith) (omega arith)) (λ k l. low (suc k) (omega arith)) (omega arith) (λ l. at (omega arith)))
+    (missing rs (before + words_in r) (max end (word_end r)) w i d (λ j k e l h. sorted (suc j) (suc k) e (omega arith) (omega arith))
+    (λ k l. low (suc k) (omega arith)) (omega arith) (λ l. at (omega arith)))

@@ -1,5 +1,6 @@
 -- Places of words in a table, and the words that a range meets.
-use Rattle.std.proofs.Common.{◌≡◌, ℕ, zero, suc, ◌+◌, ◌-◌, ◌*◌, ◌/◌, ◌%◌, ◌^◌, ◌<◌, ◌≤◌, ◌||◌, nat_lt, Bool, true, false, cond, List, [], ◌∷◌, refl, ap, sym, add-zero, ◌++◌, ◌⊎◌, ◌∙◌, inl, inr, arith, min, map, subst, length, get_or}
+use Rattle.std.proofs.Common.{◌≡◌, ℕ, zero, suc, ◌+◌, ◌-◌, ◌*◌, ◌/◌, ◌%◌, ◌^◌, ◌<◌, ◌≤◌, ◌||◌, nat_lt, Bool, true, false, cond, List, [], ◌∷◌, refl, ap, sym, add-zero}
+use Rattle.std.proofs.Common.{◌++◌, ◌⊎◌, ◌∙◌, inl, inr, arith, min, map, subst, length, get_or}
 use Rattle.std.proofs.Math.ListN.{set, get_or-map}
 use Rattle.std.proofs.lemmas.Bool.{cases_eq, cases_lt, false≢true}
 use Rattle.std.proofs.lemmas.Bool.Decides.{nat_tests}
@@ -38,7 +39,8 @@ unfolding place_in words_of
 place-of-address [] a w h e = absurd (false≢true h)
 place-of-address (r ∷ rs) a w h e = go (λ m. place-of-address rs a w m e) (has_address r a) (has_word r w) refl refl h
   where
-    go : (is_among rs a ≡ true → IsPlaced rs w) → (p q : Bool) → has_address r a ≡ p → has_word r w ≡ q → (p || is_among rs a) ≡ true → cond q (w - r.start / 4) (words_in r + place_in rs w) < words_in r + words_of rs
+    go : (is_among rs a ≡ true → IsPlaced rs w) → (p q : Bool) → has_address r a ≡ p → has_word r w ≡ q → (p || is_among rs a) ≡ true
+        → cond q (w - r.start / 4) (words_in r + place_in rs w) < words_in r + words_of rs
     go rest p true k l m = let x = inside r w l in omega arith
     go rest true false k l m = absurd (false≢true (sym l ∙ has-word r a w k e))
     go rest false false k l m = let x = rest m in omega arith
@@ -90,7 +92,8 @@ unfolding word_in distance
 passes first i n word w a b e c h = grind (arith, nat_tests)
 
 -- some more words of a range are entered
-pub next-words : (first i n word w x now new step : ℕ) → first < 2 ^ 30 → w < 2 ^ 30 → word ≡ (first + i) % 2 ^ 30 → word + n ≤ 2 ^ 30 → now ≡ cond (word_in first i w) (min x step) x → new ≡ cond (is_from word n w) (min now step) now
+pub next-words : (first i n word w x now new step : ℕ) → first < 2 ^ 30 → w < 2 ^ 30 → word ≡ (first + i) % 2 ^ 30 → word + n ≤ 2 ^ 30
+    → now ≡ cond (word_in first i w) (min x step) x → new ≡ cond (is_from word n w) (min now step) now
     → new ≡ cond (word_in first (i + n) w) (min x step) x
 next-words first i n word w x now new step a b is c e f = go (is_from word n w) refl f
   where
@@ -144,7 +147,8 @@ unmet p addr a h m e = go (p a) refl
 
 pub meets-or : (p q : ℕ → Bool) (a : ℕ) → meets (λ x. p x || q x) a ≡ (meets p a || meets q a)
 meets-or p q a =
-    ap (λ b. (p a || q a) || b) (ap (λ b. (p (a + 1) || q (a + 1)) || b) (or-swap (p (a + 2)) (q (a + 2)) (p (a + 3)) (q (a + 3))) ∙ or-swap (p (a + 1)) (q (a + 1)) (p (a + 2) || p (a + 3)) (q (a + 2) || q (a + 3)))
+    ap (λ b. (p a || q a) || b) (ap (λ b. (p (a + 1) || q (a + 1)) || b) (or-swap (p (a + 2)) (q (a + 2)) (p (a + 3)) (q (a + 3)))
+    ∙ or-swap (p (a + 1)) (q (a + 1)) (p (a + 2) || p (a + 3)) (q (a + 2) || q (a + 3)))
     ∙ or-swap (p a) (q a) (p (a + 1) || (p (a + 2) || p (a + 3))) (q (a + 1) || (q (a + 2) || q (a + 3)))
 
 pub meets-touched : (t : Touched) (a : ℕ) → meets (has_touched t) a ≡ (meets (covers t.fetch) a || (meets (covers t.reads) a || meets (covers t.writes) a))
@@ -169,7 +173,10 @@ pub span-words : (span : Span) (w words : ℕ) → span.start < 2 ^ 32 → 0 < s
 unfolding word_in
 span-words span w words small some few size = elim (cases_lt d words) [
   | inl near ↦ (met (cases_lt 0 d) near ∙ sym (near-is near))
-  | inr far ↦ (meets-nowhere (is_in span.start span.len) (4 * w) (λ j l. not-in span.start span.len (4 * w + j) (let o = offset-word span.start w j small few l (omega arith) in omega arith)) ∙ sym (far-is far))
+  | inr far ↦
+      (meets-nowhere (is_in span.start span.len) (4 * w)
+      (λ j l. not-in span.start span.len (4 * w + j) (let o = offset-word span.start w j small few l (omega arith) in omega arith))
+      ∙ sym (far-is far))
 ]
   where
     d : ℕ
@@ -182,8 +189,12 @@ span-words span w words small some few size = elim (cases_lt d words) [
     far-is l = grind (arith, nat_tests)
 
     met : ((0 < d) ⊎ (d ≤ 0)) → d < words → meets (is_in span.start span.len) (4 * w) ≡ true
-    met (inl later) near = meets-at 0 (is_in span.start span.len) (4 * w) (omega arith) (let o = offset-word span.start w 0 small few (omega arith) later in is-in span.start span.len (4 * w + 0) (omega arith) (omega arith))
-    met (inr first) near = meets-at (span.start % 4) (is_in span.start span.len) (4 * w) (omega arith) (let o = offset-first span.start w small few (omega arith) in is-in span.start span.len (4 * w + span.start % 4) (omega arith) (omega arith))
+    met (inl later) near =
+        meets-at 0 (is_in span.start span.len) (4 * w) (omega arith)
+        (let o = offset-word span.start w 0 small few (omega arith) later in is-in span.start span.len (4 * w + 0) (omega arith) (omega arith))
+    met (inr first) near =
+        meets-at (span.start % 4) (is_in span.start span.len) (4 * w) (omega arith)
+        (let o = offset-first span.start w small few (omega arith) in is-in span.start span.len (4 * w + span.start % 4) (omega arith) (omega arith))
 
 -- three ranges, one after another
 pub after-three : (f r w : Bool) (x k one two three : ℕ) → one ≡ cond f (min x k) x → two ≡ cond r (min one k) one → three ≡ cond w (min two k) two → three ≡ cond (f || (r || w)) (min x k) x

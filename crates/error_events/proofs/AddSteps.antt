@@ -93,7 +93,8 @@ pub known-stays : (done : List Group) (h x : Group) → list_any (is_like x) don
 known-stays [] h x k = cc
 known-stays (a ∷ as') h x k = go (is_like h a) refl (is_like x a) refl (known-stays as' h x)
   where
-    go : (b : Bool) → is_like h a ≡ b → (c : Bool) → is_like x a ≡ c → (list_any (is_like x) as' ≡ true → list_any (is_like x) (add_group as' h) ≡ true) → list_any (is_like x) (add_group (a ∷ as') h) ≡ true
+    go : (b : Bool) → is_like h a ≡ b → (c : Bool) → is_like x a ≡ c → (list_any (is_like x) as' ≡ true → list_any (is_like x) (add_group as' h) ≡ true)
+        → list_any (is_like x) (add_group (a ∷ as') h) ≡ true
     go true s c t rest = ap (list_any (is_like x)) (add-like h a as' s) ∙ k
     go false s true t rest = ap (list_any (is_like x)) (add-unlike h a as' s) ∙ ap (λ b. b || list_any (is_like x) (add_group as' h)) t
     go false s false t rest =

@@ -17,7 +17,8 @@ entries-merged before last young whole h =
     entries-push before whole ∙ ap (λ rest. entries_in before ++ rest) h ∙ sym (append_assoc (entries_in before) last young)
     ∙ ap (λ front. front ++ young) (sym (entries-push before last)) ∙ sym (entries-push (before ++ last ∷ []) young)
 
-pub length-pushed : {X : Type 0} (maps new : List (List X)) (kept : ℕ) (whole young : List X) → new ≡ take kept maps ++ whole ∷ [] → entries_in (take kept maps ++ whole ∷ []) ≡ entries_in (maps ++ young ∷ [])
+pub length-pushed : {X : Type 0} (maps new : List (List X)) (kept : ℕ) (whole young : List X) → new ≡ take kept maps ++ whole ∷ []
+    → entries_in (take kept maps ++ whole ∷ []) ≡ entries_in (maps ++ young ∷ [])
     → length (entries_in new) ≡ length (entries_in maps) + length young
 length-pushed maps new kept whole young is h = ap (λ ms. length (entries_in ms)) is ∙ ap length (h ∙ entries-push maps young) ∙ length-append (entries_in maps) young
 
@@ -57,7 +58,8 @@ module _ {K V : Type 0} (eq : K → K → Bool) where
     apart-merged whole e (x ∷ xs) h = (subst (AreNew eq x) (sym (entries-merged xs last young whole e)) h.0, apart-merged whole e xs h.1)
 
   -- the maps as a field has them, and a copy of a map
-  pub apart-copied : (maps now : List (List (K × V))) (old young copy : List (K × V)) → now ≡ maps → copy ≡ young → entries_in maps ≡ old → AreApart eq maps → AreNew eq old young → AreApart eq (now ++ copy ∷ [])
+  pub apart-copied : (maps now : List (List (K × V))) (old young copy : List (K × V)) → now ≡ maps → copy ≡ young → entries_in maps ≡ old → AreApart eq maps
+      → AreNew eq old young → AreApart eq (now ++ copy ∷ [])
   apart-copied maps now old young copy h k v a n = subst (AreApart eq) (ap₂ (λ ms m. ms ++ m ∷ []) (sym h) (sym k)) (apart-push maps young a (subst (λ es. AreNew eq es young) (sym v) n))
 
   module _ (maps before : List (List (K × V))) (last young : List (K × V)) (front : maps ≡ before ++ last ∷ []) where
@@ -77,6 +79,7 @@ module _ {K V : Type 0} (eq : K → K → Bool) where
           ap (λ ms. entries_in (ms ++ x.1 ∷ [])) (kept-front x.0 n) ∙ h ∙ entries-merged before last young whole joined ∙ ap (λ ms. entries_in (ms ++ young ∷ [])) (sym front)
       kept-entries (Err x) n h = tt
 
-      pub kept-apart : {E : Type 0} (r : Result (ℕ × List (K × V)) E) → IfOk r (λ x. x.0 ≤ length before) → IfOk r (λ x. AreApart eq (take x.0 before ++ x.1 ∷ [])) → IfOk r (λ x. AreApart eq (take x.0 maps ++ x.1 ∷ []))
+      pub kept-apart : {E : Type 0} (r : Result (ℕ × List (K × V)) E) → IfOk r (λ x. x.0 ≤ length before)
+          → IfOk r (λ x. AreApart eq (take x.0 before ++ x.1 ∷ [])) → IfOk r (λ x. AreApart eq (take x.0 maps ++ x.1 ∷ []))
       kept-apart (Ok x) n h = subst (λ ms. AreApart eq (ms ++ x.1 ∷ [])) (sym (kept-front x.0 n)) h
       kept-apart (Err x) n h = tt

@@ -1,5 +1,6 @@
 -- Counts in chunks: the one at a place, one that is raised, and one more chunk.
-use Rattle.std.proofs.Common.{◌≡◌, ℕ, zero, suc, ◌+◌, ◌*◌, ◌^◌, ◌<◌, ◌≤◌, length, List, [], ◌∷◌, ◌++◌, Some, None, slice_get, slice_set, refl, ap, ap₂, sym, ◌∙◌, arith, append_assoc, append-nil, length-append}
+use Rattle.std.proofs.Common.{◌≡◌, ℕ, zero, suc, ◌+◌, ◌*◌, ◌^◌, ◌<◌, ◌≤◌, length, List, [], ◌∷◌, ◌++◌, Some, None, slice_get, slice_set, refl, ap, ap₂, sym, ◌∙◌, arith}
+use Rattle.std.proofs.Common.{append_assoc, append-nil, length-append}
 use Rattle.std.specs.Prelude.{Result, Ok, Err, OnOk, OnErr, get_or}
 use Rattle.std.specs.List.{AllZip}
 use Rattle.std.proofs.lemmas.Option.{none-some, slice_get-get_or}
@@ -97,7 +98,8 @@ around (x ∷ xs) last (suc k) c h s =
       back = rest.back;
       long = omega (arith, first, sum, more);
       was = append_assoc x.value.items (in_chunks xs) last ∙ ap (λ l. x.value.items ++ l) rest.was ∙ sym (append_assoc x.value.items rest.front (c.value.items ++ rest.back));
-      becomes = λ new. append_assoc x.value.items (in_chunks (slice_set xs k new)) last ∙ ap (λ l. x.value.items ++ l) (rest.becomes new) ∙ sym (append_assoc x.value.items rest.front (new.value.items ++ rest.back));
+      becomes = λ new. append_assoc x.value.items (in_chunks (slice_set xs k new)) last ∙ ap (λ l. x.value.items ++ l) (rest.becomes new)
+          ∙ sym (append_assoc x.value.items rest.front (new.value.items ++ rest.back));
     }
 
 module _ (counts : Counts) (k : ℕ) (c d : Chunk) (within : k < length counts.chunks.items) (is : c ≡ get_or counts.chunks.items k d) where
@@ -115,7 +117,8 @@ module _ (counts : Counts) (k : ℕ) (c d : Chunk) (within : k < length counts.c
       let chunk = long-chunk in
       ap (λ l. slice_get l j) sides.was ∙ get-behind sides.front (c.value.items ++ sides.back) i j (omega (arith, long)) ∙ get-before c.value.items sides.back i (omega (arith, chunk))
 
-  raised-there : (i j by : ℕ) (new : Chunk) → i < 256 → j ≡ 256 * k + i → new.value.items ≡ raised_at c.value.items i by → in_chunks (slice_set counts.chunks.items k new) ++ counts.recent.items ≡ raised_at (counts_of counts) j by
+  raised-there : (i j by : ℕ) (new : Chunk) → i < 256 → j ≡ 256 * k + i → new.value.items ≡ raised_at c.value.items i by
+      → in_chunks (slice_set counts.chunks.items k new) ++ counts.recent.items ≡ raised_at (counts_of counts) j by
   unfolding counts_of
   raised-there i j by new small at made =
       let sides = around counts.chunks.items counts.recent.items k c counts.full there in
@@ -130,11 +133,14 @@ module _ (counts : Counts) (k : ℕ) (c d : Chunk) (within : k < length counts.c
       let sides = around counts.chunks.items counts.recent.items k c counts.full there in
       sides.becomes new ∙ ap (λ l. sides.front ++ (l ++ sides.back)) same ∙ sym sides.was
 
-  pub raised-ok : {A B : Type 0} (r : Result A B) (i j by : ℕ) (new : Chunk) → i < 256 → j ≡ 256 * k + i → OnOk r (new.value.items ≡ raised_at c.value.items i by) → OnOk r (in_chunks (slice_set counts.chunks.items k new) ++ counts.recent.items ≡ raised_at (counts_of counts) j by)
+  pub raised-ok : {A B : Type 0} (r : Result A B) (i j by : ℕ) (new : Chunk) → i < 256 → j ≡ 256 * k + i
+      → OnOk r (new.value.items ≡ raised_at c.value.items i by)
+      → OnOk r (in_chunks (slice_set counts.chunks.items k new) ++ counts.recent.items ≡ raised_at (counts_of counts) j by)
   raised-ok (Ok x) i j by new small at h = raised-there i j by new small at h
   raised-ok (Err x) i j by new small at h = tt
 
-  pub raised-err : {A B : Type 0} (r : Result A B) (new : Chunk) → OnErr r (new.value.items ≡ c.value.items) → OnErr r (in_chunks (slice_set counts.chunks.items k new) ++ counts.recent.items ≡ counts_of counts)
+  pub raised-err : {A B : Type 0} (r : Result A B) (new : Chunk) → OnErr r (new.value.items ≡ c.value.items)
+      → OnErr r (in_chunks (slice_set counts.chunks.items k new) ++ counts.recent.items ≡ counts_of counts)
   raised-err (Ok x) new h = tt
   raised-err (Err x) new h = kept-there new h
 

@@ -1,5 +1,6 @@
 -- Entries of a map: with a key that is new, and as a clone.
-use Rattle.std.proofs.Common.{◌≡◌, ℕ, ◌+◌, suc, length, nat_lt, not, arith, List, [], ◌∷◌, ◌++◌, Bool, true, false, cond, if◌then◌else◌, Option, Some, None, Result, Ok, Err, map, position, refl, ap, ap₂, sym, ◌∙◌}
+use Rattle.std.proofs.Common.{◌≡◌, ℕ, ◌+◌, suc, length, nat_lt, not, arith, List, [], ◌∷◌, ◌++◌, Bool, true, false, cond, if◌then◌else◌, Option, Some, None, Result, Ok}
+use Rattle.std.proofs.Common.{Err, map, position, refl, ap, ap₂, sym, ◌∙◌}
 use Rattle.std.specs.Prelude.{MatchResult, IfOk}
 use Rattle.std.specs.Option.{option_map}
 use Rattle.std.specs.List.{AllZip, position_or_len}

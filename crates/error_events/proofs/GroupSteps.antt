@@ -26,7 +26,8 @@ firsts-more seen (x ∷ xs) e = go (list_any (λ d. same_key d x) seen) (firsts-
 
     go : (b : Bool) → firsts_after seen (xs ++ e ∷ []) ≡ firsts_after seen xs ++ unless-known (seen ++ firsts_after seen xs) e
         → firsts_after (seen ++ x ∷ []) (xs ++ e ∷ []) ≡ kept ++ unless-known ((seen ++ x ∷ []) ++ kept) e
-        → cond b (firsts_after seen (xs ++ e ∷ [])) (x ∷ firsts_after (seen ++ x ∷ []) (xs ++ e ∷ [])) ≡ cond b (firsts_after seen xs) (x ∷ kept) ++ unless-known (seen ++ cond b (firsts_after seen xs) (x ∷ kept)) e
+        → cond b (firsts_after seen (xs ++ e ∷ [])) (x ∷ firsts_after (seen ++ x ∷ []) (xs ++ e ∷ []))
+        ≡ cond b (firsts_after seen xs) (x ∷ kept) ++ unless-known (seen ++ cond b (firsts_after seen xs) (x ∷ kept)) e
     go true old new = old
     go false old new = ap (λ ys. x ∷ ys) (new ∙ ap (λ s. kept ++ unless-known s e) (append_assoc seen (x ∷ []) kept))
 

@@ -11,7 +11,8 @@ use Rattle.error_events.specs.declared.kind.Kind.TheVariants.{Read, Write, Value
 use Rattle.error_events.specs.declared.kind.Fault3.{Fault3}
 use Rattle.error_events.specs.declared.kind.Fault3.TheVariants.{Contains, Uninit, Unaddressable}
 use Rattle.error_events.specs.declared.parameter.Parameter.{Parameter}
-use Rattle.error_events.specs.declared.parameter.Parameter.TheVariants.{SyscallNumber, ReadFd, ReadBuffer, ReadCount, WriteFd, WriteBuffer, WriteCount, ExitStatus, ExitGroupStatus, MallocSize, FreePointer, CallocMembers, CallocSize, ReallocPointer, ReallocSize}
+use Rattle.error_events.specs.declared.parameter.Parameter.TheVariants.{SyscallNumber, ReadFd, ReadBuffer, ReadCount, WriteFd, WriteBuffer, WriteCount, ExitStatus}
+use Rattle.error_events.specs.declared.parameter.Parameter.TheVariants.{ExitGroupStatus, MallocSize, FreePointer, CallocMembers, CallocSize, ReallocPointer, ReallocSize}
 use Rattle.error_events.specs.contracts.event.KeyPartialEq.TheImpl.{ghosts}
 use Rattle.error_events.specs.contracts.kind.KindPartialEq.TheImpl.{ghosts as of_kinds}
 use Rattle.error_events.specs.contracts.kind.Fault3PartialEq.TheImpl.{ghosts as of_faults}

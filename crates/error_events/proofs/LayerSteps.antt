@@ -1,5 +1,6 @@
 -- Entries of two maps, one after the other.
-use Rattle.std.proofs.Common.{◌≡◌, ℕ, suc, ◌+◌, length, List, [], ◌∷◌, ◌++◌, Bool, true, false, Option, Some, None, Result, Ok, Err, map, position, refl, ap, ap₂, sym, subst, ◌∙◌, arith, append_assoc, append-nil}
+use Rattle.std.proofs.Common.{◌≡◌, ℕ, suc, ◌+◌, length, List, [], ◌∷◌, ◌++◌, Bool, true, false, Option, Some, None, Result, Ok, Err, map, position, refl, ap, ap₂, sym}
+use Rattle.std.proofs.Common.{subst, ◌∙◌, arith, append_assoc, append-nil}
 use Rattle.std.specs.Prelude.{OnOk, OnErr}
 use Rattle.std.specs.Option.{option_map}
 use Rattle.std.specs.List.{IsDistinct, AllByRecursion}
@@ -29,7 +30,8 @@ position-append : {X : Type 0} (p : X → Bool) (xs ys : List X) → position p 
 position-append p [] ys = none-before (position p ys)
 position-append p (x ∷ xs) ys = go (p x) refl (position-append p xs ys)
   where
-    go : (b : Bool) → p x ≡ b → position p (xs ++ ys) ≡ place_in_both (position p xs) (length xs) (position p ys) → position p (x ∷ (xs ++ ys)) ≡ place_in_both (position p (x ∷ xs)) (suc (length xs)) (position p ys)
+    go : (b : Bool) → p x ≡ b → position p (xs ++ ys) ≡ place_in_both (position p xs) (length xs) (position p ys)
+        → position p (x ∷ (xs ++ ys)) ≡ place_in_both (position p (x ∷ xs)) (suc (length xs)) (position p ys)
     go true t rest = position-first p x (xs ++ ys) t ∙ ap (λ o. place_in_both o (suc (length xs)) (position p ys)) (sym (position-first p x xs t))
     go false t rest =
         position-later p x (xs ++ ys) t ∙ ap (option_map suc) rest ∙ later-both (position p xs) (position p ys) (length xs)

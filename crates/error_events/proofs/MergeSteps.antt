@@ -175,7 +175,8 @@ module _ (test : Kind → List ℕ → Bool) where
       others : Bool
       others = is_kept (map (λ x. test x.kind x.trace) gs) gs e.kind e.trace
 
-      go : (b : Bool) → is_like (alone e) g ≡ b → (list_any (is_like (alone e)) gs ≡ true → others ≡ test e.kind e.trace) → (if is_like (alone e) g then test g.kind g.trace else others) ≡ test e.kind e.trace
+      go : (b : Bool) → is_like (alone e) g ≡ b → (list_any (is_like (alone e)) gs ≡ true → others ≡ test e.kind e.trace)
+          → (if is_like (alone e) g then test g.kind g.trace else others) ≡ test e.kind e.trace
       go true t rest =
           let same = same-parts e.kind g.kind e.trace g.trace t in
           ap (λ c. if c then test g.kind g.trace else others) t ∙ sym (ap₂ test same.kind same.trace)

@@ -74,7 +74,8 @@ pub shown-no-count : (groups : Groups) (i : ℕ) → slice_get (counts_of groups
 unfolding groups_of
 shown-no-count groups i = get-no-count groups.known (counts_of groups.counts) i
 
-pub shown-both : (groups : Groups) (i : ℕ) (e : Key × Note) (n : ℕ) → slice_get groups.known i ≡ Some e → slice_get (counts_of groups.counts) i ≡ Some n → slice_get (groups_of groups) i ≡ Some (shown e n)
+pub shown-both : (groups : Groups) (i : ℕ) (e : Key × Note) (n : ℕ) → slice_get groups.known i ≡ Some e → slice_get (counts_of groups.counts) i ≡ Some n
+    → slice_get (groups_of groups) i ≡ Some (shown e n)
 unfolding groups_of
 shown-both groups i = get-both groups.known (counts_of groups.counts) i
 
@@ -134,7 +135,8 @@ module _ (old new : Groups) (g : Group) where
   unfolding groups_of keys
   shown-raised i h k n = ap₂ counted k n ∙ raised-counted old.known (counts_of old.counts) g i old.matched h
 
-  pub shown-raised-ok : {A B : Type 0} (r : Result A B) (i : ℕ) → position (ghosts.eq (key_of g)) (map (λ e. e.0) old.known) ≡ Some i → new.known ≡ old.known → OnOk r (counts_of new.counts ≡ raised_at (counts_of old.counts) i g.count)
+  pub shown-raised-ok : {A B : Type 0} (r : Result A B) (i : ℕ) → position (ghosts.eq (key_of g)) (map (λ e. e.0) old.known) ≡ Some i → new.known ≡ old.known
+      → OnOk r (counts_of new.counts ≡ raised_at (counts_of old.counts) i g.count)
       → OnOk r (groups_of new ≡ add_group (groups_of old) g)
   shown-raised-ok (Ok x) i h k n = shown-raised i h k n
   shown-raised-ok (Err x) i h k n = tt

@@ -1,5 +1,6 @@
 -- The functions of the heap: what symbols in the order of their addresses name is what they name in the order of their table.
-use Rattle.std.proofs.Common.{◌≡◌, ◌⊎◌, inl, inr, ℕ, zero, suc, ◌+◌, ◌<◌, ◌≤◌, Bool, true, false, cond, ◌==◌, nat_eq, nat_lt, List, [], ◌∷◌, ◌++◌, get_or, take, drop, length, min, ◌-◌, Option, Some, None, refl, sym, ◌∙◌, ap, subst, arith, not, ◌&&◌}
+use Rattle.std.proofs.Common.{◌≡◌, ◌⊎◌, inl, inr, ℕ, zero, suc, ◌+◌, ◌<◌, ◌≤◌, Bool, true, false, cond, ◌==◌, nat_eq, nat_lt, List, [], ◌∷◌, ◌++◌, get_or, take, drop}
+use Rattle.std.proofs.Common.{length, min, ◌-◌, Option, Some, None, refl, sym, ◌∙◌, ap, subst, arith, not, ◌&&◌}
 use Rattle.std.specs.Prelude.{codes, is_some}
 use Rattle.std.proofs.lemmas.Bool.Decides.{nat_tests}
 use Rattle.std.specs.List.{before_first, filter, position_or_len}

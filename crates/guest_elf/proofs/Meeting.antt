@@ -1,5 +1,6 @@
 -- Whether segments share an address: by pairs, and by neighbours where they stand in the order of their addresses.
-use Rattle.std.proofs.Common.{◌≡◌, ◌⊎◌, inl, inr, ℕ, suc, ◌+◌, ◌<◌, ◌≤◌, min, max, Bool, true, false, cond, not, ◌&&◌, ◌||◌, ◌==◌, get_or, drop, nat_le, nat_lt, List, [], ◌∷◌, length, refl, sym, ◌∙◌, ap, arith, All}
+use Rattle.std.proofs.Common.{◌≡◌, ◌⊎◌, inl, inr, ℕ, suc, ◌+◌, ◌<◌, ◌≤◌, min, max, Bool, true, false, cond, not, ◌&&◌, ◌||◌, ◌==◌, get_or, drop, nat_le, nat_lt, List, []}
+use Rattle.std.proofs.Common.{◌∷◌, length, refl, sym, ◌∙◌, ap, arith, All}
 use Rattle.std.proofs.Math.Seq.{drop-cons}
 use Rattle.std.proofs.lemmas.List.{drop_all}
 use Rattle.std.proofs.lemmas.Bool.{or_cases, or_left, or_parts, or_right, false≢true}

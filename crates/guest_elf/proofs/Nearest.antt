@@ -1,5 +1,6 @@
 -- The symbol that is nearest to an address: what it is, that there is one at most, and where a search finds it.
-use Rattle.std.proofs.Common.{◌≡◌, ◌⊎◌, inl, inr, ℕ, zero, suc, ◌-◌, ◌<◌, ◌≤◌, Bool, true, false, cond, not, ◌&&◌, ◌==◌, nat_le, leb, ltb, List, [], ◌∷◌, get_or, length, Option, Some, None, refl, sym, ◌∙◌, ap, subst, arith, All}
+use Rattle.std.proofs.Common.{◌≡◌, ◌⊎◌, inl, inr, ℕ, zero, suc, ◌-◌, ◌<◌, ◌≤◌, Bool, true, false, cond, not, ◌&&◌, ◌==◌, nat_le, leb, ltb, List, [], ◌∷◌, get_or, length}
+use Rattle.std.proofs.Common.{Option, Some, None, refl, sym, ◌∙◌, ap, subst, arith, All}
 use Rattle.std.proofs.lemmas.Bool.Decides.{nat_tests}
 use Rattle.std.proofs.lemmas.List.{get_or_default}
 use Rattle.std.proofs.lemmas.List.Elements.{All-cons, All-head, All-tail}
@@ -215,7 +216,8 @@ nearest_at symbols address end first d up some within at_most point start =
       omega arith,
       nearest_only symbols address (Some found) (
         (let low = (le_test top.value address).0 (point.0 (end - 1) d (omega arith) (omega arith)) in omega (arith, low, level)),
-        (λ k e below le. no_nearer symbols address end k top.value found.value e up within below level some (ap (λ (t : Symbol). t.value) (get_or_default symbols (end - 1) e d (omega arith))) point.1 le),
+        (λ k e below le. no_nearer symbols address end k top.value found.value e up within below level some
+            (ap (λ (t : Symbol). t.value) (get_or_default symbols (end - 1) e d (omega arith))) point.1 le),
         find_at_place (starts_with found) symbols first d (omega arith)
             (λ k before. other_value _ _ (λ same. let lower = (lt_test _ top.value).0 (start.0 k d (omega arith) before) in absurd (omega (arith, lower, level, same))))
             (same_value found.value),

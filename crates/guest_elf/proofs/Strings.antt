@@ -1,5 +1,6 @@
 -- Where the names of a string table end.
-use Rattle.std.proofs.Common.{◌≡◌, ◌≢◌, ℕ, ◌+◌, ◌-◌, ◌<◌, ◌≤◌, Some, None, refl, sym, take, cond, position, Bool, true, false, not, ◌&&◌, nat_le, nat_lt, List, get_or, length, drop, ◌∙◌, ap, arith, length-drop}
+use Rattle.std.proofs.Common.{◌≡◌, ◌≢◌, ℕ, ◌+◌, ◌-◌, ◌<◌, ◌≤◌, Some, None, refl, sym, take, cond, position, Bool, true, false, not, ◌&&◌, nat_le, nat_lt, List, get_or}
+use Rattle.std.proofs.Common.{length, drop, ◌∙◌, ap, arith, length-drop}
 use Rattle.std.proofs.lemmas.Bool.Decides.{nat_tests}
 use Rattle.std.proofs.lemmas.List.{get_or-drop, get_or_default, take_all}
 use Rattle.std.proofs.lemmas.List.Folds.{list_any_at, list_any_none}

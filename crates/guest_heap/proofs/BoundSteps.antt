@@ -1,5 +1,6 @@
 -- The bound below which there is no place, as blocks come and go.
-use Rattle.std.proofs.Common.{◌≡◌, ℕ, zero, suc, ◌+◌, ◌-◌, ◌%◌, ◌<◌, ◌≤◌, ◌==◌, inl, inr, max, min, nat_le, Bool, List, [], ◌∷◌, ◌++◌, true, false, cond, Option, Some, None, length, map, drop, slice_get, set, refl, ap, sym, ◌∙◌, subst, arith, ◌&&◌, nat_lt}
+use Rattle.std.proofs.Common.{◌≡◌, ℕ, zero, suc, ◌+◌, ◌-◌, ◌%◌, ◌<◌, ◌≤◌, ◌==◌, inl, inr, max, min, nat_le, Bool, List, [], ◌∷◌, ◌++◌, true, false, cond, Option, Some}
+use Rattle.std.proofs.Common.{None, length, map, drop, slice_get, set, refl, ap, sym, ◌∙◌, subst, arith, ◌&&◌, nat_lt}
 use Rattle.std.specs.Option.{option_map}
 use Rattle.std.proofs.lemmas.Option.{slice_get-map}
 use Rattle.std.specs.List.{Contains}
@@ -42,7 +43,8 @@ no_more_bounds old new redzone bounds kept hold i n there =
     record { below = no_more old new n.size redzone 0 n.from kept h.below; between = no_more old new n.size redzone n.next n.until kept h.between }
 
 -- one more live block, where none begins
-pub no_more_put : (blocks : Blocks) (b : Block) (redzone : ℕ) (bounds : List Bound) → IsPlace blocks b.size b.redzone b.start → AreBounds blocks redzone bounds → AreBounds (with_block blocks b) redzone bounds
+pub no_more_put : (blocks : Blocks) (b : Block) (redzone : ℕ) (bounds : List Bound) → IsPlace blocks b.size b.redzone b.start → AreBounds blocks redzone bounds
+    → AreBounds (with_block blocks b) redzone bounds
 no_more_put blocks b redzone bounds place hold = no_more_bounds blocks (with_block blocks b) redzone bounds still hold
   where
     apart : (c : Block) → IsKept blocks c → c.start ≡ b.start → ⊥
@@ -70,7 +72,8 @@ contains-last (x ∷ xs) e =
     let (i, r, s) = contains-last xs e in
     (suc i, (let t : suc i < suc (length (xs ++ e ∷ [])) = omega arith in t), s)
 
-pub no_more_freed : (blocks : Blocks) (b : Block) (trace : List ℕ) (redzone : ℕ) (bounds : List Bound) → blocks.live b.start ≡ Some b → AreBounds blocks redzone bounds → AreBounds (queue_with blocks (freed_by trace b)) redzone bounds
+pub no_more_freed : (blocks : Blocks) (b : Block) (trace : List ℕ) (redzone : ℕ) (bounds : List Bound) → blocks.live b.start ≡ Some b
+    → AreBounds blocks redzone bounds → AreBounds (queue_with blocks (freed_by trace b)) redzone bounds
 no_more_freed blocks b trace redzone bounds there hold = no_more_bounds blocks (queue_with blocks (freed_by trace b)) redzone bounds still hold
   where
     freed : SameEnds (queue_with blocks (freed_by trace b)) b
@@ -91,7 +94,9 @@ option_map-some f (Some x) y h = (x, refl, some-same h)
 
 -- the oldest leaves: a place that comes lies in the range round it --
 
-module _ (live : ℕ → Option Block) (queue rest : List Block) (e : Block) (is : queue ≡ e ∷ rest) (apart : (b c : Block) → IsKept (record { live = live; queue = queue }) b → IsKept (record { live = live; queue = queue }) c → b.start < c.start → high_end b ≤ low_end c) where
+module _ (live : ℕ → Option Block) (queue rest : List Block) (e : Block) (is : queue ≡ e ∷ rest)
+    (apart : (b c : Block) → IsKept (record { live = live; queue = queue }) b → IsKept (record { live = live; queue = queue }) c → b.start < c.start
+    → high_end b ≤ low_end c) where
   abbrev with_oldest : Blocks
   with_oldest = record { live = live; queue = queue }
 
@@ -136,7 +141,9 @@ module _ (live : ℕ → Option Block) (queue rest : List Block) (e : Block) (is
       ]
 
   -- where no place lies in that range
-  none_comes : (size redzone from to : ℕ) → AreNoPlaces with_oldest size redzone from to → ((q : ℕ) → from ≤ q → q < to → IsPlace without_oldest size redzone q → q - redzone < high_end e → low_end e < q + max size 1 + redzone → ⊥) → AreNoPlaces without_oldest size redzone from to
+  none_comes : (size redzone from to : ℕ) → AreNoPlaces with_oldest size redzone from to
+      → ((q : ℕ) → from ≤ q → q < to → IsPlace without_oldest size redzone q → q - redzone < high_end e → low_end e < q + max size 1 + redzone → ⊥)
+      → AreNoPlaces without_oldest size redzone from to
   none_comes size redzone from to none outside q over less place = none q over less (record {
     small = place.small;
     multiple = place.multiple;
@@ -153,7 +160,8 @@ module _ (live : ℕ → Option Block) (queue rest : List Block) (e : Block) (is
           outside q over less place there.0 there.1
       go b (inr (suc k, p, s)) meets = place.apart b (inr (k, (let t : suc k < suc (length rest) = p in omega arith), s)) meets
 
-  module _ (redzone end : ℕ) (o : Opened) (low : EndsBelow with_oldest e.start end) (high : BeginsAbove with_oldest e.start o.end) (even : o.first % 16 ≡ 0) (near : o.first < end + redzone + 16) (fits : o.room ≡ o.end - (o.first + redzone)) where
+  module _ (redzone end : ℕ) (o : Opened) (low : EndsBelow with_oldest e.start end) (high : BeginsAbove with_oldest e.start o.end) (even : o.first % 16 ≡ 0)
+      (near : o.first < end + redzone + 16) (fits : o.room ≡ o.end - (o.first + redzone)) where
     from_first : (size q : ℕ) → IsPlace without_oldest size redzone q → q - redzone < high_end e → low_end e < q + max size 1 + redzone → (o.first ≤ q) × (max size 1 ≤ o.room) × (q < o.end)
     from_first size q place past under =
         let l : end + redzone ≤ q = above_low size redzone q end low place under in
@@ -163,7 +171,8 @@ module _ (live : ℕ → Option Block) (queue rest : List Block) (e : Block) (is
         (f, omega arith, omega arith)
 
     -- a part of a range without places that lies below the first or from the end on, or where none fits
-    part : (size from to from' to' : ℕ) → AreNoPlaces with_oldest size redzone from' to' → from' ≤ from → to ≤ to' → ((q : ℕ) → from ≤ q → q < to → o.first ≤ q → q < o.end → max size 1 ≤ o.room → ⊥) → AreNoPlaces without_oldest size redzone from to
+    part : (size from to from' to' : ℕ) → AreNoPlaces with_oldest size redzone from' to' → from' ≤ from → to ≤ to'
+        → ((q : ℕ) → from ≤ q → q < to → o.first ≤ q → q < o.end → max size 1 ≤ o.room → ⊥) → AreNoPlaces without_oldest size redzone from to
     part size from to from' to' none l h out =
         none_comes size redzone from to
         (λ q over less. none q (omega arith) (omega arith))
@@ -218,7 +227,8 @@ skipped_too blocks size least redzone from to none less_size q over less place =
 })
 
 -- from a bound up to the next multiple of 16 there is no place for a block that isn't less
-pub none_up_to : (blocks : Blocks) (size least redzone bound from : ℕ) → AreNoPlaces blocks least redzone 0 bound → max least 1 ≤ max size 1 → from % 16 ≡ 0 → from < max bound (0x40000000 + redzone) + 16 → (q : ℕ) → q < from → ¬ (IsPlace blocks size redzone q)
+pub none_up_to : (blocks : Blocks) (size least redzone bound from : ℕ) → AreNoPlaces blocks least redzone 0 bound → max least 1 ≤ max size 1 → from % 16 ≡ 0
+    → from < max bound (0x40000000 + redzone) + 16 → (q : ℕ) → q < from → ¬ (IsPlace blocks size redzone q)
 none_up_to blocks size least redzone bound from none less_size even near q less place =
     elim (cases_lt q bound) [
       | inl l ↦ skipped_too blocks size least redzone 0 bound none less_size q (omega arith) l place
@@ -226,7 +236,8 @@ none_up_to blocks size least redzone bound from none less_size even near q less 
     ]
 
 -- what the bounds say of where a search begins
-pub raised_from : (blocks : Blocks) (bounds : List Bound) (redzone size known from : ℕ) → AreBounds blocks redzone bounds → IsKnown bounds size known → from % 16 ≡ 0 → from < max known (0x40000000 + redzone) + 16 → (q : ℕ) → q < from → ¬ (IsPlace blocks size redzone q)
+pub raised_from : (blocks : Blocks) (bounds : List Bound) (redzone size known from : ℕ) → AreBounds blocks redzone bounds → IsKnown bounds size known
+    → from % 16 ≡ 0 → from < max known (0x40000000 + redzone) + 16 → (q : ℕ) → q < from → ¬ (IsPlace blocks size redzone q)
 raised_from blocks bounds redzone size known from hold (inr (i, b, there, less, is)) even near =
     none_up_to blocks size b.size redzone b.from from (hold i b there).below (omega arith) even (omega arith)
 raised_from blocks bounds redzone size known from hold (inl h) even near =
@@ -260,14 +271,18 @@ none_below blocks size redzone p h q over = h.least q
 pub none_at_all : (blocks : Blocks) (size redzone p : ℕ) → Places blocks size redzone None → AreNoPlaces blocks size redzone 0 p
 none_at_all blocks size redzone p h q over less = h q
 
-pub same_bounds : (live live' : Entries) (queue queue' : List Entry) (redzone : ℕ) (bounds : List Bound) → live' ≡ live → queue' ≡ queue → AreBounds (shown live queue) redzone bounds → AreBounds (shown live' queue') redzone bounds
+pub same_bounds : (live live' : Entries) (queue queue' : List Entry) (redzone : ℕ) (bounds : List Bound) → live' ≡ live → queue' ≡ queue
+    → AreBounds (shown live queue) redzone bounds → AreBounds (shown live' queue') redzone bounds
 same_bounds live live' queue queue' redzone bounds l q hold =
     let P : Entries → Type 0 = λ f. AreBounds (shown f queue') redzone bounds in
     let Q : List Entry → Type 0 = λ es. AreBounds (shown live es) redzone bounds in
     subst P (sym l) (subst Q (sym q) hold)
 
 -- the bounds once the oldest entry has left
-pub forgotten_bounds : (live : Entries) (freed : Entries) (queue rest : List Entry) (number : ℕ) (sound : AreSound live freed queue number) (e : Entry) → Some e ≡ first_of queue → rest ≡ drop 1 queue → (redzone end : ℕ) (o : Opened) → EndsBelow (shown live queue) e.block.start end → BeginsAbove (shown live queue) e.block.start o.end → o.first % 16 ≡ 0 → o.first < end + redzone + 16 → o.room ≡ o.end - (o.first + redzone) → (old new : List Bound) → AreBounds (shown live queue) redzone old → new ≡ map (lowered o) old → AreBounds (shown live rest) redzone new
+pub forgotten_bounds : (live : Entries) (freed : Entries) (queue rest : List Entry) (number : ℕ) (sound : AreSound live freed queue number) (e : Entry)
+    → Some e ≡ first_of queue → rest ≡ drop 1 queue → (redzone end : ℕ) (o : Opened) → EndsBelow (shown live queue) e.block.start end
+    → BeginsAbove (shown live queue) e.block.start o.end → o.first % 16 ≡ 0 → o.first < end + redzone + 16 → o.room ≡ o.end - (o.first + redzone)
+    → (old new : List Bound) → AreBounds (shown live queue) redzone old → new ≡ map (lowered o) old → AreBounds (shown live rest) redzone new
 forgotten_bounds live freed [] rest number sound e h d redzone end o low high even near fits old new hold made = cc
 forgotten_bounds live freed (x ∷ xs) rest number sound e h d redzone end o low high even near fits old new hold made =
     let same : e ≡ x = some-same h in
@@ -275,11 +290,13 @@ forgotten_bounds live freed (x ∷ xs) rest number sound e h d redzone end o low
     let Q : Entry → Type 0 = λ y. BeginsAbove (shown live (x ∷ xs)) y.block.start o.end in
     let R : List Entry → Type 0 = λ es. AreBounds (shown live es) redzone new in
     let S : List Bound → Type 0 = λ bs. AreBounds (shown live xs) redzone bs in
-    let holds = bounds_hold (shown live (x ∷ xs)).live (map (λ y. y.block) (x ∷ xs)) (map (λ y. y.block) xs) x.block refl sound.apart redzone end o (subst P same low) (subst Q same high) even near fits old hold in
+    let holds = bounds_hold (shown live (x ∷ xs)).live (map (λ y. y.block) (x ∷ xs)) (map (λ y. y.block) xs) x.block refl sound.apart redzone end o
+    (subst P same low) (subst Q same high) even near fits old hold in
     subst R (sym d) (subst S (sym made) holds)
 
 -- a bound that was taken, once it is raised
-pub raised_holds : (blocks : Blocks) (redzone : ℕ) (own : Bound) (size from : ℕ) → own.size ≡ size → AreNoPlaces blocks size redzone 0 from → Holds blocks redzone own → Holds blocks redzone (record { size = own.size; from = from; next = own.next; until = own.until })
+pub raised_holds : (blocks : Blocks) (redzone : ℕ) (own : Bound) (size from : ℕ) → own.size ≡ size → AreNoPlaces blocks size redzone 0 from
+    → Holds blocks redzone own → Holds blocks redzone (record { size = own.size; from = from; next = own.next; until = own.until })
 raised_holds blocks redzone own size from is none hold =
     let P : ℕ → Type 0 = λ n. AreNoPlaces blocks n redzone 0 from in
     record { below = subst P (sym is) none; between = hold.between }

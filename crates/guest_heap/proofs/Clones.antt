@@ -23,7 +23,10 @@ slot_clone (Some p) None = ⊥
 slot_clone (Some p) (Some q) = q.value ≡ p.value
 
 -- a list and its clone, slot by slot, where a clone of a pointer points to the same value
-module _ {T : Type 0} {S : Type 0} (R : Option (Rc T Global) → Option (Rc T Global) → Type 0) (both : (p q : Rc T Global) → R (Some p) (Some q) → q.value ≡ p.value) (left : (p : Rc T Global) → R (Some p) None → ⊥) (right : (p : Rc T Global) → R None (Some p) → ⊥) (shown : Option (Rc T Global) → S) (by_value : (p q : Rc T Global) → q.value ≡ p.value → shown (Some q) ≡ shown (Some p)) where
+module _ {T : Type 0} {S : Type 0} (R : Option (Rc T Global) → Option (Rc T Global) → Type 0)
+    (both : (p q : Rc T Global) → R (Some p) (Some q) → q.value ≡ p.value) (left : (p : Rc T Global) → R (Some p) None → ⊥)
+    (right : (p : Rc T Global) → R None (Some p) → ⊥) (shown : Option (Rc T Global) → S)
+    (by_value : (p q : Rc T Global) → q.value ≡ p.value → shown (Some q) ≡ shown (Some p)) where
   same_slot : (x y : Option (Rc T Global)) → R x y → shown y ≡ shown x
   same_slot None None h = refl
   same_slot None (Some q) h = absurd (right q h)

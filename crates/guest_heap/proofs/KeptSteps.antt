@@ -1,12 +1,14 @@
 -- The kept blocks by their places, and by the tables and the queue.
-use Rattle.std.proofs.Common.{◌≡◌, ℕ, zero, suc, ◌+◌, ◌-◌, ◌*◌, ◌/◌, ◌<◌, ◌≤◌, ◌==◌, inl, inr, nat_le, List, [], ◌∷◌, Bool, true, false, cond, Option, Some, None, length, map, slice_get, refl, ap, ap₂, sym, ◌∙◌, subst, arith, eq-eqb}
+use Rattle.std.proofs.Common.{◌≡◌, ℕ, zero, suc, ◌+◌, ◌-◌, ◌*◌, ◌/◌, ◌<◌, ◌≤◌, ◌==◌, inl, inr, nat_le, List, [], ◌∷◌, Bool, true, false, cond, Option, Some, None, length}
+use Rattle.std.proofs.Common.{map, slice_get, refl, ap, ap₂, sym, ◌∙◌, subst, arith, eq-eqb}
 use Rattle.std.specs.List.{Contains}
 use Rattle.std.proofs.lemmas.Bool.{cases_lt}
 use Rattle.std.proofs.lemmas.Bool.Decides.{nat_tests}
 use Rattle.call_stacks.specs.declared.block.Block.{Block}
 use Rattle.guest_heap.specs.Blocks.{Blocks, IsKept, low_end, high_end, Meets}
 use Rattle.guest_heap.specs.Entries.{Entries, FirstAt, LastAt}
-use Rattle.guest_heap.specs.States.{slot_of, beginning, shown, kept_at, either, IsPlaced, AreSound, FirstKept, LastKept, IsNextKept, IsLastKept, MeetsBelow, MeetsFrom, PastBelow, BeforeFrom, EndsBelow, BeginsAbove}
+use Rattle.guest_heap.specs.States.{slot_of, beginning, shown, kept_at, either, IsPlaced, AreSound, FirstKept, LastKept, IsNextKept, IsLastKept, MeetsBelow, MeetsFrom}
+use Rattle.guest_heap.specs.States.{PastBelow, BeforeFrom, EndsBelow, BeginsAbove}
 use Rattle.guest_heap.specs.declared.entry.Entry.{Entry}
 
 pub some-same : {T : Type 0} {a b : T} → Some a ≡ Some b → a ≡ b
@@ -186,7 +188,8 @@ module _ (live freed : Entries) (queue : List Entry) (first : ℕ) (sound : AreS
       let y = found_at c kept in
       absurd (some-none (sym y.there ∙ h (slot_of c.start) (omega (arith, y.placed.start)) (omega (arith, y.placed.start, y.placed.high))))
 
-pub first_kept : (live freed : Entries) (first from at to n : ℕ) (b : Block) → ((k : ℕ) → from ≤ k → k < at → kept_at live freed first k ≡ None) → from ≤ at → FirstAt (either live freed) at to n → Some b ≡ kept_at live freed first n → FirstKept (kept_at live freed first) from b
+pub first_kept : (live freed : Entries) (first from at to n : ℕ) (b : Block) → ((k : ℕ) → from ≤ k → k < at → kept_at live freed first k ≡ None) → from ≤ at
+    → FirstAt (either live freed) at to n → Some b ≡ kept_at live freed first n → FirstKept (kept_at live freed first) from b
 first_kept live freed first from at to n b earlier order h there = record {
   place = n;
   above = omega (arith, h.above);
@@ -194,7 +197,8 @@ first_kept live freed first from at to n b earlier order h there = record {
   none = λ k low high. elim (cases_lt k at) [ inl lt ↦ earlier k low lt | inr ge ↦ none_kept live freed first k (h.none k ge high) ];
 }
 
-pub last_kept : (live freed : Entries) (first to at n : ℕ) (b : Block) → ((k : ℕ) → at ≤ k → k < to → kept_at live freed first k ≡ None) → at ≤ to → LastAt (either live freed) at n → Some b ≡ kept_at live freed first n → LastKept (kept_at live freed first) to b
+pub last_kept : (live freed : Entries) (first to at n : ℕ) (b : Block) → ((k : ℕ) → at ≤ k → k < to → kept_at live freed first k ≡ None) → at ≤ to
+    → LastAt (either live freed) at n → Some b ≡ kept_at live freed first n → LastKept (kept_at live freed first) to b
 last_kept live freed first to at n b later order h there = record {
   place = n;
   below = omega (arith, h.below);

@@ -82,20 +82,20 @@ impl Table {
         set_below(&mut self.branches[at / BRANCH], alloc, at % BRANCH, entry)
     }
 
-    /// The first place from this one on that has a block.
+    /// The first slot from this one on that has a block.
     pub(crate) fn next_from(&self, at: usize) -> Option<usize>
         requires { at ≤ 33554432 }
         ensures { IsNext (entries_of self.now) at 33554432 result }
     {
         for i in at / BRANCH..self.branches.len() {
-            if let Some(place) = next_below(&self.branches[i], at.saturating_sub(i * BRANCH)) {
-                return Some(i * BRANCH + place);
+            if let Some(found) = next_below(&self.branches[i], at.saturating_sub(i * BRANCH)) {
+                return Some(i * BRANCH + found);
             }
         }
         None
     }
 
-    /// The last place below this one that has a block.
+    /// The last slot below this one that has a block.
     pub(crate) fn last_below(&self, at: usize) -> Option<usize>
         requires { at ≤ 33554432 }
         ensures { IsLast (entries_of self.now) at result }
@@ -108,8 +108,8 @@ impl Table {
         ensures { IsLast (entries_of self.now) at result }
     {
         for i in (0..at.div_ceil(BRANCH)).rev() {
-            if let Some(place) = last_below(&self.branches[i], (at - i * BRANCH).min(BRANCH)) {
-                return Some(i * BRANCH + place);
+            if let Some(found) = last_below(&self.branches[i], (at - i * BRANCH).min(BRANCH)) {
+                return Some(i * BRANCH + found);
             }
         }
         None

@@ -5,7 +5,9 @@ use Rattle.guest_elf.specs.declared.hook.Hook.{Hook}
 use Rattle.guest_elf.specs.Hooks.{hook_at}
 use Rattle.shadow_memory.specs.Ranges.{window, little_word}
 use Rattle.guest_machine.specs.State.{State, Core}
-use Rattle.guest_machine.specs.Exec.{exec, touches, touched_at, uses_at, intake_at, effect_at, has_touched, Deed, deed_by, deed_at, called_here, fetched, fetches, fetch_span, fetch_fault, unfetched, jump_fault, is_running, is_aligned, is_heap_deed, plan, outcome, deed_terms, deed_asks, intake_of, left_at, given_at, taken_from, written_to, seen_also, counted}
+use Rattle.guest_machine.specs.Exec.{exec, touches, touched_at, uses_at, intake_at, effect_at, has_touched, Deed, deed_by, deed_at, called_here, fetched, fetches}
+use Rattle.guest_machine.specs.Exec.{fetch_span, fetch_fault, unfetched, jump_fault, is_running, is_aligned, is_heap_deed, plan, outcome, deed_terms, deed_asks}
+use Rattle.guest_machine.specs.Exec.{intake_of, left_at, given_at, taken_from, written_to, seen_also, counted}
 use Rattle.guest_machine.specs.Effects.{Effect, quiet, stops}
 use Rattle.guest_machine.specs.Laws.{StaysHalted}
 use Rattle.guest_machine.specs.declared.status.Stop.TheVariants.{Misaligned}

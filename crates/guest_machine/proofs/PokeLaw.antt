@@ -22,7 +22,8 @@ stays : (setup : Setup) (s : State) (a : ℕ) → touches s setup a ≡ false �
 unfolding exec touches touched_at
 stays setup s a h =
     let uses = uses_at s.core s.bytes s.position (length s.output) setup in
-    written-elsewhere s.bytes uses.writes (effect_at s.core s.bytes s.position (length s.output) setup).made a (right-false (covers uses.reads a) (covers uses.writes a) (right-false (covers (fetch_span s.core (deed_at s.core s.bytes setup.hooks)) a) _ h))
+    written-elsewhere s.bytes uses.writes (effect_at s.core s.bytes s.position (length s.output) setup).made a
+    (right-false (covers uses.reads a) (covers uses.writes a) (right-false (covers (fetch_span s.core (deed_at s.core s.bytes setup.hooks)) a) _ h))
 
 -- the four bytes from a multiple of 4 on are those of its word
 in-word : (addr a : ℕ) → addr % 4 ≡ 0 → addr < 2 ^ 32 → is_in addr 4 a ≡ true → a / 4 ≡ addr / 4

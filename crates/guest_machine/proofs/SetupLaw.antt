@@ -1,9 +1,11 @@
 -- A step goes the same way under setups that differ where it doesn't look.
-use Rattle.std.proofs.Common.{◌≡◌, ℕ, zero, suc, ◌+◌, ◌-◌, ◌<◌, ◌≤◌, nat_lt, min, Bool, true, false, List, [], ◌∷◌, ◌++◌, cond, refl, ap, ap₂, sym, ◌∙◌, take, drop, length, length-append, Option, Some, None, arith}
+use Rattle.std.proofs.Common.{◌≡◌, ℕ, zero, suc, ◌+◌, ◌-◌, ◌<◌, ◌≤◌, nat_lt, min, Bool, true, false, List, [], ◌∷◌, ◌++◌, cond, refl, ap, ap₂, sym, ◌∙◌, take, drop}
+use Rattle.std.proofs.Common.{length, length-append, Option, Some, None, arith}
 use Rattle.std.proofs.lemmas.Bool.Decides.{nat_tests}
 use Rattle.std.specs.Prelude.{slice_get}
 use Rattle.guest_machine.specs.State.{State}
-use Rattle.guest_machine.specs.Exec.{Deed, Terms, Intake, exec, plan, outcome, intake_of, intake_at, left_at, seen_also, uses_at, effect_at, touches, touched_at, has_touched, deed_at, deed_asks, deed_terms, is_heap_deed, given_at, taken_from, written_to, counted, fetch_span}
+use Rattle.guest_machine.specs.Exec.{Deed, Terms, Intake, exec, plan, outcome, intake_of, intake_at, left_at, seen_also, uses_at, effect_at, touches, touched_at}
+use Rattle.guest_machine.specs.Exec.{has_touched, deed_at, deed_asks, deed_terms, is_heap_deed, given_at, taken_from, written_to, counted, fetch_span}
 use Rattle.guest_machine.specs.Laws.{KeepsInput, KeepsHeap, KeepsEnd, EndStays, Extends, is_heap_step}
 use Rattle.guest_machine.specs.declared.setup.Setup.{Setup}
 
@@ -32,7 +34,15 @@ same-step one other s k t g =
     step-of d x given =
         let uses = plan s.core x d in
         let effect = outcome s.core x d given (taken_from s.bytes uses.reads) in
-        record { bytes = written_to s.bytes uses.writes effect.made; core = effect.core; position = s.position + x.intake.count; end_seen = seen_also s.end_seen x.intake.ends; output = s.output ++ effect.output; heap_calls = counted s.heap_calls (is_heap_deed s.core d); events = s.events ++ effect.raised }
+        record {
+          bytes = written_to s.bytes uses.writes effect.made;
+          core = effect.core;
+          position = s.position + x.intake.count;
+          end_seen = seen_also s.end_seen x.intake.ends;
+          output = s.output ++ effect.output;
+          heap_calls = counted s.heap_calls (is_heap_deed s.core d);
+          events = s.events ++ effect.raised;
+        }
 
 -- lists that are equal below a place have equal parts there
 same-part : (xs ys : List ℕ) (p n : ℕ) → length xs ≡ length ys → ((i : ℕ) → i < p + n → slice_get xs i ≡ slice_get ys i) → take n (drop p xs) ≡ take n (drop p ys)
@@ -125,7 +135,9 @@ module _ (one other : Setup) (s : State) (x : Extends one other) where
       let more : left_at s.position one ≤ left_at s.position other = omega arith in
       let a = unended (deed_asks s.core (deed_at s.core s.bytes one.hooks)) (left_at s.position one) (left_at s.position other) more e in
       let same : taken-under s one ≡ taken-under s other = a.same ∙ ap (λ o. intake_of o (left_at s.position other)) asks in
-      let t : seen s one ≡ seen s other = λ i. let heap = is_heap_step s (x.hooks i) in record { intake = same i; written = length s.output; red_zone = cond heap (x.redzone i) 0; volume = cond heap (x.volume i) 0 } in
+      let t : seen s one ≡ seen s other =
+      λ i. let heap = is_heap_step s (x.hooks i) in
+      record { intake = same i; written = length s.output; red_zone = cond heap (x.redzone i) 0; volume = cond heap (x.volume i) 0 } in
       let n = (taken-under s one).count in
       same-step one other s x.hooks t (front-part one.input x.input.0 s.position n a.within ∙ ap (λ xs. take n (drop s.position xs)) (sym x.input.1))
 

@@ -76,7 +76,8 @@ unfolding marked
 holds-marked m memory mark b c s h =
     record {
       bytes = b ∙ h.bytes;
-      core = (λ i. record { shadow = c i; registers = m.registers; pc = m.pc; status = m.status; frames = m.frames; blocks = blocks_of m.heap }) ∙ (λ i. record (h.core i) { shadow = made_so (h.core i).shadow mark.addr mark.len mark.kind });
+      core = (λ i. record { shadow = c i; registers = m.registers; pc = m.pc; status = m.status; frames = m.frames; blocks = blocks_of m.heap })
+          ∙ (λ i. record (h.core i) { shadow = made_so (h.core i).shadow mark.addr mark.len mark.kind });
       position = h.position;
       end_seen = h.end_seen;
       output = h.output;

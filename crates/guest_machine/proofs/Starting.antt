@@ -30,7 +30,18 @@ pub holds-start : (alloc : Global) (image : Image) (fresh loaded memory : Memory
     → bytes_in loaded ≡ loaded_bytes segments (bytes_in fresh) → shadows_in loaded ≡ loaded_shadows segments (shadows_in fresh)
     → bytes_in memory ≡ written (bytes_in loaded) stack_start 16 (slice_index []) → shadows_in memory ≡ made_so (shadows_in loaded) stack_start 16 Defined
     → segments ≡ segments_of image → pc ≡ entry_of image → zeros ≡ known 0 → top ≡ known stack_start → groups_of groups ≡ [] → frames ≡ [] → blocks_of heap ≡ no_blocks
-    → Holds (record { alloc = alloc; memory = memory; registers = slice_set (replicate 32 zeros) 2 top; pc = pc; status = Running; frames = frames; heap = heap; progress = record { position = 0; end_seen = false; output_len = 0; heap_calls = 0 }; groups = groups }) (start_state image)
+    → Holds (record {
+      alloc = alloc;
+      memory = memory;
+      registers = slice_set (replicate 32 zeros) 2 top;
+      pc = pc;
+      status = Running;
+      frames = frames;
+      heap = heap;
+      progress = record { position = 0; end_seen = false; output_len = 0; heap_calls = 0 };
+      groups = groups;
+    })
+    (start_state image)
 unfolding start_state loaded_bytes loaded_shadows loaded_at grouped firsts_after
 holds-start alloc image fresh loaded memory groups frames heap segments pc zeros top b0 s0 b1 s1 b2 s2 same at z t g calls none =
     record {

@@ -5,7 +5,9 @@ use Rattle.std.proofs.lemmas.Bool.Decides.{nat_tests}
 use Rattle.shadow_memory.specs.Ranges.{above, offset, is_in, window, written, changed_in, little_word}
 use Rattle.guest_machine.specs.Spans.{covers}
 use Rattle.guest_machine.specs.State.{Core, State}
-use Rattle.guest_machine.specs.Exec.{exec, Takes, plan, outcome, uses_at, effect_at, touches, touched_at, has_touched, called_here, deed_by, deed_at, deed_terms, is_heap_deed, given_at, taken_from, written_to, counted, fetched, fetches, fetch_span, seen_also, intake_of, intake_at, deed_asks, left_at}
+use Rattle.guest_machine.specs.Exec.{exec, Takes, plan, outcome, uses_at, effect_at, touches, touched_at, has_touched, called_here, deed_by, deed_at, deed_terms}
+use Rattle.guest_machine.specs.Exec.{is_heap_deed, given_at, taken_from, written_to, counted, fetched, fetches, fetch_span, seen_also, intake_of, intake_at, deed_asks}
+use Rattle.guest_machine.specs.Exec.{left_at}
 use Rattle.guest_machine.specs.Laws.{DifferWithin, TouchesNone, InWord, KeepsWords}
 use Rattle.guest_machine.specs.declared.span.Span.{Span}
 use Rattle.guest_machine.specs.declared.setup.Setup.{Setup}
@@ -56,7 +58,8 @@ abbrev word_by : Bool → Core → (ℕ → ℕ) → Option ℕ
 word_by b core f = cond b (Some (little_word (window f core.pc 4))) None
 
 -- what is done is the same: of the bytes it looks at the word at pc alone, and only where no function is called by name
-deed-outside : (W : ℕ → Type 0) (core : Core) (hooks : List (ℕ × Hook)) (f g : ℕ → ℕ) → EqualOutside W f g → Avoids W (fetch_span core (deed_at core f hooks)) → deed_at core f hooks ≡ deed_at core g hooks
+deed-outside : (W : ℕ → Type 0) (core : Core) (hooks : List (ℕ × Hook)) (f g : ℕ → ℕ) → EqualOutside W f g → Avoids W (fetch_span core (deed_at core f hooks))
+    → deed_at core f hooks ≡ deed_at core g hooks
 unfolding fetched Avoids
 deed-outside W core hooks f g e h = go (called_here core hooks) (fetches core) h
   where
@@ -67,7 +70,8 @@ deed-outside W core hooks f g e h = go (called_here core hooks) (fetches core) h
     go None false k = refl
 
 -- the step of a state with these byte values
-module _ (W : ℕ → Type 0) (core : Core) (position output : ℕ) (setup : Setup) (f g : ℕ → ℕ) (e : EqualOutside W f g) (h : (a : ℕ) → W a → has_touched (touched_at core f position output setup) a ≡ false) where
+module _ (W : ℕ → Type 0) (core : Core) (position output : ℕ) (setup : Setup) (f g : ℕ → ℕ) (e : EqualOutside W f g)
+    (h : (a : ℕ) → W a → has_touched (touched_at core f position output setup) a ≡ false) where
   deed-same : deed_at core f setup.hooks ≡ deed_at core g setup.hooks
   unfolding touched_at Avoids
   deed-same = deed-outside W core setup.hooks f g e (λ a w. left-false _ _ (h a w))
@@ -83,7 +87,9 @@ module _ (W : ℕ → Type 0) (core : Core) (position output : ℕ) (setup : Set
   effect-same : effect_at core f position output setup ≡ effect_at core g position output setup
   unfolding effect_at uses_at
   effect-same =
-      ap (λ t. outcome core (deed_terms core (deed_at core f setup.hooks) position output setup) (deed_at core f setup.hooks) (given_at position (deed_terms core (deed_at core f setup.hooks) position output setup).intake.count setup) t) (taken-outside W f g _ e reads-avoid)
+      ap (λ t. outcome core (deed_terms core (deed_at core f setup.hooks) position output setup) (deed_at core f setup.hooks)
+      (given_at position (deed_terms core (deed_at core f setup.hooks) position output setup).intake.count setup) t)
+      (taken-outside W f g _ e reads-avoid)
       ∙ ap (λ d. let terms = deed_terms core d position output setup in outcome core terms d (given_at position terms.intake.count setup) (taken_from g (plan core terms d).reads)) deed-same
 
   touched-same : touched_at core f position output setup ≡ touched_at core g position output setup
@@ -103,7 +109,9 @@ module _ (W : ℕ → Type 0) (setup : Setup) (s : State) (g : ℕ → ℕ) (e :
       let x = effect-same W s.core s.position (length s.output) setup s.bytes g e h in (
         ap has_touched (touched-same W s.core s.position (length s.output) setup s.bytes g e h),
         record {
-          bytes = λ a n. written-outside W s.bytes g (uses_at s.core s.bytes s.position (length s.output) setup).writes (effect_at s.core s.bytes s.position (length s.output) setup).made e a n ∙ ap₂ (λ v y. written_to g v.writes y.made a) u x;
+          bytes = λ a n. written-outside W s.bytes g (uses_at s.core s.bytes s.position (length s.output) setup).writes
+              (effect_at s.core s.bytes s.position (length s.output) setup).made e a n
+              ∙ ap₂ (λ v y. written_to g v.writes y.made a) u x;
           core = ap (λ y. y.core) x;
           position = ap (λ d. s.position + (intake_of (deed_asks s.core d) (left_at s.position setup)).count) d;
           end_seen = ap (λ d. seen_also s.end_seen (intake_of (deed_asks s.core d) (left_at s.position setup)).ends) d;

@@ -34,7 +34,9 @@ pub last_some : (blocks : List Block) (addr count : ℕ) → count ≤ length bl
     → IsLastAt blocks addr (count - 1)
 last_some blocks addr count bound some point = record {
   within = omega arith;
-  here = λ b at. (let h = point.0 (count - 1) b (omega arith) (omega arith) in true_le b.start addr (subst (λ (x : Block). nat_le x.start addr ≡ true) (get_or_from_slice_get blocks (count - 1) b b at) h));
+  here =
+      λ b at. (let h = point.0 (count - 1) b (omega arith) (omega arith) in
+      true_le b.start addr (subst (λ (x : Block). nat_le x.start addr ≡ true) (get_or_from_slice_get blocks (count - 1) b b at) h));
   after = λ j b less at.
       (let within = slice_get_within blocks j b at in
       let h = point.1 j b (omega arith) within in

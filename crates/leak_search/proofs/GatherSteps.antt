@@ -118,7 +118,8 @@ edges_push edges block before after pointer h at e =
           elim (cases_eq a block) [
             | inl eq ↦
                 let row : has.0 ≡ after = same_Some has.0 after (sym has.1 ∙ ap (λ x. slice_get (set edges block after) x) eq ∙ same) in
-                let new : HasPointer starts (before.items ++ pointer ∷ []) b = subst (λ (ps : List Pointer). HasPointer starts ps b) e (subst (λ (r : Vec Pointer Global). HasPointer starts r.items b) row has.2) in
+                let new : HasPointer starts (before.items ++ pointer ∷ []) b =
+                subst (λ (ps : List Pointer). HasPointer starts ps b) e (subst (λ (r : Vec Pointer Global). HasPointer starts r.items b) row has.2) in
                 elim (g.sound starts b new) [
                   | inl o ↦ inl (before, ap (λ x. slice_get edges x) eq ∙ at, o)
                   | inr t ↦ inr (sym eq, t)
@@ -226,7 +227,8 @@ pub registers_step : (register : ℕ → Bits) (blocks : List Block) (number : �
     → Gains (λ starts b. ((register number).undef ≡ 0) × PointsTo starts blocks (register number).value b) mid new
     → Gains (RegisterBelow register blocks (number + 1)) old new
 registers_step register blocks number old mid new one p q =
-    gains_as (λ starts b. RegisterBelow register blocks number starts b ⊎ (((register number).undef ≡ 0) × PointsTo starts blocks (register number).value b)) (RegisterBelow register blocks (number + 1)) old new
+    gains_as (λ starts b. RegisterBelow register blocks number starts b ⊎ (((register number).undef ≡ 0) × PointsTo starts blocks (register number).value b))
+    (RegisterBelow register blocks (number + 1)) old new
     (λ starts b t. elim t [
       | inl r ↦ (r.0, r.1, (let less = r.2 in omega arith), r.3, r.4)
       | inr n ↦ (number, one, omega arith, n.0, n.1)

@@ -81,7 +81,9 @@ word_is_within bytes shadows low high w v from to h =
     add_range (nat_lt w (2 ^ 32)) (w % 4 == 0) (nat_le low (value_at bytes w)) (nat_lt (value_at bytes w) high) (holds_word shadows w) (value_at bytes w) v
     (λ e. ap (nat_le low) e ∙ le_true low v from) (λ e. ap (λ n. nat_lt n high) e ∙ lt_true v high to) h
 
-module _ (bytes : ℕ → ℕ) (shadows : ℕ → Shadow) (low high : ℕ) (blocks : List Block) (from : (starts : Bool) (value b : ℕ) → PointsTo starts blocks value b → low ≤ value) (to : (starts : Bool) (value b : ℕ) → PointsTo starts blocks value b → value < high) where
+module _ (bytes : ℕ → ℕ) (shadows : ℕ → Shadow) (low high : ℕ) (blocks : List Block)
+    (from : (starts : Bool) (value b : ℕ) → PointsTo starts blocks value b → low ≤ value)
+    (to : (starts : Bool) (value b : ℕ) → PointsTo starts blocks value b → value < high) where
   pub roots_within : (old new : List Pointer) → Gains (RootAny (word_within bytes shadows low high) blocks) old new → Gains (RootAny (word_at bytes shadows) blocks) old new
   roots_within old new gained =
       gains_as (RootAny (word_within bytes shadows low high) blocks) (RootAny (word_at bytes shadows) blocks) old new

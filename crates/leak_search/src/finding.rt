@@ -38,7 +38,7 @@ pub(crate) fn reach_of(blocks: &[Block]) -> Option<Reach>
     // The start of a block of no bytes points to it too.
     Some(Reach {
         low: first.start,
-        high: last.start as u64 + last.size as u64 + 1,
+        high: u64::from(last.start) + u64::from(last.size) + 1,
     })
 }
 

@@ -25,7 +25,7 @@ pub(crate) fn add_edge(
 }
 
 /// Adds what the word at an address points to, to the roots or to the pointers of its block.
-fn place(
+fn gather_word(
     blocks: &[Block],
     word: u32,
     value: u32,
@@ -70,7 +70,7 @@ fn gather_within(
 {
     let mut from = 0;
     while let Some(word) = next_word(memory, from, reach.low, reach.high) {
-        place(blocks, word.address, word.value, roots, edges)?;
+        gather_word(blocks, word.address, word.value, roots, edges)?;
         match word.address.checked_add(4) {
             Some(next) => from = next,
             None => return Ok(()),

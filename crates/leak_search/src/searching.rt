@@ -114,8 +114,7 @@ pub(crate) fn search_in(
     let blocks = live_blocks(alloc, heap)?;
     let graph = graph_of(alloc, memory, registers, &blocks)?;
     let kinds = leak_kinds(alloc, &graph.roots, &graph.edges)?;
-    let entries = records(alloc, &blocks, &kinds)?;
-    Ok(entries)
+    records(alloc, &blocks, &kinds)
 }
 
 /// The registers of a machine, by their numbers.
@@ -135,6 +134,5 @@ pub fn search(alloc: Global, machine: &Machine) -> Result<Vec<LeakRecord>, Alloc
     ensures { IfOk result (λ entries. (s : State) → Shows machine.now s → AreRecordsOf s entries.items) }
 {
     let registers = registers_of(machine);
-    let entries = search_in(alloc, machine.memory(), &registers, machine.heap())?;
-    Ok(entries)
+    search_in(alloc, machine.memory(), &registers, machine.heap())
 }

@@ -8,7 +8,7 @@ use error_events::LeakKind::{Definite, Indirect, Possible, Reachable};
 use guest_elf::read;
 use guest_heap::Heap;
 use guest_machine::{Hooks, Input, Machine, Meter, Setup};
-use guest_programs::program;
+use guest_programs::{RING, program};
 use shadow_memory::{Memory, RangeKind};
 use std::alloc::{AllocError, Global};
 use std::test::Fail;
@@ -244,20 +244,6 @@ fn kinds_after(alloc: Global, words: &[u32], steps: u32) -> Result<Vec<LeakKind>
     }
     Ok(kinds)
 }
-
-/// Two blocks of 8 bytes that point to each other, allocated by call 2001; x8 and x10 hold them, and are then set to 0.
-const RING: [u32; 10] = [
-    0x7D10_0893,
-    0x0080_0513,
-    0x0000_0073,
-    0x0005_0413,
-    0x0080_0513,
-    0x0000_0073,
-    0x00A4_2023,
-    0x0085_2023,
-    0x0000_0413,
-    0x0000_0513,
-];
 
 #[test]
 fn a_ring_is_lost_with_its_last_pointer(rt: HostRuntime) -> Result<(), Fail> {

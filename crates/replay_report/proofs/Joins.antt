@@ -24,7 +24,8 @@ running_joined o p q r pc status is d e f =
     joined o q r (codes "state running " ++ address_text pc) newline (joined o p q (codes "state running ") (address_text pc) d e) f
     ∙ ap (λ s. o ++ state_line s pc) (sym is)
 
-pub elsewhere_joined : (image : Image) (callers : ℕ) (o p q r t : List ℕ) (a : ℕ) (note : Note) → note ≡ Elsewhere a → p ≡ o ++ codes " Address " → q ≡ p ++ address_text a → r ≡ q ++ codes " is not stack'd, malloc'd or (recently) free'd" → t ≡ r ++ newline → t ≡ o ++ note_lines image callers note
+pub elsewhere_joined : (image : Image) (callers : ℕ) (o p q r t : List ℕ) (a : ℕ) (note : Note) → note ≡ Elsewhere a → p ≡ o ++ codes " Address "
+    → q ≡ p ++ address_text a → r ≡ q ++ codes " is not stack'd, malloc'd or (recently) free'd" → t ≡ r ++ newline → t ≡ o ++ note_lines image callers note
 unfolding note_lines
 elsewhere_joined image callers o p q r t a note is d e f g =
     let address = codes " Address " ++ address_text a in

@@ -1,5 +1,6 @@
 -- Records, their sums and their groups, as one more record is taken.
-use Rattle.std.proofs.Common.{◌≡◌, ℕ, ◌+◌, ◌-◌, zero-add, Bool, true, false, not, cond, ◌&&◌, List, [], ◌∷◌, ◌++◌, filter, length, min, sum_by, Some, unwrap_or, refl, ap, ap₂, ◌∙◌, append-nil, arith}
+use Rattle.std.proofs.Common.{◌≡◌, ℕ, ◌+◌, ◌-◌, zero-add, Bool, true, false, not, cond, ◌&&◌, List, [], ◌∷◌, ◌++◌, filter, length, min, sum_by, Some}
+use Rattle.std.proofs.Common.{unwrap_or, refl, ap, ap₂, ◌∙◌, append-nil, arith}
 use Rattle.std.proofs.lemmas.List.{length-append}
 use Rattle.std.proofs.lemmas.List.Elements.{filter-append}
 use Rattle.std.proofs.lemmas.List.Sums.{sum_by-append, fold-append}
@@ -29,12 +30,16 @@ filter-more test xs x = filter-append test xs (x ∷ []) ∙ go (test x)
 pub shown_more : (rules : List Rule) (image : Image) (records : List LeakRecord) (r : LeakRecord) → is_hidden rules image r ≡ false
     → shown_records rules image (records ++ r ∷ []) ≡ shown_records rules image records ++ r ∷ []
 unfolding shown_records
-shown_more rules image records r h = filter-more (λ q. not (is_hidden rules image q)) records r ∙ ap (λ b. cond (not b) (filter (λ q. not (is_hidden rules image q)) records ++ r ∷ []) (filter (λ q. not (is_hidden rules image q)) records)) h
+shown_more rules image records r h =
+    filter-more (λ q. not (is_hidden rules image q)) records r
+    ∙ ap (λ b. cond (not b) (filter (λ q. not (is_hidden rules image q)) records ++ r ∷ []) (filter (λ q. not (is_hidden rules image q)) records)) h
 
 pub shown_same : (rules : List Rule) (image : Image) (records : List LeakRecord) (r : LeakRecord) → is_hidden rules image r ≡ true
     → shown_records rules image (records ++ r ∷ []) ≡ shown_records rules image records
 unfolding shown_records
-shown_same rules image records r h = filter-more (λ q. not (is_hidden rules image q)) records r ∙ ap (λ b. cond (not b) (filter (λ q. not (is_hidden rules image q)) records ++ r ∷ []) (filter (λ q. not (is_hidden rules image q)) records)) h
+shown_same rules image records r h =
+    filter-more (λ q. not (is_hidden rules image q)) records r
+    ∙ ap (λ b. cond (not b) (filter (λ q. not (is_hidden rules image q)) records ++ r ∷ []) (filter (λ q. not (is_hidden rules image q)) records)) h
 
 pub hidden_more : (rules : List Rule) (image : Image) (records : List LeakRecord) (r : LeakRecord) → is_hidden rules image r ≡ true
     → hidden_records rules image (records ++ r ∷ []) ≡ hidden_records rules image records ++ r ∷ []

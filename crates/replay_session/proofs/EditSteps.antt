@@ -29,7 +29,9 @@ differ_appended (m ∷ ms) mark k n = ap (λ rest. cond (m.step == k) (m ∷ res
 -- one mark less
 pub differ_removed : (marks : List Mark) (i : ℕ) (d mark : Mark) → i < length marks → mark ≡ get_or marks i d → DifferAtStep mark.step marks (remove marks i)
 differ_removed [] i d mark h e k n = absurd (omega arith)
-differ_removed (m ∷ ms) zero d mark h e k n = ap (λ (x : Mark). cond (x.step == k) (x ∷ marks_at k ms) (marks_at k ms)) (sym e) ∙ ap (λ b. cond b (mark ∷ marks_at k ms) (marks_at k ms)) (not-at mark.step k n)
+differ_removed (m ∷ ms) zero d mark h e k n =
+    ap (λ (x : Mark). cond (x.step == k) (x ∷ marks_at k ms) (marks_at k ms)) (sym e)
+    ∙ ap (λ b. cond b (mark ∷ marks_at k ms) (marks_at k ms)) (not-at mark.step k n)
 differ_removed (m ∷ ms) (suc i) d mark h e k n = ap (λ rest. cond (m.step == k) (m ∷ rest) rest) (differ_removed ms i d mark (omega arith) e k n)
 
 -- another byte of the input
@@ -40,7 +42,8 @@ get-other (b ∷ bs) zero byte (suc i) n = refl
 get-other (b ∷ bs) (suc offset) byte zero n = refl
 get-other (b ∷ bs) (suc offset) byte (suc i) n = get-other bs offset byte i (λ e. n (ap suc e))
 
-pub differ_at : (one other : Setup) (offset byte : ℕ) → other.input ≡ slice_set one.input offset byte → one.redzone ≡ other.redzone → one.volume ≡ other.volume → one.hooks ≡ other.hooks → DifferAt offset one other
+pub differ_at : (one other : Setup) (offset byte : ℕ) → other.input ≡ slice_set one.input offset byte → one.redzone ≡ other.redzone → one.volume ≡ other.volume
+    → one.hooks ≡ other.hooks → DifferAt offset one other
 differ_at one other offset byte input redzone volume hooks = record {
   redzone = redzone;
   volume = volume;

@@ -21,7 +21,8 @@ pub from-on : (at : ℕ) (xs : List ℕ) → take (length xs - at) (drop at xs) 
 from-on at xs = rw (← length-drop at xs) (take-length (drop at xs))
 
 -- a step of a loop that writes what is left
-pub sent-step : (a b c : Option (List ℕ)) (at n : ℕ) (xs : List ℕ) → at < length xs → n ≤ length (take (length xs - at) (drop at xs)) → Appends a b (take at xs) → Appends b c (take n (take (length xs - at) (drop at xs))) → (at + n ≤ length xs) × Appends a c (take (at + n) xs)
+pub sent-step : (a b c : Option (List ℕ)) (at n : ℕ) (xs : List ℕ) → at < length xs → n ≤ length (take (length xs - at) (drop at xs)) → Appends a b (take at xs)
+    → Appends b c (take n (take (length xs - at) (drop at xs))) → (at + n ≤ length xs) × Appends a c (take (at + n) xs)
 sent-step a b c at n xs inside bound so more =
     let bound' : n ≤ length (drop at xs) = subst (λ ys. n ≤ length ys) (from-on at xs) bound in
     let d = length-drop at xs in

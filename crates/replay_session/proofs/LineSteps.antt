@@ -24,7 +24,8 @@ read-last true front = pick (length front == 0) where
   pick true = refl
   pick false = refl
 
-read-cons : (last : Bool) (front : List ℕ) (parts : List (List ℕ)) → (rest : List (List ℕ)) → rest ≡ read_parts last (after_front [] parts) → strip_carriage_return front ∷ rest ≡ read_parts last (front ∷ after_front [] parts)
+read-cons : (last : Bool) (front : List ℕ) (parts : List (List ℕ)) → (rest : List (List ℕ)) → rest ≡ read_parts last (after_front [] parts)
+    → strip_carriage_return front ∷ rest ≡ read_parts last (front ∷ after_front [] parts)
 read-cons true front [] rest e = ap (λ (r : List (List ℕ)). strip_carriage_return front ∷ r) e
 read-cons true front (p ∷ ps) rest e = ap (λ (r : List (List ℕ)). strip_carriage_return front ∷ r) e
 read-cons false front [] rest e = ap (λ (r : List (List ℕ)). strip_carriage_return front ∷ r) e
@@ -41,7 +42,8 @@ nonempty p (b ∷ bytes) = pick (p b) (slice_split p bytes) where
   pick false [] = refl
   pick false (q ∷ qs) = refl
 
-by-first : (t last : Bool) (front : List ℕ) (b : ℕ) (parts fresh longer : List (List ℕ)) → after_front [] parts ≡ parts → fresh ≡ read_parts last (after_front [] parts) → longer ≡ read_parts last (after_front (front ++ b ∷ []) parts)
+by-first : (t last : Bool) (front : List ℕ) (b : ℕ) (parts fresh longer : List (List ℕ)) → after_front [] parts ≡ parts
+    → fresh ≡ read_parts last (after_front [] parts) → longer ≡ read_parts last (after_front (front ++ b ∷ []) parts)
     → cond t (strip_carriage_return front ∷ fresh) longer ≡ read_parts last (after_front front (cond t ([] ∷ parts) (onto_first b parts)))
 by-first true last front b parts fresh longer same e f =
     read-cons last front parts fresh e ∙ ap (λ (ps : List (List ℕ)). read_parts last (front ∷ ps)) same ∙ ap (λ (w : List ℕ). read_parts last (w ∷ parts)) (sym (append-nil front))

@@ -1,5 +1,6 @@
 -- The number that a field's digits write.
-use Rattle.std.proofs.Common.{◌≡◌, ℕ, ◌+◌, ◌*◌, ◌^◌, ◌<◌, ◌≤◌, nat_lt, List, [], ◌∷◌, Bool, true, false, cond, Some, None, Result, Ok, Err, lt-ltb, le-ltb, ◌∙◌, take, length, get_or, arith, length-take, lit<}
+use Rattle.std.proofs.Common.{◌≡◌, ℕ, ◌+◌, ◌*◌, ◌^◌, ◌<◌, ◌≤◌, nat_lt, List, [], ◌∷◌, Bool, true, false, cond, Some, None, Result, Ok, Err, lt-ltb, le-ltb, ◌∙◌, take}
+use Rattle.std.proofs.Common.{length, get_or, arith, length-take, lit<}
 use Rattle.std.specs.List.{list_all}
 use Rattle.std.specs.Result.{OkIff, result_ok}
 use Rattle.std.specs.Char.{digit_value}
@@ -53,11 +54,14 @@ none_at_other_byte base most i ds within large =
     refused base most ds (rw fails (grind (arith, nat_tests)))
 
 -- a number of the length asked, whose bytes are all digits, is what they write
-pub counted_where_digits : (base most : ℕ) (ds : List ℕ) → 0 < length ds → length ds ≤ most → list_all (digit_of base) ds ≡ true → number_in base most ds ≡ cond (nat_lt (digits_value base ds) (2 ^ 32)) (Some (digits_value base ds)) None
+pub counted_where_digits : (base most : ℕ) (ds : List ℕ) → 0 < length ds → length ds ≤ most → list_all (digit_of base) ds ≡ true
+    → number_in base most ds ≡ cond (nat_lt (digits_value base ds) (2 ^ 32)) (Some (digits_value base ds)) None
 counted_where_digits base most ds some short pass = counted base most ds (grind (arith, nat_tests))
 
 -- one more digit
-pub digit_more : (base i value digit : ℕ) (ds : List ℕ) → i < length ds → digit ≡ digit_value (get_or ds i 0) → digit < base → list_all (digit_of base) (take i ds) ≡ true → value ≡ digits_value base (take i ds) → (list_all (digit_of base) (take (i + 1) ds) ≡ true) × (value * base + digit ≡ digits_value base (take (i + 1) ds))
+pub digit_more : (base i value digit : ℕ) (ds : List ℕ) → i < length ds → digit ≡ digit_value (get_or ds i 0) → digit < base
+    → list_all (digit_of base) (take i ds) ≡ true → value ≡ digits_value base (take i ds)
+    → (list_all (digit_of base) (take (i + 1) ds) ≡ true) × (value * base + digit ≡ digits_value base (take (i + 1) ds))
 digit_more base i value digit ds within is low pass so_far =
     let this : digit_of base (get_or ds i 0) ≡ true = grind (arith, nat_tests) in (
       list_all_more (digit_of base) ds i 0 within ∙ rw (pass, this),

@@ -27,7 +27,8 @@ replied-first new sc line result out text (inl a) is =
 replied-first new sc line result out text (inr w) is =
     (counted sc, w.has, inr (w.may, is ∙ ap (λ r. text_of r out) w.replies, refl))
 
-pub replied-to : (new : Session) (sc : Scenario) (line : List ℕ) (result : Result Reply Fault) (none out kept text : List ℕ) → Meets new sc line result none out → none ≡ [] → kept ≡ out → text ≡ text_of result kept
+pub replied-to : (new : Session) (sc : Scenario) (line : List ℕ) (result : Result Reply Fault) (none out kept text : List ℕ) → Meets new sc line result none out
+    → none ≡ [] → kept ≡ out → text ≡ text_of result kept
     → (next : Scenario) × HasScenario new next × Replies sc line text next
 replied-to new sc line result none out kept text m empty same is =
     let P : List ℕ → Type 0 = λ xs. Meets new sc line result xs out in

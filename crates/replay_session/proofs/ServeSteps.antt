@@ -1,5 +1,7 @@
 -- Bytes that are served one after another.
-use Rattle.std.proofs.Common.{◌≡◌, ◌≢◌, ℕ, zero, suc, List, [], ◌∷◌, ◌++◌, Bool, true, false, not, Option, refl, sym, ap, ◌∙◌, subst, cond, arith, ◌+◌, ◌-◌, ◌≤◌, ◌<◌, ◌==◌, length, length-append, append_assoc, take, ne_eqb, nat_lt, lt-ltb, slice_index, if◌then◌else◌, None, Some, append-nil, Result, Ok, add-zero, ⊎_elim, length-take, get_or, drop}
+use Rattle.std.proofs.Common.{◌≡◌, ◌≢◌, ℕ, zero, suc, List, [], ◌∷◌, ◌++◌, Bool, true, false, not, Option, refl, sym, ap, ◌∙◌, subst, cond, arith, ◌+◌, ◌-◌, ◌≤◌, ◌<◌}
+use Rattle.std.proofs.Common.{◌==◌, length, length-append, append_assoc, take, ne_eqb, nat_lt, lt-ltb, slice_index, if◌then◌else◌, None, Some, append-nil, Result, Ok}
+use Rattle.std.proofs.Common.{add-zero, ⊎_elim, length-take, get_or, drop}
 use Rattle.std.proofs.lemmas.List.{take-append-drop, take_more, take_all}
 use Rattle.std.specs.Bool.{MatchBool}
 use Rattle.std.specs.Io.KnownBytes.{Appends}
@@ -26,7 +28,8 @@ unfolding accepted_in
 long-alike sc a b f g = rw (f, g) refl
 
 -- of the first lines, the first may be another that is too long
-first-alike : (n : ℕ) (s : Scenario) (a b : List ℕ) (lines replies : List (List ℕ)) → is_long a ≡ true → is_long b ≡ true → Answers s (take n (a ∷ lines)) replies → Answers s (take n (b ∷ lines)) replies
+first-alike : (n : ℕ) (s : Scenario) (a b : List ℕ) (lines replies : List (List ℕ)) → is_long a ≡ true → is_long b ≡ true
+    → Answers s (take n (a ∷ lines)) replies → Answers s (take n (b ∷ lines)) replies
 first-alike zero s a b lines replies f g h = h
 first-alike (suc n) s a b lines [] f g h = h
 first-alike (suc n) s a b lines (r ∷ rs) f g h = (h.0, replies-alike s h.0 a b r (long-alike s a b f g) h.1, h.2)
@@ -74,7 +77,8 @@ appends-none None = tt
 appends-none (Some xs) = sym (append-nil xs)
 
 -- a byte of a line is kept
-pub keep-fed : (sc : Scenario) (old new : Server) (held : Option (List ℕ)) (byte : ℕ) → byte ≢ 10 → new.session ≡ old.session → new.written ≡ old.written → KeepsByte old.kept.items new.kept.items byte → HasScenario old.session sc → Fed sc old new held held (byte ∷ [])
+pub keep-fed : (sc : Scenario) (old new : Server) (held : Option (List ℕ)) (byte : ℕ) → byte ≢ 10 → new.session ≡ old.session → new.written ≡ old.written
+    → KeepsByte old.kept.items new.kept.items byte → HasScenario old.session sc → Fed sc old new held held (byte ∷ [])
 keep-fed sc old new held byte other session counts kept has = record {
   done = [];
   after = sc;
@@ -110,7 +114,9 @@ under-both true P Q p q = p
 under-both false P Q p q = q
 
 -- a line was answered, and more may come
-pub answer-fed : (sc : Scenario) (old new : Server) (held held' : Option (List ℕ)) (line : List ℕ) → Answered sc new.session old.written new.written held held' line → line ≡ strip_carriage_return old.kept.items → is_over sc ≡ false → new.kept.items ≡ [] → Fed sc old new held held' (10 ∷ [])
+pub answer-fed : (sc : Scenario) (old new : Server) (held held' : Option (List ℕ)) (line : List ℕ)
+    → Answered sc new.session old.written new.written held held' line → line ≡ strip_carriage_return old.kept.items → is_over sc ≡ false → new.kept.items ≡ []
+    → Fed sc old new held held' (10 ∷ [])
 answer-fed sc old new held held' line a whole going empty = record {
   done = a.reply ∷ [];
   after = a.after;
@@ -129,7 +135,9 @@ answer-fed sc old new held held' line a whole going empty = record {
 }
 
 -- a line was answered that tells that the session is over
-pub answer-over : (sc : Scenario) (session : Session) (old new : Server) (counts : Written) (held held' : Option (List ℕ)) (line : List ℕ) → Answered sc session old.written counts held held' line → line ≡ strip_carriage_return old.kept.items → is_over sc ≡ true → Over sc old new held held' (10 ∷ [])
+pub answer-over : (sc : Scenario) (session : Session) (old new : Server) (counts : Written) (held held' : Option (List ℕ)) (line : List ℕ)
+    → Answered sc session old.written counts held held' line → line ≡ strip_carriage_return old.kept.items → is_over sc ≡ true
+    → Over sc old new held held' (10 ∷ [])
 answer-over sc session old new counts held held' line a whole over = record {
   done = a.reply ∷ [];
   appended = subst (Appends held held') (sym (joined-one a.reply)) a.appended;
@@ -158,11 +166,13 @@ ok_is : (E : Type 0) (x y : Bool) → ◌≡◌ {A = Result Bool E} (Ok x) (Ok y
 ok_is E x y e = cc
 
 module _ (E : Type 0) (sc : Scenario) (old new : Server) (held held' : Option (List ℕ)) (line : List ℕ) (byte : ℕ) (newline : byte ≡ 10) (whole : line ≡ strip_carriage_return old.kept.items) where
-  pub taken-fed : (over : Bool) → over ≡ is_over sc → Answered sc new.session old.written new.written held held' line → new.kept.items ≡ [] → ◌≡◌ {A = Result Bool E} (Ok over) (Ok false) → Fed sc old new held held' (byte ∷ [])
+  pub taken-fed : (over : Bool) → over ≡ is_over sc → Answered sc new.session old.written new.written held held' line → new.kept.items ≡ []
+      → ◌≡◌ {A = Result Bool E} (Ok over) (Ok false) → Fed sc old new held held' (byte ∷ [])
   taken-fed over says a empty e =
       subst (λ (b : ℕ). Fed sc old new held held' (b ∷ [])) (sym newline) (answer-fed sc old new held held' line a whole (sym says ∙ ok_is E over false e) empty)
 
-  pub taken-over : (over : Bool) → over ≡ is_over sc → Answered sc new.session old.written new.written held held' line → ◌≡◌ {A = Result Bool E} (Ok over) (Ok true) → Over sc old new held held' (byte ∷ [])
+  pub taken-over : (over : Bool) → over ≡ is_over sc → Answered sc new.session old.written new.written held held' line
+      → ◌≡◌ {A = Result Bool E} (Ok over) (Ok true) → Over sc old new held held' (byte ∷ [])
   taken-over over says a e =
       subst (λ (b : ℕ). Over sc old new held held' (b ∷ [])) (sym newline) (answer-over sc new.session old new new.written held held' line a whole (sym says ∙ ok_is E over true e))
 
@@ -268,7 +278,8 @@ over-more sc a b h0 h1 xs zs g = record {
 }
 
 -- a last line with no newline
-pub answer-ended : (sc : Scenario) (old : Server) (session : Session) (new : Written) (held held' : Option (List ℕ)) (line : List ℕ) → Answered sc session old.written new held held' line → line ≡ old.kept.items → (length old.kept.items == 0) ≡ false → Ended sc old held held'
+pub answer-ended : (sc : Scenario) (old : Server) (session : Session) (new : Written) (held held' : Option (List ℕ)) (line : List ℕ)
+    → Answered sc session old.written new held held' line → line ≡ old.kept.items → (length old.kept.items == 0) ≡ false → Ended sc old held held'
 answer-ended sc old session new held held' line a whole some = record {
   done = a.reply ∷ [];
   appended = subst (Appends held held') (sym (joined-one a.reply)) a.appended;

@@ -36,7 +36,8 @@ module _ (sc : Scenario) (a : Server) (kept : a.kept.items ≡ []) where
   over-served c (Some input) (Some rest) h0 h2 bytes used over =
       (over.done, subst (λ (xs : List ℕ). Answers sc (lines xs) over.done) (sym used) (as-lines (bytes ++ rest) over.done (over.answers true rest)), over.appended)
 
-  all-served : (left left2 h0 h2 : Option (List ℕ)) (seen : List ℕ) → Consumes left left2 seen → IsAtEnd left2 → (done : List (List ℕ)) × Answers sc (lines_by true a.kept.items seen) done × Appends h0 h2 (joined done) → ServedAll sc left h0 h2
+  all-served : (left left2 h0 h2 : Option (List ℕ)) (seen : List ℕ) → Consumes left left2 seen → IsAtEnd left2
+      → (done : List (List ℕ)) × Answers sc (lines_by true a.kept.items seen) done × Appends h0 h2 (joined done) → ServedAll sc left h0 h2
   all-served None left2 h0 h2 seen used at-end d = tt
   all-served (Some input) None h0 h2 seen used at-end d = absurd used
   all-served (Some input) (Some rest) h0 h2 seen used at-end d =
@@ -69,7 +70,8 @@ module _ (sc : Scenario) (a : Server) (kept : a.kept.items ≡ []) where
         (seen, all-seen more, (d.0, as-lines seen d.0 d.1, d.2))
 
   module _ (replies : a.written.replies ≡ 0) (bytes : a.written.bytes ≡ 0) where
-    pub stops-whole : (b : Server) (h0 h1 : Option (List ℕ)) (seen : List ℕ) (r n : ℕ) → r ≡ b.written.replies → n ≡ b.written.bytes → r < 2 ^ 64 → n < 2 ^ 64 → Fed sc a b h0 h1 seen → WholeReplies sc seen h0 h1 r n
+    pub stops-whole : (b : Server) (h0 h1 : Option (List ℕ)) (seen : List ℕ) (r n : ℕ) → r ≡ b.written.replies → n ≡ b.written.bytes → r < 2 ^ 64 → n < 2 ^ 64
+        → Fed sc a b h0 h1 seen → WholeReplies sc seen h0 h1 r n
     stops-whole b h0 h1 seen r n r-is n-is r-small n-small fed = record {
       replies = fed.done;
       answers = as-closed seen fed.done (
@@ -80,7 +82,8 @@ module _ (sc : Scenario) (a : Server) (kept : a.kept.items ≡ []) where
       bytes_is = from-zero a.written.bytes n (length (joined fed.done)) bytes n-small (ap standing n-is ∙ fed.written);
     }
 
-    pub stops-cut : (b c : Server) (h0 h1 h2 : Option (List ℕ)) (seen more : List ℕ) (r n : ℕ) → r ≡ c.written.replies → n ≡ c.written.bytes → r < 2 ^ 64 → n < 2 ^ 64 → (fed : Fed sc a b h0 h1 seen) → Broken fed.after b c h1 h2 (lines_by true b.kept.items more) → CutReplies sc (seen ++ more) h0 h2 r n
+    pub stops-cut : (b c : Server) (h0 h1 h2 : Option (List ℕ)) (seen more : List ℕ) (r n : ℕ) → r ≡ c.written.replies → n ≡ c.written.bytes → r < 2 ^ 64
+        → n < 2 ^ 64 → (fed : Fed sc a b h0 h1 seen) → Broken fed.after b c h1 h2 (lines_by true b.kept.items more) → CutReplies sc (seen ++ more) h0 h2 r n
     stops-cut b c h0 h1 h2 seen more r n r-is n-is r-small n-small fed broken =
         let k = broken-then sc a b c h0 h1 h2 seen more fed broken in
         record {

@@ -32,7 +32,8 @@ switched-at (rule ∷ rules) zero d old new on h here made = ap (λ r. r ∷ rul
 switched-at (rule ∷ rules) (suc i) d old new on h here made = ap (λ rs. rule ∷ rs) (switched-at rules i d old new on (omega arith) here made)
 
 -- the report of what the session keeps is that of its scenario
-pub report-has : (session : Session) (sc : Scenario) (marks : List Mark) (rules : List Rule) (len : ℕ) → HasScenario session sc → marks ≡ session.marks.items → rules ≡ session.suppressions.items → len ≡ length session.setup.input
+pub report-has : (session : Session) (sc : Scenario) (marks : List Mark) (rules : List Rule) (len : ℕ) → HasScenario session sc → marks ≡ session.marks.items
+    → rules ≡ session.suppressions.items → len ≡ length session.setup.input
     → (text : List ℕ) → IsReport (post (first_state sc) session.setup marks session.step) session.image rules session.options session.step len text → IsReportOf sc text
 unfolding IsReportOf chosen_state
 report-has session sc marks rules len h same kept e text told =

@@ -1,7 +1,8 @@
 -- Lines of bytes.
-use Rattle.std.specs.Prelude.{ℕ, ◌≡◌, ◌⊎◌, ◌≤◌, ◌==◌, ◌&&◌, List, [], ◌∷◌, ◌++◌, Bool, not, length, map, if◌then◌else◌}
+use Rattle.std.specs.Prelude.{ℕ, ◌≡◌, ◌⊎◌, ◌≤◌, ◌+◌, ◌==◌, ◌&&◌, List, [], ◌∷◌, ◌++◌, Bool, not, length, map, if◌then◌else◌}
 use Rattle.std.specs.List.{slice_split}
 use Rattle.std.specs.Str.Lines.{strip_carriage_return}
+use Rattle.replay_session.specs.Scenario.{longest_line}
 
 abbrev pub all_but_last : {A : Type 0} → List A → List A
 all_but_last [] = []
@@ -18,6 +19,10 @@ lines_by last front [] = if last && not (length front == 0) then front ∷ [] el
 lines_by last front (b ∷ bytes) =
     if b == 10 then strip_carriage_return front ∷ lines_by last [] bytes else lines_by last (front ++ b ∷ []) bytes
 
+-- how much of a line is kept: more than the longest line and a carriage return
+abbrev pub most_kept : ℕ
+most_kept = longest_line + 2
+
 -- one more byte of a line is kept, unless enough of it is
 abbrev pub KeepsByte : List ℕ → List ℕ → ℕ → Type 0
-KeepsByte old new byte = (new ≡ old ++ byte ∷ []) ⊎ ((4098 ≤ length old) × (new ≡ old))
+KeepsByte old new byte = (new ≡ old ++ byte ∷ []) ⊎ ((most_kept ≤ length old) × (new ≡ old))

@@ -11,9 +11,11 @@ use Rattle.replay_session.specs.Setups.{setup_with}
 use Rattle.replaycheck.specs.Once.{IsReportOnce}
 use Rattle.suppressions.specs.Rules.{Rule}
 
-pub report-once : (image : Image) (input : List ℕ) (rules : List Rule) (setup : Setup) (options : Options) (step len : ℕ) → setup ≡ setup_with image input → options.callers ≡ 12 → options.show ≡ true ∷ false ∷ true ∷ false ∷ []
+pub report-once : (image : Image) (input : List ℕ) (rules : List Rule) (setup : Setup) (options : Options) (step len : ℕ) → setup ≡ setup_with image input
+    → options.callers ≡ 12 → options.show ≡ true ∷ false ∷ true ∷ false ∷ []
     → len ≡ length setup.input → (text : List ℕ) → IsReport (post (start_state image) setup [] step) image rules options step len text → IsReportOnce image input rules step text
 unfolding IsReportOnce IsReportOf chosen_state first_state begun
 report-once image input rules setup options step len plain callers show all text told =
-    transport (λ i. IsReport (post (start_state image) (setup_with image input) [] step) image rules (record { callers = 12; show = true ∷ false ∷ true ∷ false ∷ [] }) step (length (plain i).input) text)
+    transport (λ i. IsReport (post (start_state image) (setup_with image input) [] step) image rules
+    (record { callers = 12; show = true ∷ false ∷ true ∷ false ∷ [] }) step (length (plain i).input) text)
     (transport (λ i. IsReport (post (start_state image) (plain i) [] step) image rules (record { callers = callers i; show = show i }) step (all i) text) told)

@@ -19,7 +19,8 @@ pub has-image : (gives : Giving) (path front bytes : List ℕ) (image : ProgramI
 has-image gives path front bytes image read same is = (front, read, subst (λ (xs : List ℕ). IsImageOf xs image) same is)
 
 pub no-image : {T : Type 0} (gives : Giving) (path front bytes : List ℕ) (fault : ElfFault) → IsFront gives path greatest_program front → bytes ≡ front
-    → ((fault ≡ Memory) ⊎ (refusal bytes ≡ Some fault)) → ((early : ElfFault) → early_refusal bytes ≡ Some early → ◌≡◌ {A = Result T ElfFault} (Err fault) (Err early)) → NoImage gives path (Image fault)
+    → ((fault ≡ Memory) ⊎ (refusal bytes ≡ Some fault))
+    → ((early : ElfFault) → early_refusal bytes ≡ Some early → ◌≡◌ {A = Result T ElfFault} (Err fault) (Err early)) → NoImage gives path (Image fault)
 no-image gives path front bytes fault read same refused least = (
   front,
   read,

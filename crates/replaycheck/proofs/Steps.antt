@@ -11,7 +11,8 @@ use Rattle.replaycheck.specs.Orders.{IsStepOf}
 abbrev from_text : List ℕ → Result ℕ ParseIntError → Type 0
 from_text text result = ParsesUnsigned 32 10 text result × ExplainsUnsignedError 10 text result × HasUnsignedDigitsIfOk text result
 
-read : (found : Option Text) (result : Option ℕ) → ((t : List ℕ) → found ≡ Some t → ReadsOne from_text t result) → IfSome result (λ n. IfSome found (λ text. n ≡ digits_value 10 (without_leading_plus text)))
+read : (found : Option Text) (result : Option ℕ) → ((t : List ℕ) → found ≡ Some t → ReadsOne from_text t result)
+    → IfSome result (λ n. IfSome found (λ text. n ≡ digits_value 10 (without_leading_plus text)))
 read found None reads = tt
 read None (Some n) reads = tt
 read (Some t) (Some n) reads = (reads t refl).0.1

@@ -1,5 +1,6 @@
 -- What holds of every instruction of the table.
-use Rattle.std.proofs.Common.{◌≡◌, ℕ, suc, ◌<◌, Bool, true, false, cond, List, [], ◌∷◌, Option, Some, None, IfSome, IfNone, All, Any, Contains, bit_and, get_or, refl, sym, ap, subst, arith, inl, inr, zero}
+use Rattle.std.proofs.Common.{◌≡◌, ℕ, suc, ◌<◌, Bool, true, false, cond, List, [], ◌∷◌, Option, Some, None, IfSome, IfNone, All, Any, Contains, bit_and, get_or, refl}
+use Rattle.std.proofs.Common.{sym, ap, subst, arith, inl, inr, zero}
 use Rattle.std.specs.Prelude.{find, ◌==◌, ◌&&◌}
 use Rattle.std.specs.List.{list_all, AllPairs}
 use Rattle.std.specs.Option.{option_map}

@@ -7,7 +7,8 @@ use Rattle.std.proofs.Math.Nat.{mod-eq_of_lt}
 use Rattle.std.proofs.lemmas.Nat.{and_assoc, and_comm, and_mask}
 use Rattle.std.proofs.lemmas.Bool.{cases_Bool, ne_eqb, eqb-false, eqb-true, and_parts}
 use Rattle.rv_decode.specs.declared.Insn.{Insn}
-use Rattle.rv_decode.specs.Table.{Row, rows, upper_rows, jump_rows, branch_rows, load_rows, store_rows, immediate_rows, shift_rows, register_rows, multiply_rows, fence_rows, environment_rows, has_fixed_bits, insn, insn_of}
+use Rattle.rv_decode.specs.Table.{Row, rows, upper_rows, jump_rows, branch_rows, load_rows, store_rows, immediate_rows, shift_rows, register_rows, multiply_rows}
+use Rattle.rv_decode.specs.Table.{fence_rows, environment_rows, has_fixed_bits, insn, insn_of}
 
 -- elements that fail do not change what is found
 pub find-filter : {X : Type 0} (p q : X → Bool) → ((x : X) → q x ≡ false → p x ≡ false) → (xs : List X) → find p xs ≡ find p (filter q xs)

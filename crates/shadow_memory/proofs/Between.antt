@@ -28,7 +28,8 @@ pub after-between : (marks before made : ℕ → Mark) (from at : ℕ) → Agree
 after-between marks before made from at so = so at ∙ ap (λ t. cond t (made at) (marks at)) (not-between from at)
 
 -- one more mark of a range is set
-pub between-more : (marks before after made : ℕ → Mark) (from at : ℕ) → from ≤ at → Agree before (λ k. cond (is_between from at k) (made k) (marks k)) → after at ≡ made at → ((k : ℕ) → k ≢ at → after k ≡ before k)
+pub between-more : (marks before after made : ℕ → Mark) (from at : ℕ) → from ≤ at → Agree before (λ k. cond (is_between from at k) (made k) (marks k))
+    → after at ≡ made at → ((k : ℕ) → k ≢ at → after k ≡ before k)
     → Agree after (λ k. cond (is_between from (at + 1) k) (made k) (marks k))
 between-more marks before after made from at order so here others = λ k. elim (cases_eq k at) [
   | inl e ↦ ap after e ∙ here ∙ ap made (sym e) ∙ ap (λ t. cond t (made k) (marks k)) (sym (ap (is_between from (at + 1)) e ∙ here-between from at order))

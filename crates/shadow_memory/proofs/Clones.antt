@@ -23,7 +23,9 @@ either_slot : {S : Type 0} (shown : S → ℕ → Cell) (c : Bool) (d x y : S) �
 either_slot shown true d x y h = refl
 either_slot shown false d x y h = h
 
-pub same_under : (a b : Directory) → b.first ≡ a.first → ((i : ℕ) → cells_at (slice_index_or b.pages.items i (At.Blank NoAccess)) ≡ cells_at (slice_index_or a.pages.items i (At.Blank NoAccess))) → cells_under b ≡ cells_under a
+pub same_under : (a b : Directory) → b.first ≡ a.first
+    → ((i : ℕ) → cells_at (slice_index_or b.pages.items i (At.Blank NoAccess)) ≡ cells_at (slice_index_or a.pages.items i (At.Blank NoAccess)))
+    → cells_under b ≡ cells_under a
 unfolding cells_under page_at
 same_under a b e h = fun_ext (λ n.
     ap (λ first. cells_at (page_of first b.pages.items (n / 4096)) (n % 4096)) e

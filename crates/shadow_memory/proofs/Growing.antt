@@ -60,7 +60,9 @@ unfolding changed_in
 range-next f start i change small few = rw (range-next-in start i small few) refl
 
 -- what is seen of changed cells is changed as it is seen
-pub range-seen : {X Y : Type 0} (see : X → Y) (f : ℕ → X) (start n : ℕ) (change : ℕ → X → X) (seen : ℕ → Y → Y) → ((i : ℕ) (x : X) → see (change i x) ≡ seen i (see x)) → ◌≡◌ {A = ℕ → Y} (λ a. see (changed_in f start n change a)) (changed_in (λ a. see (f a)) start n seen)
+pub range-seen : {X Y : Type 0} (see : X → Y) (f : ℕ → X) (start n : ℕ) (change : ℕ → X → X) (seen : ℕ → Y → Y)
+    → ((i : ℕ) (x : X) → see (change i x) ≡ seen i (see x))
+    → ◌≡◌ {A = ℕ → Y} (λ a. see (changed_in f start n change a)) (changed_in (λ a. see (f a)) start n seen)
 unfolding changed_in
 range-seen see f start n change seen is = fun_ext (λ a. choose-through see (is_in start n a) _ (f a) _ (is (offset start a) (f a)))
 
@@ -69,7 +71,8 @@ choose-kept true x y h = h
 choose-kept false x y h = refl
 
 -- and stays, where no change shows
-pub range-unseen : {X Y : Type 0} (see : X → Y) (f : ℕ → X) (start n : ℕ) (change : ℕ → X → X) → ((i : ℕ) (x : X) → see (change i x) ≡ see x) → ◌≡◌ {A = ℕ → Y} (λ a. see (changed_in f start n change a)) (λ a. see (f a))
+pub range-unseen : {X Y : Type 0} (see : X → Y) (f : ℕ → X) (start n : ℕ) (change : ℕ → X → X) → ((i : ℕ) (x : X) → see (change i x) ≡ see x)
+    → ◌≡◌ {A = ℕ → Y} (λ a. see (changed_in f start n change a)) (λ a. see (f a))
 unfolding changed_in
 range-unseen see f start n change is = fun_ext (λ a. choose-through see (is_in start n a) _ (f a) (see (f a)) (is (offset start a) (f a)) ∙ choose-kept (is_in start n a) (see (f a)) (see (f a)) refl)
 
@@ -85,7 +88,9 @@ pub set-one : {X : Type 0} (f : ℕ → X) (at : ℕ) (x : X) → changed_from f
 set-one f at x = fun_ext (λ a. ap (λ b. cond b x (f a)) (one-place at a))
 
 -- a range of one place whose cell is made from the one there
-pub one-more : {X : Type 0} (f now : ℕ → X) (start i : ℕ) (change : ℕ → X → X) (there made : X) → start < 2 ^ 32 → i < 2 ^ 32 → now ≡ changed_in f start i change → there ≡ now (above start i) → made ≡ change i there → changed_from now (above start i) 1 (λ k y. made) ≡ changed_in f start (i + 1) change
+pub one-more : {X : Type 0} (f now : ℕ → X) (start i : ℕ) (change : ℕ → X → X) (there made : X) → start < 2 ^ 32 → i < 2 ^ 32
+    → now ≡ changed_in f start i change → there ≡ now (above start i) → made ≡ change i there
+    → changed_from now (above start i) 1 (λ k y. made) ≡ changed_in f start (i + 1) change
 one-more f now start i change there made small few is there-is made-is =
     let fits : above start i + 1 ≤ 2 ^ 32 = omega arith in
     let more : i + 1 ≤ 2 ^ 32 = omega arith in
@@ -95,12 +100,14 @@ one-more f now start i change there made small few is there-is made-is =
     made-is ∙ ap (change i) (there-is ∙ ap (λ g. g (above start i)) is ∙ range-next f start i change small few) ∙ ap (λ j. change j (f (above start j))) (sym here))
 
 -- and of one whose byte is the next one written
-pub byte-more : (f now : ℕ → ℕ) (start i : ℕ) (bytes : ℕ → ℕ) (byte : ℕ) → start < 2 ^ 32 → i < 2 ^ 32 → now ≡ written f start i bytes → byte ≡ bytes i → set_at now (above start i) byte ≡ written f start (i + 1) bytes
+pub byte-more : (f now : ℕ → ℕ) (start i : ℕ) (bytes : ℕ → ℕ) (byte : ℕ) → start < 2 ^ 32 → i < 2 ^ 32 → now ≡ written f start i bytes → byte ≡ bytes i
+    → set_at now (above start i) byte ≡ written f start (i + 1) bytes
 unfolding written
 byte-more f now start i bytes byte small few is byte-is = sym (set-one now (above start i) byte) ∙ one-more f now start i (λ k b. bytes k) (now (above start i)) byte small few is refl byte-is
 
 -- the step of a loop that changes a range page by page
-pub page-more : {X : Type 0} (f now new : ℕ → X) (start d n at : ℕ) (change part : ℕ → X → X) → start < 2 ^ 32 → at ≡ above start d → at + n ≤ 2 ^ 32 → d + n ≤ 2 ^ 32 → now ≡ changed_in f start d change → new ≡ changed_from now at n part
+pub page-more : {X : Type 0} (f now new : ℕ → X) (start d n at : ℕ) (change part : ℕ → X → X) → start < 2 ^ 32 → at ≡ above start d → at + n ≤ 2 ^ 32
+    → d + n ≤ 2 ^ 32 → now ≡ changed_in f start d change → new ≡ changed_from now at n part
     → ((i : ℕ) → i < n → (x : X) → part i x ≡ change (d + i) x) → new ≡ changed_in f start (d + n) change
 page-more f now new start d n at change part small at-is page few is made alike =
     made ∙ ap (λ g. changed_from g at n part) is ∙ range-grows f start d n at change part small at-is page few (λ i below. alike i below (f (above start (d + i))))
@@ -121,11 +128,14 @@ joined-outside : (at d n k : ℕ) → is_between (at + d) (at + d + n) k ≡ fal
 joined-outside at d n k h = grind (arith, nat_tests)
 
 -- places changed from one on, and then those after them
-pub changed-joins : {X : Type 0} (f g h : ℕ → X) (at d n : ℕ) (change part : ℕ → X → X) → ((k : ℕ) → g k ≡ changed_from f at d change k) → ((k : ℕ) → h k ≡ changed_from g (at + d) n part k) → ((i : ℕ) → i < n → (x : X) → part i x ≡ change (d + i) x)
+pub changed-joins : {X : Type 0} (f g h : ℕ → X) (at d n : ℕ) (change part : ℕ → X → X) → ((k : ℕ) → g k ≡ changed_from f at d change k)
+    → ((k : ℕ) → h k ≡ changed_from g (at + d) n part k) → ((i : ℕ) → i < n → (x : X) → part i x ≡ change (d + i) x)
     → (k : ℕ) → h k ≡ changed_from f at (d + n) change k
 changed-joins f g h at d n change part was is alike k =
     is k ∙ ap (λ x. cond (is_between (at + d) (at + d + n) k) (part (k - (at + d)) x) x) (was k) ∙ elim (cases_Bool (is_between (at + d) (at + d + n) k)) [
-      | inl b ↦ choose-new _ _ _ _ _ (part (k - (at + d))) (f k) b (joined-fresh at d n k b) (joined-inside at d n k b) (alike (k - (at + d)) (joined-near at d n k b) (f k) ∙ ap (λ i. change i (f k)) (joined-place at d n k b))
+      | inl b ↦
+          choose-new _ _ _ _ _ (part (k - (at + d))) (f k) b (joined-fresh at d n k b) (joined-inside at d n k b)
+          (alike (k - (at + d)) (joined-near at d n k b) (f k) ∙ ap (λ i. change i (f k)) (joined-place at d n k b))
       | inr b ↦ keep-old _ _ _ _ _ (f k) b (joined-outside at d n k b)
     ]
 
@@ -148,13 +158,16 @@ onward-outside : (start d n at a : ℕ) → start < 2 ^ 32 → at ≡ above star
 onward-outside start d n at a small at-is few h = grind (arith, nat_tests)
 
 -- a range of d places grows by the n after them, which may go round the end
-pub range-joins : {X : Type 0} (f now new : ℕ → X) (start d n : ℕ) (change part : ℕ → X → X) → start < 2 ^ 32 → d + n ≤ 2 ^ 32 → now ≡ changed_in f start d change → new ≡ changed_in now (above start d) n part
+pub range-joins : {X : Type 0} (f now new : ℕ → X) (start d n : ℕ) (change part : ℕ → X → X) → start < 2 ^ 32 → d + n ≤ 2 ^ 32
+    → now ≡ changed_in f start d change → new ≡ changed_in now (above start d) n part
     → ((i : ℕ) → i < n → (x : X) → part i x ≡ change (d + i) x) → new ≡ changed_in f start (d + n) change
 unfolding changed_in
 range-joins f now new start d n change part small few was is alike =
     let at = above start d in
     is ∙ ap (λ g. changed_in g at n part) was ∙ fun_ext (λ a. elim (cases_Bool (is_in at n a)) [
-      | inl h ↦ choose-new _ _ _ _ _ (part (offset at a)) (f a) h (onward-fresh start d n at a small refl few h) (onward-inside start d n at a small refl few h) (alike (offset at a) (onward-near n at a h) (f a) ∙ ap (λ i. change i (f a)) (sym (onward-next start d n at a small refl few h)))
+      | inl h ↦
+          choose-new _ _ _ _ _ (part (offset at a)) (f a) h (onward-fresh start d n at a small refl few h) (onward-inside start d n at a small refl few h)
+          (alike (offset at a) (onward-near n at a h) (f a) ∙ ap (λ i. change i (f a)) (sym (onward-next start d n at a small refl few h)))
       | inr h ↦ keep-old _ _ _ _ _ (f a) h (onward-outside start d n at a small refl few h)
     ])
 
@@ -176,7 +189,9 @@ one-range f new at n change inside small made =
     let here : at ≡ above at 0 = omega arith in
     let few : 0 + n ≤ 2 ^ 32 = omega arith in
     let none : 0 + n ≡ n = omega arith in
-    page-more f f new at 0 n at change change small here inside few (sym (range-empty f at change)) made (λ i below x. let e : i ≡ 0 + i = omega arith in ap (λ j. change j x) e) ∙ ap (λ k. changed_in f at k change) none
+    page-more f f new at 0 n at change change small here inside few (sym (range-empty f at change)) made
+    (λ i below x. let e : i ≡ 0 + i = omega arith in ap (λ j. change j x) e)
+    ∙ ap (λ k. changed_in f at k change) none
 
 none-between : (at k : ℕ) → is_between at (at + 0) k ≡ false
 none-between at k = grind (arith, nat_tests)

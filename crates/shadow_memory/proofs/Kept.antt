@@ -45,17 +45,24 @@ away-from-page : (at n a : ℕ) → at % 4096 + n ≤ 4096 → a / 4096 ≢ at /
 away-from-page at n a fits away = grind (arith, nat_tests)
 
 -- one page changes
-pub page-changed : (first place : ℕ) (pages : List PageSlot) (old made : PageSlot) (at n : ℕ) (change : ℕ → Cell → Cell) → at / 4096 ≡ first + place → place < length pages → at % 4096 + n ≤ 4096 → old ≡ slice_index_or pages place old
-    → AgreeInPage (cells_at made) (changed_from (cells_at old) (at % 4096) n change) → (λ a. cells_at (page_of first (set pages place made) (a / 4096)) (a % 4096)) ≡ changed_from (λ a. cells_at (page_of first pages (a / 4096)) (a % 4096)) at n change
+pub page-changed : (first place : ℕ) (pages : List PageSlot) (old made : PageSlot) (at n : ℕ) (change : ℕ → Cell → Cell) → at / 4096 ≡ first + place
+    → place < length pages → at % 4096 + n ≤ 4096 → old ≡ slice_index_or pages place old
+    → AgreeInPage (cells_at made) (changed_from (cells_at old) (at % 4096) n change)
+    → (λ a. cells_at (page_of first (set pages place made) (a / 4096)) (a % 4096))
+    ≡ changed_from (λ a. cells_at (page_of first pages (a / 4096)) (a % 4096)) at n change
 page-changed first place pages old made at n change here within fits there is =
     let number = at / 4096 in
     let now = page-from first number place (set pages place made) here ∙ get_or-set_at pages place place made (Blank NoAccess) refl within in
     let was = there ∙ get_or_default pages place old (Blank NoAccess) within ∙ sym (page-from first number place pages here) in
-    slot-changed cells_at (page_of first pages) (page_of first (set pages place made)) 4096 at (λ a. omega arith) (λ k away. other-pages first place number k pages made here away) n change (λ a same. same-in-page at n a fits same) (λ a same. omega arith) (λ a away. away-from-page at n a fits away)
+    slot-changed cells_at (page_of first pages) (page_of first (set pages place made)) 4096 at (λ a. omega arith)
+    (λ k away. other-pages first place number k pages made here away) n change (λ a same. same-in-page at n a fits same) (λ a same. omega arith)
+    (λ a away. away-from-page at n a fits away)
     (λ k low. from-there cells_at _ made old _ (at % 4096) n change k now was (is k low))
 
 pub page-same : (first place : ℕ) (pages : List PageSlot) (old made : PageSlot) (at : ℕ) → at / 4096 ≡ first + place → place < length pages → old ≡ slice_index_or pages place old
-    → AgreeInPage (cells_at made) (cells_at old) → ◌≡◌ {A = ℕ → Cell} (λ a. cells_at (page_of first (set pages place made) (a / 4096)) (a % 4096)) (λ a. cells_at (page_of first pages (a / 4096)) (a % 4096))
+    → AgreeInPage (cells_at made) (cells_at old)
+    → ◌≡◌ {A = ℕ → Cell} (λ a. cells_at (page_of first (set pages place made) (a / 4096)) (a % 4096))
+    (λ a. cells_at (page_of first pages (a / 4096)) (a % 4096))
 page-same first place pages old made at here within there is =
     let number = at / 4096 in
     let now = page-from first number place (set pages place made) here ∙ get_or-set_at pages place place made (Blank NoAccess) refl within in
@@ -73,7 +80,9 @@ only-blank count i = elim (cases_lt i count) [
 pub more-after : (first count k : ℕ) (pages : List PageSlot) → page_of first (pages ++ replicate count (Blank NoAccess)) k ≡ page_of first pages k
 more-after first count k pages = choose-later (nat_lt k first) (Blank NoAccess) _ _ (λ later. elim (cases_lt (k - first) (length pages)) [
   | inl near ↦ get_or_append_left pages (replicate count (Blank NoAccess)) (Blank NoAccess) (k - first) near
-  | inr far ↦ get_or-append_right pages (replicate count (Blank NoAccess)) (length pages) (k - first) (Blank NoAccess) refl far ∙ only-blank count (k - first - length pages) ∙ sym (get_or_past pages (k - first) (Blank NoAccess) far)
+  | inr far ↦
+      get_or-append_right pages (replicate count (Blank NoAccess)) (length pages) (k - first) (Blank NoAccess) refl far
+      ∙ only-blank count (k - first - length pages) ∙ sym (get_or_past pages (k - first) (Blank NoAccess) far)
 ])
 
 -- directories that have the same pages show the same

@@ -32,7 +32,8 @@ zeros-hold-none bytes shadows low high from to positive zeros a start below alig
     ap (λ b. b && nat_lt (value_at bytes a) high && holds_word shadows a) (ap (nat_le low) value ∙ not-from low positive)
 
 -- one more multiple of 4 is looked at
-pub value-more : (bytes : ℕ → ℕ) (shadows : ℕ → Shadow) (low high from word : ℕ) → HoldNoneInRange bytes shadows low high from (4 * word) → holds_in_range bytes shadows low high (4 * word) ≡ false → HoldNoneInRange bytes shadows low high from (4 * (word + 1))
+pub value-more : (bytes : ℕ → ℕ) (shadows : ℕ → Shadow) (low high from word : ℕ) → HoldNoneInRange bytes shadows low high from (4 * word)
+    → holds_in_range bytes shadows low high (4 * word) ≡ false → HoldNoneInRange bytes shadows low high from (4 * (word + 1))
 value-more bytes shadows low high from word before here a start below aligned = elim (cases_lt a (4 * word)) [
   | inl early ↦ before a start early aligned
   | inr late ↦ let e : a ≡ 4 * word = omega arith in ap (holds_in_range bytes shadows low high) e ∙ here
@@ -77,10 +78,13 @@ module _ (cells seen : ℕ → Cell) (start low high : ℕ) (page : start % 4096
       let place : (start + k + i) % 4096 ≡ k + i = omega arith in
       ap (λ (c : Cell). c.byte) (same (start + k + i) there ∙ ap seen place))
 
-  holds-seen : (k : ℕ) → k % 4 ≡ 0 → k < 4096 → holds_in_range (λ a. (cells a).byte) (λ a. shadow_in (cells a)) low high (start + k) ≡ holds_in_range (λ a. (seen a).byte) (λ a. shadow_in (seen a)) low high k
+  holds-seen : (k : ℕ) → k % 4 ≡ 0 → k < 4096
+      → holds_in_range (λ a. (cells a).byte) (λ a. shadow_in (cells a)) low high (start + k)
+      ≡ holds_in_range (λ a. (seen a).byte) (λ a. shadow_in (seen a)) low high k
   holds-seen k aligned below = ap₂ (λ (n : ℕ) (b : Bool). nat_le low n && nat_lt n high && b) (value-seen k aligned below) (word-seen cells seen start page same k aligned below)
 
-  pub page-holds-none : (addr from to : ℕ) → to ≤ 4096 → HoldNoneInRange (λ a. (seen a).byte) (λ a. shadow_in (seen a)) low high from to → HoldNoneInRange (λ a. (cells a).byte) (λ a. shadow_in (cells a)) low high addr (start + from)
+  pub page-holds-none : (addr from to : ℕ) → to ≤ 4096 → HoldNoneInRange (λ a. (seen a).byte) (λ a. shadow_in (seen a)) low high from to
+      → HoldNoneInRange (λ a. (cells a).byte) (λ a. shadow_in (cells a)) low high addr (start + from)
       → HoldNoneInRange (λ a. (cells a).byte) (λ a. shadow_in (cells a)) low high addr (start + to)
   page-holds-none addr from to within none before a above below aligned = elim (cases_lt a (start + from)) [
     | inl early ↦ before a above early aligned

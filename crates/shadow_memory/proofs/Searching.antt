@@ -43,7 +43,8 @@ module _ (cells seen : ℕ → Cell) (addr d at n : ℕ) (need : Bool) (at-is : 
       let place : (at + k) % 4096 ≡ at % 4096 + k = omega arith in
       ap shadow_in (ap cells here ∙ same (at + k) in-page ∙ ap seen place)
 
-  pub fine-more : NonePass (λ k. is_bad need (shadow_in (seen k))) (at % 4096) (at % 4096 + n) → NonePass (λ k. is_bad need (shadow_in (cells (above addr k)))) 0 d → NonePass (λ k. is_bad need (shadow_in (cells (above addr k)))) 0 (d + n)
+  pub fine-more : NonePass (λ k. is_bad need (shadow_in (seen k))) (at % 4096) (at % 4096 + n)
+      → NonePass (λ k. is_bad need (shadow_in (cells (above addr k)))) 0 d → NonePass (λ k. is_bad need (shadow_in (cells (above addr k)))) 0 (d + n)
   fine-more fine before k start below = elim (cases_lt k d) [
     | inl early ↦ before k start early
     | inr late ↦
@@ -74,7 +75,9 @@ module _ (cells seen : ℕ → Cell) (addr d at n : ℕ) (need : Bool) (at-is : 
             let e : d + m ≡ k = omega arith in
             ap p (sym e) ∙ ap (is_bad need) (seen-at m (omega arith)) ∙ first.least (at % 4096 + m) (omega arith) (omega arith)
       ] in
-      let found : first_from p 0 len ≡ Some (d + j) = let start-at : (k : ℕ) → 0 + k ≡ k = λ k. omega arith in first_from-some p 0 len (d + j) far (ap p (start-at (d + j)) ∙ hits) (λ k below. ap p (start-at k) ∙ least k below) ∙ ap Some (start-at (d + j)) in
+      let found : first_from p 0 len ≡ Some (d + j) =
+      let start-at : (k : ℕ) → 0 + k ≡ k = λ k. omega arith in
+      first_from-some p 0 len (d + j) far (ap p (start-at (d + j)) ∙ hits) (λ k below. ap p (start-at k) ∙ least k below) ∙ ap Some (start-at (d + j)) in
       sym (ap (bad_at (λ a. shadow_in (cells a)) addr) found ∙ ap₂ (λ a b. Some (record { addr = a; accessible = b })) here (ap (λ (s : Shadow). s.accessible) shadow))
 
 pub found-none : (shadows : ℕ → Shadow) (addr len d : ℕ) (need : Bool) → len ≤ d → NonePass (λ k. is_bad need (shadows (above addr k))) 0 d → None ≡ first_bad shadows addr len need
@@ -108,7 +111,8 @@ module _ (cells seen : ℕ → Cell) (start : ℕ) (page : start % 4096 ≡ 0) (
       let whole : k + 4 ≤ 4096 = omega arith in
       same-four _ _ _ _ _ _ _ _ (ap (is_bad true) (byte-seen k below)) (next-seen k 1 (omega arith)) (next-seen k 2 (omega arith)) (next-seen k 3 (omega arith))
 
-  pub none-in-page : (addr from : ℕ) → HoldNoWord (λ a. shadow_in (seen a)) from 4096 → HoldNoWord (λ a. shadow_in (cells a)) addr (start + from) → HoldNoWord (λ a. shadow_in (cells a)) addr (start + 4096)
+  pub none-in-page : (addr from : ℕ) → HoldNoWord (λ a. shadow_in (seen a)) from 4096 → HoldNoWord (λ a. shadow_in (cells a)) addr (start + from)
+      → HoldNoWord (λ a. shadow_in (cells a)) addr (start + 4096)
   none-in-page addr from none before a above below aligned = elim (cases_lt a (start + from)) [
     | inl early ↦ before a above early aligned
     | inr late ↦
@@ -119,7 +123,8 @@ module _ (cells seen : ℕ → Cell) (start : ℕ) (page : start % 4096 ≡ 0) (
         ap (holds_word (λ b. shadow_in (cells b))) (sym e) ∙ word-seen k four near ∙ none k (omega arith) near four
   ]
 
-  pub found-in-page : (addr from place : ℕ) → IsNextWord (λ a. shadow_in (seen a)) from place → place < 4096 → addr ≤ start + from → HoldNoWord (λ a. shadow_in (cells a)) addr (start + from) → IsNextWord (λ a. shadow_in (cells a)) addr (start + place)
+  pub found-in-page : (addr from place : ℕ) → IsNextWord (λ a. shadow_in (seen a)) from place → place < 4096 → addr ≤ start + from
+      → HoldNoWord (λ a. shadow_in (cells a)) addr (start + from) → IsNextWord (λ a. shadow_in (cells a)) addr (start + place)
   found-in-page addr from place next inside above before =
       let later : from ≤ place = next.above in
       let four : place % 4 ≡ 0 = next.aligned in

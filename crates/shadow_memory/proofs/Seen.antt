@@ -16,7 +16,9 @@ use Rattle.shadow_memory.specs.declared.memory.Memory.{Memory}
 use Rattle.shadow_memory.proofs.Growing.{choose-through, range-seen, range-unseen, set-one}
 use Rattle.definedness.specs.declared.Bits.{Bits}
 
-stored-cell-seen : (accessible : Bool) (undef made byte : ℕ) → shadow_in (record { byte = byte; accessible = accessible; undef = if accessible then made else undef }) ≡ stored_shadow made (record { accessible = accessible; undef = undef })
+stored-cell-seen : (accessible : Bool) (undef made byte : ℕ)
+    → shadow_in (record { byte = byte; accessible = accessible; undef = if accessible then made else undef })
+    ≡ stored_shadow made (record { accessible = accessible; undef = undef })
 stored-cell-seen true undef made byte = refl
 stored-cell-seen false undef made byte = refl
 
@@ -24,7 +26,9 @@ pub stored-seen : (old new : Memory) (start n : ℕ) (bits : Bits) → cells_of 
 unfolding bytes_in shadows_in written stored_undef
 stored-seen old new start n bits is = (
   ap (λ (f : ℕ → Cell). λ a. (f a).byte) is ∙ range-seen (λ c. c.byte) (cells_of old) start n (stored bits) (λ i b. byte_of bits.value i) (λ i c. refl),
-  ap (λ (f : ℕ → Cell). λ a. shadow_in (f a)) is ∙ range-seen shadow_in (cells_of old) start n (stored bits) (λ i s. stored_shadow (byte_of bits.undef i) s) (λ i c. stored-cell-seen c.accessible c.undef (byte_of bits.undef i) (byte_of bits.value i)),
+  ap (λ (f : ℕ → Cell). λ a. shadow_in (f a)) is
+      ∙ range-seen shadow_in (cells_of old) start n (stored bits) (λ i s. stored_shadow (byte_of bits.undef i) s)
+      (λ i c. stored-cell-seen c.accessible c.undef (byte_of bits.undef i) (byte_of bits.value i)),
 )
 
 kind-seen : (kind : RangeKind) (i : ℕ) (c : Cell) → shadow_in (ranged kind i c) ≡ shadow_of kind
@@ -57,21 +61,27 @@ unfolding bytes_in shadows_in written stored_undef
 received-seen old new start n bytes is = (
   ap (λ (f : ℕ → Cell). λ a. (f a).byte) is ∙ range-seen (λ c. c.byte) (cells_of old) start n (received (slice_index bytes)) (λ i b. slice_index bytes i) (λ i c. refl),
   ap (λ (f : ℕ → Cell). λ a. shadow_in (f a)) is
-      ∙ range-seen shadow_in (cells_of old) start n (received (slice_index bytes)) (λ i s. stored_shadow (byte_of 0 i) s) (λ i c. stored-cell-seen c.accessible c.undef 0 (slice_index bytes i) ∙ ap (λ b. stored_shadow b (shadow_in c)) (sym (zero-byte i))),
+      ∙ range-seen shadow_in (cells_of old) start n (received (slice_index bytes)) (λ i s. stored_shadow (byte_of 0 i) s)
+      (λ i c. stored-cell-seen c.accessible c.undef 0 (slice_index bytes i) ∙ ap (λ b. stored_shadow b (shadow_in c)) (sym (zero-byte i))),
 )
 
-copied-cell-seen : (source target : Cell) → shadow_in (record { byte = source.byte; accessible = target.accessible; undef = if target.accessible then loaded_undef (shadow_in source) else target.undef }) ≡ stored_shadow (loaded_undef (shadow_in source)) (shadow_in target)
+copied-cell-seen : (source target : Cell)
+    → shadow_in (record { byte = source.byte; accessible = target.accessible; undef = if target.accessible then loaded_undef (shadow_in source) else target.undef })
+    ≡ stored_shadow (loaded_undef (shadow_in source)) (shadow_in target)
 copied-cell-seen source target = stored-cell-seen target.accessible target.undef (loaded_undef (shadow_in source)) source.byte
 
 pub copied-seen : (old new : Memory) (from to n : ℕ) → cells_of new ≡ changed_in (cells_of old) to n (copied_cell (cells_of old) from) → HasCopied old new from to n
 unfolding bytes_in shadows_in written copied copied_undef
 copied-seen old new from to n is = (
   ap (λ (f : ℕ → Cell). λ a. (f a).byte) is ∙ range-seen (λ c. c.byte) (cells_of old) to n (copied_cell (cells_of old) from) (λ i b. (cells_of old (above from i)).byte) (λ i c. refl),
-  ap (λ (f : ℕ → Cell). λ a. shadow_in (f a)) is ∙ range-seen shadow_in (cells_of old) to n (copied_cell (cells_of old) from) (λ i s. stored_shadow (loaded_undef (shadow_in (cells_of old (above from i)))) s) (λ i c. copied-cell-seen (cells_of old (above from i)) c),
+  ap (λ (f : ℕ → Cell). λ a. shadow_in (f a)) is
+      ∙ range-seen shadow_in (cells_of old) to n (copied_cell (cells_of old) from) (λ i s. stored_shadow (loaded_undef (shadow_in (cells_of old (above from i)))) s)
+      (λ i c. copied-cell-seen (cells_of old (above from i)) c),
 )
 
 -- one cell that takes a byte, and keeps what else is known of it
-pub poked-seen : (old new : Memory) (addr byte : ℕ) (cell : Cell) → cell ≡ cells_of old addr → cells_of new ≡ changed_from (cells_of old) addr 1 (λ i x. record { byte = byte; accessible = cell.accessible; undef = cell.undef })
+pub poked-seen : (old new : Memory) (addr byte : ℕ) (cell : Cell) → cell ≡ cells_of old addr
+    → cells_of new ≡ changed_from (cells_of old) addr 1 (λ i x. record { byte = byte; accessible = cell.accessible; undef = cell.undef })
     → (bytes_in new ≡ set_at (bytes_in old) addr byte) × (shadows_in new ≡ shadows_in old)
 unfolding bytes_in shadows_in
 poked-seen old new addr byte cell cell-is is =

@@ -8,10 +8,13 @@ use Rattle.shadow_memory.specs.declared.cells.Cell.{Cell}
 use Rattle.shadow_memory.proofs.Growing.{page-more, range-empty}
 use Rattle.shadow_memory.proofs.Seen.{zero-byte}
 
-same-stored : (x : Cell) (a b p q : ℕ) → a ≡ b → p ≡ q → ◌≡◌ {A = Cell} (record { byte = a; accessible = x.accessible; undef = if x.accessible then p else x.undef }) (record { byte = b; accessible = x.accessible; undef = if x.accessible then q else x.undef })
+same-stored : (x : Cell) (a b p q : ℕ) → a ≡ b → p ≡ q
+    → ◌≡◌ {A = Cell} (record { byte = a; accessible = x.accessible; undef = if x.accessible then p else x.undef })
+    (record { byte = b; accessible = x.accessible; undef = if x.accessible then q else x.undef })
 same-stored x a b p q e f = λ i. record { byte = e i; accessible = x.accessible; undef = if x.accessible then f i else x.undef }
 
-pub store-word : (old new : ℕ → Cell) (addr n value : ℕ) (bytes : List ℕ) → addr < 2 ^ 32 → addr % 4096 + n ≤ 4096 → n ≤ 4 → length bytes ≡ 4 → ((i : ℕ) → i < 4 → slice_index bytes i ≡ byte_of value i)
+pub store-word : (old new : ℕ → Cell) (addr n value : ℕ) (bytes : List ℕ) → addr < 2 ^ 32 → addr % 4096 + n ≤ 4096 → n ≤ 4 → length bytes ≡ 4
+    → ((i : ℕ) → i < 4 → slice_index bytes i ≡ byte_of value i)
     → new ≡ changed_from old addr (length (take n bytes)) (received (slice_index (take n bytes))) → new ≡ changed_in old addr n (stored (record { value = value; undef = 0 }))
 store-word old new addr n value bytes small page few long is made =
     let change : ℕ → Cell → Cell = stored (record { value = value; undef = 0 }) in

@@ -24,15 +24,18 @@ module _ {S : Type 0} (shown : S → ℕ → Cell) (old new : ℕ → S) (B at :
     | inr away ↦ ap (λ s. shown s (a % B)) (others (a / B) away)
   ])
 
-  pub slot-changed : (n : ℕ) (change : ℕ → Cell → Cell) → ((a : ℕ) → a / B ≡ at / B → is_between (at % B) (at % B + n) (a % B) ≡ is_between at (at + n) a) → ((a : ℕ) → a / B ≡ at / B → a % B - at % B ≡ a - at) → ((a : ℕ) → a / B ≢ at / B → is_between at (at + n) a ≡ false)
-      → ((k : ℕ) → k < B → shown (new (at / B)) k ≡ changed_from (shown (old (at / B))) (at % B) n change k) → (λ a. shown (new (a / B)) (a % B)) ≡ changed_from (λ a. shown (old (a / B)) (a % B)) at n change
+  pub slot-changed : (n : ℕ) (change : ℕ → Cell → Cell) → ((a : ℕ) → a / B ≡ at / B → is_between (at % B) (at % B + n) (a % B) ≡ is_between at (at + n) a)
+      → ((a : ℕ) → a / B ≡ at / B → a % B - at % B ≡ a - at) → ((a : ℕ) → a / B ≢ at / B → is_between at (at + n) a ≡ false)
+      → ((k : ℕ) → k < B → shown (new (at / B)) k ≡ changed_from (shown (old (at / B))) (at % B) n change k)
+      → (λ a. shown (new (a / B)) (a % B)) ≡ changed_from (λ a. shown (old (a / B)) (a % B)) at n change
   slot-changed n change same minus other is = fun_ext (λ a. elim (cases_eq (a / B) (at / B)) [
     | inl here ↦ slot-is new a here ∙ is (a % B) (below a) ∙ choose-same _ _ _ _ _ _ change (same a here) (minus a here) (sym (slot-is old a here))
     | inr away ↦ ap (λ s. shown s (a % B)) (others (a / B) away) ∙ choose-other _ _ _ (other a away)
   ])
 
 -- what a slot shows, where it is another and its cells are changed
-pub from-there : {S : Type 0} (shown : S → ℕ → Cell) (now made old there : S) (at n : ℕ) (change : ℕ → Cell → Cell) (k : ℕ) → now ≡ made → old ≡ there → shown made k ≡ changed_from (shown old) at n change k → shown now k ≡ changed_from (shown there) at n change k
+pub from-there : {S : Type 0} (shown : S → ℕ → Cell) (now made old there : S) (at n : ℕ) (change : ℕ → Cell → Cell) (k : ℕ) → now ≡ made → old ≡ there
+    → shown made k ≡ changed_from (shown old) at n change k → shown now k ≡ changed_from (shown there) at n change k
 from-there shown now made old there at n change k e f h = ap (λ s. shown s k) e ∙ h ∙ ap (λ s. changed_from (shown s) at n change k) f
 
 same-in-directory : (at n a : ℕ) → at % 4194304 + n ≤ 4194304 → a / 4194304 ≡ at / 4194304 → is_between (at % 4194304) (at % 4194304 + n) (a % 4194304) ≡ is_between at (at + n) a
@@ -41,15 +44,21 @@ same-in-directory at n a fits here = grind (arith, nat_tests)
 away-from-directory : (at n a : ℕ) → at % 4194304 + n ≤ 4194304 → a / 4194304 ≢ at / 4194304 → is_between at (at + n) a ≡ false
 away-from-directory at n a fits away = grind (arith, nat_tests)
 
-pub directory-changed : {S : Type 0} (shown : S → ℕ → Cell) (d : S) (xs : List S) (old made : S) (at n : ℕ) (change : ℕ → Cell → Cell) → at / 4194304 < length xs → at % 4194304 + n ≤ 4194304 → old ≡ get_or xs (at / 4194304) old
-    → AgreeInDirectory (shown made) (changed_from (shown old) (at % 4194304) n change) → (λ a. shown (get_or (set xs (at / 4194304) made) (a / 4194304) d) (a % 4194304)) ≡ changed_from (λ a. shown (get_or xs (a / 4194304) d) (a % 4194304)) at n change
+pub directory-changed : {S : Type 0} (shown : S → ℕ → Cell) (d : S) (xs : List S) (old made : S) (at n : ℕ) (change : ℕ → Cell → Cell)
+    → at / 4194304 < length xs → at % 4194304 + n ≤ 4194304 → old ≡ get_or xs (at / 4194304) old
+    → AgreeInDirectory (shown made) (changed_from (shown old) (at % 4194304) n change)
+    → (λ a. shown (get_or (set xs (at / 4194304) made) (a / 4194304) d) (a % 4194304))
+    ≡ changed_from (λ a. shown (get_or xs (a / 4194304) d) (a % 4194304)) at n change
 directory-changed shown d xs old made at n change within fits there is =
     let i = at / 4194304 in
-    slot-changed shown (λ k. get_or xs k d) (λ k. get_or (set xs i made) k d) 4194304 at (λ a. omega arith) (λ k away. get_or-set_other xs i k made d away) n change (λ a here. same-in-directory at n a fits here) (λ a here. omega arith) (λ a away. away-from-directory at n a fits away)
-    (λ k low. from-there shown (get_or (set xs i made) i d) made old (get_or xs i d) (at % 4194304) n change k (get_or-set_at xs i i made d refl within) (there ∙ get_or_default xs i old d within) (is k low))
+    slot-changed shown (λ k. get_or xs k d) (λ k. get_or (set xs i made) k d) 4194304 at (λ a. omega arith) (λ k away. get_or-set_other xs i k made d away) n
+    change (λ a here. same-in-directory at n a fits here) (λ a here. omega arith) (λ a away. away-from-directory at n a fits away)
+    (λ k low. from-there shown (get_or (set xs i made) i d) made old (get_or xs i d) (at % 4194304) n change k (get_or-set_at xs i i made d refl within)
+    (there ∙ get_or_default xs i old d within) (is k low))
 
 pub directory-kept : {S : Type 0} (shown : S → ℕ → Cell) (d : S) (xs : List S) (old made : S) (at : ℕ) → at / 4194304 < length xs → old ≡ get_or xs (at / 4194304) old
-    → AgreeInDirectory (shown made) (shown old) → ◌≡◌ {A = ℕ → Cell} (λ a. shown (get_or (set xs (at / 4194304) made) (a / 4194304) d) (a % 4194304)) (λ a. shown (get_or xs (a / 4194304) d) (a % 4194304))
+    → AgreeInDirectory (shown made) (shown old)
+    → ◌≡◌ {A = ℕ → Cell} (λ a. shown (get_or (set xs (at / 4194304) made) (a / 4194304) d) (a % 4194304)) (λ a. shown (get_or xs (a / 4194304) d) (a % 4194304))
 directory-kept shown d xs old made at within there is =
     let i = at / 4194304 in
     slot-kept shown (λ k. get_or xs k d) (λ k. get_or (set xs i made) k d) 4194304 at (λ a. omega arith) (λ k away. get_or-set_other xs i k made d away)

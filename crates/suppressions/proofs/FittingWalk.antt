@@ -78,7 +78,8 @@ module _ {P X : Type 0} (Fits : P → List X → Type 0) (may_go_on : Bool) (p :
       first zero f = let none : place + 0 ≡ place = omega arith in inl (rw none at f)
       first (suc j) f = let one : place + suc j ≡ place + 1 + j = omega arith in inr (j, rw one at f)
 
-      split : (back : Option (ℕ × ℕ)) → CanResume Front p t at place back → Front (drop at p) (drop place t) ⊎ FitsLater Front p t back → Front (drop (at + 1) p) (drop place t) ⊎ FitsLater Front p t (Some (at + 1, place))
+      split : (back : Option (ℕ × ℕ)) → CanResume Front p t at place back → Front (drop at p) (drop place t) ⊎ FitsLater Front p t back
+          → Front (drop (at + 1) p) (drop place t) ⊎ FitsLater Front p t (Some (at + 1, place))
       split back r (inl h) = let some = taken place h in first some.0 some.1
       split None r (inr h) = absurd h
       split (Some back) r (inr h) =
@@ -87,7 +88,8 @@ module _ {P X : Type 0} (Fits : P → List X → Type 0) (may_go_on : Bool) (p :
           inr (h.0 + some.0, rw far at some.1)
 
   -- a piece that fits the item
-  pub walk_one : (q : P) (x : X) (at place : ℕ) (back : Option (ℕ × ℕ)) → StandsAt p at q → StandsAt t place x → IsSingle Fits q → Fits q (x ∷ []) → Walk Front p t at place back → Walk Front p t (at + 1) (place + 1) back
+  pub walk_one : (q : P) (x : X) (at place : ℕ) (back : Option (ℕ × ℕ)) → StandsAt p at q → StandsAt t place x → IsSingle Fits q → Fits q (x ∷ [])
+      → Walk Front p t at place back → Walk Front p t (at + 1) (place + 1) back
   walk_one q x at place back here item single fits w =
       let lt = stands_within p at q here in
       let lt' = stands_within t place x item in
@@ -118,7 +120,8 @@ module _ {P X : Type 0} (Fits : P → List X → Type 0) (may_go_on : Bool) (p :
       }
 
   -- back to the last star, which takes one item more
-  pub walk_back : (at place star from : ℕ) → place < length t → (Front (drop at p) (drop place t) → ⊥) → Walk Front p t at place (Some (star, from)) → Walk Front p t star (from + 1) (Some (star, from + 1))
+  pub walk_back : (at place star from : ℕ) → place < length t → (Front (drop at p) (drop place t) → ⊥) → Walk Front p t at place (Some (star, from))
+      → Walk Front p t star (from + 1) (Some (star, from + 1))
   walk_back at place star from lt unfit w =
       let r = w.resume in
       record {
@@ -151,7 +154,8 @@ module _ {P X : Type 0} (Fits : P → List X → Type 0) (may_go_on : Bool) (p :
       stuck (inr h) = h
 
   -- nothing fits here: the pattern ends, or its piece doesn't fit the item
-  pub nothing_fits : (x : X) (at place : ℕ) → StandsAt t place x → at ≤ length p → ((may_go_on ≡ true) × (at ≡ length p → ⊥)) ⊎ (may_go_on ≡ false) → ((q : P) → StandsAt p at q → IsSingle Fits q) → (((q : P) × StandsAt p at q × Fits q (x ∷ [])) → ⊥) → Front (drop at p) (drop place t) → ⊥
+  pub nothing_fits : (x : X) (at place : ℕ) → StandsAt t place x → at ≤ length p → ((may_go_on ≡ true) × (at ≡ length p → ⊥)) ⊎ (may_go_on ≡ false)
+      → ((q : P) → StandsAt p at q → IsSingle Fits q) → (((q : P) × StandsAt p at q × Fits q (x ∷ [])) → ⊥) → Front (drop at p) (drop place t) → ⊥
   nothing_fits x at place item within end single unfit h = either (cases_lt at (length p)) end
     where
       either : (at < length p) ⊎ (length p ≤ at) → ((may_go_on ≡ true) × (at ≡ length p → ⊥)) ⊎ (may_go_on ≡ false) → ⊥

@@ -2,8 +2,8 @@
 use Rattle.std.proofs.Common.{◌≡◌, ◌==◌, ◌||◌, ℕ, length, List, [], ◌∷◌, ◌++◌, Bool, true, false, MatchBool, cond, Some, None, refl, sym, ap, eq-eqb, ◌∙◌}
 use Rattle.std.proofs.lemmas.Bool.{false≢true}
 use Rattle.std.specs.Bool.{one_answer}
-use Rattle.suppressions.specs.declared.frames.Frame.{Frame}
-use Rattle.suppressions.specs.declared.frames.Frame.TheVariants.{Function, Object, AnyFrames, Source}
+use Rattle.suppressions.specs.declared.frames.FrameLine.{FrameLine}
+use Rattle.suppressions.specs.declared.frames.FrameLine.TheVariants.{Function, Object, AnyFrames, Source}
 use Rattle.suppressions.specs.Glob.{StandsFor, FitsGlob}
 use Rattle.suppressions.specs.Frames.{MatchesTrace, matches_trace}
 use Rattle.suppressions.specs.Initials.{initial_of, innermost_initial, may_match}
@@ -30,7 +30,7 @@ glob-begins (c ∷ pattern) name names h = go (c == 42) (c == 63) refl refl
         let is : name ≡ c ∷ h.1 = h.2 ∙ ap (λ part. part ++ h.1) (stands-for-itself c h.0 h.3 e f) in
         ap (λ n. may_match (Some c) (n ∷ names)) is ∙ eq-eqb c c refl
 
-trace-begins : (lines : List Frame) (names : List (List ℕ)) → MatchesTrace lines names → may_match (innermost_initial lines) names ≡ true
+trace-begins : (lines : List FrameLine) (names : List (List ℕ)) → MatchesTrace lines names → may_match (innermost_initial lines) names ≡ true
 unfolding MatchesTrace
 trace-begins [] names h = refl
 trace-begins (Object pattern ∷ lines) names h = refl
@@ -43,7 +43,7 @@ trace-begins (Function pattern ∷ lines) names h =
     let is : names ≡ frame.0 ∷ (pieces.1 ++ h.1) = h.2 ∙ ap (λ f. f ++ h.1) front in
     ap (may_match (initial_of pattern)) is ∙ glob-begins pattern frame.0 (pieces.1 ++ h.1) frame.2
 
-pub unmatched : (lines : List Frame) (names : List (List ℕ)) → may_match (innermost_initial lines) names ≡ false → false ≡ matches_trace lines names
+pub unmatched : (lines : List FrameLine) (names : List (List ℕ)) → may_match (innermost_initial lines) names ≡ false → false ≡ matches_trace lines names
 unmatched lines names none =
     one_answer false (matches_trace lines names) (
       λ h. absurd (false≢true h),

@@ -5,7 +5,7 @@ use Rattle.std.specs.List.{starts_with, list_any, filter_map}
 use Rattle.std.specs.Str.{bytes_eq}
 use Rattle.suppressions.specs.declared.fault.SuppFault.{SuppFault}
 use Rattle.suppressions.specs.declared.fault.SuppFault.TheVariants.{Memory, BadSuppression}
-use Rattle.suppressions.specs.declared.frames.Frame.{Frame}
+use Rattle.suppressions.specs.declared.frames.FrameLine.{FrameLine}
 use Rattle.suppressions.specs.declared.leak_kinds.LeakKinds.{LeakKinds}
 use Rattle.suppressions.specs.declared.subject.Subject.{Subject}
 use Rattle.suppressions.specs.declared.subject.Subject.TheVariants.{Parameter, Leak, Nothing}
@@ -40,7 +40,7 @@ frame_fault line = if is_some (frame_of line.text) then None else Some line.numb
 abbrev pub frame_faults : List Line → List ℕ
 frame_faults lines = filter_map frame_fault lines
 
-abbrev pub frame_lines : List Line → List Frame
+abbrev pub frame_lines : List Line → List FrameLine
 frame_lines lines = filter_map (λ line. frame_of line.text) lines
 
 -- does a frame line stand first?

@@ -1,7 +1,7 @@
 -- What the first byte of a pattern tells of the traces that frame lines match.
 use Rattle.std.specs.Prelude.{ℕ, Bool, true, false, ◌==◌, ◌||◌, if◌then◌else◌, List, [], ◌∷◌, Option, Some, None}
-use Rattle.suppressions.specs.declared.frames.Frame.{Frame}
-use Rattle.suppressions.specs.declared.frames.Frame.TheVariants.{Function}
+use Rattle.suppressions.specs.declared.frames.FrameLine.{FrameLine}
+use Rattle.suppressions.specs.declared.frames.FrameLine.TheVariants.{Function}
 
 -- the byte that each text begins with which fits a pattern, where the pattern's first byte stands for itself; 42 is `*` and 63 is `?`
 abbrev pub initial_of : List ℕ → Option ℕ
@@ -9,7 +9,7 @@ initial_of [] = None
 initial_of (c ∷ pattern) = if c == 42 || c == 63 then None else Some c
 
 -- the byte that the name of the innermost frame begins with in each trace that frame lines match, where the first of them says so
-abbrev pub innermost_initial : List Frame → Option ℕ
+abbrev pub innermost_initial : List FrameLine → Option ℕ
 innermost_initial (Function pattern ∷ lines) = initial_of pattern
 innermost_initial lines = None
 

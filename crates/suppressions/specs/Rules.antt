@@ -2,7 +2,7 @@
 -- are on leave out of a report (Valgrind user manual, section 2.5).
 use Rattle.std.specs.Prelude.{ℕ, Bool, IsTrue, ◌&&◌, List}
 use Rattle.std.specs.List.{Any, list_any}
-use Rattle.suppressions.specs.declared.frames.Frame.{Frame}
+use Rattle.suppressions.specs.declared.frames.FrameLine.{FrameLine}
 use Rattle.suppressions.specs.declared.subject.Subject.{Subject}
 use Rattle.suppressions.specs.declared.target.Target.{Target}
 use Rattle.suppressions.specs.Frames.{MatchesTrace, matches_trace}
@@ -10,7 +10,7 @@ use Rattle.suppressions.specs.Subjects.{IsFor, is_for}
 
 pub record Rule : Type 0 where
   pub subject : Subject
-  pub frames : List Frame
+  pub frames : List FrameLine
   pub on : Bool
 
 -- a suppression matches an error or a leak that it is for, where its frame lines match the trace, whatever its switch

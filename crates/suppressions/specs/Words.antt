@@ -2,15 +2,15 @@
 use Rattle.std.specs.Prelude.{ℕ, Bool, true, false, ◌||◌, nat_eq, List, [], ◌∷◌, drop, Option, Some, None, is_some, if◌then◌else◌, option_and_then, codes}
 use Rattle.std.specs.List.{list_all, starts_with, filter_map}
 use Rattle.std.specs.Str.{bytes_eq}
-use Rattle.suppressions.specs.declared.frames.Frame.{Frame}
-use Rattle.suppressions.specs.declared.frames.Frame.TheVariants.{Function, Object, AnyFrames, Source}
+use Rattle.suppressions.specs.declared.frames.FrameLine.{FrameLine}
+use Rattle.suppressions.specs.declared.frames.FrameLine.TheVariants.{Function, Object, AnyFrames, Source}
 use Rattle.suppressions.specs.declared.leak_kinds.LeakKinds.{LeakKinds}
 use Rattle.suppressions.specs.declared.subject.Subject.{Subject}
 use Rattle.suppressions.specs.declared.subject.Subject.TheVariants.{Access, Value, Condition, Release, Jump}
 use Rattle.suppressions.specs.Parts.{parts}
 
 -- a frame line, if a word is one
-unfoldable pub frame_of : List ℕ → Option Frame
+unfoldable pub frame_of : List ℕ → Option FrameLine
 frame_of word =
     if bytes_eq word (codes "...") then Some AnyFrames
     else if starts_with nat_eq word (codes "fun:") then Some (Function (drop 4 word))
@@ -52,7 +52,7 @@ abbrev pub are_frames : List (List ℕ) → Bool
 are_frames words = list_all (λ word. is_some (frame_of word)) words
 
 -- the frame lines among words
-abbrev pub frames_among : List (List ℕ) → List Frame
+abbrev pub frames_among : List (List ℕ) → List FrameLine
 frames_among words = filter_map frame_of words
 
 -- what a kind without words of its own is for

@@ -14,7 +14,7 @@ const GUEST: &[u8] = b"guest";
 
 /// A frame line of a suppression.
 #[derive(Drop)]
-pub(crate) enum Frame {
+pub(crate) enum FrameLine {
     /// `fun:P`: one frame whose name fits the pattern.
     Function(Text),
     /// `obj:P`: one frame, where the object's name fits the pattern.
@@ -25,24 +25,24 @@ pub(crate) enum Frame {
     Source,
 }
 
-impl<'a> Piece<&'a [u8]> for Frame {
+impl<'a> Piece<&'a [u8]> for FrameLine {
     ghost takes = { λ frame names. FitsFrame frame (map (λ name. name.now) names) };
 
     fn is_star(&self) -> bool
-        ensures star { IsTrue result → IsStar ⟦<Frame as Piece<&'a [u8]>>⟧.takes self.now }
-        ensures single { result ≡ false → IsSingle ⟦<Frame as Piece<&'a [u8]>>⟧.takes self.now }
+        ensures star { IsTrue result → IsStar ⟦<FrameLine as Piece<&'a [u8]>>⟧.takes self.now }
+        ensures single { result ≡ false → IsSingle ⟦<FrameLine as Piece<&'a [u8]>>⟧.takes self.now }
     {
-        matches!(self, Frame::AnyFrames)
+        matches!(self, FrameLine::AnyFrames)
     }
 
     fn takes_one(&self, name: &&'a [u8]) -> bool
         ensures { IsTrue result ↔ FitsFrame self.now (name.now.now ∷ []) }
     {
         match self {
-            Frame::Function(pattern) => fits(pattern.as_slice(), *name),
-            Frame::Object(pattern) => fits(pattern.as_slice(), GUEST),
-            Frame::AnyFrames => true,
-            Frame::Source => false,
+            FrameLine::Function(pattern) => fits(pattern.as_slice(), *name),
+            FrameLine::Object(pattern) => fits(pattern.as_slice(), GUEST),
+            FrameLine::AnyFrames => true,
+            FrameLine::Source => false,
         }
     }
 }
@@ -58,11 +58,11 @@ fn initial_of(pattern: &[u8]) -> Option<u8>
 }
 
 /// The byte that the name of the innermost frame begins with in each trace that frame lines match, where the first of them says so.
-fn innermost_initial(lines: &[Frame]) -> Option<u8>
+fn innermost_initial(lines: &[FrameLine]) -> Option<u8>
     ensures { result ≡ innermost_initial lines.now }
 {
     match lines.first() {
-        Some(Frame::Function(pattern)) => initial_of(pattern.as_slice()),
+        Some(FrameLine::Function(pattern)) => initial_of(pattern.as_slice()),
         _ => None,
     }
 }
@@ -83,16 +83,16 @@ fn may_match(initial: Option<u8>, names: &[&[u8]]) -> bool
 /// The frame lines of a suppression, with what can be told of most traces at a glance. Contracts see their list.
 #[derive(Drop)]
 pub(crate) struct Frames {
-    lines: Vec<Frame>,
+    lines: Vec<FrameLine>,
     initial: Option<u8>,
 }
 
 impl Model for Frames {
     ghost use Rattle.std.specs.Prelude.{◌≡◌, List};
-    ghost use Rattle.suppressions.specs.declared.frames.Frame.{Frame};
+    ghost use Rattle.suppressions.specs.declared.frames.FrameLine.{FrameLine};
     ghost use Rattle.suppressions.specs.Initials.{innermost_initial};
 
-    ghost Value = { List Frame };
+    ghost Value = { List FrameLine };
 
     ghost view = { λ frames. frames.lines.items };
 
@@ -101,7 +101,7 @@ impl Model for Frames {
 
 impl Frames {
     /// Some frame lines.
-    pub(crate) fn new(lines: Vec<Frame>) -> Self
+    pub(crate) fn new(lines: Vec<FrameLine>) -> Self
         ensures { result ≡ lines.items }
     {
         let initial = innermost_initial(&lines);
@@ -117,7 +117,7 @@ impl Frames {
 }
 
 /// The same of any frame lines, by the walk alone.
-fn matches_trace(frames: &[Frame], names: &[&[u8]]) -> bool
+fn matches_trace(frames: &[FrameLine], names: &[&[u8]]) -> bool
     ensures { result ≡ matches_trace frames.now (map (λ name. name.now) names.now) }
 {
     walk(frames, names, true)

@@ -43,7 +43,7 @@ impl Heap {
     ghost use Rattle.guest_heap.specs.Steps.{near, live_from};
     ghost use Rattle.guest_heap.specs.Heaps.{blocks_of, live_in};
 
-    /// The first live block from a place on.
+    /// The first live block from a slot on.
     fn first_live(&self, slot: usize) -> Option<&Block>
         requires { slot ≤ 33554432 }
         ensures { IsNextKept (live_block (live_in self.now)) slot (option_copied result) }

@@ -15,7 +15,7 @@ impl Heap {
     ghost use Rattle.guest_heap.specs.Heaps.{blocks_of, live_in, freed_in, first_in};
     ghost use Rattle.guest_heap.specs.Blocks.{IsKept, Meets, high_end};
 
-    /// The kept block at a place.
+    /// The kept block of a slot.
     fn kept_in(&self, slot: usize) -> Option<&Block>
         requires { slot < 33554432 }
         ensures { option_copied result ≡ kept_at (live_in self.now) (freed_in self.now) (first_in self.now) slot }
@@ -34,7 +34,7 @@ impl Heap {
         }
     }
 
-    /// The first place from this one on that has an entry in one of the tables.
+    /// The first slot from this one on that has an entry in one of the tables.
     fn used_from(&self, at: usize) -> Option<usize>
         requires { at ≤ 33554432 }
         ensures { IsNext (either (live_in self.now) (freed_in self.now)) at 33554432 result }
@@ -48,7 +48,7 @@ impl Heap {
         }
     }
 
-    /// The last place below this one that has an entry in one of the tables.
+    /// The last slot below this one that has an entry in one of the tables.
     fn used_below(&self, at: usize) -> Option<usize>
         requires { at ≤ 33554432 }
         ensures { IsLast (either (live_in self.now) (freed_in self.now)) at result }
@@ -62,7 +62,7 @@ impl Heap {
         }
     }
 
-    /// The first kept block from a place on.
+    /// The first kept block from a slot on.
     #[tactic(auto, using(crate::proofs::KeptSteps::none_kept), unfolding(crate::specs::Heaps::live_in, crate::specs::Heaps::freed_in, crate::specs::Heaps::first_in))]
     fn kept_from(&self, from: usize) -> Option<&Block>
         requires { from ≤ 33554432 }
@@ -78,7 +78,7 @@ impl Heap {
         None
     }
 
-    /// The last kept block below a place.
+    /// The last kept block below a slot.
     #[tactic(auto, using(crate::proofs::KeptSteps::none_kept), unfolding(crate::specs::Heaps::live_in, crate::specs::Heaps::freed_in, crate::specs::Heaps::first_in))]
     fn kept_below(&self, to: usize) -> Option<&Block>
         requires { to ≤ 33554432 }
@@ -94,7 +94,7 @@ impl Heap {
         None
     }
 
-    /// A kept block that begins below a place and whose interval goes past an address.
+    /// A kept block that begins below a slot and whose interval goes past an address.
     fn meeting_below(&self, to: usize, low: u64) -> Option<&Block>
         requires { to ≤ 33554432 }
         ensures { MeetsBelow (blocks_of self.now) to low (option_copied result) }
@@ -110,7 +110,7 @@ impl Heap {
         }
     }
 
-    /// A kept block that begins at a place or above it, and whose interval begins below an address.
+    /// A kept block that begins at a slot or above it, and whose interval begins below an address.
     fn meeting_from(&self, from: usize, high: u64) -> Option<&Block>
         requires { from ≤ 33554432 }
         ensures { MeetsFrom (blocks_of self.now) from high (option_copied result) }

@@ -95,27 +95,27 @@ impl Branch {
         set_in(&mut self.leaves[at / LEAF], alloc, at % LEAF, entry)
     }
 
-    /// The first place from this one on that has a block.
+    /// The first slot from this one on that has a block.
     pub(crate) fn next_from(&self, at: usize) -> Option<usize>
         requires { at ≤ 65536 }
         ensures { IsNext (entries_under self.now) at 65536 result }
     {
         for i in at / LEAF..self.used {
-            if let Some(place) = next_in(&self.leaves[i], at.saturating_sub(i * LEAF)) {
-                return Some(i * LEAF + place);
+            if let Some(found) = next_in(&self.leaves[i], at.saturating_sub(i * LEAF)) {
+                return Some(i * LEAF + found);
             }
         }
         None
     }
 
-    /// The last place below this one that has a block.
+    /// The last slot below this one that has a block.
     pub(crate) fn last_below(&self, at: usize) -> Option<usize>
         requires { at ≤ 65536 }
         ensures { IsLast (entries_under self.now) at result }
     {
         for i in (0..at.div_ceil(LEAF).min(self.used)).rev() {
-            if let Some(place) = last_in(&self.leaves[i], (at - i * LEAF).min(LEAF)) {
-                return Some(i * LEAF + place);
+            if let Some(found) = last_in(&self.leaves[i], (at - i * LEAF).min(LEAF)) {
+                return Some(i * LEAF + found);
             }
         }
         None

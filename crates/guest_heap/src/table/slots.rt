@@ -64,7 +64,7 @@ pub(crate) fn set_below(
     }
 }
 
-/// The first place from this one on that has a block.
+/// The first slot from this one on that has a block.
 #[tactic(auto, unfolding(crate::specs::Branches::entries_at))]
 pub(crate) fn next_in(slot: &Option<Rc<Leaf>>, at: usize) -> Option<usize>
     requires { at ≤ 256 }
@@ -76,7 +76,7 @@ pub(crate) fn next_in(slot: &Option<Rc<Leaf>>, at: usize) -> Option<usize>
     }
 }
 
-/// The last place below this one that has a block.
+/// The last slot below this one that has a block.
 #[tactic(auto, unfolding(crate::specs::Branches::entries_at))]
 pub(crate) fn last_in(slot: &Option<Rc<Leaf>>, at: usize) -> Option<usize>
     requires { at ≤ 256 }
@@ -88,7 +88,7 @@ pub(crate) fn last_in(slot: &Option<Rc<Leaf>>, at: usize) -> Option<usize>
     }
 }
 
-/// The first place from this one on that has a block.
+/// The first slot from this one on that has a block.
 #[tactic(auto, unfolding(crate::specs::Tables::entries_below))]
 pub(crate) fn next_below(slot: &Option<Rc<Branch>>, at: usize) -> Option<usize>
     requires { at ≤ 65536 }
@@ -100,7 +100,7 @@ pub(crate) fn next_below(slot: &Option<Rc<Branch>>, at: usize) -> Option<usize>
     }
 }
 
-/// The last place below this one that has a block.
+/// The last slot below this one that has a block.
 #[tactic(auto, unfolding(crate::specs::Tables::entries_below))]
 pub(crate) fn last_below(slot: &Option<Rc<Branch>>, at: usize) -> Option<usize>
     requires { at ≤ 65536 }

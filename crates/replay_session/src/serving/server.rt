@@ -1,5 +1,6 @@
 //! A session that is served, between two reads.
 ghost use Rattle.std.specs.Prelude.{◌≡◌, ◌≤◌, vec_len, vec_capacity};
+ghost use Rattle.replay_session.specs.Lines.{most_kept};
 
 use crate::serving::answer::{Stopped, Written, answer};
 use crate::serving::line_end::line_len;
@@ -18,8 +19,8 @@ pub(crate) struct Server<'a> {
     kept: Vec<u8>,
     texts: Texts,
     written: Written,
-    ghost roomy: { 4098 ≤ vec_capacity kept },
-    ghost short: { vec_len kept ≤ 4098 },
+    ghost roomy: { most_kept ≤ vec_capacity kept },
+    ghost short: { vec_len kept ≤ most_kept },
 }
 
 impl<'a> Server<'a> {

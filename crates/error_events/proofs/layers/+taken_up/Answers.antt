@@ -7,7 +7,8 @@ joined-requires-clause-apart g t c = last-apart g.K.PartialEq.eq c.args.maps.now
 
 pub taken_up-requires : goal.taken_up-requires
 taken_up-requires g t c =
-    let apart = joined-apart g.K.PartialEq.eq c.args.maps.now c.in-Some.before.now c.in-Some.last.now c.args.young c.in-Some.ensures.cases.0 c.in_ok-whole-in-Some.whole c.in_ok-whole-in-Some.ensures c.requires.apart in
+    let apart = joined-apart g.K.PartialEq.eq c.args.maps.now c.in-Some.before.now c.in-Some.last.now c.args.young c.in-Some.ensures.cases.0
+    c.in_ok-whole-in-Some.whole c.in_ok-whole-in-Some.ensures c.requires.apart in
     let shorter = c.in-Some.ensures.cases.1 in
     search (rules, apart, shorter)
 

@@ -1,4 +1,5 @@
 use Rattle.std.proofs.Common.{◌≡◌, List, length, ap, sym, ◌∙◌, subst}
+use Rattle.std.proofs.lemmas.Result.{IfOk-weaker}
 use Rattle.call_stacks.specs.declared.block.Block.{Block}
 use Rattle.leak_search.specs.Gathering.{scene_by}
 use Rattle.leak_search.specs.Search.{AreRecordsIn}
@@ -21,9 +22,13 @@ returns c =
     let memory = c.args.memory.now in
     let registers = c.args.registers.now in
     let each = rw (c.deref-2.ensures.value, c.deref-3.ensures.value) at c.in_ok-kinds.ensures.kinds in
-    let by = rw (c.deref-4.ensures.value, c.deref-5.ensures.value) at c.in_ok-entries.ensures in
+    let listed_by = rw (c.deref-4.ensures.value, c.deref-5.ensures.value) at c.records.ensures in
     let same : c.deref.result.now ≡ c.in_ok-blocks.blocks.items = c.deref.ensures.value in
     let len : length c.in_ok-graph.graph.edges.items ≡ length c.in_ok-blocks.blocks.items = c.in_ok-graph.ensures.len ∙ ap (λ x. length x) same in
-    let found = all_records (scene_by memory registers c.deref.result.now) c.in_ok-blocks.blocks.items c.in_ok-graph.graph.roots.items c.in_ok-graph.graph.edges.items c.in_ok-kinds.kinds.items c.in_ok-entries.entries.items
+    IfOk-weaker c.records.result _ _
+    (λ entries by.
+    let found = all_records (scene_by memory registers c.deref.result.now) c.in_ok-blocks.blocks.items c.in_ok-graph.graph.roots.items
+    c.in_ok-graph.graph.edges.items c.in_ok-kinds.kinds.items entries.items
     (sym same) len c.in_ok-graph.ensures.roots c.in_ok-graph.ensures.edges each by in
-    subst (λ (xs : List Block). AreRecordsIn (scene_by memory registers xs) c.in_ok-entries.entries.items) (same ∙ c.in_ok-blocks.ensures.all) found
+    subst (λ (xs : List Block). AreRecordsIn (scene_by memory registers xs) entries.items) (same ∙ c.in_ok-blocks.ensures.all) found)
+    listed_by

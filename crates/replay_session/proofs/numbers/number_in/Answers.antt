@@ -34,7 +34,8 @@ overflow_add-value c =
 
 pub loop-b-preserved : goal.loop-b-preserved
 loop-b-preserved c =
-    digit_more c.args.base c.loop-b.b-index c.loop-b.value c.digit_value-digit.result c.args.field.now c.loop-b-test.true c.digit_value-digit.ensures c.if-digit-base.false c.loop-b.invariant.0 c.loop-b.invariant.1
+    digit_more c.args.base c.loop-b.b-index c.loop-b.value c.digit_value-digit.result c.args.field.now c.loop-b-test.true c.digit_value-digit.ensures
+    c.if-digit-base.false c.loop-b.invariant.0 c.loop-b.invariant.1
 
 pub returns : goal.returns
 returns c =

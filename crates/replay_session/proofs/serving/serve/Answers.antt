@@ -17,7 +17,8 @@ returns-in-Ok-finish-clause-ok g c sc h =
     let P : Session → Type 0 = λ s. HasScenario s sc in
     let has = subst P (sym c.in-Ok.ensures.session) h in
     let fed = c.loop-i.invariant.2 sc has in
-    served-ended sc c.in-Ok.server c.in-Ok.ensures.kept c.loop-i.server (g.R.Read.remaining c.args.reader.now) (g.R.Read.remaining c.loop-i.reader) (g.R.Read.remaining c.read.new.self) _ _ _ c.loop-i.invariant.0 c.loop-i.invariant.1 fed
+    served-ended sc c.in-Ok.server c.in-Ok.ensures.kept c.loop-i.server (g.R.Read.remaining c.args.reader.now) (g.R.Read.remaining c.loop-i.reader)
+    (g.R.Read.remaining c.read.new.self) _ _ _ c.loop-i.invariant.0 c.loop-i.invariant.1 fed
     (consumes-nothing _ _ c.in-Ok-eq0.field-0 c.read.new.buf c.in-Ok-eq0.field-0-test c.in-Ok-eq0.ensures.bytes.0) at-end (c.in-Ok-finish.ensures.ended fed.after fed.has)
 
 pub returns-in-Ok-finish-clause-read : goal.returns-in-Ok-finish-clause-read
@@ -25,7 +26,8 @@ returns-in-Ok-finish-clause-read g c sc h =
     let P : Session → Type 0 = λ s. HasScenario s sc in
     let has = subst P (sym c.in-Ok.ensures.session) h in
     let fed = c.loop-i.invariant.2 sc has in
-    seen-ended sc c.in-Ok.server c.in-Ok.ensures.kept c.loop-i.server (g.R.Read.remaining c.args.reader.now) (g.R.Read.remaining c.loop-i.reader) (g.R.Read.remaining c.read.new.self) _ _ _ c.loop-i.invariant.0 c.loop-i.invariant.1 fed
+    seen-ended sc c.in-Ok.server c.in-Ok.ensures.kept c.loop-i.server (g.R.Read.remaining c.args.reader.now) (g.R.Read.remaining c.loop-i.reader)
+    (g.R.Read.remaining c.read.new.self) _ _ _ c.loop-i.invariant.0 c.loop-i.invariant.1 fed
     (consumes-nothing _ _ c.in-Ok-eq0.field-0 c.read.new.buf c.in-Ok-eq0.field-0-test c.in-Ok-eq0.ensures.bytes.0) (c.in-Ok-finish.ensures.ended fed.after fed.has)
 
 pub returns-in-Ok-true-clause-ok : goal.returns-in-Ok-true-clause-ok
@@ -33,7 +35,8 @@ returns-in-Ok-true-clause-ok g c sc h =
     let P : Session → Type 0 = λ s. HasScenario s sc in
     let has = subst P (sym c.in-Ok.ensures.session) h in
     let fed = c.loop-i.invariant.2 sc has in
-    served-over sc c.in-Ok.server c.in-Ok.ensures.kept c.loop-i.server (g.R.Read.remaining c.args.reader.now) (g.R.Read.remaining c.loop-i.reader) (g.R.Read.remaining c.read.new.self) _ _ _ c.loop-i.invariant.0 c.loop-i.invariant.1 fed
+    served-over sc c.in-Ok.server c.in-Ok.ensures.kept c.loop-i.server (g.R.Read.remaining c.args.reader.now) (g.R.Read.remaining c.loop-i.reader)
+    (g.R.Read.remaining c.read.new.self) _ _ _ c.loop-i.invariant.0 c.loop-i.invariant.1 fed
     c.feed.new.self _ c.in-Ok-read.ensures.bytes.0 (c.in-Ok-true.ensures.over (ap Ok c.in-Ok-true.field-0-test) fed.after fed.has)
 
 pub returns-in-Ok-true-clause-read : goal.returns-in-Ok-true-clause-read
@@ -41,13 +44,15 @@ returns-in-Ok-true-clause-read g c sc h =
     let P : Session → Type 0 = λ s. HasScenario s sc in
     let has = subst P (sym c.in-Ok.ensures.session) h in
     let fed = c.loop-i.invariant.2 sc has in
-    seen-over sc c.in-Ok.server c.in-Ok.ensures.kept c.loop-i.server (g.R.Read.remaining c.args.reader.now) (g.R.Read.remaining c.loop-i.reader) (g.R.Read.remaining c.read.new.self) _ _ _ c.loop-i.invariant.0 c.loop-i.invariant.1 fed
+    seen-over sc c.in-Ok.server c.in-Ok.ensures.kept c.loop-i.server (g.R.Read.remaining c.args.reader.now) (g.R.Read.remaining c.loop-i.reader)
+    (g.R.Read.remaining c.read.new.self) _ _ _ c.loop-i.invariant.0 c.loop-i.invariant.1 fed
     c.feed.new.self _ c.in-Ok-read.ensures.bytes.0 (c.in-Ok-true.ensures.over (ap Ok c.in-Ok-true.field-0-test) fed.after fed.has)
 
 pub loop-i-preserved-in-Ok-false : goal.loop-i-preserved-in-Ok-false
 loop-i-preserved-in-Ok-false g c = (
   _,
-  consumes-then (g.R.Read.remaining c.args.reader.now) (g.R.Read.remaining c.loop-i.reader) (g.R.Read.remaining c.read.new.self) c.loop-i.invariant.0 _ c.loop-i.invariant.1 c.in-Ok-read.ensures.bytes.0,
+  consumes-then (g.R.Read.remaining c.args.reader.now) (g.R.Read.remaining c.loop-i.reader) (g.R.Read.remaining c.read.new.self) c.loop-i.invariant.0 _
+      c.loop-i.invariant.1 c.in-Ok-read.ensures.bytes.0,
   λ sc h.
       let fed = c.loop-i.invariant.2 sc h in
       fed-then sc c.in-Ok.server c.loop-i.server c.feed.new.self _ _ _ c.loop-i.invariant.0 _ fed (c.in-Ok-false.ensures.fed (ap Ok c.in-Ok-false.field-0-test) fed.after fed.has),
@@ -63,7 +68,8 @@ returns-in-Err-finish-clause-fault g c sc h =
       c.loop-i.invariant.0 ++ [],
       consumes-then (g.R.Read.remaining c.args.reader.now) (g.R.Read.remaining c.loop-i.reader) (g.R.Read.remaining c.read.new.self) c.loop-i.invariant.0 [] c.loop-i.invariant.1
           (consumes-nothing _ _ c.in-Ok-eq0.field-0 c.read.new.buf c.in-Ok-eq0.field-0-test c.in-Ok-eq0.ensures.bytes.0),
-      stops-cut sc c.in-Ok.server c.in-Ok.ensures.kept c.in-Ok.ensures.replies c.in-Ok.ensures.bytes c.loop-i.server c.finish.new.self _ _ _ c.loop-i.invariant.0 [] _ _ c.replies.ensures c.bytes.ensures few small fed (c.in-Err-finish.ensures.broken fed.after fed.has),
+      stops-cut sc c.in-Ok.server c.in-Ok.ensures.kept c.in-Ok.ensures.replies c.in-Ok.ensures.bytes c.loop-i.server c.finish.new.self _ _ _
+          c.loop-i.invariant.0 [] _ _ c.replies.ensures c.bytes.ensures few small fed (c.in-Err-finish.ensures.broken fed.after fed.has),
     )
 
 pub returns-in-Err-feed-clause-fault : goal.returns-in-Err-feed-clause-fault
@@ -74,8 +80,10 @@ returns-in-Err-feed-clause-fault g c sc h =
     let has = subst P (sym c.in-Ok.ensures.session) h in
     let fed = c.loop-i.invariant.2 sc has in (
       _,
-      consumes-then (g.R.Read.remaining c.args.reader.now) (g.R.Read.remaining c.loop-i.reader) (g.R.Read.remaining c.read.new.self) c.loop-i.invariant.0 _ c.loop-i.invariant.1 c.in-Ok-read.ensures.bytes.0,
-      stops-cut sc c.in-Ok.server c.in-Ok.ensures.kept c.in-Ok.ensures.replies c.in-Ok.ensures.bytes c.loop-i.server c.feed.new.self _ _ _ c.loop-i.invariant.0 _ _ _ c.replies-in-Err-feed.ensures c.bytes-in-Err-feed.ensures few small fed (c.in-Err-feed.ensures.broken fed.after fed.has),
+      consumes-then (g.R.Read.remaining c.args.reader.now) (g.R.Read.remaining c.loop-i.reader) (g.R.Read.remaining c.read.new.self) c.loop-i.invariant.0 _
+          c.loop-i.invariant.1 c.in-Ok-read.ensures.bytes.0,
+      stops-cut sc c.in-Ok.server c.in-Ok.ensures.kept c.in-Ok.ensures.replies c.in-Ok.ensures.bytes c.loop-i.server c.feed.new.self _ _ _ c.loop-i.invariant.0
+          _ _ _ c.replies-in-Err-feed.ensures c.bytes-in-Err-feed.ensures few small fed (c.in-Err-feed.ensures.broken fed.after fed.has),
     )
 
 pub returns-in-Err-clause-fault : goal.returns-in-Err-clause-fault
@@ -87,7 +95,8 @@ returns-in-Err-clause-fault g c sc h =
     let fed = c.loop-i.invariant.2 sc has in (
       c.loop-i.invariant.0,
       consumes-keeps (g.R.Read.remaining c.args.reader.now) (g.R.Read.remaining c.loop-i.reader) (g.R.Read.remaining c.read.new.self) c.loop-i.invariant.0 c.loop-i.invariant.1 c.in-Err.ensures.bytes,
-      stops-whole sc c.in-Ok.server c.in-Ok.ensures.kept c.in-Ok.ensures.replies c.in-Ok.ensures.bytes c.loop-i.server _ _ c.loop-i.invariant.0 _ _ c.replies-in-Err.ensures c.bytes-in-Err.ensures few small fed,
+      stops-whole sc c.in-Ok.server c.in-Ok.ensures.kept c.in-Ok.ensures.replies c.in-Ok.ensures.bytes c.loop-i.server _ _ c.loop-i.invariant.0 _ _
+          c.replies-in-Err.ensures c.bytes-in-Err.ensures few small fed,
     )
 
 pub returns-clause-fault : goal.returns-clause-fault

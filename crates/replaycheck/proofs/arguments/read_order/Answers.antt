@@ -17,7 +17,9 @@ returns-clause-order c =
     let shape : app_of c.in_ok-make_command.field-0 ≡ command_line = c.in_ok-make_command.ensures in
     let found : subcommand_rows_of c.in_ok-matches.matches ≡ subcommand_of command_line words =
     (c.in_ok-matches.ensures.matches (ap is_simple shape ∙ plain)).1 ∙ ap (λ (app : App). subcommand_of app words) shape in
-    subst (λ (entered : Option (Text × List Row)). IfSome c.order_of.result (λ order. IsSomeAnd entered (λ inside. IsOrderOf (bytes_eq inside.0 (codes "run")) inside.1 order))) found c.order_of.ensures
+    subst (λ (entered : Option (Text × List Row)). IfSome c.order_of.result
+    (λ order. IsSomeAnd entered (λ inside. IsOrderOf (bytes_eq inside.0 (codes "run")) inside.1 order)))
+    found c.order_of.ensures
 
 pub returns-in_err-matches-clause-taken : goal.returns-in_err-matches-clause-taken
 returns-in_err-matches-clause-taken c =

@@ -34,7 +34,8 @@ returns-in-Err-read_input g c =
 
 pub returns-in-Some : goal.returns-in-Some
 returns-in-Some g c =
-    let told = subst (λ (list : List Rule). Reports (IsReportOnce c.in-Ok-read.image c.in-Ok-read_input.input.items list c.in-Some.step) (g.W.Write.contents c.args.writer.now) (g.W.Write.contents c.print_report.new.writer) c.print_report.result)
+    let told = subst (λ (list : List Rule). Reports (IsReportOnce c.in-Ok-read.image c.in-Ok-read_input.input.items list c.in-Some.step)
+    (g.W.Write.contents c.args.writer.now) (g.W.Write.contents c.print_report.new.writer) c.print_report.result)
     c.deref-in-Some.ensures.value c.print_report.ensures in
     inr (
       c.in-Ok-read.image,

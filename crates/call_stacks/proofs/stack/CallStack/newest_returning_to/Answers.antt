@@ -4,7 +4,9 @@ use Rattle.call_stacks.proofs.Stacks.{found, missing}
 use Rattle.call_stacks.proofs.stack.CallStack.newest_returning_to.Goals as goal
 
 pub returns-then-frame-target : goal.returns-then-frame-target
-returns-then-frame-target c = sym (found c.args.self.now c.args.target c.loop-i.i c.in-Some.frame.now c.loop-i.invariant (ap (λ xs. slice_get xs c.loop-i.i) (sym c.self.view_is) ∙ sym c.in-Some.ensures) c.if-frame-target.true)
+returns-then-frame-target c =
+    sym (found c.args.self.now c.args.target c.loop-i.i c.in-Some.frame.now c.loop-i.invariant
+    (ap (λ xs. slice_get xs c.loop-i.i) (sym c.self.view_is) ∙ sym c.in-Some.ensures) c.if-frame-target.true)
 
 pub returns : goal.returns
 returns c =

@@ -19,5 +19,6 @@ unfolding machines_of
 returns-then-not-end_seen-clause-before c start setup marks h i e shown =
     let kept = c.loop-kept.kept in
     let at : kept - 1 ≡ i = omega arith in
-    let shows = held-at c.args.self.now.held.items c.index.result.now (kept - 1) (1024 * i) start setup marks h.held c.index.ensures (omega (arith, held-count c.args.self.now, c.loop-kept.invariant.within)) (ap (λ k. 1024 * k) (sym at)) in
+    let shows = held-at c.args.self.now.held.items c.index.result.now (kept - 1) (1024 * i) start setup marks h.held c.index.ensures
+    (omega (arith, held-count c.args.self.now, c.loop-kept.invariant.within)) (ap (λ k. 1024 * k) (sym at)) in
     true≢false (sym shown ∙ sym (c.end_seen.ensures _ shows) ∙ c.if-not-end_seen.true)

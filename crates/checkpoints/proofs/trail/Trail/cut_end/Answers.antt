@@ -21,7 +21,8 @@ returns-clause-right c start setup other marks x h =
 
 pub returns-clause-kept : goal.returns-clause-kept
 returns-clause-kept c =
-    keeps-hidden EndShows c.args.self.now _ c.before_the_end-kept.result c.keep.ensures.machines c.before_the_end-kept.ensures.some c.before_the_end-kept.ensures.from c.before_the_end-kept.ensures.before
+    keeps-hidden EndShows c.args.self.now _ c.before_the_end-kept.result c.keep.ensures.machines c.before_the_end-kept.ensures.some
+    c.before_the_end-kept.ensures.from c.before_the_end-kept.ensures.before
     (λ start setup marks j n up seen. elim (either (pre start setup marks n).end_seen) [
       | inl later ↦ later
       | inr unseen ↦ absurd (true≢false (sym seen ∙ unseen-before c.end_stays.ensures start setup marks n j up unseen))

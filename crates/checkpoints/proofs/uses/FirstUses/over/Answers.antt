@@ -66,7 +66,11 @@ loop-range-preserved c =
           ∙ ap₂ (λ m n. m + n) (count ∙ inv.words) c.words_in.ensures.value
           ∙ sym (words-more done range)
           ∙ ap words_of (sym next);
-      none = λ k. longer old.items c.resize.new.self.items (c.len-in-loop-range.result + c.words_in.result) (c.in_ok-resize.ensures.items ∙ ap (λ m. take (c.len-in-loop-range.result + c.words_in.result) old.items ++ replicate (c.len-in-loop-range.result + c.words_in.result - m) never) size) (omega arith) inv.none k;
+      none = λ k. longer old.items c.resize.new.self.items (c.len-in-loop-range.result + c.words_in.result)
+          (c.in_ok-resize.ensures.items
+          ∙ ap (λ m. take (c.len-in-loop-range.result + c.words_in.result) old.items ++ replicate (c.len-in-loop-range.result + c.words_in.result - m) never)
+          size)
+          (omega arith) inv.none k;
     }
 
 pub returns-clause-none : goal.returns-clause-none

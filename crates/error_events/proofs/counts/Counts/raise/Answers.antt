@@ -27,7 +27,8 @@ unfolding counts_of
 returns-then-chunk-len-clause-ok c =
     let at : c.args.index ≡ 256 * (c.args.index / 256) + c.args.index % 256 = omega arith in
     let within : c.args.index / 256 < length c.args.self.now.chunks.items = omega arith in
-    raised-ok c.args.self.now (c.args.index / 256) c.index_mut.result.now _ within c.index_mut.ensures.value c.raise_in.result (c.args.index % 256) c.args.index c.args.by c.raise_in.new.chunk (omega arith) at c.raise_in.ensures.ok
+    raised-ok c.args.self.now (c.args.index / 256) c.index_mut.result.now _ within c.index_mut.ensures.value c.raise_in.result (c.args.index % 256) c.args.index
+    c.args.by c.raise_in.new.chunk (omega arith) at c.raise_in.ensures.ok
 
 pub returns-then-chunk-len-clause-err : goal.returns-then-chunk-len-clause-err
 unfolding counts_of

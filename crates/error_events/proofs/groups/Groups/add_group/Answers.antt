@@ -7,7 +7,9 @@ pub position-requires : goal.position-requires
 position-requires c = let fit = counts-fit c.args.self.now.counts in let same = c.args.self.now.matched in omega (arith, fit, same)
 
 pub returns-in-Some-clause-ok : goal.returns-in-Some-clause-ok
-returns-in-Some-clause-ok c = shown-raised-ok c.args.self.now c.raise.new.self c.args.group c.raise.result c.in-Some.index (sym c.position.ensures ∙ c.in-Some.is) c.raise.ensures.known c.raise.ensures.counts
+returns-in-Some-clause-ok c =
+    shown-raised-ok c.args.self.now c.raise.new.self c.args.group c.raise.result c.in-Some.index (sym c.position.ensures ∙ c.in-Some.is) c.raise.ensures.known
+    c.raise.ensures.counts
 
 pub returns-in-Some-clause-err : goal.returns-in-Some-clause-err
 returns-in-Some-clause-err c = shown-raised-err c.args.self.now c.raise.new.self c.args.group c.raise.result c.raise.ensures.known c.raise.ensures.counts_err

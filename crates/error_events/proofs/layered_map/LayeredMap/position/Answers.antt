@@ -8,7 +8,10 @@ returns-in-Some g c = found-first (g.K.PartialEq.eq c.args.key.now) c.self.insid
 pub returns-in-Some-position : goal.returns-in-Some-position
 returns-in-Some-position g c =
     ap (λ n. Some (n + c.in-Some-position.index)) c.len.ensures
-    ∙ found-second (g.K.PartialEq.eq c.args.key.now) c.self.inside.settled c.self.inside.recent c.args.self.now c.self.view_is c.in-Some-position.index (sym c.position.ensures ∙ c.in-None.is) (sym c.position-in-None.ensures ∙ c.in-Some-position.is)
+    ∙ found-second (g.K.PartialEq.eq c.args.key.now) c.self.inside.settled c.self.inside.recent c.args.self.now c.self.view_is c.in-Some-position.index
+    (sym c.position.ensures ∙ c.in-None.is) (sym c.position-in-None.ensures ∙ c.in-Some-position.is)
 
 pub returns-in-None-position : goal.returns-in-None-position
-returns-in-None-position g c = found-not (g.K.PartialEq.eq c.args.key.now) c.self.inside.settled c.self.inside.recent c.args.self.now c.self.view_is (sym c.position.ensures ∙ c.in-None.is) (sym c.position-in-None.ensures ∙ c.in-None-position.is)
+returns-in-None-position g c =
+    found-not (g.K.PartialEq.eq c.args.key.now) c.self.inside.settled c.self.inside.recent c.args.self.now c.self.view_is
+    (sym c.position.ensures ∙ c.in-None.is) (sym c.position-in-None.ensures ∙ c.in-None-position.is)

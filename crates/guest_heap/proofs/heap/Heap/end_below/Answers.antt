@@ -11,10 +11,16 @@ unfolding blocks_of live_in freed_in first_in
 returns-in-Some-clause-end c =
     let heap = c.args.self.now in
     let P : ℕ → Type 0 = EndsBelow (shown (entries_of heap.live) (queued heap.queue)) c.args.start in
-    subst P (sym c.high_end.ensures) (ends_below (entries_of heap.live) (entries_of heap.freed) (queued heap.queue) heap.first heap.sound c.slot_of.result c.args.start c.in-Some.block.now c.in-Some.ensures (omega (arith, c.slot_of.ensures))).0
+    subst P (sym c.high_end.ensures) (ends_below (entries_of heap.live) (entries_of heap.freed) (queued heap.queue) heap.first heap.sound c.slot_of.result
+    c.args.start c.in-Some.block.now c.in-Some.ensures (omega (arith, c.slot_of.ensures))).0
 
 pub returns-in-Some-clause-within : goal.returns-in-Some-clause-within
 unfolding live_in freed_in first_in
 returns-in-Some-clause-within c =
     let heap = c.args.self.now in
-    omega (arith, c.high_end.ensures, (ends_below (entries_of heap.live) (entries_of heap.freed) (queued heap.queue) heap.first heap.sound c.slot_of.result c.args.start c.in-Some.block.now c.in-Some.ensures (omega (arith, c.slot_of.ensures))).1)
+    omega (
+      arith,
+      c.high_end.ensures,
+      (ends_below (entries_of heap.live) (entries_of heap.freed) (queued heap.queue) heap.first heap.sound c.slot_of.result
+          c.args.start c.in-Some.block.now c.in-Some.ensures (omega (arith, c.slot_of.ensures))).1,
+    )

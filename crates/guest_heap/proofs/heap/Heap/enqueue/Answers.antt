@@ -37,7 +37,9 @@ invariant_of-self-2 c =
       bounded = (let Q : Blocks → Type 0 = λ bs. AreBounds bs heap.redzone heap.bounds.list.items in
           subst Q (sym (enqueued_shown (entries_of heap.live) (entries_of heap.freed) (queued heap.queue) heap.first heap.sound c.args.block.now c.args.trace c.requires
           _ _ _ _ _ _ _ c.in_ok-set-2.ensures.ok c.in_ok-set.ensures.ok c.push.ensures c.in_ok-prepare.ensures.same c.slot_of-slot.ensures c.in_ok-shared.ensures.cases
-          (c.in_ok-entry.ensures.ok ∙ let P : Block → ℕ → Entry = λ v n. record { block = v; number = n } in ap₂ P c.freed_by-freed.ensures heap.numbered))) (no_more_freed (shown (entries_of heap.live) (queued heap.queue)) c.args.block.now c.args.trace heap.redzone heap.bounds.list.items c.requires heap.bounded));
+          (c.in_ok-entry.ensures.ok ∙ let P : Block → ℕ → Entry = λ v n. record { block = v; number = n } in ap₂ P c.freed_by-freed.ensures heap.numbered)))
+          (no_more_freed (shown (entries_of heap.live) (queued heap.queue)) c.args.block.now c.args.trace heap.redzone heap.bounds.list.items c.requires
+          heap.bounded));
     }
 
 pub returns-clause-ok : goal.returns-clause-ok
@@ -56,5 +58,6 @@ invariant_of-self-in-Break-branch-5 c =
       sound = search (rules, spare_sound);
       numbered = search rules;
       volume = search rules;
-      bounded = same_bounds (entries_of heap.live) (entries_of c.set-2.new.self) (queued heap.queue) (queued c.prepare.new.self) heap.redzone heap.bounds.list.items (search rules) (search rules) heap.bounded;
+      bounded = same_bounds (entries_of heap.live) (entries_of c.set-2.new.self) (queued heap.queue) (queued c.prepare.new.self) heap.redzone
+          heap.bounds.list.items (search rules) (search rules) heap.bounded;
     }

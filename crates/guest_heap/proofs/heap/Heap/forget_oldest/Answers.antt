@@ -60,9 +60,13 @@ invariant_of-self c =
     let rest = ap length c.pop_front.ensures in
     let volumes = ap volume_in c.pop_front.ensures in
     record {
-      sound = forget_sound (entries_of old.live) (entries_of old.freed) (entries_of c.set.new.self) (queued old.queue) (queued c.pop_front.new.self) old.first e old.sound c.in-Some.ensures c.pop_front.ensures (elim (either_way c.set.result c.set.ensures.ok c.set.ensures.err) [ inl h ↦ inl (h ∙ ap (λ n. with_entry (entries_of old.freed) n None) c.slot_of.ensures) | inr h ↦ inr h ]);
+      sound = forget_sound (entries_of old.live) (entries_of old.freed) (entries_of c.set.new.self) (queued old.queue) (queued c.pop_front.new.self) old.first e
+          old.sound c.in-Some.ensures c.pop_front.ensures
+          (elim (either_way c.set.result c.set.ensures.ok c.set.ensures.err)
+          [ inl h ↦ inl (h ∙ ap (λ n. with_entry (entries_of old.freed) n None) c.slot_of.ensures) | inr h ↦ inr h ]);
       numbered = omega (arith, old.numbered, lengths, rest);
       volume = omega (arith, old.volume, sizes, volumes, c.from.ensures);
       bounded = forgotten_bounds (entries_of old.live) (entries_of old.freed) (queued old.queue) (queued c.pop_front.new.self) old.first old.sound e c.in-Some.ensures c.pop_front.ensures
-          old.redzone c.end_below.result (record { first = c.aligned-first.result; end = c.begin_above-end.result; room = c.saturating_sub-room.result }) c.end_below.ensures.end c.begin_above-end.ensures.begin c.aligned-first.ensures.multiple (omega arith) (omega arith) _ _ old.bounded c.lower.ensures;
+          old.redzone c.end_below.result (record { first = c.aligned-first.result; end = c.begin_above-end.result; room = c.saturating_sub-room.result })
+          c.end_below.ensures.end c.begin_above-end.ensures.begin c.aligned-first.ensures.multiple (omega arith) (omega arith) _ _ old.bounded c.lower.ensures;
     }

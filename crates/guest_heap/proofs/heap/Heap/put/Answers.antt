@@ -27,7 +27,8 @@ invariant_of-self c =
       bounded = (let Q : Blocks → Type 0 = λ bs. AreBounds bs old.redzone old.bounds.list.items in
           elim (either_way c.set.result c.set.ensures.ok c.set.ensures.err) [
             | inl h ↦ subst Q
-                (sym (ap (λ f. shown f (queued old.queue)) (written _ _ _ _ e h c.slot_of-slot.ensures (ap Some c.in_ok-entry.ensures.ok)) ∙ put_shown _ _ _ _ old.sound e c.requires.live c.requires.place))
+                (sym (ap (λ f. shown f (queued old.queue)) (written _ _ _ _ e h c.slot_of-slot.ensures (ap Some c.in_ok-entry.ensures.ok))
+                ∙ put_shown _ _ _ _ old.sound e c.requires.live c.requires.place))
                 (no_more_put (shown (entries_of old.live) (queued old.queue)) c.args.block old.redzone old.bounds.list.items c.requires.place old.bounded)
             | inr h ↦ subst Q (sym (ap (λ f. shown f (queued old.queue)) h)) old.bounded
           ]);

@@ -11,7 +11,8 @@ pub place_from-requires-clause-none : goal.place_from-requires-clause-none
 unfolding blocks_of
 place_from-requires-clause-none c =
     let heap = c.args.self.now in
-    raised_from (blocks_of heap) heap.bounds.list.items heap.redzone c.args.class.now.least c.known.result c.aligned-from.result heap.bounded c.known.ensures c.aligned-from.ensures.multiple (omega arith)
+    raised_from (blocks_of heap) heap.bounds.list.items heap.redzone c.args.class.now.least c.known.result c.aligned-from.result heap.bounded c.known.ensures
+    c.aligned-from.ensures.multiple (omega arith)
 
 pub place_from-requires-clause-skipped : goal.place_from-requires-clause-skipped
 unfolding blocks_of

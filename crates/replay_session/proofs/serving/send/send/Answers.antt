@@ -4,7 +4,8 @@ use Rattle.replay_session.proofs.serving.send.send.Goals as goal
 
 pub loop-taken-preserved : goal.loop-taken-preserved
 loop-taken-preserved g c =
-    let step = sent-step (g.W.Write.contents c.args.writer.now) (g.W.Write.contents c.loop-taken.writer) (g.W.Write.contents c.write.new.self) c.loop-taken.taken c.in-Ok.n c.args.bytes.now (omega arith) c.in-Ok.ensures.bound c.loop-taken.invariant.sent c.in-Ok.ensures.bytes in
+    let step = sent-step (g.W.Write.contents c.args.writer.now) (g.W.Write.contents c.loop-taken.writer) (g.W.Write.contents c.write.new.self)
+    c.loop-taken.taken c.in-Ok.n c.args.bytes.now (omega arith) c.in-Ok.ensures.bound c.loop-taken.invariant.sent c.in-Ok.ensures.bytes in
     record { within = step.0; sent = step.1 }
 
 pub returns-in-Ok-flush-clause-whole : goal.returns-in-Ok-flush-clause-whole

@@ -13,7 +13,18 @@ returns-clause-edits c sc out h =
     inl (record {
       replies = refl;
       appends = refl;
-      has = record { image = h.image; trail = c.cut_mark.ensures.right (first_state sc) _ _ _ (subst (DifferAtStep c.args.mark.step c.args.self.now.marks.items) (sym c.in_ok-push.ensures.items) (differ_appended c.args.self.now.marks.items c.args.mark)) h.trail; setup = h.setup; marks = c.in_ok-push.ensures.items ∙ ap (λ ms. ms ++ c.args.mark ∷ []) h.marks; rules = h.rules; options = h.options; step = h.step; lines = h.lines };
+      has = record {
+        image = h.image;
+        trail = c.cut_mark.ensures.right (first_state sc) _ _ _ (subst (DifferAtStep c.args.mark.step c.args.self.now.marks.items)
+            (sym c.in_ok-push.ensures.items) (differ_appended c.args.self.now.marks.items c.args.mark))
+            h.trail;
+        setup = h.setup;
+        marks = c.in_ok-push.ensures.items ∙ ap (λ ms. ms ++ c.args.mark ∷ []) h.marks;
+        rules = h.rules;
+        options = h.options;
+        step = h.step;
+        lines = h.lines;
+      };
     })
 
 pub returns-clause-work : goal.returns-clause-work

@@ -10,7 +10,16 @@ returns-clause-edits c sc out h =
     inl (record {
       replies = refl;
       appends = refl;
-      has = record { image = h.image; trail = h.trail; setup = h.setup; marks = h.marks; rules = c.in_ok-push.ensures.items ∙ ap (λ rules. rules ++ c.args.suppression ∷ []) h.rules; options = h.options; step = h.step; lines = h.lines };
+      has = record {
+        image = h.image;
+        trail = h.trail;
+        setup = h.setup;
+        marks = h.marks;
+        rules = c.in_ok-push.ensures.items ∙ ap (λ rules. rules ++ c.args.suppression ∷ []) h.rules;
+        options = h.options;
+        step = h.step;
+        lines = h.lines;
+      };
     })
 
 pub returns-clause-work : goal.returns-clause-work

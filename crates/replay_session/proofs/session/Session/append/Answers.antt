@@ -11,7 +11,17 @@ returns-clause-edits c sc out h =
     inl (record {
       replies = refl;
       appends = refl;
-      has = record { image = h.image; trail = c.cut_end.ensures.right (first_state sc) _ _ _ (record { redzone = refl; volume = refl; hooks = refl; input = (c.args.byte, c.in_ok-push.ensures.ok) }) h.trail; setup = λ i. record { input = is i; redzone = (h.setup i).redzone; volume = (h.setup i).volume; hooks = (h.setup i).hooks }; marks = h.marks; rules = h.rules; options = h.options; step = h.step; lines = h.lines };
+      has = record {
+        image = h.image;
+        trail = c.cut_end.ensures.right (first_state sc) _ _ _
+            (record { redzone = refl; volume = refl; hooks = refl; input = (c.args.byte, c.in_ok-push.ensures.ok) }) h.trail;
+        setup = λ i. record { input = is i; redzone = (h.setup i).redzone; volume = (h.setup i).volume; hooks = (h.setup i).hooks };
+        marks = h.marks;
+        rules = h.rules;
+        options = h.options;
+        step = h.step;
+        lines = h.lines;
+      };
     })
 
 pub returns-clause-work : goal.returns-clause-work

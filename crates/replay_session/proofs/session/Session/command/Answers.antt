@@ -24,7 +24,8 @@ returns-in-Ok-clause-work c wanted whole sc h =
 
 pub returns-in-Err-clause-work : goal.returns-in-Err-clause-work
 returns-in-Err-clause-work c wanted whole sc h =
-    line-stays sc c.args.line.now c.in-Err.fault _ _ _ _ (accepted-has c.args.self.now sc c.args.line.now h) c.accept-accepted.ensures.accepted c.in-Err.is (λ e. wanted (ap Err e)) c.count.ensures.trail
+    line-stays sc c.args.line.now c.in-Err.fault _ _ _ _ (accepted-has c.args.self.now sc c.args.line.now h) c.accept-accepted.ensures.accepted c.in-Err.is
+    (λ e. wanted (ap Err e)) c.count.ensures.trail
 
 pub returns-in-Ok-clause-whole : goal.returns-in-Ok-clause-whole
 returns-in-Ok-clause-whole c sc h =

@@ -15,7 +15,17 @@ returns-clause-edits c sc out h =
     inl (record {
       replies = refl;
       appends = refl;
-      has = record { image = h.image; trail = c.cut_input.ensures.shorter (first_state sc) _ _ _ (loses_last _ _ c.len-last.result c.requires c.pop.ensures c.len-last.ensures refl refl refl) h.trail; setup = λ i. record { input = is i; redzone = (h.setup i).redzone; volume = (h.setup i).volume; hooks = (h.setup i).hooks }; marks = h.marks; rules = h.rules; options = h.options; step = h.step; lines = h.lines };
+      has = record {
+        image = h.image;
+        trail = c.cut_input.ensures.shorter (first_state sc) _ _ _ (loses_last _ _ c.len-last.result c.requires c.pop.ensures c.len-last.ensures refl refl refl)
+            h.trail;
+        setup = λ i. record { input = is i; redzone = (h.setup i).redzone; volume = (h.setup i).volume; hooks = (h.setup i).hooks };
+        marks = h.marks;
+        rules = h.rules;
+        options = h.options;
+        step = h.step;
+        lines = h.lines;
+      };
     })
 
 -- one byte less

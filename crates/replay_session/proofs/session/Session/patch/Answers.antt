@@ -13,7 +13,16 @@ returns-clause-edits c sc out h =
     inl (record {
       replies = refl;
       appends = refl;
-      has = record { image = h.image; trail = c.in_ok-patch.ensures.right (first_state sc) _ _ h.trail; setup = h.setup; marks = h.marks; rules = h.rules; options = h.options; step = h.step; lines = h.lines };
+      has = record {
+        image = h.image;
+        trail = c.in_ok-patch.ensures.right (first_state sc) _ _ h.trail;
+        setup = h.setup;
+        marks = h.marks;
+        rules = h.rules;
+        options = h.options;
+        step = h.step;
+        lines = h.lines;
+      };
     })
 
 pub patch-requires : goal.patch-requires

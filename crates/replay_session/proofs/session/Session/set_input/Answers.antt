@@ -12,7 +12,18 @@ returns-clause-edits c sc out h =
     inl (record {
       replies = refl;
       appends = refl;
-      has = record { image = h.image; trail = c.cut_input.ensures.right (first_state sc) _ _ _ (differ_at _ _ c.args.offset c.args.byte (c.with_byte.ensures ∙ ap (λ bytes. slice_set bytes c.args.offset c.args.byte) c.replace-input.ensures.value) refl refl refl) h.trail; setup = λ i. record { input = is i; redzone = (h.setup i).redzone; volume = (h.setup i).volume; hooks = (h.setup i).hooks }; marks = h.marks; rules = h.rules; options = h.options; step = h.step; lines = h.lines };
+      has = record {
+        image = h.image;
+        trail = c.cut_input.ensures.right (first_state sc) _ _ _ (differ_at _ _ c.args.offset c.args.byte
+            (c.with_byte.ensures ∙ ap (λ bytes. slice_set bytes c.args.offset c.args.byte) c.replace-input.ensures.value) refl refl refl)
+            h.trail;
+        setup = λ i. record { input = is i; redzone = (h.setup i).redzone; volume = (h.setup i).volume; hooks = (h.setup i).hooks };
+        marks = h.marks;
+        rules = h.rules;
+        options = h.options;
+        step = h.step;
+        lines = h.lines;
+      };
     })
 
 pub returns-clause-work : goal.returns-clause-work

@@ -10,7 +10,16 @@ returns-clause-edits c sc out h =
     inl (record {
       replies = refl;
       appends = refl;
-      has = record { image = h.image; trail = c.cut_heap.ensures.right (first_state sc) _ _ _ (record { input = refl; hooks = refl }) h.trail; setup = λ i. record { input = (h.setup i).input; redzone = (h.setup i).redzone; volume = c.args.n; hooks = (h.setup i).hooks }; marks = h.marks; rules = h.rules; options = h.options; step = h.step; lines = h.lines };
+      has = record {
+        image = h.image;
+        trail = c.cut_heap.ensures.right (first_state sc) _ _ _ (record { input = refl; hooks = refl }) h.trail;
+        setup = λ i. record { input = (h.setup i).input; redzone = (h.setup i).redzone; volume = c.args.n; hooks = (h.setup i).hooks };
+        marks = h.marks;
+        rules = h.rules;
+        options = h.options;
+        step = h.step;
+        lines = h.lines;
+      };
     })
 
 pub returns-clause-work : goal.returns-clause-work

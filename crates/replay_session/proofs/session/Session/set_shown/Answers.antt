@@ -10,7 +10,16 @@ returns-clause-edits c sc out h =
     inl (record {
       replies = refl;
       appends = refl;
-      has = record { image = h.image; trail = h.trail; setup = h.setup; marks = h.marks; rules = h.rules; options = λ i. record { callers = (h.options i).callers; show = shown c.args.kinds }; step = h.step; lines = h.lines };
+      has = record {
+        image = h.image;
+        trail = h.trail;
+        setup = h.setup;
+        marks = h.marks;
+        rules = h.rules;
+        options = λ i. record { callers = (h.options i).callers; show = shown c.args.kinds };
+        step = h.step;
+        lines = h.lines;
+      };
     })
 
 pub returns-clause-work : goal.returns-clause-work

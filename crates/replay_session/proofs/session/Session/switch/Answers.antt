@@ -11,7 +11,17 @@ returns-clause-edits c sc out h =
     inl (record {
       replies = refl;
       appends = refl;
-      has = record { image = h.image; trail = h.trail; setup = h.setup; marks = h.marks; rules = switched-at c.args.self.now.suppressions.items c.args.index _ _ _ c.args.on (omega arith) c.index_mut.ensures.value c.switch.ensures ∙ ap (λ rules. switched rules c.args.index c.args.on) h.rules; options = h.options; step = h.step; lines = h.lines };
+      has = record {
+        image = h.image;
+        trail = h.trail;
+        setup = h.setup;
+        marks = h.marks;
+        rules = switched-at c.args.self.now.suppressions.items c.args.index _ _ _ c.args.on (omega arith) c.index_mut.ensures.value c.switch.ensures
+            ∙ ap (λ rules. switched rules c.args.index c.args.on) h.rules;
+        options = h.options;
+        step = h.step;
+        lines = h.lines;
+      };
     })
 
 pub returns-clause-work : goal.returns-clause-work

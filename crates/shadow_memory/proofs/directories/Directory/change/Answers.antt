@@ -30,4 +30,6 @@ returns-clause-err c =
     let place = c.args.at / 4096 - first in
     let here : c.args.at / 4096 ≡ first + place = omega (arith, room.0) in
     let within : place < length pages = omega (arith, room.1) in
-    on_err_weaker c.change.result (λ h. page-same first place pages c.index_mut.result.now c.change.new.self c.args.at here within c.index_mut.ensures.value h ∙ c.reach.ensures.same) c.change.ensures.err
+    on_err_weaker c.change.result
+    (λ h. page-same first place pages c.index_mut.result.now c.change.new.self c.args.at here within c.index_mut.ensures.value h ∙ c.reach.ensures.same)
+    c.change.ensures.err

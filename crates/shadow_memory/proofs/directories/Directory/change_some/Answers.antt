@@ -20,7 +20,9 @@ unchanged c =
     c.in_ok-count.ensures.ok ∙ changed-none (cells_under c.args.self.now) (4096 * (c.args.at / 4096)) (4096 * c.in_ok-count.count) (λ i cell. each_of c.args.each cell) none
 
 pub returns-clause-ok : goal.returns-clause-ok
-returns-clause-ok c = IfOk-weaker c.change_page-2.result _ _ (λ n h. h ∙ ap (λ (f : ℕ → Cell). changed_from f c.args.at n (λ i cell. each_of c.args.each cell)) (unchanged c)) c.change_page-2.ensures.ok
+returns-clause-ok c =
+    IfOk-weaker c.change_page-2.result _ _ (λ n h. h ∙ ap (λ (f : ℕ → Cell). changed_from f c.args.at n (λ i cell. each_of c.args.each cell)) (unchanged c))
+    c.change_page-2.ensures.ok
 
 pub returns-clause-err : goal.returns-clause-err
 returns-clause-err c = on_err_weaker c.change_page-2.result (λ h. h ∙ unchanged c) c.change_page-2.ensures.err

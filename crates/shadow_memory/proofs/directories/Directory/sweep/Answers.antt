@@ -18,7 +18,9 @@ returns-then-not-sweep-clause-swept c =
     let at = 4096 * (first + place) in
     let here : at / 4096 ≡ first + place = omega arith in
     let within : place < length pages = omega arith in
-    page-same first place pages c.index_mut.result.now c.sweep.new.self at here within c.index_mut.ensures.value (λ k low. ap (λ (f : ℕ → Cell). f k) (c.sweep.ensures.kept c.if-not-sweep.true)) ∙ c.loop-i.invariant.swept
+    page-same first place pages c.index_mut.result.now c.sweep.new.self at here within c.index_mut.ensures.value
+    (λ k low. ap (λ (f : ℕ → Cell). f k) (c.sweep.ensures.kept c.if-not-sweep.true))
+    ∙ c.loop-i.invariant.swept
 
 pub loop-i-preserved : goal.loop-i-preserved
 unfolding cells_under page_at

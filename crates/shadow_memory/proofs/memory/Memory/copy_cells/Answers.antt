@@ -17,7 +17,8 @@ loop-done-preserved c =
     let within : d + n ≤ c.args.len = omega arith in
     record {
       within = within;
-      cells = copy-joins (cells_of c.args.self.now) (cells_of c.loop-done.self) (cells_of c.copy_some.new.self) c.args.from c.args.to d n c.args.len small long within c.requires c.loop-done.invariant.cells c.in_ok-count.ensures.ok;
+      cells = copy-joins (cells_of c.args.self.now) (cells_of c.loop-done.self) (cells_of c.copy_some.new.self) c.args.from c.args.to d n c.args.len small long
+          within c.requires c.loop-done.invariant.cells c.in_ok-count.ensures.ok;
     }
 
 pub returns-in_err-count-clause-err : goal.returns-in_err-count-clause-err
@@ -28,7 +29,12 @@ returns-in_err-count-clause-err c =
     let long : c.args.len < 2 ^ 32 = omega arith in
     let fewer : front.0 < c.args.len - d = front.1 in
     let within : d + front.0 ≤ c.args.len = omega arith in
-    at_refusal c.from_residual.result (d + front.0, omega arith, copy-joins (cells_of c.args.self.now) (cells_of c.loop-done.self) (cells_of c.copy_some.new.self) c.args.from c.args.to d front.0 c.args.len small long within c.requires c.loop-done.invariant.cells front.2)
+    at_refusal c.from_residual.result (
+      d + front.0,
+      omega arith,
+      copy-joins (cells_of c.args.self.now) (cells_of c.loop-done.self) (cells_of c.copy_some.new.self) c.args.from c.args.to d front.0 c.args.len small long
+          within c.requires c.loop-done.invariant.cells front.2,
+    )
 
 pub loop-done-init : goal.loop-done-init
 loop-done-init c = record {

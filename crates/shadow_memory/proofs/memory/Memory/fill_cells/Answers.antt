@@ -21,7 +21,10 @@ loop-done-preserved c =
     let few : d + n ≤ 2 ^ 32 = omega arith in
     record {
       within = omega arith;
-      cells = page-more (cells_of c.args.self.now) (cells_of c.loop-done.self) (cells_of c.fill_some.new.self) c.args.addr d n at (filled (slice_index c.args.bytes.now)) (filled (slice_index (take (length c.args.bytes.now - m) (drop m c.args.bytes.now)))) small refl page few c.loop-done.invariant.cells c.in_ok-count.ensures.ok (λ i below x. ap (λ b. record { byte = b; accessible = true; undef = 0 }) (rest-read c.args.bytes.now d m i within how));
+      cells = page-more (cells_of c.args.self.now) (cells_of c.loop-done.self) (cells_of c.fill_some.new.self) c.args.addr d n at
+          (filled (slice_index c.args.bytes.now)) (filled (slice_index (take (length c.args.bytes.now - m) (drop m c.args.bytes.now)))) small refl page few
+          c.loop-done.invariant.cells c.in_ok-count.ensures.ok
+          (λ i below x. ap (λ b. record { byte = b; accessible = true; undef = 0 }) (rest-read c.args.bytes.now d m i within how));
     }
 
 pub loop-done-init : goal.loop-done-init

@@ -13,7 +13,8 @@ returns-in-Some c =
     let n = c.count_in_page-count.result in
     let at = above c.args.addr d in
     ap (λ (cell : Cell). Some (record { addr = at - at % 4096 + c.in-Some.found; accessible = cell.accessible })) c.cell-accessible.ensures.value
-    ∙ found-bad (cells_of c.args.self.now) (cells_seen c.view-view.result) c.args.addr d at n c.args.need_defined refl c.count_in_page-count.ensures.one_page c.view-view.ensures c.args.len c.in-Some.found (omega arith) c.in-Some.ensures.some c.loop-done.invariant.fine
+    ∙ found-bad (cells_of c.args.self.now) (cells_seen c.view-view.result) c.args.addr d at n c.args.need_defined refl c.count_in_page-count.ensures.one_page
+    c.view-view.ensures c.args.len c.in-Some.found (omega arith) c.in-Some.ensures.some c.loop-done.invariant.fine
 
 pub loop-done-preserved : goal.loop-done-preserved
 unfolding shadows_in
@@ -23,7 +24,8 @@ loop-done-preserved c =
     let at = above c.args.addr d in
     record {
       within = omega arith;
-      fine = fine-more (cells_of c.args.self.now) (cells_seen c.view-view.result) c.args.addr d at n c.args.need_defined refl c.count_in_page-count.ensures.one_page c.view-view.ensures c.in_default.ensures.none c.loop-done.invariant.fine;
+      fine = fine-more (cells_of c.args.self.now) (cells_seen c.view-view.result) c.args.addr d at n c.args.need_defined refl
+          c.count_in_page-count.ensures.one_page c.view-view.ensures c.in_default.ensures.none c.loop-done.invariant.fine;
     }
 
 pub returns : goal.returns

@@ -11,7 +11,8 @@ returns-in-Some-clause-some c =
     let start = c.loop-page.page * 4096 in
     let page : start % 4096 ≡ 0 = omega arith in
     let here : 4096 * c.loop-page.page + c.loop-page.from ≡ start + c.loop-page.from = omega arith in
-    found-in-page (cells_of c.args.self.now) (cells_seen c.view.result) start page c.view.ensures c.args.addr c.loop-page.from c.in-Some.place c.in-Some.ensures.some c.in-Some.ensures.inside (omega arith)
+    found-in-page (cells_of c.args.self.now) (cells_seen c.view.result) start page c.view.ensures c.args.addr c.loop-page.from c.in-Some.place
+    c.in-Some.ensures.some c.in-Some.ensures.inside (omega arith)
     (subst (λ (to : ℕ). HoldNoWord (shadows_in c.args.self.now) c.args.addr to) here c.loop-page.invariant.none)
 
 pub loop-page-preserved : goal.loop-page-preserved

@@ -10,7 +10,10 @@ loop-i-preserved c =
     let small : c.args.addr < 2 ^ 32 = omega arith in
     let few : c.loop-i.i < 2 ^ 32 = omega arith in
     record {
-      bytes = c.in_ok-poke.ensures.bytes ∙ byte-more (bytes_in c.args.self.now) (bytes_in c.loop-i.self) c.args.addr c.loop-i.i (byte_of c.args.word) _ small few c.loop-i.invariant.bytes c.byte_at.ensures;
+      bytes =
+          c.in_ok-poke.ensures.bytes
+          ∙ byte-more (bytes_in c.args.self.now) (bytes_in c.loop-i.self) c.args.addr c.loop-i.i (byte_of c.args.word) _ small few c.loop-i.invariant.bytes
+          c.byte_at.ensures;
       shadows = c.in_ok-poke.ensures.shadows ∙ c.loop-i.invariant.shadows;
     }
 

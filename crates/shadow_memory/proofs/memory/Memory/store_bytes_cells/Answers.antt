@@ -23,7 +23,9 @@ loop-done-preserved c =
     let made = c.in_ok-change.ensures.ok ∙ ap (λ k. changed_from (cells_of c.loop-done.self) at k (received (slice_index (take (d + n - d) (drop d xs))))) same in
     record {
       within = omega arith;
-      cells = page-more (cells_of c.args.self.now) (cells_of c.loop-done.self) (cells_of c.change.new.self) c.args.addr d n at (received (slice_index xs)) (received (slice_index (take (d + n - d) (drop d xs)))) small refl page few c.loop-done.invariant.cells made
+      cells =
+          page-more (cells_of c.args.self.now) (cells_of c.loop-done.self) (cells_of c.change.new.self) c.args.addr d n at (received (slice_index xs))
+          (received (slice_index (take (d + n - d) (drop d xs)))) small refl page few c.loop-done.invariant.cells made
           (λ i below x. ap (λ b. record { byte = b; accessible = x.accessible; undef = if x.accessible then 0 else x.undef }) (part-read xs d n i below));
     }
 

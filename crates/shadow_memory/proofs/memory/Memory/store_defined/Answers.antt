@@ -12,7 +12,8 @@ pub returns-then-put-clause-ok : goal.returns-then-put-clause-ok
 returns-then-put-clause-ok c =
     let small : c.args.addr < 2 ^ 32 = omega arith in
     let long : length c.word_bytes-bytes.result ≡ 4 = omega arith in
-    store-word (cells_of c.args.self.now) (cells_of c.put.new.self) c.args.addr c.args.n c.args.value c.word_bytes-bytes.result small c.requires.one_page c.requires.width long c.word_bytes-bytes.ensures (c.put.ensures.done c.if-put.true)
+    store-word (cells_of c.args.self.now) (cells_of c.put.new.self) c.args.addr c.args.n c.args.value c.word_bytes-bytes.result small c.requires.one_page
+    c.requires.width long c.word_bytes-bytes.ensures (c.put.ensures.done c.if-put.true)
 
 pub returns-clause-ok : goal.returns-clause-ok
 unfolding count_of change_of
@@ -21,7 +22,9 @@ returns-clause-ok c =
     let long : length c.word_bytes-bytes.result ≡ 4 = omega arith in
     let bytes = take c.args.n c.word_bytes-bytes.result in
     let same = ap (λ (f : ℕ → Cell). changed_from f c.args.addr (length bytes) (received (slice_index bytes))) (c.put.ensures.kept c.if-put.false) in
-    on_ok_weaker c.change.result (λ h. store-word (cells_of c.args.self.now) (cells_of c.change.new.self) c.args.addr c.args.n c.args.value c.word_bytes-bytes.result small c.requires.one_page c.requires.width long c.word_bytes-bytes.ensures (h ∙ same)) c.change.ensures.ok
+    on_ok_weaker c.change.result (λ h. store-word (cells_of c.args.self.now) (cells_of c.change.new.self) c.args.addr c.args.n c.args.value
+    c.word_bytes-bytes.result small c.requires.one_page c.requires.width long c.word_bytes-bytes.ensures (h ∙ same))
+    c.change.ensures.ok
 
 pub returns-clause-err : goal.returns-clause-err
 returns-clause-err c = on_err_weaker c.change.result (λ h. h ∙ c.put.ensures.kept c.if-put.false) c.change.ensures.err

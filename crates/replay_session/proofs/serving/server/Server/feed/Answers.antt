@@ -9,7 +9,8 @@ loop-byte-init g c sc h = fed-none sc _ _ h
 pub returns-then-over-clause-over : goal.returns-then-over-clause-over
 returns-then-over-clause-over g c = λ e sc h.
     let fed = c.loop-byte.invariant sc h in
-    over-in sc _ c.loop-byte.self _ _ (g.W.Write.contents c.loop-byte.writer) _ c.args.bytes.now c.loop-byte.byte-index (omega arith) fed (c.in_ok-over.ensures.over (ap Ok c.if-over.true) fed.after fed.has)
+    over-in sc _ c.loop-byte.self _ _ (g.W.Write.contents c.loop-byte.writer) _ c.args.bytes.now c.loop-byte.byte-index (omega arith) fed
+    (c.in_ok-over.ensures.over (ap Ok c.if-over.true) fed.after fed.has)
 
 pub returns-in_err-over-clause-broken : goal.returns-in_err-over-clause-broken
 returns-in_err-over-clause-broken g c = at_refusal c.from_residual.result (λ sc h.
@@ -19,4 +20,5 @@ returns-in_err-over-clause-broken g c = at_refusal c.from_residual.result (λ sc
 pub loop-byte-preserved : goal.loop-byte-preserved
 loop-byte-preserved g c sc h =
     let fed = c.loop-byte.invariant sc h in
-    fed-in sc _ c.loop-byte.self _ _ (g.W.Write.contents c.loop-byte.writer) _ c.args.bytes.now c.loop-byte.byte-index (omega arith) fed (c.in_ok-over.ensures.fed (ap Ok c.if-over.false) fed.after fed.has)
+    fed-in sc _ c.loop-byte.self _ _ (g.W.Write.contents c.loop-byte.writer) _ c.args.bytes.now c.loop-byte.byte-index (omega arith) fed
+    (c.in_ok-over.ensures.fed (ap Ok c.if-over.false) fed.after fed.has)
