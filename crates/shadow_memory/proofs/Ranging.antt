@@ -1,5 +1,5 @@
 -- Searches for a word whose value lies in a range, from page to page.
-use Rattle.std.proofs.Common.{◌≡◌, ℕ, Bool, true, false, not, ◌&&◌, refl, ap, ap₂, sym, ◌∙◌, ◌+◌, ◌-◌, ◌*◌, ◌/◌, ◌%◌, ◌<◌, ◌≤◌, inl, inr, nat_le, nat_lt, arith}
+use Rattle.std.proofs.Common.{◌≡◌, ℕ, Bool, true, false, not, ◌&&◌, refl, ap, ap₂, sym, ◌∙◌, ◌+◌, ◌-◌, ◌*◌, ◌/◌, ◌%◌, ◌<◌, ◌≤◌, inl, inr, IsFalse, nat_le, nat_lt, arith}
 use Rattle.std.proofs.lemmas.Bool.{cases_lt, false≢true}
 use Rattle.std.proofs.lemmas.Bool.Decides.{nat_tests}
 use Rattle.shadow_memory.specs.Cells.{shadow_in}
@@ -56,6 +56,14 @@ highest-above byte low high h = later-false (nat_le low (little_word byte)) (nat
     later-false : (p q : Bool) → q ≡ false → (p && q) ≡ false
     later-false false q e = refl
     later-false true q e = e
+
+-- both of two tests of the highest byte, of which one fails
+pub highest-outside : (byte : ℕ → ℕ) (low high least : ℕ) → byte 0 < 256 → byte 1 < 256 → byte 2 < 256 → least ≡ byte 3 * 16777216 → IsFalse (nat_le (low / 16777216) (byte 3) && nat_lt least high)
+    → (nat_le low (little_word byte) && nat_lt (little_word byte) high) ≡ false
+highest-outside byte low high least first second third is fails = elim (cases_lt (byte 3) (low / 16777216)) [
+  | inl less ↦ highest-below byte low high first second third less
+  | inr more ↦ highest-above byte low high (grind (arith, nat_tests, fails, more, is))
+]
 
 bad-first : (b p q r : Bool) → b ≡ true → (not b && p && q && r) ≡ false
 bad-first true p q r h = refl

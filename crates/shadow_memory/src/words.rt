@@ -61,7 +61,10 @@ pub(crate) fn may_lie_within(bytes: &[u8], low: u32, high: u64) -> bool
     ensures { IsFalse result → (nat_le low (little_word (slice_index bytes.now)) && nat_lt (little_word (slice_index bytes.now)) high) ≡ false }
 {
     let highest = bytes[3];
-    low / HIGHEST <= u32::from(highest) && u64::from(highest) * u64::from(HIGHEST) < high
+    let reaches = low / HIGHEST <= u32::from(highest);
+    let begins = u64::from(highest) * u64::from(HIGHEST) < high;
+    // Both are computed: on random data two jumps are mispredicted more often than one.
+    reaches & begins
 }
 
 // The undefined bits that a load takes of a cell.
