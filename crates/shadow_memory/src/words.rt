@@ -20,6 +20,7 @@ pub(crate) const ABSENT: Cell = Cell {
 const HIGHEST: u32 = 1 << 24;
 
 /// Byte i of a word, from the low end.
+#[inline(always)]
 #[tactic(auto, unfolding(crate::specs::Ranges::byte_of))]
 pub(crate) fn byte_at(word: u32, i: u32) -> u8
     requires { i < 4 }
@@ -35,6 +36,7 @@ pub(crate) fn byte_at(word: u32, i: u32) -> u8
 }
 
 /// The bytes of a word, the lowest first.
+#[inline(always)]
 pub(crate) fn word_bytes(word: u32) -> [u8; 4]
     ensures { (i : ℕ) → i < 4 → slice_index result i ≡ byte_of word i }
 {
@@ -47,6 +49,7 @@ pub(crate) fn word_bytes(word: u32) -> [u8; 4]
 }
 
 /// The number of four bytes, the lowest first.
+#[inline(always)]
 #[tactic(auto, unfolding(crate::specs::Ranges::little_word))]
 pub(crate) fn word(first: u8, second: u8, third: u8, fourth: u8) -> u32
     ensures { result ≡ little_word (four first second third fourth) }
