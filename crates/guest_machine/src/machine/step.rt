@@ -227,7 +227,7 @@ impl Guest {
         ensures writes { IfOk result (λ used. used.writes ≡ (uses_by self.old (row_of word.value) setup.now).writes) }
     {
         let stack_pointer = self.read_register(Register::new(2));
-        self.raise_unless(word.undef == 0, Kind::Value)?;
+        self.test_word(word.undef)?;
         let used = self.carry_out(setup, row_of(word.value))?;
         self.stack_rule(stack_pointer)?;
         Ok(used)
