@@ -23,8 +23,7 @@ impl Guest {
     pub(super) fn read_register(&self, r: Register) -> Bits
         ensures { result ≡ register (core_of self.now) r }
     {
-        let i = r.number();
-        if i == 0 { known(0) } else { self.registers[i] }
+        self.registers[r.number()]
     }
 
     #[inline(always)]
