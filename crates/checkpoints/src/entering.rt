@@ -147,9 +147,10 @@ impl FirstUses {
     {
         match self.place_of(word) {
             Place::At(place) => {
-                let first = self.steps[place].min(step);
-                self.entered = self.entered.max(step.saturating_add(1));
-                self.steps[place] = first;
+                if step < self.steps[place] {
+                    self.entered = self.entered.max(step.saturating_add(1));
+                    self.steps[place] = step;
+                }
                 1
             }
             Place::NoneBelow(end) => end.saturating_sub(word).min(most),

@@ -1,7 +1,8 @@
 -- From what is done to a guest, to the states that it holds.
-use Rattle.std.proofs.Common.{◌≡◌, ℕ, ap, sym, refl, ◌∙◌, ◌+◌, List, [], ◌∷◌, ◌++◌, length, length-append}
+use Rattle.std.proofs.Common.{◌≡◌, ℕ, ap, sym, refl, ◌∙◌, ◌+◌, List, [], ◌∷◌, ◌++◌, length, length-append, slice_index_or}
 use Rattle.std.proofs.lemmas.List.FromFn.{length-map-range_with_len}
 use Rattle.guest_machine.specs.State.{State}
+use Rattle.guest_machine.specs.Registers.{known}
 use Rattle.guest_machine.specs.Calls.{bytes_taken}
 use Rattle.shadow_memory.specs.Shadows.{made_so}
 use Rattle.shadow_memory.specs.Ranges.{written, byte_of}
@@ -71,9 +72,9 @@ touched_exec old setup t e s h = ap has_touched e ∙ (λ i. has_touched (touche
 
 -- a guest with a range made so
 pub holds-marked : (m : Guest) (memory : Memory) (mark : Mark) → bytes_in memory ≡ bytes_in m.memory → shadows_in memory ≡ made_so (shadows_in m.memory) mark.addr mark.len mark.kind
-    → (s : State) → Holds m s → Holds (record m { memory = memory }) (marked s mark)
+    → (zero : slice_index_or m.registers 0 (known 0) ≡ known 0) (s : State) → Holds m s → Holds (record m { memory = memory; zero = zero }) (marked s mark)
 unfolding marked
-holds-marked m memory mark b c s h =
+holds-marked m memory mark b c zero s h =
     record {
       bytes = b ∙ h.bytes;
       core = (λ i. record { shadow = c i; registers = m.registers; pc = m.pc; status = m.status; frames = m.frames; blocks = blocks_of m.heap })
@@ -87,9 +88,9 @@ holds-marked m memory mark b c s h =
 
 -- a guest with four byte values written
 pub holds-poked : (m : Guest) (memory : Memory) (addr word : ℕ) → bytes_in memory ≡ written (bytes_in m.memory) addr 4 (byte_of word) → shadows_in memory ≡ shadows_in m.memory
-    → (s : State) → Holds m s → Holds (record m { memory = memory }) (poked s addr word)
+    → (zero : slice_index_or m.registers 0 (known 0) ≡ known 0) (s : State) → Holds m s → Holds (record m { memory = memory; zero = zero }) (poked s addr word)
 unfolding poked
-holds-poked m memory addr word b c s h =
+holds-poked m memory addr word b c zero s h =
     record {
       bytes = b ∙ ap (λ f. written f addr 4 (byte_of word)) h.bytes;
       core = (λ i. record { shadow = c i; registers = m.registers; pc = m.pc; status = m.status; frames = m.frames; blocks = blocks_of m.heap }) ∙ h.core;

@@ -1,5 +1,5 @@
 -- The machine at the start shows the start.
-use Rattle.std.proofs.Common.{false, ◌≡◌, ℕ, refl, ap, ap₂, ◌∙◌, List, [], slice_index, replicate}
+use Rattle.std.proofs.Common.{false, ◌≡◌, ℕ, refl, ap, ap₂, ◌∙◌, List, [], slice_index, slice_index_or, replicate}
 use Rattle.std.specs.Prelude.{slice_set}
 use Rattle.std.proofs.Math.Path.{fun_ext}
 use Rattle.definedness.specs.declared.Bits.{Bits}
@@ -30,6 +30,7 @@ pub holds-start : (alloc : Global) (image : Image) (fresh loaded memory : Memory
     → bytes_in loaded ≡ loaded_bytes segments (bytes_in fresh) → shadows_in loaded ≡ loaded_shadows segments (shadows_in fresh)
     → bytes_in memory ≡ written (bytes_in loaded) stack_start 16 (slice_index []) → shadows_in memory ≡ made_so (shadows_in loaded) stack_start 16 Defined
     → segments ≡ segments_of image → pc ≡ entry_of image → zeros ≡ known 0 → top ≡ known stack_start → groups_of groups ≡ [] → frames ≡ [] → blocks_of heap ≡ no_blocks
+    → (zero : slice_index_or (slice_set (replicate 32 zeros) 2 top) 0 (known 0) ≡ known 0)
     → Holds (record {
       alloc = alloc;
       memory = memory;
@@ -40,10 +41,11 @@ pub holds-start : (alloc : Global) (image : Image) (fresh loaded memory : Memory
       heap = heap;
       progress = record { position = 0; end_seen = false; output_len = 0; heap_calls = 0 };
       groups = groups;
+      zero = zero;
     })
     (start_state image)
 unfolding start_state loaded_bytes loaded_shadows loaded_at grouped firsts_after
-holds-start alloc image fresh loaded memory groups frames heap segments pc zeros top b0 s0 b1 s1 b2 s2 same at z t g calls none =
+holds-start alloc image fresh loaded memory groups frames heap segments pc zeros top b0 s0 b1 s1 b2 s2 same at z t g calls none zero =
     record {
       bytes = b2 ∙ ap₂ (λ f m. written f stack_start 16 m) (b1 ∙ ap₂ loaded_bytes same b0) (fun_ext (λ i. refl));
       core = λ i. record {

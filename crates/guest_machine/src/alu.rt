@@ -12,6 +12,7 @@ use definedness::{
     undef_shift, undef_sub, undef_wide, undef_xor,
 };
 
+#[inline(always)]
 #[tactic(auto, unfolding(crate::specs::Alu::undef_of))]
 fn undef_of(operation: Operation, x: Bits, y: Bits) -> u32
     ensures { result ≡ undef_of operation x y }
@@ -38,12 +39,14 @@ fn undef_of(operation: Operation, x: Bits, y: Bits) -> u32
 }
 
 /// 1 for true.
+#[inline(always)]
 fn number_of(holds: bool) -> u32
     ensures { result ≡ number_of holds }
 {
     if holds { 1 } else { 0 }
 }
 
+#[inline(always)]
 #[tactic(auto, unfolding(definedness::specs::Operations::less_signed))]
 fn less_signed(x: u32, y: u32) -> bool
     ensures { result ≡ less_signed x y }
@@ -51,6 +54,7 @@ fn less_signed(x: u32, y: u32) -> bool
     x.cast_signed() < y.cast_signed()
 }
 
+#[inline(always)]
 #[tactic(auto, unfolding(definedness::specs::Operations::shift_of))]
 fn shifted(shift: Shift, x: u32, amount: u32) -> u32
     ensures { result ≡ shift_of shift x amount }
@@ -66,6 +70,7 @@ fn shifted(shift: Shift, x: u32, amount: u32) -> u32
 }
 
 /// The upper half of a product of 64 bits.
+#[inline(always)]
 fn upper_word(product: i64) -> u32
     ensures { result ≡ upper_word product }
 {
@@ -73,6 +78,7 @@ fn upper_word(product: i64) -> u32
 }
 
 /// The upper half of the product of two signed numbers.
+#[inline(always)]
 #[tactic(auto, unfolding(definedness::specs::Operations::mulh_of))]
 fn mulh(x: u32, y: u32) -> u32
     ensures { result ≡ mulh_of x y }
@@ -81,6 +87,7 @@ fn mulh(x: u32, y: u32) -> u32
 }
 
 /// The upper half of the product of a signed and an unsigned number.
+#[inline(always)]
 #[tactic(auto, unfolding(definedness::specs::Operations::mulhsu_of))]
 fn mulhsu(x: u32, y: u32) -> u32
     ensures { result ≡ mulhsu_of x y }
@@ -89,6 +96,7 @@ fn mulhsu(x: u32, y: u32) -> u32
 }
 
 /// The upper half of the product of two unsigned numbers.
+#[inline(always)]
 #[tactic(auto, unfolding(definedness::specs::Operations::mulhu_of))]
 fn mulhu(x: u32, y: u32) -> u32
     ensures { result ≡ mulhu_of x y }
@@ -97,6 +105,7 @@ fn mulhu(x: u32, y: u32) -> u32
 }
 
 /// The signed quotient, rounded towards zero; all ones by zero.
+#[inline(always)]
 #[tactic(auto, unfolding(definedness::specs::Operations::div_of))]
 fn div(x: u32, y: u32) -> u32
     ensures { result ≡ div_of x y }
@@ -110,6 +119,7 @@ fn div(x: u32, y: u32) -> u32
 }
 
 /// The signed remainder, with the sign of the dividend; the dividend by zero.
+#[inline(always)]
 #[tactic(auto, unfolding(definedness::specs::Operations::rem_of))]
 fn rem(x: u32, y: u32) -> u32
     ensures { result ≡ rem_of x y }
@@ -122,6 +132,7 @@ fn rem(x: u32, y: u32) -> u32
         .cast_unsigned()
 }
 
+#[inline(always)]
 #[tactic(auto, unfolding(crate::specs::Alu::value_of, definedness::specs::Operations::add_of, definedness::specs::Operations::sub_of, definedness::specs::Operations::mul_of, definedness::specs::Operations::and_of, definedness::specs::Operations::or_of, definedness::specs::Operations::xor_of, definedness::specs::Operations::divu_of, definedness::specs::Operations::remu_of, definedness::specs::Operations::less_unsigned))]
 fn value_of(operation: Operation, x: u32, y: u32) -> u32
     ensures { result ≡ value_of operation x y }
@@ -149,6 +160,7 @@ fn value_of(operation: Operation, x: u32, y: u32) -> u32
 }
 
 /// The result of an operation, with its undefined bits.
+#[inline(always)]
 #[tactic(auto, unfolding(crate::specs::Alu::computed))]
 pub(crate) fn computed(operation: Operation, x: Bits, y: Bits) -> Bits
     ensures { result ≡ computed operation x y }
@@ -160,6 +172,7 @@ pub(crate) fn computed(operation: Operation, x: Bits, y: Bits) -> Bits
 }
 
 /// Whether a branch is taken.
+#[inline(always)]
 #[tactic(auto, unfolding(crate::specs::Alu::passes, definedness::specs::Operations::less_unsigned))]
 pub(crate) fn passes(comparison: Comparison, x: u32, y: u32) -> bool
     ensures { result ≡ passes comparison x y }
@@ -175,6 +188,7 @@ pub(crate) fn passes(comparison: Comparison, x: u32, y: u32) -> bool
 }
 
 /// Whether a branch depends on undefined bits.
+#[inline(always)]
 #[tactic(auto, unfolding(crate::specs::Alu::is_undecided))]
 pub(crate) fn is_undecided(comparison: Comparison, x: Bits, y: Bits) -> bool
     ensures { result ≡ is_undecided comparison x y }
@@ -189,6 +203,7 @@ pub(crate) fn is_undecided(comparison: Comparison, x: Bits, y: Bits) -> bool
 }
 
 /// What a load puts in a register: the number of its bytes, its sign repeated upwards where the load is signed.
+#[inline(always)]
 #[tactic(auto, unfolding(crate::specs::Alu::extended))]
 pub(crate) fn extended(width: Width, signed: bool, x: u32) -> u32
     requires { x < width_limit width }

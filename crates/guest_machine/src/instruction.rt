@@ -108,6 +108,7 @@ struct Operands {
 impl Operands {
     ghost use Rattle.std.specs.Prelude.{◌≡◌};
 
+    #[inline(always)]
     fn branch(self, comparison: Comparison) -> Instruction
         ensures { result ≡ Instruction.Branch comparison self.rs1 self.rs2 self.imm }
     {
@@ -120,6 +121,7 @@ impl Operands {
         }
     }
 
+    #[inline(always)]
     fn load(self, width: Width, signed: bool) -> Instruction
         ensures { result ≡ Instruction.Load width signed self.rd self.rs1 self.imm }
     {
@@ -133,6 +135,7 @@ impl Operands {
         }
     }
 
+    #[inline(always)]
     fn store(self, width: Width) -> Instruction
         ensures { result ≡ Instruction.Store width self.rs1 self.rs2 self.imm }
     {
@@ -145,6 +148,7 @@ impl Operands {
         }
     }
 
+    #[inline(always)]
     fn immediate(self, operation: Operation) -> Instruction
         ensures { result ≡ Instruction.Immediate operation self.rd self.rs1 self.imm }
     {
@@ -157,6 +161,7 @@ impl Operands {
         }
     }
 
+    #[inline(always)]
     fn registers(self, operation: Operation) -> Instruction
         ensures { result ≡ Instruction.Registers operation self.rd self.rs1 self.rs2 }
     {
@@ -171,6 +176,7 @@ impl Operands {
 }
 
 /// The instruction of a row of the table.
+#[inline(always)]
 #[tactic(auto, unfolding(crate::specs::Instructions::instruction_of))]
 fn instruction_of(insn: Insn) -> Instruction
     requires rd { insn.rd < 32 }
@@ -236,6 +242,7 @@ fn instruction_of(insn: Insn) -> Instruction
 }
 
 /// The instruction of a word, if it is one.
+#[inline(always)]
 #[tactic(auto, unfolding(crate::specs::Instructions::row_of))]
 pub(crate) fn row_of(word: u32) -> Option<Instruction>
     ensures { result ≡ row_of word }

@@ -1,4 +1,7 @@
 //! The machine: what it keeps, and (in the modules below) what is done to it.
+ghost use Rattle.std.specs.Prelude.{◌≡◌, slice_index_or};
+ghost use Rattle.guest_machine.specs.Registers.{known};
+
 mod between;
 mod calls;
 mod checks;
@@ -46,4 +49,6 @@ pub(crate) struct Guest {
     heap: Heap,
     progress: Progress,
     groups: Groups,
+    // x0 is 0, so that a read tests nothing.
+    ghost zero: { slice_index_or registers 0 (known 0) ≡ known 0 },
 }

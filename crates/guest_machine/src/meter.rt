@@ -31,6 +31,7 @@ impl Meter {
         self.steps
     }
 
+    #[inline(always)]
     pub(crate) fn rise(&mut self)
         ensures { self.new ≡ min (self.old + 1) u64.MAX }
     {

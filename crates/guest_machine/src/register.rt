@@ -22,6 +22,7 @@ impl Model for Register {
 
 impl Register {
     /// x`number`, for a number below 32.
+    #[inline(always)]
     pub fn new(number: u8) -> Self
         requires { number < 32 }
         ensures { result ≡ number }
@@ -29,6 +30,7 @@ impl Register {
         Register { number }
     }
 
+    #[inline(always)]
     pub(crate) fn number(self) -> usize
         ensures value { result ≡ self }
         ensures small { result < 32 }

@@ -112,16 +112,17 @@ pub enum Op {
 pub struct Insn {
     /// The operation.
     pub op: Op,
+    // Before the registers: with them in front an instruction has eight bytes, which would be moved as one number, and taken apart.
+    /// The immediate modulo 2^32, its sign repeated upwards; of a shift, the amount, below 32.
+    /// LUI and AUIPC have the upper 20 bits in their places. Jumps and branches have a distance
+    /// in bytes (section 2.3).
+    pub imm: u32,
     /// The number of the destination register, below 32.
     pub rd: u8,
     /// The number of the first source register, below 32.
     pub rs1: u8,
     /// The number of the second source register, below 32.
     pub rs2: u8,
-    /// The immediate modulo 2^32, its sign repeated upwards; of a shift, the amount, below 32.
-    /// LUI and AUIPC have the upper 20 bits in their places. Jumps and branches have a distance
-    /// in bytes (section 2.3).
-    pub imm: u32,
 }
 
 /// The jump to an address in a register.

@@ -1,5 +1,5 @@
 -- Searches for a word whose value lies in a range, from page to page.
-use Rattle.std.proofs.Common.{◌≡◌, ℕ, Bool, true, false, not, ◌&&◌, refl, ap, ap₂, sym, ◌∙◌, ◌+◌, ◌-◌, ◌*◌, ◌/◌, ◌%◌, ◌<◌, ◌≤◌, inl, inr, nat_le, nat_lt, arith}
+use Rattle.std.proofs.Common.{◌≡◌, ℕ, Bool, true, false, not, ◌&&◌, refl, ap, ap₂, sym, ◌∙◌, ◌+◌, ◌-◌, ◌*◌, ◌/◌, ◌%◌, ◌^◌, ◌<◌, ◌≤◌, inl, inr, IsFalse, nat_le, nat_lt, arith}
 use Rattle.std.proofs.lemmas.Bool.{cases_lt, false≢true}
 use Rattle.std.proofs.lemmas.Bool.Decides.{nat_tests}
 use Rattle.shadow_memory.specs.Cells.{shadow_in}
@@ -57,6 +57,17 @@ highest-above byte low high h = later-false (nat_le low (little_word byte)) (nat
     later-false : (p q : Bool) → q ≡ false → (p && q) ≡ false
     later-false false q e = refl
     later-false true q e = e
+
+-- a highest byte that isn't among so many from the least one on, by one comparison round the end
+pub highest-outside : (byte : ℕ → ℕ) (low high highest least count : ℕ) → low < 2 ^ 32 → byte 0 < 256 → byte 1 < 256 → byte 2 < 256 → byte 3 < 256 → highest ≡ byte 3 → least ≡ low / 16777216 → count ≡ high / 16777216 + 1 - least
+    → IsFalse (nat_lt ((highest + (2 ^ 64 - least)) % 2 ^ 64) count) → (nat_le low (little_word byte) && nat_lt (little_word byte) high) ≡ false
+highest-outside byte low high highest least count word first second third fourth is least-is count-is fails = elim (cases_lt (byte 3) (low / 16777216)) [
+  | inl less ↦ highest-below byte low high first second third less
+  | inr more ↦ (
+      let far : count ≤ (highest + (2 ^ 64 - least)) % 2 ^ 64 = grind (arith, nat_tests, fails) in
+      highest-above byte low high (omega (arith, word, fourth, is, least-is, count-is, more, far))
+      )
+]
 
 bad-first : (b p q r : Bool) → b ≡ true → (not b && p && q && r) ≡ false
 bad-first true p q r h = refl

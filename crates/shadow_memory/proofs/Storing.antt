@@ -1,11 +1,15 @@
 -- A word stored in one page is a range of stored bytes.
-use Rattle.std.proofs.Common.{◌≡◌, ℕ, List, length, take, slice_index, ap, sym, ◌∙◌, ◌+◌, ◌%◌, ◌^◌, ◌<◌, ◌≤◌, if◌then◌else◌, arith}
+use Rattle.std.proofs.Common.{◌≡◌, ℕ, List, length, take, slice_index, ap, sym, ◌∙◌, ◌+◌, ◌%◌, ◌^◌, ◌<◌, ◌≤◌, true, not, None, inl, inr, if◌then◌else◌, arith}
 use Rattle.std.proofs.lemmas.List.{get_or-take, length-take-le}
 use Rattle.shadow_memory.specs.Places.{changed_from}
-use Rattle.shadow_memory.specs.Changes.{received, stored}
+use Rattle.shadow_memory.specs.Changes.{received, stored, IsWidth}
+use Rattle.shadow_memory.specs.Memories.{cells_of, shadows_in}
 use Rattle.shadow_memory.specs.Ranges.{above, byte_of, changed_in}
+use Rattle.shadow_memory.specs.Shadows.{address_at, first_inaccessible}
 use Rattle.shadow_memory.specs.declared.cells.Cell.{Cell}
+use Rattle.shadow_memory.specs.declared.memory.Memory.{Memory}
 use Rattle.shadow_memory.proofs.Growing.{page-more, range-empty}
+use Rattle.shadow_memory.proofs.Searching.{first_from-none}
 use Rattle.shadow_memory.proofs.Seen.{zero-byte}
 
 same-stored : (x : Cell) (a b p q : ℕ) → a ≡ b → p ≡ q
@@ -28,3 +32,18 @@ store-word old new addr n value bytes small page few long is made =
     let next : 0 + i ≡ i = omega arith in
     same-stored x _ _ 0 _ (get_or-take n bytes i 0 below ∙ is i (omega arith) ∙ ap (byte_of value) (sym next)) (sym (zero-byte (0 + i))))
     ∙ ap (λ k. changed_in old addr k change) from-none
+
+-- an access has four bytes at most
+pub at-most-four : (n : ℕ) → IsWidth n → n ≤ 4
+at-most-four n (inl one) = omega (arith, one)
+at-most-four n (inr (inl two)) = omega (arith, two)
+at-most-four n (inr (inr four)) = omega (arith, four)
+
+-- of bytes of one page that are all accessible none is the first inaccessible one
+pub all-accessible : (memory : Memory) (addr n : ℕ) → addr < 2 ^ 32 → addr % 4096 + n ≤ 4096 → ((k : ℕ) → addr ≤ k → k < addr + n → (cells_of memory k).accessible ≡ true)
+    → first_inaccessible (shadows_in memory) addr n ≡ None
+unfolding first_inaccessible shadows_in
+all-accessible memory addr n small page all =
+    ap (address_at addr) (first_from-none (λ i. not (cells_of memory (above addr i)).accessible) 0 n (λ k below.
+    let here : above addr (0 + k) ≡ addr + k = omega arith in
+    ap (λ a. not (cells_of memory a).accessible) here ∙ ap not (all (addr + k) (omega arith) (omega arith))))

@@ -1,5 +1,5 @@
 //! Loads and stores of words, and changes of bytes from outside the program.
-ghost use Rattle.std.specs.Prelude.{◌≡◌, ℕ, ◌+◌, ◌*◌, ◌%◌, ◌^◌, ◌<◌, ◌≤◌, IfOk, OnOk, OnErr};
+ghost use Rattle.std.specs.Prelude.{◌≡◌, ℕ, ◌+◌, ◌*◌, ◌%◌, ◌^◌, ◌<◌, ◌≤◌, None, IfOk, IsTrue, IsFalse, OnOk, OnErr};
 ghost use Rattle.shadow_memory.specs.Cells.{set_at};
 ghost use Rattle.shadow_memory.specs.Ranges.{above, byte_of, changed_in, little_word, window, written};
 ghost use Rattle.shadow_memory.specs.Shadows.{loaded_undef, stored_undef, first_inaccessible};
@@ -76,7 +76,39 @@ impl Memory {
 
     /// Stores the low n bytes of a number with its undefined bits, and answers the first inaccessible address; n is 1, 2 or 4. An
     /// inaccessible byte takes its value and stays inaccessible. A refusal leaves a front of them stored.
+    #[inline(always)]
     pub fn store(&mut self, addr: u32, n: u32, bits: Bits) -> Result<Option<u32>, AllocError>
+        requires { IsWidth n }
+        ensures bad { IfOk result (λ bad. bad ≡ first_inaccessible (shadows_in self.old) addr n) }
+        ensures bytes { OnOk result (bytes_in self.new ≡ written (bytes_in self.old) addr n (byte_of bits.value)) }
+        ensures shadows { OnOk result (shadows_in self.new ≡ stored_undef (shadows_in self.old) addr n bits.undef) }
+        ensures err { OnErr result (SomeFront n (λ k. HasStored self.old self.new addr k bits)) }
+    {
+        if self.put_word(addr, n, bits) {
+            return Ok(None);
+        }
+        self.store_anywhere(addr, n, bits)
+    }
+
+    // The same by one look-up, which takes no memory: of defined bits in one page, if no other memory has it, and what is there is
+    // all accessible and defined. Says whether it did.
+    #[inline(always)]
+    fn put_word(&mut self, addr: u32, n: u32, bits: Bits) -> bool
+        requires { IsWidth n }
+        ensures done { IsTrue result → cells_of self.new ≡ changed_in (cells_of self.old) addr n (stored bits) }
+        ensures whole { IsTrue result → None ≡ first_inaccessible (shadows_in self.old) addr n }
+        ensures kept { IsFalse result → cells_of self.new ≡ cells_of self.old }
+    {
+        if bits.undef != 0 || addr as usize % PAGE + n as usize > PAGE {
+            return false;
+        }
+        let bytes = word_bytes(bits.value);
+        self.put(addr, &bytes[..n as usize])
+    }
+
+    // The same by a look-up for the answer, and others to store.
+    #[inline(never)]
+    fn store_anywhere(&mut self, addr: u32, n: u32, bits: Bits) -> Result<Option<u32>, AllocError>
         requires { IsWidth n }
         ensures bad { IfOk result (λ bad. bad ≡ first_inaccessible (shadows_in self.old) addr n) }
         ensures bytes { OnOk result (bytes_in self.new ≡ written (bytes_in self.old) addr n (byte_of bits.value)) }
@@ -88,7 +120,7 @@ impl Memory {
         Ok(bad)
     }
 
-    // The same, of cells: by one look-up, where they lie in one page and are stored defined.
+    // The same, of cells: by one change, where they lie in one page and are stored defined.
     fn store_at(&mut self, addr: u32, n: u32, bits: Bits) -> Result<(), AllocError>
         requires { IsWidth n }
         ensures ok { OnOk result (cells_of self.new ≡ changed_in (cells_of self.old) addr n (stored bits)) }
@@ -110,11 +142,7 @@ impl Memory {
         ensures err { OnErr result (cells_of self.new ≡ cells_of self.old) }
     {
         let bytes = word_bytes(value);
-        let bytes = &bytes[..n as usize];
-        if self.put(addr, bytes) {
-            return Ok(());
-        }
-        self.change(addr, &Edit::Store(bytes))
+        self.change(addr, &Edit::Store(&bytes[..n as usize]))
     }
 
     // Stores cell by cell.

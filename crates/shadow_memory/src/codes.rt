@@ -206,6 +206,7 @@ impl Codes {
     }
 
     /// Is each number, from one place up to, not with, another, that of a defined byte?
+    #[inline(always)]
     pub(crate) fn are_defined(&self, from: usize, to: usize) -> bool
         requires order { from ≤ to }
         requires within { to ≤ 4096 }

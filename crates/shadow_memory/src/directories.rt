@@ -1,5 +1,5 @@
 //! Pages in a row.
-ghost use Rattle.std.specs.Prelude.{◌≡◌, ℕ, ◌<◌, ◌≤◌, ◌+◌, ◌*◌, ◌/◌, ◌%◌, OnOk, OnErr, IfOk, IfNone, IfSome, IsTrue, IsFalse, length, replicate, slice_index, vec_len};
+ghost use Rattle.std.specs.Prelude.{◌≡◌, ℕ, ◌<◌, ◌≤◌, ◌+◌, ◌*◌, ◌/◌, ◌%◌, true, OnOk, OnErr, IfOk, IfNone, IfSome, IsTrue, IsFalse, length, replicate, slice_index, vec_len};
 ghost use Rattle.shadow_memory.specs.Changes.{received};
 
 use crate::cells::RangeKind;
@@ -63,6 +63,7 @@ impl Directory {
     }
 
     /// The page of a place, to read.
+    #[inline(always)]
     pub(crate) fn view(&self, at: usize) -> View<'_>
         requires { at < 4194304 }
         ensures { (a : ℕ) → a / 4096 ≡ at / 4096 → cells_under self.now a ≡ cells_seen result (a % 4096) }
@@ -90,6 +91,7 @@ impl Directory {
         requires within { at < 4194304 }
         requires one_page { at % 4096 + length bytes.now ≤ 4096 }
         ensures done { IsTrue result → cells_under self.new ≡ changed_from (cells_under self.old) at (length bytes.now) (received (slice_index bytes.now)) }
+        ensures whole { IsTrue result → (k : ℕ) → at ≤ k → k < at + length bytes.now → (cells_under self.old k).accessible ≡ true }
         ensures kept { IsFalse result → cells_under self.new ≡ cells_under self.old }
     {
         match self.place(at / PAGE) {

@@ -62,7 +62,8 @@
 //! all of them or none, in a page of its own, or through `Memory::change_some`, which changes the bytes of a range alike: those of
 //! blank pages one after another at once. `Rc::make_mut` copies a directory or a page that others share first. Only where no
 //! other memory has the page, and its bytes there are accessible and defined, `Memory::put` stores at once. A load
-//! that lies in one page looks it up once, and a store of defined bits twice: to find what is inaccessible, and to write.
+//! that lies in one page looks it up once, and so does a store that `Memory::put` makes; any other store of defined bits in one page
+//! looks it up twice more: to find what is inaccessible, and to write.
 //!
 //! A copy looks for zeros of one kind first, over as many pages as there are: they change the target as a range alike, so that
 //! blank pages stay blank, and a held page that becomes zeros of one kind becomes blank. Other bytes go from one page to one page,

@@ -134,6 +134,7 @@ impl Mixed {
     }
 
     // Are the bytes from one place up to, not with, another all accessible and defined? `false` may be told of such bytes too.
+    #[inline(always)]
     fn are_defined(&self, from: usize, to: usize) -> bool
         requires order { from ≤ to }
         requires within { to ≤ 4096 }
@@ -350,6 +351,7 @@ impl Marks {
     }
 
     /// Are the bytes from one place up to, not with, another all accessible and defined? `false` may be told of such bytes too.
+    #[inline(always)]
     pub(crate) fn are_defined(&self, from: usize, to: usize) -> bool
         requires order { from ≤ to }
         requires within { to ≤ 4096 }

@@ -41,6 +41,7 @@ pub struct Memory {
 #[tactic(auto, unfolding(crate::specs::Memories::cells_below, crate::specs::Views::cells_seen, crate::specs::Directories::cells_at))]
 impl DirectorySlot {
     // The page of a place, to read.
+    #[inline(always)]
     fn view(&self, at: usize) -> View<'_>
         requires { at < 4194304 }
         ensures { (a : ℕ) → a / 4096 ≡ at / 4096 → a < 4194304 → cells_below self.now a ≡ cells_seen result (a % 4096) }
@@ -78,6 +79,7 @@ impl DirectorySlot {
         requires within { at < 4194304 }
         requires one_page { at % 4096 + length bytes.now ≤ 4096 }
         ensures done { IsTrue result → AgreeInDirectory (cells_below self.new) (changed_from (cells_below self.old) at (length bytes.now) (received (slice_index bytes.now))) }
+        ensures whole { IsTrue result → (k : ℕ) → at ≤ k → k < at + length bytes.now → (cells_below self.old k).accessible ≡ true }
         ensures kept { IsFalse result → cells_below self.new ≡ cells_below self.old }
     {
         if let DirectorySlot::Held(shared) = self
@@ -182,7 +184,7 @@ impl Memory {
     }
 
     /// The page of an address, to read.
-    #[inline]
+    #[inline(always)]
     pub(crate) fn view(&self, addr: u32) -> View<'_>
         ensures { (a : ℕ) → a / 4096 ≡ addr / 4096 → cells_of self.now a ≡ cells_seen result (a % 4096) }
     {
@@ -236,6 +238,7 @@ impl Memory {
     pub(crate) fn put(&mut self, addr: u32, bytes: &[u8]) -> bool
         requires { addr % 4096 + length bytes.now ≤ 4096 }
         ensures done { IsTrue result → cells_of self.new ≡ changed_from (cells_of self.old) addr (length bytes.now) (received (slice_index bytes.now)) }
+        ensures whole { IsTrue result → (k : ℕ) → addr ≤ k → k < addr + length bytes.now → (cells_of self.old k).accessible ≡ true }
         ensures kept { IsFalse result → cells_of self.new ≡ cells_of self.old }
     {
         let at = addr as usize;

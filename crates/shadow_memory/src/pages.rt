@@ -1,5 +1,5 @@
 //! One page of 4,096 bytes.
-ghost use Rattle.std.specs.Prelude.{◌≡◌, ℕ, ◌+◌, ◌*◌, ◌%◌, ◌^◌, ◌<◌, ◌≤◌, OnOk, OnErr, IfOk, IfNone, IfSome, IsTrue, IsFalse, length, nat_lt, slice_index, vec_len};
+ghost use Rattle.std.specs.Prelude.{◌≡◌, ℕ, ◌+◌, ◌*◌, ◌%◌, ◌^◌, ◌<◌, ◌≤◌, true, OnOk, OnErr, IfOk, IfNone, IfSome, IsTrue, IsFalse, length, nat_lt, slice_index, vec_len};
 ghost use Rattle.shadow_memory.specs.Cells.{set_at, shadow_in, IsClean};
 ghost use Rattle.shadow_memory.specs.Marks.{blank};
 ghost use Rattle.shadow_memory.specs.Places.{changed_from, AgreeInPage};
@@ -310,6 +310,7 @@ impl Page {
     pub(crate) fn put(&mut self, at: usize, bytes: &[u8]) -> bool
         requires { at + length bytes.now ≤ 4096 }
         ensures done { IsTrue result → AgreeInPage (cells_in self.new) (changed_from (cells_in self.old) at (length bytes.now) (received (slice_index bytes.now))) }
+        ensures whole { IsTrue result → (k : ℕ) → at ≤ k → k < at + length bytes.now → (cells_in self.old k).accessible ≡ true }
         ensures kept { IsFalse result → cells_in self.new ≡ cells_in self.old }
     {
         let whole = self.marks.are_defined(at, at + bytes.len());

@@ -15,6 +15,7 @@ pub(crate) fn set_all(bytes: &mut [u8], from: usize, to: usize, byte: u8)
 }
 
 /// Writes bytes from a place on.
+#[inline(always)]
 pub(crate) fn write_at(bytes: &mut [u8], at: usize, made: &[u8])
     requires { at + length made.now ≤ length bytes.old }
     ensures { (k : ℕ) → slice_index bytes.new k ≡ overwritten bytes.old at made.now k }

@@ -1,5 +1,5 @@
 //! A page that may be blank, or shared.
-ghost use Rattle.std.specs.Prelude.{◌≡◌, ℕ, ◌+◌, ◌<◌, ◌≤◌, IfSome, IsTrue, IsFalse, OnOk, OnErr, length, slice_index};
+ghost use Rattle.std.specs.Prelude.{◌≡◌, ℕ, ◌+◌, ◌<◌, ◌≤◌, true, IfSome, IsTrue, IsFalse, OnOk, OnErr, length, slice_index};
 ghost use Rattle.shadow_memory.specs.Changes.{received};
 ghost use Rattle.shadow_memory.specs.Places.{changed_from, AgreeInPage};
 ghost use Rattle.shadow_memory.specs.Directories.{cells_at};
@@ -59,6 +59,7 @@ fn cleared_by(page: &Page, edit: &Edit<'_>) -> Option<RangeKind>
 #[tactic(auto, unfolding(crate::specs::Directories::cells_at, crate::specs::Views::cells_seen, crate::specs::Edits::count_of, crate::specs::Edits::change_of))]
 impl PageSlot {
     /// The page, to read.
+    #[inline(always)]
     pub(crate) fn view(&self) -> View<'_>
         ensures { cells_seen result ≡ cells_at self.now }
     {
@@ -73,6 +74,7 @@ impl PageSlot {
     pub(crate) fn put(&mut self, at: usize, bytes: &[u8]) -> bool
         requires { at + length bytes.now ≤ 4096 }
         ensures done { IsTrue result → AgreeInPage (cells_at self.new) (changed_from (cells_at self.old) at (length bytes.now) (received (slice_index bytes.now))) }
+        ensures whole { IsTrue result → (k : ℕ) → at ≤ k → k < at + length bytes.now → (cells_at self.old k).accessible ≡ true }
         ensures kept { IsFalse result → cells_at self.new ≡ cells_at self.old }
     {
         if let PageSlot::Held(shared) = self

@@ -275,6 +275,8 @@ impl Guest {
     }
 
     /// Carries ECALL out, and says which bytes it took and which it wrote.
+    #[cold]
+    #[inline(never)]
     #[tactic(auto, unfolding(crate::specs::Calls::call_at, crate::specs::Exec::call_effect, crate::specs::Exec::call_uses, crate::specs::Exec::calls_heap, crate::specs::Exec::row_asks, crate::specs::Exec::call_asks, crate::specs::Exec::row_uses, crate::specs::Exec::row_effect))]
     pub(super) fn call_environment(&mut self, setup: &Setup) -> Result<Used, AllocError>
         ensures does { OnOk result (DoesRow self.old self.new (Some Instruction.CallEnvironment) setup.now) }

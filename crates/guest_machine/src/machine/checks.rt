@@ -1,6 +1,6 @@
 //! The tests of a step, and the errors that they record.
-ghost use Rattle.std.specs.Prelude.{◌≡◌, ◌∷◌, ◌<◌, [], OnOk};
-ghost use Rattle.guest_machine.specs.Registers.{tested};
+ghost use Rattle.std.specs.Prelude.{◌≡◌, ◌∷◌, ◌<◌, ◌==◌, [], false, OnOk};
+ghost use Rattle.guest_machine.specs.Registers.{defined, tested};
 ghost use Rattle.guest_machine.specs.Effects.{branch_tested, branch_errors};
 ghost use Rattle.guest_machine.specs.Errors.{here, event_of, event_unless, event_about, note_at, region_note, register_errors, value_errors, parameter_errors};
 ghost use Rattle.guest_machine.specs.Shows.{core_of};
@@ -50,23 +50,38 @@ impl Guest {
         self.groups.add(Event { kind, trace, note })
     }
 
-    /// Records an error that is about no address, unless all is fine.
+    /// Records that a word with undefined bits is carried out.
+    #[cold]
+    #[inline(never)]
     #[tactic(auto, unfolding(crate::specs::Errors::event_unless, error_events::specs::Adding::add_events))]
-    pub(super) fn raise_unless(&mut self, fine: bool, kind: Kind) -> Result<(), AllocError>
+    fn raise_value(&mut self) -> Result<(), AllocError>
         ensures core { core_of self.new ≡ core_of self.old }
         ensures memory { self.new.memory ≡ self.old.memory }
         ensures progress { self.new.progress ≡ self.old.progress }
-        ensures groups { OnOk result (Raises self.old self.new (event_unless fine (here (core_of self.old)) kind)) }
+        ensures groups { OnOk result (Raises self.old self.new (event_unless false (here (core_of self.old)) Kind.Value)) }
     {
-        if !fine {
-            self.raise(kind, Note::Absent)?;
+        self.raise(Kind::Value, Note::Absent)
+    }
+
+    /// Tests the undefined bits of a word that is to be carried out.
+    #[inline(always)]
+    #[tactic(auto, unfolding(crate::specs::Errors::event_unless, error_events::specs::Adding::add_events))]
+    pub(super) fn test_word(&mut self, undef: u32) -> Result<(), AllocError>
+        ensures core { core_of self.new ≡ core_of self.old }
+        ensures memory { self.new.memory ≡ self.old.memory }
+        ensures progress { self.new.progress ≡ self.old.progress }
+        ensures groups { OnOk result (Raises self.old self.new (event_unless (undef == 0) (here (core_of self.old)) Kind.Value)) }
+    {
+        if undef != 0 {
+            return self.raise_value();
         }
         Ok(())
     }
 
     /// Records the error of an address at fault, if there is one.
+    #[cold]
+    #[inline(never)]
     #[tactic(auto, unfolding(crate::specs::Errors::event_about, error_events::specs::Adding::add_events))]
-    #[inline(always)]
     pub(super) fn raise_about(&mut self, kind: Kind, fault: Option<u32>) -> Result<(), AllocError>
         ensures core { core_of self.new ≡ core_of self.old }
         ensures memory { self.new.memory ≡ self.old.memory }
@@ -80,7 +95,39 @@ impl Guest {
         Ok(())
     }
 
+    /// Records the first inaccessible byte of a load of so many, if there is one.
+    #[inline(always)]
+    #[tactic(auto, unfolding(crate::specs::Errors::event_about, error_events::specs::Adding::add_events))]
+    pub(super) fn test_load(&mut self, len: u8, bad: Option<u32>) -> Result<(), AllocError>
+        ensures core { core_of self.new ≡ core_of self.old }
+        ensures memory { self.new.memory ≡ self.old.memory }
+        ensures progress { self.new.progress ≡ self.old.progress }
+        ensures groups { OnOk result (Raises self.old self.new (event_about (core_of self.old).blocks (here (core_of self.old)) (Kind.Read len) bad)) }
+    {
+        match bad {
+            None => Ok(()),
+            Some(_) => self.raise_about(Kind::Read(len), bad),
+        }
+    }
+
+    /// Records the first inaccessible byte of a store of so many, if there is one.
+    #[inline(always)]
+    #[tactic(auto, unfolding(crate::specs::Errors::event_about, error_events::specs::Adding::add_events))]
+    pub(super) fn test_store(&mut self, len: u8, bad: Option<u32>) -> Result<(), AllocError>
+        ensures core { core_of self.new ≡ core_of self.old }
+        ensures memory { self.new.memory ≡ self.old.memory }
+        ensures progress { self.new.progress ≡ self.old.progress }
+        ensures groups { OnOk result (Raises self.old self.new (event_about (core_of self.old).blocks (here (core_of self.old)) (Kind.Write len) bad)) }
+    {
+        match bad {
+            None => Ok(()),
+            Some(_) => self.raise_about(Kind::Write(len), bad),
+        }
+    }
+
     /// Tests that a register is defined, and makes it so.
+    #[cold]
+    #[inline(never)]
     #[tactic(auto, unfolding(crate::specs::Registers::tested, crate::specs::Errors::event_unless, error_events::specs::Adding::add_events))]
     fn test(&mut self, r: Register, kind: Kind) -> Result<(), AllocError>
         ensures core { OnOk result (core_of self.new ≡ tested (core_of self.old) r) }
@@ -97,6 +144,8 @@ impl Guest {
     }
 
     /// Tests a register from which an address or a jump's target is computed.
+    #[inline(always)]
+    #[tactic(auto, unfolding(crate::specs::Registers::tested, crate::specs::Errors::event_unless, error_events::specs::Adding::add_events))]
     pub(super) fn test_value(&mut self, r: Register) -> Result<(), AllocError>
         ensures core { OnOk result (core_of self.new ≡ tested (core_of self.old) r) }
         ensures memory { self.new.memory ≡ self.old.memory }
@@ -104,7 +153,10 @@ impl Guest {
         ensures heap { self.new.heap ≡ self.old.heap }
         ensures groups { OnOk result (Raises self.old self.new (value_errors (core_of self.old) r)) }
     {
-        self.test(r, Kind::Value)
+        if self.read_register(r).undef != 0 {
+            return self.test(r, Kind::Value);
+        }
+        Ok(())
     }
 
     /// Tests a register that has a parameter of a call.
@@ -122,7 +174,24 @@ impl Guest {
         self.test(r, Kind::Param(parameter, Fault3::Contains))
     }
 
+    /// Records that a branch depends on undefined bits, and makes its registers defined.
+    #[cold]
+    #[inline(never)]
+    #[tactic(auto, unfolding(crate::specs::Errors::event_unless, error_events::specs::Adding::add_events))]
+    fn raise_branch(&mut self, rs1: Register, rs2: Register) -> Result<(), AllocError>
+        ensures core { OnOk result (core_of self.new ≡ defined (defined (core_of self.old) rs1) rs2) }
+        ensures memory { self.new.memory ≡ self.old.memory }
+        ensures progress { self.new.progress ≡ self.old.progress }
+        ensures groups { OnOk result (Raises self.old self.new (event_unless false (here (core_of self.old)) Kind.Cond)) }
+    {
+        self.raise(Kind::Cond, Note::Absent)?;
+        self.define(rs1);
+        self.define(rs2);
+        Ok(())
+    }
+
     /// Tests that a branch doesn't depend on undefined bits; if it does, its registers are made defined.
+    #[inline(always)]
     #[tactic(auto, unfolding(crate::specs::Effects::branch_tested, crate::specs::Errors::event_unless, error_events::specs::Adding::add_events))]
     pub(super) fn test_branch(
         &mut self,
@@ -136,9 +205,7 @@ impl Guest {
         ensures groups { OnOk result (Raises self.old self.new (branch_errors (core_of self.old) comparison rs1 rs2)) }
     {
         if is_undecided(comparison, self.read_register(rs1), self.read_register(rs2)) {
-            self.raise(Kind::Cond, Note::Absent)?;
-            self.define(rs1);
-            self.define(rs2);
+            return self.raise_branch(rs1, rs2);
         }
         Ok(())
     }

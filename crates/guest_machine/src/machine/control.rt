@@ -12,6 +12,7 @@ use crate::status::{Status, Stop};
 
 impl Guest {
     /// Goes to an address.
+    #[inline(always)]
     pub(super) fn move_to(&mut self, to: u32)
         ensures core { core_of self.new ≡ moved_to (core_of self.old) to }
         ensures memory { self.new.memory ≡ self.old.memory }
@@ -22,6 +23,7 @@ impl Guest {
     }
 
     /// Goes on to the next instruction.
+    #[inline(always)]
     pub(super) fn advance(&mut self)
         ensures core { core_of self.new ≡ advanced (core_of self.old) }
         ensures memory { self.new.memory ≡ self.old.memory }
@@ -32,6 +34,7 @@ impl Guest {
     }
 
     /// Stops for good, at this pc.
+    #[inline(always)]
     pub(super) fn stop(&mut self, stop: Stop)
         ensures core { core_of self.new ≡ stopped (core_of self.old) stop }
         ensures memory { self.new.memory ≡ self.old.memory }
@@ -52,6 +55,7 @@ impl Guest {
     }
 
     /// Goes to an address, or stops where it is no multiple of 4.
+    #[inline(always)]
     #[tactic(auto, unfolding(crate::specs::Effects::jumped))]
     pub(super) fn jump(&mut self, to: u32)
         ensures core { core_of self.new ≡ jumped (core_of self.old) to }

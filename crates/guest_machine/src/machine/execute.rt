@@ -19,12 +19,12 @@ use crate::register::Register;
 use crate::span::Span;
 use crate::width::Width;
 use definedness::Bits;
-use error_events::Kind;
 use shadow_memory::Loaded;
 use std::alloc::AllocError;
 
 impl Guest {
     /// Writes rd and goes on.
+    #[inline(always)]
     #[tactic(auto, unfolding(error_events::specs::Adding::add_events))]
     pub(super) fn result_in(&mut self, rd: Register, bits: Bits)
         ensures { Does self.old self.new (results_in (core_of self.old) rd bits) nothing false no_intake }
@@ -51,6 +51,7 @@ impl Guest {
     }
 
     /// The low bytes at an address and their undefined bits; the first inaccessible one is noted.
+    #[inline(always)]
     fn take(&mut self, start: u32, width: Width) -> Result<Bits, AllocError>
         ensures core { core_of self.new ≡ core_of self.old }
         ensures memory { self.new.memory ≡ self.old.memory }
@@ -62,13 +63,14 @@ impl Guest {
         ensures small_undef { IfOk result (λ bits. bits.undef < width_limit width) }
     {
         let loaded = self.loaded(start, width);
-        self.raise_about(Kind::Read(width.byte_len()), loaded.bad)?;
+        self.test_load(width.byte_len(), loaded.bad)?;
         Ok(Bits {
             value: loaded.value,
             undef: loaded.undef,
         })
     }
 
+    #[inline(always)]
     #[tactic(auto, unfolding(error_events::specs::Adding::add_events), using(crate::proofs::Showing::add_events_append))]
     pub(super) fn load(
         &mut self,
@@ -94,6 +96,7 @@ impl Guest {
         })
     }
 
+    #[inline(always)]
     #[tactic(auto, unfolding(error_events::specs::Adding::add_events), using(crate::proofs::Showing::add_events_append))]
     pub(super) fn store(
         &mut self,
@@ -109,7 +112,7 @@ impl Guest {
         self.test_value(rs1)?;
         let stored = self.read_register(rs2);
         let fault = self.put(to, width, stored)?;
-        self.raise_about(Kind::Write(width.byte_len()), fault)?;
+        self.test_store(width.byte_len(), fault)?;
         self.advance();
         Ok(Span {
             start: to,
@@ -118,6 +121,7 @@ impl Guest {
     }
 
     /// Stores the low bytes of a number, and answers the first inaccessible address.
+    #[inline(always)]
     fn put(&mut self, start: u32, width: Width, bits: Bits) -> Result<Option<u32>, AllocError>
         ensures fault { IfOk result (λ fault. fault ≡ first_inaccessible (core_of self.old).shadow start (width_len width)) }
         ensures core { OnOk result (core_of self.new ≡ stored_core (core_of self.old) start (width_len width) bits.undef) }
@@ -132,6 +136,7 @@ impl Guest {
         }
     }
 
+    #[inline(always)]
     #[tactic(auto, unfolding(crate::specs::Effects::branched))]
     pub(super) fn branch(
         &mut self,
@@ -157,6 +162,7 @@ impl Guest {
         Ok(())
     }
 
+    #[inline(always)]
     #[tactic(auto, unfolding(error_events::specs::Adding::add_events))]
     pub(super) fn jump_and_link(&mut self, rd: Register, imm: u32)
         ensures { Does self.old self.new (jump (core_of self.old) rd imm) nothing false no_intake }

@@ -10,6 +10,7 @@ use crate::register::Register;
 use definedness::Bits;
 
 /// A number with no undefined bit.
+#[inline(always)]
 pub(crate) fn known(value: u32) -> Bits
     ensures { result ≡ known value }
 {
@@ -17,14 +18,15 @@ pub(crate) fn known(value: u32) -> Bits
 }
 
 impl Guest {
+    #[inline(always)]
     #[tactic(auto, unfolding(crate::specs::Registers::register))]
     pub(super) fn read_register(&self, r: Register) -> Bits
         ensures { result ≡ register (core_of self.now) r }
     {
-        let i = r.number();
-        if i == 0 { known(0) } else { self.registers[i] }
+        self.registers[r.number()]
     }
 
+    #[inline(always)]
     #[tactic(auto, unfolding(crate::specs::Registers::set_register))]
     pub(super) fn set_register(&mut self, r: Register, bits: Bits)
         ensures core { core_of self.new ≡ set_register (core_of self.old) r bits }
@@ -52,6 +54,7 @@ impl Guest {
     }
 
     /// Where a load, a store or JALR goes.
+    #[inline(always)]
     #[tactic(auto, unfolding(crate::specs::Effects::target))]
     pub(super) fn target(&self, rs1: Register, imm: u32) -> u32
         ensures { result ≡ target (core_of self.now) rs1 imm }

@@ -32,6 +32,7 @@ impl Guest {
         Ok(())
     }
 
+    #[inline(never)]
     #[tactic(auto, unfolding(crate::specs::StackPointer::framed))]
     fn frame(&mut self, low: u32, high: u32, kind: RangeKind) -> Result<(), AllocError>
         requires { low ≤ high }
@@ -47,6 +48,7 @@ impl Guest {
     }
 
     /// The rule, after an instruction that found x2 so.
+    #[inline(always)]
     #[tactic(auto, unfolding(crate::specs::StackPointer::stack_ruled, crate::specs::StackPointer::stack_moved))]
     pub(super) fn stack_rule(&mut self, old: Bits) -> Result<(), AllocError>
         ensures core { OnOk result (core_of self.new ≡ stack_ruled old (core_of self.old)) }

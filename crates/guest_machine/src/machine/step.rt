@@ -50,34 +50,37 @@ impl Used {
 }
 
 impl Guest {
-    /// Carries an instruction out, and says which bytes it took and which it wrote.
+    /// Carries an instruction out, and notes which bytes it took and which it wrote.
     #[tactic(auto, unfolding(crate::specs::Exec::row_effect, crate::specs::Exec::row_uses, crate::specs::Exec::calls_heap, crate::specs::Exec::row_asks, crate::specs::Exec::call_asks, error_events::specs::Adding::add_events))]
-    fn carry_out(&mut self, setup: &Setup, row: Option<Instruction>) -> Result<Used, AllocError>
+    fn carry_out(
+        &mut self,
+        setup: &Setup,
+        row: Option<Instruction>,
+        used: &mut Used,
+    ) -> Result<(), AllocError>
+        requires reads { used.old.reads ≡ None }
+        requires writes { used.old.writes ≡ None }
         ensures does { OnOk result (DoesRow self.old self.new row setup.now) }
-        ensures reads { IfOk result (λ used. used.reads ≡ (uses_by self.old row setup.now).reads) }
-        ensures writes { IfOk result (λ used. used.writes ≡ (uses_by self.old row setup.now).writes) }
+        ensures reads { OnOk result (used.new.reads ≡ (uses_by self.old row setup.now).reads) }
+        ensures writes { OnOk result (used.new.writes ≡ (uses_by self.old row setup.now).writes) }
     {
         let Some(instruction) = row else {
             self.stop(Stop::Illegal);
-            return Ok(NOTHING);
+            return Ok(());
         };
         match instruction {
             Instruction::LoadUpper { rd, imm } => {
                 self.result_in(rd, known(imm));
-                Ok(NOTHING)
             }
             Instruction::AddUpper { rd, imm } => {
                 let value = self.pc.wrapping_add(imm);
                 self.result_in(rd, known(value));
-                Ok(NOTHING)
             }
             Instruction::Jump { rd, imm } => {
                 self.jump_and_link(rd, imm);
-                Ok(NOTHING)
             }
             Instruction::JumpRegister { rd, rs1, imm } => {
                 self.jump_register(rd, rs1, imm)?;
-                Ok(NOTHING)
             }
             Instruction::Branch {
                 comparison,
@@ -86,7 +89,6 @@ impl Guest {
                 imm,
             } => {
                 self.branch(comparison, rs1, rs2, imm)?;
-                Ok(NOTHING)
             }
             Instruction::Load {
                 width,
@@ -95,11 +97,7 @@ impl Guest {
                 rs1,
                 imm,
             } => {
-                let reads = self.load(width, signed, rd, rs1, imm)?;
-                Ok(Used {
-                    reads: Some(reads),
-                    writes: None,
-                })
+                used.reads = Some(self.load(width, signed, rd, rs1, imm)?);
             }
             Instruction::Store {
                 width,
@@ -107,11 +105,7 @@ impl Guest {
                 rs2,
                 imm,
             } => {
-                let writes = self.store(width, rs1, rs2, imm)?;
-                Ok(Used {
-                    reads: None,
-                    writes: Some(writes),
-                })
+                used.writes = Some(self.store(width, rs1, rs2, imm)?);
             }
             Instruction::Immediate {
                 operation,
@@ -121,7 +115,6 @@ impl Guest {
             } => {
                 let bits = computed(operation, self.read_register(rs1), known(imm));
                 self.result_in(rd, bits);
-                Ok(NOTHING)
             }
             Instruction::Registers {
                 operation,
@@ -131,18 +124,18 @@ impl Guest {
             } => {
                 let bits = computed(operation, self.read_register(rs1), self.read_register(rs2));
                 self.result_in(rd, bits);
-                Ok(NOTHING)
             }
             Instruction::Fence => {
                 self.advance();
-                Ok(NOTHING)
             }
-            Instruction::CallEnvironment => self.call_environment(setup),
+            Instruction::CallEnvironment => {
+                *used = self.call_environment(setup)?;
+            }
             Instruction::Breakpoint => {
                 self.stop(Stop::Break);
-                Ok(NOTHING)
             }
         }
+        Ok(())
     }
 
     /// A fetch that meets an inaccessible byte.
@@ -220,17 +213,18 @@ impl Guest {
     /// Carries a word out, between the test of the word and the stack pointer rule.
     #[inline(never)]
     #[tactic(auto, using(crate::proofs::Showing::add_events_append))]
-    fn round(&mut self, setup: &Setup, word: Bits) -> Result<Used, AllocError>
-        requires { word.undef ≡ fetch_undef (core_of self.old) }
+    fn round(&mut self, setup: &Setup, word: Bits, used: &mut Used) -> Result<(), AllocError>
+        requires undef { word.undef ≡ fetch_undef (core_of self.old) }
+        requires reads { used.old.reads ≡ None }
+        requires writes { used.old.writes ≡ None }
         ensures does { OnOk result (DoesRound self.old self.new (row_of word.value) setup.now) }
-        ensures reads { IfOk result (λ used. used.reads ≡ (uses_by self.old (row_of word.value) setup.now).reads) }
-        ensures writes { IfOk result (λ used. used.writes ≡ (uses_by self.old (row_of word.value) setup.now).writes) }
+        ensures reads { OnOk result (used.new.reads ≡ (uses_by self.old (row_of word.value) setup.now).reads) }
+        ensures writes { OnOk result (used.new.writes ≡ (uses_by self.old (row_of word.value) setup.now).writes) }
     {
         let stack_pointer = self.read_register(Register::new(2));
-        self.raise_unless(word.undef == 0, Kind::Value)?;
-        let used = self.carry_out(setup, row_of(word.value))?;
-        self.stack_rule(stack_pointer)?;
-        Ok(used)
+        self.test_word(word.undef)?;
+        self.carry_out(setup, row_of(word.value), used)?;
+        self.stack_rule(stack_pointer)
     }
 
     /// Calls the function of the heap that begins at pc, carries out the word there, or halts; and says which bytes that took or wrote.
@@ -251,7 +245,8 @@ impl Guest {
                 Ok(NOTHING.touched(None))
             }
             Some(word) => {
-                let used = self.round(setup, word)?;
+                let mut used = NOTHING;
+                self.round(setup, word, &mut used)?;
                 Ok(used.touched(Some(Span { start: pc, len: 4 })))
             }
         }
