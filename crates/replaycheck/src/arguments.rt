@@ -12,7 +12,7 @@ use replay_session::MOST_STEPS;
 use std::alloc::{AllocError, Global};
 
 /// What is asked for: a session with a program, or the report of one at a step.
-#[derive(Clone, Copy, Debug, PartialEq, Eq)]
+#[derive(Clone, Copy)]
 pub(crate) struct Order<'a> {
     pub(crate) file: &'a str,
     pub(crate) input: Option<&'a str>,

@@ -8,7 +8,7 @@ use suppressions::SuppFault;
 
 /// How the program ends. `Done` stands for help too, and `Usage` for a fault of the command line, whose text the command-line
 /// parser has written.
-#[derive(Clone, Copy, Debug)]
+#[derive(Clone, Copy)]
 pub enum End<'a> {
     Done,
     /// A file, named as it was given.

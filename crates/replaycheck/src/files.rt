@@ -7,7 +7,7 @@ use std::io;
 use std::io::{ErrorKind, Read};
 
 /// Why a file gave no bytes.
-#[derive(Clone, Copy, Debug, PartialEq, Eq)]
+#[derive(Clone, Copy)]
 pub(crate) enum ReadFault {
     /// It is not there, or a read of it failed.
     Unreadable,

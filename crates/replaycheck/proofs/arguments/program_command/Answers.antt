@@ -9,7 +9,8 @@ returns-clause-shape c =
     let bare_is : app_of c.after_help.result ≡ new_app c.args.name.now = search rules in
     IfOk-weaker c.arg-3.result _ _ (λ command added. added.shape c.option-supp.ensures.local
     ∙ ap₂ with_rule (c.in_ok-arg-2.ensures.shape c.option-input.ensures.local
-    ∙ ap₂ with_rule (c.in_ok-arg.ensures.shape c.file_argument-file.ensures.local ∙ ap₂ with_rule bare_is c.file_argument-file.ensures.rule) c.option-input.ensures.rule) c.option-supp.ensures.rule) c.arg-3.ensures
+    ∙ ap₂ with_rule (c.in_ok-arg.ensures.shape c.file_argument-file.ensures.local ∙ ap₂ with_rule bare_is c.file_argument-file.ensures.rule)
+    c.option-input.ensures.rule) c.option-supp.ensures.rule) c.arg-3.ensures
 
 pub returns-clause-globals : goal.returns-clause-globals
 returns-clause-globals c =
