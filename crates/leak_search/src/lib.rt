@@ -42,5 +42,3 @@ mod words;
 pub use record::LeakRecord;
 pub use searching::search;
 
-#[cfg(test)]
-mod tests;
