@@ -1,4 +1,4 @@
-//! Small guest programs as ELF files, assembled from instruction words: what tests and measurements run.
+//! Small guest programs as ELF files, assembled from instruction words: what tests run.
 //!
 //! | Call | What it answers |
 //! |---|---|

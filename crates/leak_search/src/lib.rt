@@ -41,6 +41,3 @@ mod words;
 
 pub use record::LeakRecord;
 pub use searching::search;
-
-#[cfg(test)]
-mod tests;

@@ -1,7 +1,10 @@
 //! Reports of programs by hand, against texts written down from the format of a report.
+use call_stacks::Trace;
+use error_events::LeakKind;
 use guest_elf::read;
 use guest_machine::{Hooks, Input, Machine, Mark, Meter, Setup};
 use guest_programs::program;
+use leak_search::{LeakRecord, search};
 use replay_report::{Options, render};
 use shadow_memory::RangeKind;
 use std::alloc::{AllocError, Global};
@@ -332,6 +335,29 @@ ERROR SUMMARY: 0 errors from 0 contexts (suppressed: 0 from 0)\n",
         let report = leaks_of(rt.alloc(), words, steps, &[], show)?;
         assert!(rt; report.ends_with(want), "after {steps}");
     }
+    Ok(())
+}
+
+/// What a search answers of the two blocks, once no pointer leads to them.
+#[test]
+fn a_record_tells_its_block(rt: HostRuntime) -> Result<(), Fail> {
+    let file = program(rt.alloc(), &TWO_BLOCKS)?;
+    let start = Machine::start(rt.alloc(), &read(rt.alloc(), &file)?)?;
+    let records = search(rt.alloc(), &stepped(rt.alloc(), start, 10)?)?;
+    let (first, second) = (Trace::of(0x10008), Trace::of(0x10014));
+    for (i, start, kind, trace) in [
+        (0, 0x4000_0010, LeakKind::Definite, first),
+        (1, 0x4000_0040, LeakKind::Indirect, second),
+    ] {
+        let want = LeakRecord {
+            start,
+            size: 8,
+            kind,
+            trace,
+        };
+        assert_eq!(rt; records.get(i), Some(&want));
+    }
+    assert_eq!(rt; records.len(), 2);
     Ok(())
 }
 
