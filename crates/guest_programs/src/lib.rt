@@ -6,8 +6,6 @@
 //! | [`sized_program`] | the same, with more memory than words |
 //! | [`push_words`] | words appended to a file that is made by hand |
 //!
-//! [`RING`] is a program that two crates run.
-//!
 //! The contracts say the file byte for byte, by the definitions of `specs/Files.antt` (System V ABI, edition 4.1, chapters 4 and 5).
 #![tactic(auto)]
 
@@ -27,20 +25,6 @@ const FRONT: [u8; 68] = [
 
 /// p_flags (readable and executable) and p_align, which follow p_filesz and p_memsz.
 const BACK: [u8; 8] = [0x05, 0x00, 0x00, 0x00, 0x04, 0x00, 0x00, 0x00];
-
-/// Two blocks of 8 bytes that point to each other, allocated by call 2001; x8 and x10 hold them, and are then set to 0.
-pub const RING: [u32; 10] = [
-    0x7D10_0893,
-    0x0080_0513,
-    0x0000_0073,
-    0x0005_0413,
-    0x0080_0513,
-    0x0000_0073,
-    0x00A4_2023,
-    0x0085_2023,
-    0x0000_0413,
-    0x0000_0513,
-];
 
 /// How many bytes so many words have, in a field of the file.
 fn words_size(words: &[u32]) -> u32
