@@ -6,7 +6,7 @@
 //! | [`sized_program`] | the same, with more memory than words |
 //! | [`push_words`] | words appended to a file that is made by hand |
 //!
-//! [`RING`] is a program that two crates run.
+//! [`RING`] is such a program, for tests of lost blocks.
 //!
 //! The contracts say the file byte for byte, by the definitions of `specs/Files.antt` (System V ABI, edition 4.1, chapters 4 and 5).
 #![tactic(auto)]
