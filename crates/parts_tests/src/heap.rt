@@ -42,7 +42,11 @@ fn places_one_after_another(rt: HostRuntime) -> Result<(), Fail> {
     let trace = Trace::new(&TRACE).ok_or("no trace")?;
     let mut heap = Heap::new(rt.alloc());
     for (size, redzone, place) in PLACES {
-        assert_eq!(rt; heap.allocate(rt.alloc(), size, trace, redzone)?, place);
+        assert_eq!(rt;
+            heap.allocate(rt.alloc(), size, trace, redzone)?,
+            place,
+            "{size} bytes, a red zone of {redzone}"
+        );
     }
     Ok(())
 }
@@ -69,7 +73,11 @@ fn frees_what_is_live(rt: HostRuntime) -> Result<(), Fail> {
 fn forgets_beyond_the_volume(rt: HostRuntime) -> Result<(), Fail> {
     let trace = Trace::new(&TRACE).ok_or("no trace")?;
     for (volume, place) in AFTER_RELEASE {
-        assert_eq!(rt; placed_after_release(rt.alloc(), trace, volume)?, place);
+        assert_eq!(rt;
+            placed_after_release(rt.alloc(), trace, volume)?,
+            place,
+            "a volume of {volume}"
+        );
     }
     Ok(())
 }
@@ -81,7 +89,7 @@ fn tells_what_is_near(rt: HostRuntime) -> Result<(), Fail> {
     assert_eq!(rt; heap.allocate(rt.alloc(), 8, trace, 16)?, Some(0x4000_0010));
     let copy = heap.share()?;
     for (address, near) in NEAR {
-        assert_eq!(rt; near_at(&copy, address), near);
+        assert_eq!(rt; near_at(&copy, address), near, "at {address:#010x}");
     }
     assert_eq!(rt; start_of(heap.live(0x4000_0010)), Some(0x4000_0010));
     assert_eq!(rt; start_of(heap.live(0x4000_0011)), None);

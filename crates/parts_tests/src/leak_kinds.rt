@@ -8,37 +8,52 @@ use leak_graph::{Pointer, leak_kinds};
 use std::alloc::{AllocError, Global};
 use std::test::Fail;
 
-// The roots' pointers and those of the blocks, by the block that has each, the block that it goes to, and whether to its start; and
-// the kinds of the blocks.
+// A label; the roots' pointers and those of the blocks, by the block that has each, the block that it goes to, and whether to its
+// start; and the kinds of the blocks.
 type Case = (
+    &'static str,
     &'static [(usize, bool)],
     &'static [(usize, usize, bool)],
     &'static [LeakKind],
 );
 
 const CASES: [Case; 6] = [
-    // A chain of start-pointers, and one that a pointer to an inside parts.
     (
+        "a chain of start-pointers",
         &[(0, true)],
         &[(0, 1, true), (1, 2, true)],
         &[Reachable, Reachable, Reachable],
     ),
     (
+        "a chain that a pointer to an inside parts",
         &[(0, true)],
         &[(0, 1, false), (1, 2, true)],
         &[Reachable, Possible, Possible],
     ),
-    // A lost block that points to itself.
-    (&[], &[(0, 0, true)], &[Definite]),
-    // A ring, and one that a later block leads to.
-    (&[], &[(0, 1, true), (1, 0, false)], &[Definite, Indirect]),
     (
+        "a lost block that points to itself",
+        &[],
+        &[(0, 0, true)],
+        &[Definite],
+    ),
+    (
+        "a ring",
+        &[],
+        &[(0, 1, true), (1, 0, false)],
+        &[Definite, Indirect],
+    ),
+    (
+        "a ring that a later block leads to",
         &[],
         &[(0, 1, true), (1, 0, true), (2, 1, true)],
         &[Indirect, Indirect, Definite],
     ),
-    // A lost block that points to a found one.
-    (&[(1, true)], &[(0, 1, true)], &[Definite, Reachable]),
+    (
+        "a lost block that points to a found one",
+        &[(1, true)],
+        &[(0, 1, true)],
+        &[Definite, Reachable],
+    ),
 ];
 
 /// The pointers of each of so many blocks.
@@ -106,7 +121,7 @@ fn kinds_of(
 
 #[test]
 fn paths_decide_the_kind(rt: HostRuntime) -> Result<(), Fail> {
-    for (roots, pointers, kinds) in CASES {
+    for (label, roots, pointers, kinds) in CASES {
         let mut pointers_of_roots = Vec::new(rt.alloc());
         for (block, is_start) in roots {
             pointers_of_roots.push(Pointer {
@@ -117,7 +132,8 @@ fn paths_decide_the_kind(rt: HostRuntime) -> Result<(), Fail> {
         let edges = rows(rt.alloc(), kinds.len(), pointers)?;
         assert_eq!(rt;
             kinds_of(rt.alloc(), &pointers_of_roots, &edges)?.as_slice(),
-            kinds
+            kinds,
+            "{label}"
         );
     }
     Ok(())

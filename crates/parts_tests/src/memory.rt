@@ -35,7 +35,11 @@ fn shares_are_apart(rt: HostRuntime) -> Result<(), Fail> {
         let mut i = 0usize;
         for other in &shares {
             let want = if i < written { (i & 0x7f) as u8 } else { b'b' };
-            assert_eq!(rt; other.byte(0x1000_0001).byte, want);
+            assert_eq!(rt;
+                other.byte(0x1000_0001).byte,
+                want,
+                "copy {i} of {written} written"
+            );
             i = i.saturating_add(1);
         }
     }

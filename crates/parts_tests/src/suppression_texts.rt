@@ -7,22 +7,22 @@ use std::process::Abort;
 use suppressions::{SuppFault, Suppression, TEXT_LIMIT, Target, is_suppressed, parse};
 
 /// Asserts that a text has so many suppressions.
-fn reads(rt: &impl Abort, alloc: Global, text: &[u8], count: usize)
+fn reads(rt: &impl Abort, alloc: Global, text: &str, count: usize)
     requires { length text.now ≤ TEXT_LIMIT }
 {
-    match parse(alloc, text) {
-        Ok(list) => assert_eq!(rt; list.len(), count),
-        Err(_) => assert!(rt; false),
+    match parse(alloc, text.as_bytes()) {
+        Ok(list) => assert_eq!(rt; list.len(), count, "{text}"),
+        Err(_) => assert!(rt; false, "{text}"),
     }
 }
 
 /// Asserts that a text is refused at a line.
-fn refused(rt: &impl Abort, alloc: Global, text: &[u8], line: u32)
+fn refused(rt: &impl Abort, alloc: Global, text: &str, line: u32)
     requires { length text.now ≤ TEXT_LIMIT }
 {
-    match parse(alloc, text) {
-        Ok(_) => assert!(rt; false),
-        Err(fault) => assert!(rt; fault == SuppFault::BadSuppression(line)),
+    match parse(alloc, text.as_bytes()) {
+        Ok(_) => assert!(rt; false, "{text}"),
+        Err(fault) => assert!(rt; fault == SuppFault::BadSuppression(line), "{text}"),
     }
 }
 
@@ -30,56 +30,56 @@ fn refused(rt: &impl Abort, alloc: Global, text: &[u8], line: u32)
 fn added(
     rt: &impl Abort,
     alloc: Global,
-    words: &[u8],
+    words: &str,
     target: Target,
     names: &[&[u8]],
     wanted: bool,
 ) {
-    match Suppression::from_words(alloc, words) {
+    match Suppression::from_words(alloc, words.as_bytes()) {
         Ok(suppression) => {
-            assert!(rt; suppression.is_on());
-            assert!(rt; suppression.matches(&target, names) == wanted);
+            assert!(rt; suppression.is_on(), "{words}");
+            assert!(rt; suppression.matches(&target, names) == wanted, "{words}");
         }
-        Err(_) => assert!(rt; false),
+        Err(_) => assert!(rt; false, "{words}"),
     }
 }
 
 /// Asserts that some words are refused.
-fn not_added(rt: &impl Abort, alloc: Global, words: &[u8]) {
-    match Suppression::from_words(alloc, words) {
-        Ok(_) => assert!(rt; false),
-        Err(fault) => assert!(rt; fault == SuppFault::BadSuppression(1)),
+fn not_added(rt: &impl Abort, alloc: Global, words: &str) {
+    match Suppression::from_words(alloc, words.as_bytes()) {
+        Ok(_) => assert!(rt; false, "{words}"),
+        Err(fault) => assert!(rt; fault == SuppFault::BadSuppression(1), "{words}"),
     }
 }
 
 #[test]
 fn refused_texts(rt: HostRuntime) {
     let alloc = rt.alloc();
-    refused(&rt, alloc, b"{\nn\nMemcheck:Cond\nfun:a\n", 1);
-    refused(&rt, alloc, b"}\n", 1);
-    refused(&rt, alloc, b"{\n}\n", 2);
-    refused(&rt, alloc, b"{\nn\nCond\nfun:a\n}\n", 3);
-    refused(&rt, alloc, b"{\nn\nMemcheck:Cond\nfoo:a\n}\n", 4);
+    refused(&rt, alloc, "{\nn\nMemcheck:Cond\nfun:a\n", 1);
+    refused(&rt, alloc, "}\n", 1);
+    refused(&rt, alloc, "{\n}\n", 2);
+    refused(&rt, alloc, "{\nn\nCond\nfun:a\n}\n", 3);
+    refused(&rt, alloc, "{\nn\nMemcheck:Cond\nfoo:a\n}\n", 4);
     refused(
         &rt,
         alloc,
-        b"{\nn\nMemcheck:Leak\nmatch-leak-kinds: definite,huge\n}\n",
+        "{\nn\nMemcheck:Leak\nmatch-leak-kinds: definite,huge\n}\n",
         4,
     );
-    refused(&rt, alloc, b"{\nn\nMemcheck:Cond\nfoo:a\n", 1);
-    refused(&rt, alloc, b"\n# c\n{\nn\nMemcheck:Param\n}\n", 6);
+    refused(&rt, alloc, "{\nn\nMemcheck:Cond\nfoo:a\n", 1);
+    refused(&rt, alloc, "\n# c\n{\nn\nMemcheck:Param\n}\n", 6);
 }
 
 #[test]
 fn texts_that_are_read(rt: HostRuntime) {
     let alloc = rt.alloc();
-    reads(&rt, alloc, b"{\nn\nHelgrind:Race\nany words\n}\n", 1);
-    reads(&rt, alloc, b"# c\n", 0);
-    reads(&rt, alloc, b"", 0);
+    reads(&rt, alloc, "{\nn\nHelgrind:Race\nany words\n}\n", 1);
+    reads(&rt, alloc, "# c\n", 0);
+    reads(&rt, alloc, "", 0);
     reads(
         &rt,
         alloc,
-        b" {\t\r\nn\n Helgrind,Memcheck:Cond \n# c\n\n  fun:a \n}\n{\nm\nMemcheck:Leak\n}",
+        " {\t\r\nn\n Helgrind,Memcheck:Cond \n# c\n\n  fun:a \n}\n{\nm\nMemcheck:Leak\n}",
         2,
     );
 }
@@ -98,22 +98,22 @@ fn added_by_words(rt: HostRuntime) {
     let alloc = rt.alloc();
     let cond = Target::Error(Kind::Cond);
     let names: [&[u8]; 2] = [b"max", b"main"];
-    added(&rt, alloc, b"Cond fun:ma*", cond, &names, true);
-    added(&rt, alloc, b"Cond fun:main", cond, &names, false);
-    added(&rt, alloc, b"Cond ... fun:main", cond, &names, true);
-    added(&rt, alloc, b"Cond ... fun:m?x", cond, &names, true);
-    added(&rt, alloc, b"Cond obj:g*t obj:?????", cond, &names, true);
-    added(&rt, alloc, b"Cond src:a", cond, &names, false);
-    added(&rt, alloc, b"Cond", cond, &names, true);
-    added(&rt, alloc, b"Value4 fun:*", cond, &names, false);
+    added(&rt, alloc, "Cond fun:ma*", cond, &names, true);
+    added(&rt, alloc, "Cond fun:main", cond, &names, false);
+    added(&rt, alloc, "Cond ... fun:main", cond, &names, true);
+    added(&rt, alloc, "Cond ... fun:m?x", cond, &names, true);
+    added(&rt, alloc, "Cond obj:g*t obj:?????", cond, &names, true);
+    added(&rt, alloc, "Cond src:a", cond, &names, false);
+    added(&rt, alloc, "Cond", cond, &names, true);
+    added(&rt, alloc, "Value4 fun:*", cond, &names, false);
     let reads = Target::Error(Kind::Param(Parameter::ReadBuffer, Fault3::Uninit));
-    added(&rt, alloc, b"Param read(buf) fun:max", reads, &names, true);
-    added(&rt, alloc, b"Param read(fd)", reads, &names, false);
+    added(&rt, alloc, "Param read(buf) fun:max", reads, &names, true);
+    added(&rt, alloc, "Param read(fd)", reads, &names, false);
     let lost = Target::Leak(LeakKind::Definite);
     added(
         &rt,
         alloc,
-        b"Leak match-leak-kinds:none,all",
+        "Leak match-leak-kinds:none,all",
         lost,
         &names,
         true,
@@ -121,7 +121,7 @@ fn added_by_words(rt: HostRuntime) {
     added(
         &rt,
         alloc,
-        b"Leak match-leak-kinds:possible",
+        "Leak match-leak-kinds:possible",
         lost,
         &names,
         false,
@@ -146,11 +146,11 @@ fn frame_lines_on_200_names(rt: HostRuntime) {
     match recursion(alloc, 198) {
         Ok(names) => {
             assert_eq!(rt; names.len(), 200);
-            added(&rt, alloc, b"Cond fun:max ... fun:ma?n", cond, &names, true);
+            added(&rt, alloc, "Cond fun:max ... fun:ma?n", cond, &names, true);
             added(
                 &rt,
                 alloc,
-                b"Cond fun:max ... fun:main obj:*",
+                "Cond fun:max ... fun:main obj:*",
                 cond,
                 &names,
                 false,
@@ -158,7 +158,7 @@ fn frame_lines_on_200_names(rt: HostRuntime) {
             added(
                 &rt,
                 alloc,
-                b"Cond ... fun:walk ... fun:max",
+                "Cond ... fun:walk ... fun:max",
                 cond,
                 &names,
                 false,
@@ -171,10 +171,10 @@ fn frame_lines_on_200_names(rt: HostRuntime) {
 #[test]
 fn refused_words(rt: HostRuntime) {
     let alloc = rt.alloc();
-    not_added(&rt, alloc, b"Foo fun:a");
-    not_added(&rt, alloc, b"Param");
-    not_added(&rt, alloc, b"Cond fun");
-    not_added(&rt, alloc, b"Leak match-leak-kinds:definite,");
+    not_added(&rt, alloc, "Foo fun:a");
+    not_added(&rt, alloc, "Param");
+    not_added(&rt, alloc, "Cond fun");
+    not_added(&rt, alloc, "Leak match-leak-kinds:definite,");
 }
 
 #[test]
