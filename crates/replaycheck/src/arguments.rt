@@ -36,7 +36,10 @@ fn option<'a>(alloc: Global, name: &'a str, value: &'a str, help: &'a str) -> Ar
     ensures rule { rule_of result ≡ option name.entry.now }
     ensures local { result.global ≡ false }
 {
-    Arg::new(alloc, name).long(name).value_name(value).help(help)
+    Arg::new(alloc, name)
+        .long(name)
+        .value_name(value)
+        .help(help)
 }
 
 /// A command on a program, with an input and suppressions.

@@ -59,7 +59,8 @@ highest-above byte low high h = later-false (nat_le low (little_word byte)) (nat
     later-false true q e = e
 
 -- a highest byte that isn't among so many from the least one on, by one comparison round the end
-pub highest-outside : (byte : ℕ → ℕ) (low high highest least count : ℕ) → low < 2 ^ 32 → byte 0 < 256 → byte 1 < 256 → byte 2 < 256 → byte 3 < 256 → highest ≡ byte 3 → least ≡ low / 16777216 → count ≡ high / 16777216 + 1 - least
+pub highest-outside : (byte : ℕ → ℕ) (low high highest least count : ℕ) → low < 2 ^ 32 → byte 0 < 256 → byte 1 < 256 → byte 2 < 256 → byte 3 < 256
+    → highest ≡ byte 3 → least ≡ low / 16777216 → count ≡ high / 16777216 + 1 - least
     → IsFalse (nat_lt ((highest + (2 ^ 64 - least)) % 2 ^ 64) count) → (nat_le low (little_word byte) && nat_lt (little_word byte) high) ≡ false
 highest-outside byte low high highest least count word first second third fourth is least-is count-is fails = elim (cases_lt (byte 3) (low / 16777216)) [
   | inl less ↦ highest-below byte low high first second third less

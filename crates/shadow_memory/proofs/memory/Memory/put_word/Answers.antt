@@ -13,7 +13,8 @@ returns-clause-done c done =
     let long : length c.word_bytes-bytes.result ≡ 4 = omega arith in
     let page : c.args.addr % 4096 + c.args.n ≤ 4096 = omega arith in
     let zero : c.args.bits.undef ≡ 0 = omega arith in
-    store-word (cells_of c.args.self.now) (cells_of c.put.new.self) c.args.addr c.args.n c.args.bits.value c.word_bytes-bytes.result small page few long c.word_bytes-bytes.ensures (c.put.ensures.done done)
+    store-word (cells_of c.args.self.now) (cells_of c.put.new.self) c.args.addr c.args.n c.args.bits.value c.word_bytes-bytes.result
+    small page few long c.word_bytes-bytes.ensures (c.put.ensures.done done)
     ∙ ap (λ (undef : ℕ). changed_in (cells_of c.args.self.now) c.args.addr c.args.n (stored (record { value = c.args.bits.value; undef = undef }))) (sym zero)
 
 pub returns-clause-whole : goal.returns-clause-whole

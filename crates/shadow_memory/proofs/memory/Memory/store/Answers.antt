@@ -33,5 +33,8 @@ returns-clause-err c =
     let bytes = unchanged-bytes c.args.self.now c.put_word.new.self kept in
     let shadows = unchanged-shadows c.args.self.now c.put_word.new.self kept in
     on_err_weaker c.store_anywhere.result
-    (front-seen c.args.n _ _ (λ k stored. (stored.0 ∙ ap (λ f. written f c.args.addr k (byte_of c.args.bits.value)) bytes, stored.1 ∙ ap (λ f. stored_undef f c.args.addr k c.args.bits.undef) shadows)))
+    (front-seen c.args.n _ _ (λ k stored. (
+      stored.0 ∙ ap (λ f. written f c.args.addr k (byte_of c.args.bits.value)) bytes,
+      stored.1 ∙ ap (λ f. stored_undef f c.args.addr k c.args.bits.undef) shadows,
+    )))
     c.store_anywhere.ensures.err
