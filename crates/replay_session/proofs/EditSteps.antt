@@ -52,6 +52,10 @@ differ_at one other offset byte input redzone volume hooks = record {
   bytes = λ i n. get-other one.input offset byte i n ∙ ap (λ bytes. slice_get bytes i) (sym input);
 }
 
+-- setups that are one, with inputs that are one
+pub with_input : (one other : Setup) (now next : List ℕ) → one ≡ other → now ≡ next → record one { input = now } ≡ record other { input = next }
+with_input one other now next setup input = λ i. record (setup i) { input = input i }
+
 -- the input without its last byte
 last-part : (bytes : List ℕ) → 0 < length bytes → (byte : ℕ) × (bytes ≡ take (length bytes - 1) bytes ++ byte ∷ [])
 last-part bytes some =

@@ -10,21 +10,14 @@ use Rattle.replay_session.proofs.session.Session.add_mark.Goals as goal
 pub returns-clause-edits : goal.returns-clause-edits
 unfolding first_state
 returns-clause-edits c sc out h =
+    let P = DifferAtStep c.args.mark.step c.args.self.now.marks.items in
+    let differ = subst P (sym c.in_ok-push.ensures.items) (differ_appended c.args.self.now.marks.items c.args.mark) in
+    let trail = c.cut_mark.ensures.right (first_state sc) _ _ _ differ h.trail in
+    let marks = c.in_ok-push.ensures.items ∙ ap (λ ms. ms ++ c.args.mark ∷ []) h.marks in
     inl (record {
       replies = refl;
       appends = refl;
-      has = record {
-        image = h.image;
-        trail = c.cut_mark.ensures.right (first_state sc) _ _ _ (subst (DifferAtStep c.args.mark.step c.args.self.now.marks.items)
-            (sym c.in_ok-push.ensures.items) (differ_appended c.args.self.now.marks.items c.args.mark))
-            h.trail;
-        setup = h.setup;
-        marks = c.in_ok-push.ensures.items ∙ ap (λ ms. ms ++ c.args.mark ∷ []) h.marks;
-        rules = h.rules;
-        options = h.options;
-        step = h.step;
-        lines = h.lines;
-      };
+      has = record { image = h.image; trail = trail; setup = h.setup; marks = marks; rules = h.rules; options = h.options; step = h.step; lines = h.lines };
     })
 
 pub returns-clause-work : goal.returns-clause-work

@@ -7,19 +7,11 @@ use Rattle.replay_session.proofs.session.Session.add_suppression.Goals as goal
 pub returns-clause-edits : goal.returns-clause-edits
 unfolding first_state
 returns-clause-edits c sc out h =
+    let rules = c.in_ok-push.ensures.items ∙ ap (λ rules. rules ++ c.args.suppression ∷ []) h.rules in
     inl (record {
       replies = refl;
       appends = refl;
-      has = record {
-        image = h.image;
-        trail = h.trail;
-        setup = h.setup;
-        marks = h.marks;
-        rules = c.in_ok-push.ensures.items ∙ ap (λ rules. rules ++ c.args.suppression ∷ []) h.rules;
-        options = h.options;
-        step = h.step;
-        lines = h.lines;
-      };
+      has = record { image = h.image; trail = h.trail; setup = h.setup; marks = h.marks; rules = rules; options = h.options; step = h.step; lines = h.lines };
     })
 
 pub returns-clause-work : goal.returns-clause-work

@@ -2,26 +2,20 @@ use Rattle.std.proofs.Common.{rules, refl, inl, ◌∙◌, ◌++◌, ◌∷◌, 
 use Rattle.replay_session.specs.Scenario.{first_state}
 use Rattle.replay_session.specs.Session.{trail_of}
 use Rattle.replay_session.proofs.WorkSteps.{right-of, moves-kept}
+use Rattle.guest_machine.specs.declared.setup.Setup.{Setup}
+use Rattle.replay_session.proofs.EditSteps.{with_input}
 use Rattle.replay_session.proofs.session.Session.append.Goals as goal
 
 pub returns-clause-edits : goal.returns-clause-edits
 unfolding first_state
 returns-clause-edits c sc out h =
-    let is = c.in_ok-push.ensures.ok ∙ ap (λ bytes. bytes ++ c.args.byte ∷ []) (λ i. (h.setup i).input) in
+    let trail = c.cut_end.ensures.right (first_state sc) c.args.self.now.setup (record c.args.self.now.setup { input = _ }) _
+    (record { redzone = refl; volume = refl; hooks = refl; input = (c.args.byte, c.in_ok-push.ensures.ok) }) h.trail in
+    let setup = with_input _ _ _ _ h.setup (c.in_ok-push.ensures.ok ∙ ap (λ (s : Setup). s.input ++ c.args.byte ∷ []) h.setup) in
     inl (record {
       replies = refl;
       appends = refl;
-      has = record {
-        image = h.image;
-        trail = c.cut_end.ensures.right (first_state sc) _ _ _
-            (record { redzone = refl; volume = refl; hooks = refl; input = (c.args.byte, c.in_ok-push.ensures.ok) }) h.trail;
-        setup = λ i. record { input = is i; redzone = (h.setup i).redzone; volume = (h.setup i).volume; hooks = (h.setup i).hooks };
-        marks = h.marks;
-        rules = h.rules;
-        options = h.options;
-        step = h.step;
-        lines = h.lines;
-      };
+      has = record { image = h.image; trail = trail; setup = setup; marks = h.marks; rules = h.rules; options = h.options; step = h.step; lines = h.lines };
     })
 
 pub returns-clause-work : goal.returns-clause-work

@@ -2,30 +2,23 @@ use Rattle.std.proofs.Common.{◌≡◌, refl, inl, ◌∙◌, ◌-◌, ap, subs
 use Rattle.std.proofs.lemmas.List.{length-take}
 use Rattle.checkpoints.specs.FirstEffects.{IsBelowFirst, InputShows}
 use Rattle.checkpoints.specs.Trails.{KeepsJust}
-use Rattle.replay_session.proofs.EditSteps.{loses_last}
+use Rattle.replay_session.proofs.EditSteps.{loses_last, with_input}
 use Rattle.replay_session.specs.Scenario.{first_state}
 use Rattle.replay_session.specs.Session.{trail_of}
 use Rattle.replay_session.proofs.WorkSteps.{right-of, moves-kept}
+use Rattle.guest_machine.specs.declared.setup.Setup.{Setup}
 use Rattle.replay_session.proofs.session.Session.cut.Goals as goal
 
 pub returns-clause-edits : goal.returns-clause-edits
 unfolding first_state
 returns-clause-edits c sc out h =
-    let is = c.pop.ensures ∙ ap (λ (bytes : List ℕ). take (length bytes - 1) bytes) (λ i. (h.setup i).input) in
+    let loses = loses_last c.args.self.now.setup (record c.args.self.now.setup { input = _ }) c.len-last.result c.requires c.pop.ensures c.len-last.ensures refl refl refl in
+    let trail = c.cut_input.ensures.shorter (first_state sc) _ _ _ loses h.trail in
+    let setup = with_input _ _ _ _ h.setup (c.pop.ensures ∙ ap (λ (s : Setup). take (length s.input - 1) s.input) h.setup) in
     inl (record {
       replies = refl;
       appends = refl;
-      has = record {
-        image = h.image;
-        trail = c.cut_input.ensures.shorter (first_state sc) _ _ _ (loses_last _ _ c.len-last.result c.requires c.pop.ensures c.len-last.ensures refl refl refl)
-            h.trail;
-        setup = λ i. record { input = is i; redzone = (h.setup i).redzone; volume = (h.setup i).volume; hooks = (h.setup i).hooks };
-        marks = h.marks;
-        rules = h.rules;
-        options = h.options;
-        step = h.step;
-        lines = h.lines;
-      };
+      has = record { image = h.image; trail = trail; setup = setup; marks = h.marks; rules = h.rules; options = h.options; step = h.step; lines = h.lines };
     })
 
 -- one byte less

@@ -10,19 +10,11 @@ use Rattle.replay_session.proofs.session.Session.patch.Goals as goal
 pub returns-clause-edits : goal.returns-clause-edits
 unfolding first_state poked
 returns-clause-edits c sc out h =
+    let trail = c.in_ok-patch.ensures.right (first_state sc) _ _ h.trail in
     inl (record {
       replies = refl;
       appends = refl;
-      has = record {
-        image = h.image;
-        trail = c.in_ok-patch.ensures.right (first_state sc) _ _ h.trail;
-        setup = h.setup;
-        marks = h.marks;
-        rules = h.rules;
-        options = h.options;
-        step = h.step;
-        lines = h.lines;
-      };
+      has = record { image = h.image; trail = trail; setup = h.setup; marks = h.marks; rules = h.rules; options = h.options; step = h.step; lines = h.lines };
     })
 
 pub patch-requires : goal.patch-requires

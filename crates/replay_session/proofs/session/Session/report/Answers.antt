@@ -21,44 +21,20 @@ returns-clause-ok c sc h =
 pub returns-in_err-machine-clause-has : goal.returns-in_err-machine-clause-has
 unfolding first_state
 returns-in_err-machine-clause-has c sc h =
-    record {
-      image = h.image;
-      trail = moved c.args.self.now sc c.deref.result.now c.deref.ensures.value _ h c.at.ensures.right;
-      setup = h.setup;
-      marks = h.marks;
-      rules = h.rules;
-      options = h.options;
-      step = h.step;
-      lines = h.lines;
-    }
+    let trail = moved c.args.self.now sc c.deref.result.now c.deref.ensures.value _ h c.at.ensures.right in
+    record { image = h.image; trail = trail; setup = h.setup; marks = h.marks; rules = h.rules; options = h.options; step = h.step; lines = h.lines }
 
 pub returns-in_err-render-clause-has : goal.returns-in_err-render-clause-has
 unfolding first_state
 returns-in_err-render-clause-has c sc h =
-    record {
-      image = h.image;
-      trail = moved c.args.self.now sc c.deref.result.now c.deref.ensures.value _ h c.at.ensures.right;
-      setup = h.setup;
-      marks = h.marks;
-      rules = h.rules;
-      options = h.options;
-      step = h.step;
-      lines = h.lines;
-    }
+    let trail = moved c.args.self.now sc c.deref.result.now c.deref.ensures.value _ h c.at.ensures.right in
+    record { image = h.image; trail = trail; setup = h.setup; marks = h.marks; rules = h.rules; options = h.options; step = h.step; lines = h.lines }
 
 pub returns-clause-has : goal.returns-clause-has
 unfolding first_state
 returns-clause-has c sc h =
-    record {
-      image = h.image;
-      trail = moved c.args.self.now sc c.deref.result.now c.deref.ensures.value _ h c.at.ensures.right;
-      setup = h.setup;
-      marks = h.marks;
-      rules = h.rules;
-      options = h.options;
-      step = h.step;
-      lines = h.lines;
-    }
+    let trail = moved c.args.self.now sc c.deref.result.now c.deref.ensures.value _ h c.at.ensures.right in
+    record { image = h.image; trail = trail; setup = h.setup; marks = h.marks; rules = h.rules; options = h.options; step = h.step; lines = h.lines }
 
 pub returns-clause-work : goal.returns-clause-work
 unfolding trail_of

@@ -1,25 +1,19 @@
-use Rattle.std.proofs.Common.{refl, inl}
+use Rattle.std.proofs.Common.{refl, inl, ap}
 use Rattle.replay_session.specs.Scenario.{first_state}
 use Rattle.replay_session.specs.Session.{trail_of}
 use Rattle.replay_session.proofs.WorkSteps.{right-of, moves-kept}
+use Rattle.guest_machine.specs.declared.setup.Setup.{Setup}
 use Rattle.replay_session.proofs.session.Session.set_queue.Goals as goal
 
 pub returns-clause-edits : goal.returns-clause-edits
 unfolding first_state
 returns-clause-edits c sc out h =
+    let trail = c.cut_heap.ensures.right (first_state sc) _ (record c.args.self.now.setup { volume = c.args.n }) _ (record { input = refl; hooks = refl }) h.trail in
+    let setup = ap (λ (s : Setup). record s { volume = c.args.n }) h.setup in
     inl (record {
       replies = refl;
       appends = refl;
-      has = record {
-        image = h.image;
-        trail = c.cut_heap.ensures.right (first_state sc) _ _ _ (record { input = refl; hooks = refl }) h.trail;
-        setup = λ i. record { input = (h.setup i).input; redzone = (h.setup i).redzone; volume = c.args.n; hooks = (h.setup i).hooks };
-        marks = h.marks;
-        rules = h.rules;
-        options = h.options;
-        step = h.step;
-        lines = h.lines;
-      };
+      has = record { image = h.image; trail = trail; setup = setup; marks = h.marks; rules = h.rules; options = h.options; step = h.step; lines = h.lines };
     })
 
 pub returns-clause-work : goal.returns-clause-work

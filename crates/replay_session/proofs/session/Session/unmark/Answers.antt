@@ -13,22 +13,14 @@ use Rattle.replay_session.proofs.session.Session.unmark.Goals as goal
 pub returns-clause-edits : goal.returns-clause-edits
 unfolding first_state
 returns-clause-edits c sc out h =
+    let P = DifferAtStep c.remove-mark.result.step c.args.self.now.marks.items in
+    let removed = differ_removed c.args.self.now.marks.items c.args.index _ c.remove-mark.result (omega arith) c.remove-mark.ensures.value in
+    let trail = c.cut_mark.ensures.right (first_state sc) _ _ _ (subst P (sym c.remove-mark.ensures.items) removed) h.trail in
+    let marks = c.remove-mark.ensures.items ∙ ap (λ ms. remove ms c.args.index) h.marks in
     inl (record {
       replies = refl;
       appends = refl;
-      has = record {
-        image = h.image;
-        trail = c.cut_mark.ensures.right (first_state sc) _ _ _ (subst (DifferAtStep c.remove-mark.result.step c.args.self.now.marks.items)
-            (sym c.remove-mark.ensures.items)
-            (differ_removed c.args.self.now.marks.items c.args.index _ c.remove-mark.result (omega arith) c.remove-mark.ensures.value))
-            h.trail;
-        setup = h.setup;
-        marks = c.remove-mark.ensures.items ∙ ap (λ ms. remove ms c.args.index) h.marks;
-        rules = h.rules;
-        options = h.options;
-        step = h.step;
-        lines = h.lines;
-      };
+      has = record { image = h.image; trail = trail; setup = h.setup; marks = marks; rules = h.rules; options = h.options; step = h.step; lines = h.lines };
     })
 
 pub returns-clause-work : goal.returns-clause-work
