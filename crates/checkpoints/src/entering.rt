@@ -143,7 +143,8 @@ impl FirstUses {
         ensures some { 0 < most → word < 2 ^ 30 → 0 < result }
         ensures within { 0 < most → result ≤ most }
         ensures inside { word < 2 ^ 30 → word + result ≤ 2 ^ 30 }
-        ensures entries { (w : ℕ) → w < 2 ^ 30 → IsPlaced (ranges_of self.old) w → entry_of self.new w ≡ (if is_from word result w then min (entry_of self.old w) step else entry_of self.old w) }
+        ensures entries { (w : ℕ) → w < 2 ^ 30 → IsPlaced (ranges_of self.old) w
+            → entry_of self.new w ≡ (if is_from word result w then min (entry_of self.old w) step else entry_of self.old w) }
     {
         match self.place_of(word) {
             Place::At(place) => {

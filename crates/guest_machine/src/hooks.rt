@@ -29,7 +29,8 @@ impl Model for Hooks {
 
     ghost view = { λ hooks. hooks.entries.items };
 
-    ghost invariant = { λ hooks. IsNonDecreasingBy (λ (entry : ℕ × HookOf). entry.0) hooks.entries.items × AreMarked hooks.sieve hooks.entries.items (length hooks.entries.items) };
+    ghost invariant = { λ hooks. IsNonDecreasingBy (λ (entry : ℕ × HookOf). entry.0) hooks.entries.items
+        × AreMarked hooks.sieve hooks.entries.items (length hooks.entries.items) };
 }
 
 impl Hooks {

@@ -11,6 +11,7 @@ use guest_machine::{
 use guest_programs::program;
 use shadow_memory::RangeKind;
 use std::alloc::{AllocError, Global};
+use std::process::Abort;
 use std::test::Fail;
 
 /// The machine before the first step of a program.
@@ -176,6 +177,33 @@ fn a_machine_that_has_ended_rests(rt: HostRuntime) -> Result<(), Fail> {
     Ok(())
 }
 
+/// What a step touches: its word, what it reads and what it writes.
+type Touches = (Option<Span>, Option<Span>, Option<Span>);
+
+/// The machine after a step for each row, of which each must touch what its row says.
+fn touching(
+    rt: &impl Abort,
+    machine: Machine,
+    setup: &Setup,
+    meter: &mut Meter,
+    rows: &[Touches],
+) -> Result<Machine, Fail> {
+    let mut machine = machine;
+    for (fetch, reads, writes) in rows {
+        let (next, touched) = machine.step(setup, meter)?;
+        machine = next;
+        assert_eq!(rt;
+            touched,
+            Touched {
+                fetch: *fetch,
+                reads: *reads,
+                writes: *writes
+            }
+        );
+    }
+    Ok(machine)
+}
+
 /// `lui x5, 0x10; lw x7, 16(x5); sh x7, 22(x5); ebreak; .word 0x12345678; .word 0`
 #[test]
 fn a_step_tells_what_it_touched(rt: HostRuntime) -> Result<(), Fail> {
@@ -189,25 +217,15 @@ fn a_step_tells_what_it_touched(rt: HostRuntime) -> Result<(), Fail> {
     ];
     let setup = setup(rt.alloc());
     let mut meter = Meter::new();
-    let mut machine = started(rt.alloc(), &words)?;
-    for (fetch, reads, writes) in [
+    let machine = started(rt.alloc(), &words)?;
+    let rows = [
         (span(0x10000, 4), None, None),
         (span(0x10004, 4), span(0x10010, 4), None),
         (span(0x10008, 4), None, span(0x10016, 2)),
         (span(0x1000C, 4), None, None),
         (None, None, None),
-    ] {
-        let (next, touched) = machine.step(&setup, &mut meter)?;
-        machine = next;
-        assert_eq!(rt;
-            touched,
-            Touched {
-                fetch,
-                reads,
-                writes
-            }
-        );
-    }
+    ];
+    touching(&rt, machine, &setup, &mut meter, &rows)?;
     assert_eq!(rt; meter.read(), 5);
     Ok(())
 }
@@ -220,24 +238,14 @@ fn functions_are_called_by_name(rt: HostRuntime) -> Result<(), Fail> {
     assert!(rt; setup.hooks.at(0x10008) == Some(Hook::Calloc));
     assert!(rt; setup.hooks.at(0x10004) == None);
     let mut meter = Meter::new();
-    let mut machine = started(rt.alloc(), &[0x0080_0513, 0x0100_0593])?;
-    for (fetch, reads, writes) in [
+    let machine = started(rt.alloc(), &[0x0080_0513, 0x0100_0593])?;
+    let rows = [
         (span(0x10000, 4), None, None),
         (span(0x10004, 4), None, None),
         (None, None, span(0x4000_0010, 128)),
         (None, span(0x4000_0010, 16), span(0x4000_00B0, 16)),
-    ] {
-        let (next, touched) = machine.step(&setup, &mut meter)?;
-        machine = next;
-        assert_eq!(rt;
-            touched,
-            Touched {
-                fetch,
-                reads,
-                writes
-            }
-        );
-    }
+    ];
+    let machine = touching(&rt, machine, &setup, &mut meter, &rows)?;
     assert_eq!(rt; machine.pc(), 0);
     assert_eq!(rt; machine.heap_calls(), 2);
     assert_eq!(rt; bits_of(&machine, 10).value, 0x4000_00B0);

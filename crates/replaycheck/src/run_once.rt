@@ -67,7 +67,8 @@ pub fn run_once<W: Write>(
 ) -> Result<(), RunFault>
     ensures ok { OnOk result (WritesReport (IsReportOnce image.now input.items suppressions.now step) (W.contents writer.old) (W.contents writer.new)) }
     ensures large { (result ≡ Err RunFault.InputTooLarge) ↔ (longest_input < length input.items) }
-    ensures fault { IfErr result (λ fault. StopsBy fault (IsReportOnce image.now input.items suppressions.now step) (W.contents writer.old) (W.contents writer.new)) }
+    ensures fault { IfErr result (λ fault. StopsBy fault (IsReportOnce image.now input.items suppressions.now step)
+        (W.contents writer.old) (W.contents writer.new)) }
 {
     if input.len() > LONGEST_INPUT {
         return Err(RunFault::InputTooLarge);

@@ -8,6 +8,7 @@ use leak_search::{LeakRecord, search};
 use replay_report::{Options, render};
 use shadow_memory::RangeKind;
 use std::alloc::{AllocError, Global};
+use std::io::Write;
 use std::test::Fail;
 use suppressions::Suppression;
 
@@ -273,67 +274,69 @@ fn leaks_of(
     Ok(out)
 }
 
+/// The end of a report without output and errors: the lines of its leaks, and of each kind how many bytes and blocks there are.
+fn lost(alloc: Global, leaks: &str, counts: [(u32, u32); 4]) -> Result<Vec<u8>, Fail> {
+    let [definite, indirect, possible, reachable] = counts;
+    let mut text = b"output 0\n".to_vec(alloc)?;
+    text.extend_from_slice(leaks.as_bytes())?;
+    for (kind, (bytes, blocks)) in [
+        ("definitely lost", definite),
+        ("indirectly lost", indirect),
+        ("possibly lost", possible),
+        ("still reachable", reachable),
+        ("suppressed", (0, 0)),
+    ] {
+        writeln!(text, "{kind}: {bytes} bytes in {blocks} blocks")?;
+    }
+    text.extend_from_slice(b"ERROR SUMMARY: 0 errors from 0 contexts (suppressed: 0 from 0)\n")?;
+    Ok(text)
+}
+
 #[test]
 fn blocks_are_told_by_what_points_to_them(rt: HostRuntime) -> Result<(), Fail> {
     let default = Options::default().show;
-    let all = [true; 4];
-    for (words, steps, show, want) in [
+    let first = "leak 8 bytes in 1 blocks are definitely lost\n   at 0x00010008: ???\n";
+    let both = "leak 8 bytes in 1 blocks are definitely lost\n   at 0x00010008: ???\n\
+leak 8 bytes in 1 blocks are indirectly lost\n   at 0x00010014: ???\n";
+    let inside = "leak 8 bytes in 1 blocks are possibly lost\n   at 0x00010008: ???\n";
+    let (none, one) = ((0, 0), (8, 1));
+    for (label, words, steps, show, leaks, counts) in [
         (
+            "reached",
             TWO_BLOCKS.as_slice(),
             9,
             default,
-            b"output 0\n\
-definitely lost: 0 bytes in 0 blocks\n\
-indirectly lost: 0 bytes in 0 blocks\n\
-possibly lost: 0 bytes in 0 blocks\n\
-still reachable: 16 bytes in 2 blocks\n\
-suppressed: 0 bytes in 0 blocks\n\
-ERROR SUMMARY: 0 errors from 0 contexts (suppressed: 0 from 0)\n"
-                .as_slice(),
+            "",
+            [none, none, none, (16, 2)],
         ),
         (
-            TWO_BLOCKS.as_slice(),
+            "one points to the other",
+            &TWO_BLOCKS,
             10,
             default,
-            b"output 0\n\
-leak 8 bytes in 1 blocks are definitely lost\n   at 0x00010008: ???\n\
-definitely lost: 8 bytes in 1 blocks\n\
-indirectly lost: 8 bytes in 1 blocks\n\
-possibly lost: 0 bytes in 0 blocks\n\
-still reachable: 0 bytes in 0 blocks\n\
-suppressed: 0 bytes in 0 blocks\n\
-ERROR SUMMARY: 0 errors from 0 contexts (suppressed: 0 from 0)\n",
+            first,
+            [one, one, none, none],
         ),
         (
-            TWO_BLOCKS.as_slice(),
+            "the other shown too",
+            &TWO_BLOCKS,
             10,
-            all,
-            b"output 0\n\
-leak 8 bytes in 1 blocks are definitely lost\n   at 0x00010008: ???\n\
-leak 8 bytes in 1 blocks are indirectly lost\n   at 0x00010014: ???\n\
-definitely lost: 8 bytes in 1 blocks\n\
-indirectly lost: 8 bytes in 1 blocks\n\
-possibly lost: 0 bytes in 0 blocks\n\
-still reachable: 0 bytes in 0 blocks\n\
-suppressed: 0 bytes in 0 blocks\n\
-ERROR SUMMARY: 0 errors from 0 contexts (suppressed: 0 from 0)\n",
+            [true; 4],
+            both,
+            [one, one, none, none],
         ),
         (
-            INSIDE.as_slice(),
+            "an address inside",
+            &INSIDE,
             4,
             default,
-            b"output 0\n\
-leak 8 bytes in 1 blocks are possibly lost\n   at 0x00010008: ???\n\
-definitely lost: 0 bytes in 0 blocks\n\
-indirectly lost: 0 bytes in 0 blocks\n\
-possibly lost: 8 bytes in 1 blocks\n\
-still reachable: 0 bytes in 0 blocks\n\
-suppressed: 0 bytes in 0 blocks\n\
-ERROR SUMMARY: 0 errors from 0 contexts (suppressed: 0 from 0)\n",
+            inside,
+            [none, none, one, none],
         ),
     ] {
         let report = leaks_of(rt.alloc(), words, steps, &[], show)?;
-        assert!(rt; report.ends_with(want), "after {steps}");
+        let want = lost(rt.alloc(), leaks, counts)?;
+        assert!(rt; report.ends_with(&want), "{label}");
     }
     Ok(())
 }

@@ -34,12 +34,12 @@ const EXITS_WITH_INPUT: [u32; 10] = [
     0x0000_0073,
 ];
 
-/// `addi a7, x0, 63; addi a2, x0, 1; addi a1, x2, 0`, then over and over `addi x5, x0, 600; addi x5, x5, -1; bne x5, x0, -4;
-/// addi a0, x0, 0; ecall; add x6, x6, a0; bne a0, x0, -24`, and `addi a7, x0, 93; addi a0, x6, 0; ecall`: reads a byte a call until a
-/// call gives none, and exits with how many it was given. Call k is made in step 1205k.
-const BYTE_BY_BYTE: [u32; 13] = [
+/// `addi a7, x0, 63; addi a2, x0, 0; addi a1, x2, 0`, then over and over `addi x5, x0, 600; addi x5, x5, -1; bne x5, x0, -4;
+/// addi a0, x0, 0; ecall; add x6, x6, a0; bne a0, x0, -24`, and `addi a7, x0, 93; addi a0, x6, 0; ecall`: reads until a call gives no
+/// byte, and exits with how many it was given. Call k is made in step 1205k. The second word says for how many bytes a call asks.
+const READS_BYTES: [u32; 13] = [
     0x03F0_0893,
-    0x0010_0613,
+    0x0000_0613,
     0x0001_0593,
     0x2580_0293,
     0xFFF2_8293,
@@ -53,22 +53,28 @@ const BYTE_BY_BYTE: [u32; 13] = [
     0x0000_0073,
 ];
 
-/// The same, with `addi a2, x0, 4`.
-const IN_ONE_GO: [u32; 13] = [
-    0x03F0_0893,
-    0x0040_0613,
-    0x0001_0593,
-    0x2580_0293,
-    0xFFF2_8293,
-    0xFE02_9EE3,
-    0x0000_0513,
-    0x0000_0073,
-    0x00A3_0333,
-    0xFE05_14E3,
-    0x05D0_0893,
-    0x0003_0513,
-    0x0000_0073,
-];
+/// The programs of the table.
+#[derive(Clone, Copy)]
+enum Program {
+    ReadsOn,
+    ExitsWithInput,
+    /// Reads to the end, so many bytes a call.
+    ReadsBytes(u32),
+}
+
+impl Program {
+    fn words(self, alloc: Global) -> Result<Vec<u32>, AllocError> {
+        match self {
+            Program::ReadsOn => READS_ON.to_vec(alloc),
+            Program::ExitsWithInput => EXITS_WITH_INPUT.to_vec(alloc),
+            Program::ReadsBytes(len) => {
+                let mut words = READS_BYTES.to_vec(alloc)?;
+                words[1] |= len << 20;
+                Ok(words)
+            }
+        }
+    }
+}
 
 /// The steps made on a trail so far; and of the machine that was asked for last its status, its pc and how many errors it has.
 type Told = (u64, Status, u32, usize);
@@ -96,13 +102,29 @@ enum Act {
     SetRedZone(u32),
 }
 
-/// A program, with what is done to its trail, and what is told of each machine that was asked for.
-type Case = (&'static [u32], &'static [Act], &'static [Told]);
+/// An input that grows from nothing and shrinks again.
+const GROWS_AND_SHRINKS: [Act; 11] = [
+    Act::Ask(5000),
+    Act::Append(b'a'),
+    Act::Ask(5000),
+    Act::ReplaceInput(0, b""),
+    Act::Ask(5000),
+    Act::Append(b'b'),
+    Act::Ask(5000),
+    Act::Append(b'c'),
+    Act::Ask(5000),
+    Act::ReplaceInput(1, b"b"),
+    Act::Ask(5000),
+];
+
+/// A label, a program, what is done to its trail, and what is told of each machine that was asked for.
+type Case = (&'static str, Program, &'static [Act], &'static [Told]);
 
 const CASES: [Case; 8] = [
     // A word that isn't read by the step asked for, and one that is read in step 1201.
     (
-        &READS_ON,
+        "words that are read late",
+        Program::ReadsOn,
         &[
             Act::Ask(3000),
             Act::Patch(0x112D4, 1),
@@ -122,7 +144,8 @@ const CASES: [Case; 8] = [
     ),
     // A word that is read in step 4, there and back; and one that is read in step 1024: the machine at 1024 is kept and has the word.
     (
-        &READS_ON,
+        "words that are read early, there and back",
+        Program::ReadsOn,
         &[
             Act::Ask(3000),
             Act::Patch(0x10018, 1),
@@ -142,7 +165,8 @@ const CASES: [Case; 8] = [
     // Marks at steps 2500, 1024 and 1023, of which the first is taken away; and another red zone, where no heap call was made. The one
     // error is that of the branch on the word that is read in step 2500.
     (
-        &READS_ON,
+        "marks, and another red zone",
+        Program::ReadsOn,
         &[
             Act::Ask(3000),
             Act::AddMark(2500, 0x10D18, RangeKind::Undefined),
@@ -167,7 +191,8 @@ const CASES: [Case; 8] = [
     ),
     // An input, another second byte of it, and an earlier step.
     (
-        &EXITS_WITH_INPUT,
+        "another input, and an earlier step",
+        Program::ExitsWithInput,
         &[
             Act::ReplaceInput(0, b"ab"),
             Act::Ask(10),
@@ -184,20 +209,9 @@ const CASES: [Case; 8] = [
     // Bytes put at the input's end and taken off it. Of n bytes each is read by a call of its own, and the end is seen in step
     // 1205(n + 1): a trail with one byte more or less at the end than n has the machines up to there.
     (
-        &BYTE_BY_BYTE,
-        &[
-            Act::Ask(5000),
-            Act::Append(b'a'),
-            Act::Ask(5000),
-            Act::ReplaceInput(0, b""),
-            Act::Ask(5000),
-            Act::Append(b'b'),
-            Act::Ask(5000),
-            Act::Append(b'c'),
-            Act::Ask(5000),
-            Act::ReplaceInput(1, b"b"),
-            Act::Ask(5000),
-        ],
+        "bytes at the end, one a call",
+        Program::ReadsBytes(1),
+        &GROWS_AND_SHRINKS,
         &[
             (5000, Status::Exited(0), 0x10030, 0),
             (8976, Status::Exited(1), 0x10030, 0),
@@ -209,7 +223,8 @@ const CASES: [Case; 8] = [
     ),
     // From two bytes.
     (
-        &BYTE_BY_BYTE,
+        "two bytes and more, one a call",
+        Program::ReadsBytes(1),
         &[
             Act::ReplaceInput(0, b"ab"),
             Act::Ask(5000),
@@ -232,20 +247,9 @@ const CASES: [Case; 8] = [
     ),
     // The first call asks for four bytes, and sees the end where there are fewer.
     (
-        &IN_ONE_GO,
-        &[
-            Act::Ask(5000),
-            Act::Append(b'a'),
-            Act::Ask(5000),
-            Act::ReplaceInput(0, b""),
-            Act::Ask(5000),
-            Act::Append(b'b'),
-            Act::Ask(5000),
-            Act::Append(b'c'),
-            Act::Ask(5000),
-            Act::ReplaceInput(1, b"b"),
-            Act::Ask(5000),
-        ],
+        "bytes at the end, four a call",
+        Program::ReadsBytes(4),
+        &GROWS_AND_SHRINKS,
         &[
             (5000, Status::Exited(0), 0x10030, 0),
             (8976, Status::Exited(1), 0x10030, 0),
@@ -257,7 +261,8 @@ const CASES: [Case; 8] = [
     ),
     // It sees no end where there are just four: that shows a call later.
     (
-        &IN_ONE_GO,
+        "three bytes and more, four a call",
+        Program::ReadsBytes(4),
         &[
             Act::ReplaceInput(0, b"abc"),
             Act::Ask(5000),
@@ -376,8 +381,8 @@ impl<'a> Edited<'a> {
 }
 
 /// What is told of each machine that is asked for.
-fn told(alloc: Global, words: &[u32], acts: &[Act]) -> Result<Vec<Told>, Fail> {
-    let file = sized_program(alloc, words, 0x2000)?;
+fn told(alloc: Global, program: Program, acts: &[Act]) -> Result<Vec<Told>, Fail> {
+    let file = sized_program(alloc, &program.words(alloc)?, 0x2000)?;
     let mut edited = Edited::begin(alloc, read(alloc, &file)?)?;
     let mut told = Vec::new(alloc);
     for act in acts {
@@ -390,8 +395,12 @@ fn told(alloc: Global, words: &[u32], acts: &[Act]) -> Result<Vec<Told>, Fail> {
 
 #[test]
 fn edits_cost_what_follows_them(rt: HostRuntime) -> Result<(), Fail> {
-    for (words, acts, wanted) in CASES {
-        assert_eq!(rt; told(rt.alloc(), words, acts)?.as_slice(), wanted);
+    for (label, program, acts, wanted) in CASES {
+        assert_eq!(rt;
+            told(rt.alloc(), program, acts)?.as_slice(),
+            wanted,
+            "{label}"
+        );
     }
     Ok(())
 }

@@ -393,7 +393,8 @@ impl Codes {
         requires room { at + 4 ≤ 4096 }
         requires from_aligned { from % 4 ≡ 0 }
         requires within { from + 4 ≤ 4096 }
-        ensures { (k : ℕ) → code_at self.new k ≡ changed_from (code_at self.old) at 4 (λ i old. taken_code (loaded_code (code_at source.now (from + i))) old) k }
+        ensures { (k : ℕ) → code_at self.new k ≡ changed_from (code_at self.old) at 4
+            (λ i old. taken_code (loaded_code (code_at source.now (from + i))) old) k }
     {
         self.packed[at / 4] = copied_four(source.packed[from / 4], self.packed[at / 4]);
     }
@@ -405,7 +406,8 @@ impl Codes {
         requires room { at + (to - from) ≤ 4096 }
         ensures on { from < result }
         ensures within { result ≤ to }
-        ensures set { (k : ℕ) → code_at self.new k ≡ changed_from (code_at self.old) at (result - from) (λ i old. taken_code (loaded_code (code_at source.now (from + i))) old) k }
+        ensures set { (k : ℕ) → code_at self.new k ≡ changed_from (code_at self.old) at (result - from)
+            (λ i old. taken_code (loaded_code (code_at source.now (from + i))) old) k }
     {
         if at % 4 == 0 && from % 4 == 0 && to - from >= 4 && from % STRETCH != 0 {
             self.copy_four(at, source, from);
@@ -421,7 +423,8 @@ impl Codes {
         requires room { at + (to - from) ≤ 4096 }
         ensures on { from < result }
         ensures within { result ≤ to }
-        ensures set { (k : ℕ) → code_at self.new k ≡ changed_from (code_at self.old) at (result - from) (λ i old. taken_code (loaded_code (code_at source.now (from + i))) old) k }
+        ensures set { (k : ℕ) → code_at self.new k ≡ changed_from (code_at self.old) at (result - from)
+            (λ i old. taken_code (loaded_code (code_at source.now (from + i))) old) k }
     {
         let made = loaded_code(source.code(from));
         let end = source.run(from, to);
@@ -434,7 +437,8 @@ impl Codes {
     pub(crate) fn copy(&mut self, at: usize, source: &Codes, from: usize, count: usize)
         requires room { at + count ≤ 4096 }
         requires within { from + count ≤ 4096 }
-        ensures { (k : ℕ) → code_at self.new k ≡ changed_from (code_at self.old) at count (λ i old. taken_code (loaded_code (code_at source.now (from + i))) old) k }
+        ensures { (k : ℕ) → code_at self.new k ≡ changed_from (code_at self.old) at count
+            (λ i old. taken_code (loaded_code (code_at source.now (from + i))) old) k }
     {
         let end = from + count;
         let mut place = from;

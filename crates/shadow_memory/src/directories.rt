@@ -175,7 +175,8 @@ impl Directory {
     fn sweep(&mut self, place: usize, most: usize, each: Each) -> usize
         requires { place + most ≤ vec_len self.old.pages }
         ensures within { result ≤ most }
-        ensures swept { cells_under self.new ≡ changed_from (cells_under self.old) (4096 * (self.old.first + place)) (4096 * result) (λ i cell. each_of each cell) }
+        ensures swept { cells_under self.new ≡ changed_from (cells_under self.old) (4096 * (self.old.first + place)) (4096 * result)
+            (λ i cell. each_of each cell) }
     {
         for i in 0..most {
             if !self.pages[place + i].sweep(each) {

@@ -403,7 +403,8 @@ impl Marks {
     ) -> Result<(), AllocError>
         requires order { from ≤ to }
         requires within { to ≤ 4096 }
-        ensures ok { OnOk result (AgreeInPage (marks_in self.new) (λ k. if is_between from to k then taken (mark_of kind) (marks_in self.old k) else marks_in self.old k)) }
+        ensures ok { OnOk result (AgreeInPage (marks_in self.new) (λ k.
+            if is_between from to k then taken (mark_of kind) (marks_in self.old k) else marks_in self.old k)) }
         ensures err { OnErr result (AgreeInPage (marks_in self.new) (marks_in self.old)) }
     {
         let made = match kind {
@@ -433,7 +434,8 @@ impl Marks {
         requires room { at + count ≤ 4096 }
         requires within { from + count ≤ 4096 }
         requires whole { (k : ℕ) → from ≤ k → k < from + count → code_at source.now.codes k < 3 }
-        ensures ok { OnOk result (AgreeInPage (marks_in self.new) (changed_from (marks_in self.old) at count (λ i mark. taken (marks_mixed source.now (from + i)) mark))) }
+        ensures ok { OnOk result (AgreeInPage (marks_in self.new) (changed_from (marks_in self.old) at count
+            (λ i mark. taken (marks_mixed source.now (from + i)) mark))) }
         ensures err { OnErr result (AgreeInPage (marks_in self.new) (marks_in self.old)) }
     {
         match self {
@@ -463,7 +465,8 @@ impl Marks {
         requires room { at + count ≤ 4096 }
         requires within { from + count ≤ 4096 }
         requires whole { AreWhole source.now from (from + count) }
-        ensures ok { OnOk result (AgreeInPage (marks_in self.new) (changed_from (marks_in self.old) at count (λ i mark. taken (marks_in source.now (from + i)) mark))) }
+        ensures ok { OnOk result (AgreeInPage (marks_in self.new) (changed_from (marks_in self.old) at count
+            (λ i mark. taken (marks_in source.now (from + i)) mark))) }
         ensures err { OnErr result (AgreeInPage (marks_in self.new) (marks_in self.old)) }
     {
         match source {

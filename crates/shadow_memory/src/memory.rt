@@ -78,7 +78,8 @@ impl DirectorySlot {
     fn put(&mut self, at: usize, bytes: &[u8]) -> bool
         requires within { at < 4194304 }
         requires one_page { at % 4096 + length bytes.now ≤ 4096 }
-        ensures done { IsTrue result → AgreeInDirectory (cells_below self.new) (changed_from (cells_below self.old) at (length bytes.now) (received (slice_index bytes.now))) }
+        ensures done { IsTrue result → AgreeInDirectory (cells_below self.new)
+            (changed_from (cells_below self.old) at (length bytes.now) (received (slice_index bytes.now))) }
         ensures whole { IsTrue result → (k : ℕ) → at ≤ k → k < at + length bytes.now → (cells_below self.old k).accessible ≡ true }
         ensures kept { IsFalse result → cells_below self.new ≡ cells_below self.old }
     {

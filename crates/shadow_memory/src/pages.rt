@@ -187,7 +187,8 @@ impl Page {
     ) -> Result<(), AllocError>
         requires order { from ≤ to }
         requires within { to ≤ 4096 }
-        ensures ok { OnOk result (AgreeInPage (cells_in self.new) (λ k. if is_between from to k then ranged kind 0 (cells_in self.old k) else cells_in self.old k)) }
+        ensures ok { OnOk result (AgreeInPage (cells_in self.new) (λ k.
+            if is_between from to k then ranged kind 0 (cells_in self.old k) else cells_in self.old k)) }
         ensures err { OnErr result (AgreeInPage (cells_in self.new) (cells_in self.old)) }
     {
         self.marks.make(alloc, from, to, kind)
@@ -253,7 +254,8 @@ impl Page {
         requires room { at + count ≤ 4096 }
         requires within { from + count ≤ 4096 }
         requires whole { AreWhole source.now.marks from (from + count) }
-        ensures ok { OnOk result (AgreeInPage (cells_in self.new) (changed_from (cells_in self.old) at count (λ i cell. taken_cell (cells_in source.now (from + i)) cell))) }
+        ensures ok { OnOk result (AgreeInPage (cells_in self.new) (changed_from (cells_in self.old) at count
+            (λ i cell. taken_cell (cells_in source.now (from + i)) cell))) }
         ensures err { OnErr result (AgreeInPage (cells_in self.new) (cells_in self.old)) }
     {
         self.marks.copy(alloc, at, &source.marks, from, count)?;
@@ -309,7 +311,8 @@ impl Page {
     #[inline(always)]
     pub(crate) fn put(&mut self, at: usize, bytes: &[u8]) -> bool
         requires { at + length bytes.now ≤ 4096 }
-        ensures done { IsTrue result → AgreeInPage (cells_in self.new) (changed_from (cells_in self.old) at (length bytes.now) (received (slice_index bytes.now))) }
+        ensures done { IsTrue result → AgreeInPage (cells_in self.new)
+            (changed_from (cells_in self.old) at (length bytes.now) (received (slice_index bytes.now))) }
         ensures whole { IsTrue result → (k : ℕ) → at ≤ k → k < at + length bytes.now → (cells_in self.old k).accessible ≡ true }
         ensures kept { IsFalse result → cells_in self.new ≡ cells_in self.old }
     {

@@ -73,7 +73,8 @@ impl PageSlot {
     #[inline(always)]
     pub(crate) fn put(&mut self, at: usize, bytes: &[u8]) -> bool
         requires { at + length bytes.now ≤ 4096 }
-        ensures done { IsTrue result → AgreeInPage (cells_at self.new) (changed_from (cells_at self.old) at (length bytes.now) (received (slice_index bytes.now))) }
+        ensures done { IsTrue result → AgreeInPage (cells_at self.new)
+            (changed_from (cells_at self.old) at (length bytes.now) (received (slice_index bytes.now))) }
         ensures whole { IsTrue result → (k : ℕ) → at ≤ k → k < at + length bytes.now → (cells_at self.old k).accessible ≡ true }
         ensures kept { IsFalse result → cells_at self.new ≡ cells_at self.old }
     {
