@@ -161,8 +161,8 @@ impl Memory {
         Ok(())
     }
 
-    #[tactic(auto, unfolding(crate::specs::Edits::count_of, crate::specs::Edits::change_of, crate::specs::Edits::Fits))]
     /// Changes the byte at an address. What else is known of it stays.
+    #[tactic(auto, unfolding(crate::specs::Edits::count_of, crate::specs::Edits::change_of, crate::specs::Edits::Fits))]
     pub fn poke(&mut self, addr: u32, byte: u8) -> Result<(), AllocError>
         ensures bytes { OnOk result (bytes_in self.new ≡ set_at (bytes_in self.old) addr byte) }
         ensures shadows { shadows_in self.new ≡ shadows_in self.old }
