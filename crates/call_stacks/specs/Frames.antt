@@ -16,6 +16,10 @@ older_than (Some i) frames = drop (i + 1) frames
 unfoldable pub returned : ℕ → List Frame → List Frame
 returned target frames = older_than (position (λ frame. frame.return_to == target) frames) frames
 
--- a trace at an instruction: its address, and the sites of the newest calls; 24 addresses in all
+-- the most addresses of a trace
+abbrev pub longest_trace : ℕ
+longest_trace = 24
+
+-- a trace at an instruction: its address, and the sites of the newest calls
 unfoldable pub trace_at : ℕ → List Frame → List ℕ
-trace_at pc frames = take 24 (pc ∷ map (λ frame. frame.site) frames)
+trace_at pc frames = take longest_trace (pc ∷ map (λ frame. frame.site) frames)

@@ -2,12 +2,12 @@
 -- number of its start among the multiples of 16 of the heap region.
 use Rattle.std.specs.Prelude.{ℕ, ◌+◌, ◌-◌, ◌*◌, ◌/◌, ◌<◌, ◌≤◌, ◌≡◌, ◌==◌, ◌⊎◌, nat_le, Option, Some, None, List, map, is_some, option_map, true, slice_get, if◌then◌else◌}
 use Rattle.call_stacks.specs.declared.block.Block.{Block}
-use Rattle.guest_heap.specs.Blocks.{Blocks, IsKept, IsPlace, low_end, high_end, volume_of}
+use Rattle.guest_heap.specs.Blocks.{Blocks, IsKept, IsPlace, low_end, high_end, heap_begin, heap_end, volume_of}
 use Rattle.guest_heap.specs.Entries.{Entries}
 use Rattle.guest_heap.specs.declared.entry.Entry.{Entry}
 
 abbrev pub slot_of : ℕ → ℕ
-slot_of a = (a - 0x40000000) / 16
+slot_of a = (a - heap_begin) / 16
 
 -- the block of an entry, if it begins at an address
 abbrev pub beginning : ℕ → Option Entry → Option Block
@@ -66,23 +66,23 @@ IsLastKept kept to (Some b) = LastKept kept to b
 -- a kept block that begins below a place and whose interval goes past an address
 pub record PastBelow (blocks : Blocks) (to low : ℕ) (b : Block) : Type 0 where
   pub kept : IsKept blocks b
-  pub below : b.start + 16 ≤ 0x40000000 + 16 * to
+  pub below : b.start + 16 ≤ heap_begin + 16 * to
   pub past : low < high_end b
-  pub within : high_end b ≤ 0x60000000
+  pub within : high_end b ≤ heap_end
 
 abbrev pub MeetsBelow : Blocks → ℕ → ℕ → Option Block → Type 0
-MeetsBelow blocks to low None = (b : Block) → IsKept blocks b → b.start < 0x40000000 + 16 * to → high_end b ≤ low
+MeetsBelow blocks to low None = (b : Block) → IsKept blocks b → b.start < heap_begin + 16 * to → high_end b ≤ low
 MeetsBelow blocks to low (Some b) = PastBelow blocks to low b
 
 -- a kept block that begins at a place or above it, and whose interval begins below an address
 pub record BeforeFrom (blocks : Blocks) (from high : ℕ) (b : Block) : Type 0 where
   pub kept : IsKept blocks b
-  pub above : 0x40000000 + 16 * from ≤ b.start
+  pub above : heap_begin + 16 * from ≤ b.start
   pub before : low_end b < high
-  pub within : high_end b ≤ 0x60000000
+  pub within : high_end b ≤ heap_end
 
 abbrev pub MeetsFrom : Blocks → ℕ → ℕ → Option Block → Type 0
-MeetsFrom blocks from high None = (b : Block) → IsKept blocks b → 0x40000000 + 16 * from ≤ b.start → high ≤ low_end b
+MeetsFrom blocks from high None = (b : Block) → IsKept blocks b → heap_begin + 16 * from ≤ b.start → high ≤ low_end b
 MeetsFrom blocks from high (Some b) = BeforeFrom blocks from high b
 
 -- from one address up to, not with, another no block of a size has a place with a red zone
@@ -91,11 +91,11 @@ AreNoPlaces blocks size redzone from to = (q : ℕ) → from ≤ q → q < to �
 
 -- where a kept block's interval ends that begins below an address, or the region begins
 abbrev pub EndsBelow : Blocks → ℕ → ℕ → Type 0
-EndsBelow blocks start end = (end ≡ 0x40000000) ⊎ ((b : Block) × IsKept blocks b × (b.start < start) × (high_end b ≡ end))
+EndsBelow blocks start end = (end ≡ heap_begin) ⊎ ((b : Block) × IsKept blocks b × (b.start < start) × (high_end b ≡ end))
 
 -- where a kept block's interval begins that begins above an address, or the region ends
 abbrev pub BeginsAbove : Blocks → ℕ → ℕ → Type 0
-BeginsAbove blocks start begin = (begin ≡ 0x60000000) ⊎ ((b : Block) × IsKept blocks b × (start < b.start) × (low_end b ≡ begin))
+BeginsAbove blocks start begin = (begin ≡ heap_end) ⊎ ((b : Block) × IsKept blocks b × (start < b.start) × (low_end b ≡ begin))
 
 -- the sizes of entries
 abbrev pub volume_in : List Entry → ℕ
@@ -103,9 +103,9 @@ volume_in entries = volume_of (map (λ e. e.block) entries)
 
 -- a block's place and interval
 pub record IsPlaced (b : Block) (k : ℕ) : Type 0 where
-  pub start : b.start ≡ 0x40000000 + 16 * k
-  pub low : 0x40000000 + b.redzone ≤ b.start
-  pub high : high_end b ≤ 0x60000000
+  pub start : b.start ≡ heap_begin + 16 * k
+  pub low : heap_begin + b.redzone ≤ b.start
+  pub high : high_end b ≤ heap_end
 
 pub record IsLiveAt (e : Entry) (k : ℕ) : Type 0 where
   pub placed : IsPlaced e.block k
@@ -121,7 +121,7 @@ pub record IsQueuedAt (live freed : Entries) (first i : ℕ) (e : Entry) : Type 
 -- a freed entry that isn't too old, where no live block stands, is in the queue
 pub record IsFoundAt (queue : List Entry) (first k : ℕ) (e : Entry) : Type 0 where
   pub queued : slice_get queue (e.number - first) ≡ Some e
-  pub start : e.block.start ≡ 0x40000000 + 16 * k
+  pub start : e.block.start ≡ heap_begin + 16 * k
 
 pub record AreSound (live freed : Entries) (queue : List Entry) (first : ℕ) : Type 0 where
   pub lives : (k : ℕ) (e : Entry) → live k ≡ Some e → IsLiveAt e k

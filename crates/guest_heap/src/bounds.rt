@@ -1,6 +1,7 @@
 //! What is known of places, by sizes, so that most allocations pass no kept block. For each class of sizes there is a bound below which its
 //! least size has no place, and a range further up with none either: after a low block leaves the queue, the range above its place stays known.
 ghost use Rattle.std.specs.Prelude.{◌≡◌, ◌<◌, ◌≤◌, ◌+◌, ◌%◌, ℕ, max, vec_len};
+ghost use Rattle.guest_heap.specs.Blocks.{greatest_size};
 ghost use Rattle.guest_heap.specs.Bounds.{lowered, IsSkipped};
 
 use crate::region::aligned;
@@ -27,7 +28,7 @@ pub(crate) struct SizeClass {
 
 /// The class of a size.
 pub(crate) fn class_of(size: u32) -> SizeClass
-    requires { size ≤ 16777216 }
+    requires { size ≤ greatest_size }
     ensures index { result.index < 268 }
     ensures least { result.least ≤ max size 1 }
 {

@@ -1,5 +1,6 @@
 //! The heap region, and the multiples of 16 in it, at which blocks begin.
 ghost use Rattle.std.specs.Prelude.{◌≡◌, ◌<◌, ◌≤◌, ◌+◌, ◌%◌};
+ghost use Rattle.guest_heap.specs.Blocks.{heap_begin};
 ghost use Rattle.guest_heap.specs.States.{slot_of};
 
 /// The first address of the region.
@@ -16,7 +17,7 @@ pub(crate) const GREATEST_SIZE: u32 = 16777216;
 
 /// The slot of an address of the region: how many multiples of 16 of the region lie below it.
 pub(crate) fn slot_of(address: u32) -> usize
-    requires { 0x40000000 ≤ address }
+    requires { heap_begin ≤ address }
     ensures { result ≡ slot_of address }
 {
     ((u64::from(address) - HEAP_BEGIN) / 16) as usize

@@ -101,9 +101,13 @@ answers core call n = raising (advanced (answered (call_tested core call) n)) (c
 
 -- read and write: the descriptor is in a0, the buffer in a1, the count in a2 --
 
--- the bytes that one call moves: at most 4,096
+-- the most bytes that one call moves
+abbrev pub most_moved : ℕ
+most_moved = 4096
+
+-- the bytes that one call moves
 unfoldable pub moved_len : Core → ℕ
-moved_len core = min (argument core 12) 4096
+moved_len core = min (argument core 12) most_moved
 
 -- the buffer is tested as far as the count goes, and the n bytes that are given of the input are stored all the same, with no undefined
 -- bits. Descriptor 0 is the input

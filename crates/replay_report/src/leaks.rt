@@ -43,8 +43,7 @@ fn is_hidden(
     ensures { IfOk result (λ hidden. hidden ≡ is_hidden suppressions.now image.now leak.now) }
 {
     let names = names_of(alloc, image, leak.trace.addresses())?;
-    let hidden = is_suppressed(suppressions, &Target::Leak(leak.kind), &names);
-    Ok(hidden)
+    Ok(is_suppressed(suppressions, &Target::Leak(leak.kind), &names))
 }
 
 /// The records that no suppression matches, and the others.

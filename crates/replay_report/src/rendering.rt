@@ -1,5 +1,6 @@
 //! The report of a machine.
 ghost use Rattle.std.specs.Prelude.{◌≡◌, ◌++◌, ◌<◌, ◌≤◌, IfOk, OnOk, OnErr, length};
+ghost use Rattle.call_stacks.specs.Frames.{longest_trace};
 ghost use Rattle.guest_machine.specs.State.{State};
 ghost use Rattle.guest_machine.specs.Shows.{Shows};
 ghost use Rattle.replay_report.specs.Report.{head_lines, report_text, IsReport, AppendsReport};
@@ -102,7 +103,7 @@ pub fn render(
     out: &mut Vec<u8>,
 ) -> Result<(), AllocError>
     requires some { 1 ≤ options.now.callers }
-    requires few { options.now.callers ≤ 24 }
+    requires few { options.now.callers ≤ longest_trace }
     ensures ok { OnOk result ((s : State) → Shows machine.now s
         → AppendsReport (IsReport s image.now suppressions.now options.now step input_len) out.old.items out.new.items) }
     ensures err { OnErr result (out.new.items ≡ out.old.items) }

@@ -1,5 +1,6 @@
 -- What the accepted commands leave, and what a line is answered. Nothing of earlier reports is in it.
 use Rattle.std.specs.Prelude.{ℕ, zero, suc, ◌+◌, ◌-◌, take, ◌%◌, ◌^◌, ◌==◌, ◌||◌, ◌&&◌, nat_le, nat_lt, Bool, true, false, if◌then◌else◌, List, [], ◌∷◌, ◌++◌, length, remove, slice_set, Option, Some, None, is_some, Result, Ok, Err}
+use Rattle.call_stacks.specs.Frames.{longest_trace}
 use Rattle.guest_elf.specs.Images.{loaded_at}
 use Rattle.guest_elf.specs.declared.image.Image.{Image}
 use Rattle.guest_machine.specs.State.{State}
@@ -46,7 +47,7 @@ abbrev pub longest_line : ℕ
 longest_line = 4096
 
 abbrev pub most_callers : ℕ
-most_callers = 24
+most_callers = longest_trace
 
 abbrev pub largest_redzone : ℕ
 largest_redzone = 4096

@@ -2,6 +2,7 @@
 use Rattle.std.specs.Prelude.{ℕ, List, ◌-◌, ◌/◌, ◌%◌, nat_lt, if◌then◌else◌, slice_index_or}
 use Rattle.shadow_memory.specs.Marks.{blank}
 use Rattle.shadow_memory.specs.Pages.{cells_in}
+use Rattle.shadow_memory.specs.Places.{page_len}
 use Rattle.shadow_memory.specs.declared.cells.Cell.{Cell}
 use Rattle.shadow_memory.specs.declared.cells.RangeKind.TheVariants.{NoAccess}
 use Rattle.shadow_memory.specs.declared.directories.Directory.{Directory}
@@ -20,4 +21,4 @@ unfoldable pub page_at : Directory → ℕ → PageSlot
 page_at directory number = page_of directory.first directory.pages.items number
 
 unfoldable pub cells_under : Directory → ℕ → Cell
-cells_under directory = λ a. cells_at (page_at directory (a / 4096)) (a % 4096)
+cells_under directory = λ a. cells_at (page_at directory (a / page_len)) (a % page_len)

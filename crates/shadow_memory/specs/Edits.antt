@@ -3,7 +3,7 @@ use Rattle.std.specs.Prelude.{ℕ, length, slice_index, ◌+◌, ◌<◌, ◌≤
 use Rattle.shadow_memory.specs.Cells.{IsClean}
 use Rattle.shadow_memory.specs.Marks.{blank}
 use Rattle.shadow_memory.specs.Pages.{cells_in, AreWhole}
-use Rattle.shadow_memory.specs.Places.{changed_from}
+use Rattle.shadow_memory.specs.Places.{changed_from, page_len}
 use Rattle.shadow_memory.specs.Changes.{filled, ranged, received, taken_cell}
 use Rattle.shadow_memory.specs.declared.cells.Cell.{Cell}
 use Rattle.shadow_memory.specs.declared.cells.RangeKind.{RangeKind}
@@ -40,8 +40,8 @@ Fits (Set cell) = IsClean cell
 Fits (All count each) = Unit {0}
 Fits (Fill count bytes) = Unit {0}
 Fits (Store bytes) = Unit {0}
-Fits (Copy page place count) = (place + count ≤ 4096) × AreWhole page.now.marks place (place + count)
+Fits (Copy page place count) = (place + count ≤ page_len) × AreWhole page.now.marks place (place + count)
 
 -- a blank page is blank after a change, of this kind
 abbrev pub LeavesBlank : RangeKind → Edit → RangeKind → Type 0
-LeavesBlank old edit kind = (at k : ℕ) → at + count_of edit ≤ 4096 → k < 4096 → changed_from (λ a. blank old) at (count_of edit) (change_of edit) k ≡ blank kind
+LeavesBlank old edit kind = (at k : ℕ) → at + count_of edit ≤ page_len → k < page_len → changed_from (λ a. blank old) at (count_of edit) (change_of edit) k ≡ blank kind

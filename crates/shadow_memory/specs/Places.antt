@@ -9,9 +9,13 @@ is_between from to a = nat_le from a && nat_lt a to
 abbrev pub changed_from : {X : Type 0} → (ℕ → X) → ℕ → ℕ → (ℕ → X → X) → ℕ → X
 changed_from f start n change = λ a. if is_between start (start + n) a then change (a - start) (f a) else f a
 
--- two functions agree at each place of a page of 4,096 bytes
+-- how many bytes a page has
+abbrev pub page_len : ℕ
+page_len = 4096
+
+-- two functions agree at each place of a page
 abbrev pub AgreeInPage : {X : Type 0} → (ℕ → X) → (ℕ → X) → Type 0
-AgreeInPage f g = (at : ℕ) → at < 4096 → f at ≡ g at
+AgreeInPage f g = (at : ℕ) → at < page_len → f at ≡ g at
 
 -- and at each place of the 1,024 pages of a directory
 abbrev pub AgreeInDirectory : {X : Type 0} → (ℕ → X) → (ℕ → X) → Type 0

@@ -7,6 +7,7 @@ ghost use Rattle.shadow_memory.specs.Changes.{stored, IsWidth, SomeFront};
 ghost use Rattle.shadow_memory.specs.Loads.{loaded_at};
 ghost use Rattle.shadow_memory.specs.Fronts.{HasStored};
 ghost use Rattle.shadow_memory.specs.Memories.{bytes_in, shadows_in, cells_of};
+ghost use Rattle.shadow_memory.specs.Places.{page_len};
 
 use crate::cells::{Cell, Loaded};
 use crate::edits::Edit;
@@ -137,7 +138,7 @@ impl Memory {
     #[tactic(auto, unfolding(crate::specs::Edits::count_of, crate::specs::Edits::change_of, crate::specs::Edits::Fits))]
     fn store_defined(&mut self, addr: u32, n: u32, value: u32) -> Result<(), AllocError>
         requires width { n ≤ 4 }
-        requires one_page { addr % 4096 + n ≤ 4096 }
+        requires one_page { addr % page_len + n ≤ page_len }
         ensures ok { OnOk result (cells_of self.new ≡ changed_in (cells_of self.old) addr n (stored (record { value = value; undef = 0 }))) }
         ensures err { OnErr result (cells_of self.new ≡ cells_of self.old) }
     {
@@ -161,8 +162,8 @@ impl Memory {
         Ok(())
     }
 
-    #[tactic(auto, unfolding(crate::specs::Edits::count_of, crate::specs::Edits::change_of, crate::specs::Edits::Fits))]
     /// Changes the byte at an address. What else is known of it stays.
+    #[tactic(auto, unfolding(crate::specs::Edits::count_of, crate::specs::Edits::change_of, crate::specs::Edits::Fits))]
     pub fn poke(&mut self, addr: u32, byte: u8) -> Result<(), AllocError>
         ensures bytes { OnOk result (bytes_in self.new ≡ set_at (bytes_in self.old) addr byte) }
         ensures shadows { shadows_in self.new ≡ shadows_in self.old }

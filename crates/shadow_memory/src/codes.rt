@@ -1,7 +1,7 @@
 //! Two bits for each byte of a page.
 ghost use Rattle.std.specs.Prelude.{◌≡◌, ◌⊎◌, ℕ, ◌+◌, ◌-◌, ◌%◌, ◌<◌, ◌≤◌, ◌==◌, if◌then◌else◌, vec_len, IfOk, IfSome, IsTrue};
 ghost use Rattle.shadow_memory.specs.Marks.{defined};
-ghost use Rattle.shadow_memory.specs.Places.{changed_from, is_between};
+ghost use Rattle.shadow_memory.specs.Places.{changed_from, is_between, page_len};
 ghost use Rattle.shadow_memory.specs.Loads.{four};
 ghost use Rattle.shadow_memory.specs.Parts.{code_of, loaded_code, mark_by, part_of, taken_code};
 
@@ -183,14 +183,14 @@ impl Codes {
 
     pub(crate) fn filled(alloc: Global, code: u8) -> Result<Codes, AllocError>
         requires { code < 4 }
-        ensures { IfOk result (λ codes. (at : ℕ) → at < 4096 → code_at codes at ≡ code) }
+        ensures { IfOk result (λ codes. (at : ℕ) → at < page_len → code_at codes at ≡ code) }
     {
         let packed = vec![in alloc; code * FOUR_ONES; PACKED]?;
         Ok(Codes { packed })
     }
 
     pub(crate) fn code(&self, at: usize) -> u8
-        requires { at < 4096 }
+        requires { at < page_len }
         ensures value { result ≡ code_at self.now at }
         ensures small { result < 4 }
     {
@@ -200,7 +200,7 @@ impl Codes {
     /// Is each of the numbers this one?
     pub(crate) fn are_all(&self, code: u8) -> bool
         requires { code < 4 }
-        ensures { IsTrue result → (at : ℕ) → at < 4096 → code_at self.now at ≡ code }
+        ensures { IsTrue result → (at : ℕ) → at < page_len → code_at self.now at ≡ code }
     {
         all_are(&self.packed, code * FOUR_ONES)
     }
@@ -209,7 +209,7 @@ impl Codes {
     #[inline(always)]
     pub(crate) fn are_defined(&self, from: usize, to: usize) -> bool
         requires order { from ≤ to }
-        requires within { to ≤ 4096 }
+        requires within { to ≤ page_len }
         ensures { IsTrue result → (at : ℕ) → from ≤ at → at < to → code_at self.now at ≡ 2 }
     {
         if from % 4 == 0 && to - from == 4 {
@@ -225,7 +225,7 @@ impl Codes {
 
     /// A place, from a multiple of 4 on, before which each number is this one.
     pub(crate) fn skip(&self, from: usize, code: u8) -> usize
-        requires within { from ≤ 4096 }
+        requires within { from ≤ page_len }
         requires aligned { from % 4 ≡ 0 }
         requires small { code < 4 }
         ensures start { from ≤ result }
@@ -240,7 +240,7 @@ impl Codes {
     // A place, from one on, before which each number is this one; the same place, if its number isn't.
     fn run_some(&self, at: usize, to: usize, code: u8) -> usize
         requires order { at < to }
-        requires within { to ≤ 4096 }
+        requires within { to ≤ page_len }
         requires small { code < 4 }
         ensures on { at ≤ result }
         ensures more { code_at self.now at ≡ code → at < result }
@@ -262,7 +262,7 @@ impl Codes {
     /// The place after one where the run of the number there ends, or another place if that comes first.
     pub(crate) fn run(&self, from: usize, to: usize) -> usize
         requires order { from < to }
-        requires within { to ≤ 4096 }
+        requires within { to ≤ page_len }
         ensures on { from < result }
         ensures within { result ≤ to }
         ensures same { (k : ℕ) → from ≤ k → k < result → code_at self.now k ≡ code_at self.now from }
@@ -282,7 +282,7 @@ impl Codes {
     // A place, from one on, before which no byte is defined in part; the same place, if its byte is.
     fn whole_some(&self, at: usize, to: usize) -> usize
         requires order { at < to }
-        requires within { to ≤ 4096 }
+        requires within { to ≤ page_len }
         ensures on { at ≤ result }
         ensures within { result ≤ to }
         ensures whole { (k : ℕ) → at ≤ k → k < result → code_at self.now k < 3 }
@@ -299,7 +299,7 @@ impl Codes {
     /// The first place, from one up to another, whose byte is defined in part; the other place, if there is none.
     pub(crate) fn whole_end(&self, from: usize, to: usize) -> usize
         requires order { from ≤ to }
-        requires within { to ≤ 4096 }
+        requires within { to ≤ page_len }
         ensures start { from ≤ result }
         ensures within { result ≤ to }
         ensures whole { (k : ℕ) → from ≤ k → k < result → code_at self.now k < 3 }
@@ -318,7 +318,7 @@ impl Codes {
     // Sets the numbers of whole bytes.
     fn set_fours(&mut self, from: usize, to: usize, code: u8)
         requires order { from ≤ to }
-        requires within { to ≤ 4096 }
+        requires within { to ≤ page_len }
         requires aligned { from % 4 ≡ 0 }
         requires aligned_end { to % 4 ≡ 0 }
         requires small { code < 4 }
@@ -330,7 +330,7 @@ impl Codes {
     // Sets the number of a place, or those of all whole bytes that end before another place; answers the place after them.
     fn set_some(&mut self, at: usize, to: usize, code: u8) -> usize
         requires order { at < to }
-        requires within { to ≤ 4096 }
+        requires within { to ≤ page_len }
         requires small { code < 4 }
         ensures on { at < result }
         ensures within { result ≤ to }
@@ -349,7 +349,7 @@ impl Codes {
     /// Sets the numbers from one place up to, not with, another.
     pub(crate) fn make(&mut self, from: usize, to: usize, code: u8)
         requires order { from ≤ to }
-        requires within { to ≤ 4096 }
+        requires within { to ≤ page_len }
         requires small { code < 4 }
         ensures { (k : ℕ) → code_at self.new k ≡ (if is_between from to k then code else code_at self.old k) }
     {
@@ -362,7 +362,7 @@ impl Codes {
     // Has the places of a run take a number; answers the place after them.
     fn take_some(&mut self, at: usize, to: usize, made: u8) -> usize
         requires order { at < to }
-        requires within { to ≤ 4096 }
+        requires within { to ≤ page_len }
         requires small { made < 4 }
         ensures on { at < result }
         ensures within { result ≤ to }
@@ -377,7 +377,7 @@ impl Codes {
     /// Has the places from one up to, not with, another take a number; those of inaccessible bytes keep theirs.
     pub(crate) fn take(&mut self, from: usize, to: usize, made: u8)
         requires order { from ≤ to }
-        requires within { to ≤ 4096 }
+        requires within { to ≤ page_len }
         requires small { made < 4 }
         ensures { (k : ℕ) → code_at self.new k ≡ (if is_between from to k then taken_code made (code_at self.old k) else code_at self.old k) }
     {
@@ -390,9 +390,9 @@ impl Codes {
     // Has four places of a byte take what those of another byte load as.
     fn copy_four(&mut self, at: usize, source: &Codes, from: usize)
         requires aligned { at % 4 ≡ 0 }
-        requires room { at + 4 ≤ 4096 }
+        requires room { at + 4 ≤ page_len }
         requires from_aligned { from % 4 ≡ 0 }
-        requires within { from + 4 ≤ 4096 }
+        requires within { from + 4 ≤ page_len }
         ensures { (k : ℕ) → code_at self.new k ≡ changed_from (code_at self.old) at 4
             (λ i old. taken_code (loaded_code (code_at source.now (from + i))) old) k }
     {
@@ -402,8 +402,8 @@ impl Codes {
     // Has places take what others load as, four of a byte or a run of one number; answers the place after the others.
     fn copy_some(&mut self, at: usize, source: &Codes, from: usize, to: usize) -> usize
         requires order { from < to }
-        requires within { to ≤ 4096 }
-        requires room { at + (to - from) ≤ 4096 }
+        requires within { to ≤ page_len }
+        requires room { at + (to - from) ≤ page_len }
         ensures on { from < result }
         ensures within { result ≤ to }
         ensures set { (k : ℕ) → code_at self.new k ≡ changed_from (code_at self.old) at (result - from)
@@ -419,8 +419,8 @@ impl Codes {
     // Has places take what those of a run of others load as; answers the place after the run.
     fn copy_run(&mut self, at: usize, source: &Codes, from: usize, to: usize) -> usize
         requires order { from < to }
-        requires within { to ≤ 4096 }
-        requires room { at + (to - from) ≤ 4096 }
+        requires within { to ≤ page_len }
+        requires room { at + (to - from) ≤ page_len }
         ensures on { from < result }
         ensures within { result ≤ to }
         ensures set { (k : ℕ) → code_at self.new k ≡ changed_from (code_at self.old) at (result - from)
@@ -435,8 +435,8 @@ impl Codes {
     /// Has so many places take what others load as, none of which is that of a byte defined in part; those of inaccessible bytes
     /// keep theirs.
     pub(crate) fn copy(&mut self, at: usize, source: &Codes, from: usize, count: usize)
-        requires room { at + count ≤ 4096 }
-        requires within { from + count ≤ 4096 }
+        requires room { at + count ≤ page_len }
+        requires within { from + count ≤ page_len }
         ensures { (k : ℕ) → code_at self.new k ≡ changed_from (code_at self.old) at count
             (λ i old. taken_code (loaded_code (code_at source.now (from + i))) old) k }
     {
@@ -448,7 +448,7 @@ impl Codes {
     }
 
     pub(crate) fn set(&mut self, at: usize, code: u8)
-        requires within { at < 4096 }
+        requires within { at < page_len }
         requires small { code < 4 }
         ensures { (k : ℕ) → code_at self.new k ≡ (if k == at then code else code_at self.old k) }
     {

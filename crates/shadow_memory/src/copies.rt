@@ -1,7 +1,7 @@
 //! Copies within memory.
 ghost use Rattle.std.specs.Prelude.{◌≡◌, ℕ, ◌+◌, ◌%◌, ◌<◌, ◌≤◌, IfOk, OnOk, OnErr};
 ghost use Rattle.shadow_memory.specs.Marks.{blank};
-ghost use Rattle.shadow_memory.specs.Places.{changed_from};
+ghost use Rattle.shadow_memory.specs.Places.{changed_from, page_len};
 ghost use Rattle.shadow_memory.specs.Ranges.{above, changed_in, copied};
 ghost use Rattle.shadow_memory.specs.Shadows.{copied_undef};
 ghost use Rattle.shadow_memory.specs.Changes.{copied_cell, AreApart, SomeFront};
@@ -82,8 +82,8 @@ impl Memory {
     #[tactic(auto, unfolding(crate::specs::Edits::count_of, crate::specs::Edits::change_of, crate::specs::Edits::Fits))]
     fn copy_part(&mut self, from: u32, to: u32, most: u32) -> Result<u32, AllocError>
         requires some { 0 < most }
-        requires from_page { from % 4096 + most ≤ 4096 }
-        requires to_page { to % 4096 + most ≤ 4096 }
+        requires from_page { from % page_len + most ≤ page_len }
+        requires to_page { to % page_len + most ≤ page_len }
         ensures some { IfOk result (λ n. 0 < n) }
         ensures within { IfOk result (λ n. n ≤ most) }
         ensures ok { IfOk result (λ n. cells_of self.new ≡ changed_from (cells_of self.old) to n (copied_cell (cells_of self.old) from)) }

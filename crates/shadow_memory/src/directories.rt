@@ -1,6 +1,7 @@
 //! Pages in a row.
 ghost use Rattle.std.specs.Prelude.{◌≡◌, ℕ, ◌<◌, ◌≤◌, ◌+◌, ◌*◌, ◌/◌, ◌%◌, true, OnOk, OnErr, IfOk, IfNone, IfSome, IsTrue, IsFalse, length, replicate, slice_index, vec_len};
 ghost use Rattle.shadow_memory.specs.Changes.{received};
+ghost use Rattle.shadow_memory.specs.Places.{page_len};
 
 use crate::cells::RangeKind;
 use crate::edits::{Each, Edit};
@@ -66,7 +67,7 @@ impl Directory {
     #[inline(always)]
     pub(crate) fn view(&self, at: usize) -> View<'_>
         requires { at < 4194304 }
-        ensures { (a : ℕ) → a / 4096 ≡ at / 4096 → cells_under self.now a ≡ cells_seen result (a % 4096) }
+        ensures { (a : ℕ) → a / page_len ≡ at / page_len → cells_under self.now a ≡ cells_seen result (a % page_len) }
     {
         match self.place(at / PAGE) {
             Some(place) => self.pages[place].view(),
@@ -77,7 +78,7 @@ impl Directory {
     /// The page of a place, which the one who asks holds too.
     pub(crate) fn slot(&self, at: usize) -> Result<PageSlot, AllocError>
         requires { at < 4194304 }
-        ensures { IfOk result (λ slot. (a : ℕ) → a / 4096 ≡ at / 4096 → cells_under self.now a ≡ cells_at slot (a % 4096)) }
+        ensures { IfOk result (λ slot. (a : ℕ) → a / page_len ≡ at / page_len → cells_under self.now a ≡ cells_at slot (a % page_len)) }
     {
         match self.place(at / PAGE) {
             Some(place) => Ok(self.pages[place].clone()?),
@@ -89,7 +90,7 @@ impl Directory {
     #[inline(always)]
     pub(crate) fn put(&mut self, at: usize, bytes: &[u8]) -> bool
         requires within { at < 4194304 }
-        requires one_page { at % 4096 + length bytes.now ≤ 4096 }
+        requires one_page { at % page_len + length bytes.now ≤ page_len }
         ensures done { IsTrue result → cells_under self.new ≡ changed_from (cells_under self.old) at (length bytes.now) (received (slice_index bytes.now)) }
         ensures whole { IsTrue result → (k : ℕ) → at ≤ k → k < at + length bytes.now → (cells_under self.old k).accessible ≡ true }
         ensures kept { IsFalse result → cells_under self.new ≡ cells_under self.old }
@@ -160,7 +161,7 @@ impl Directory {
         edit: &Edit<'_>,
     ) -> Result<(), AllocError>
         requires within { at < 4194304 }
-        requires one_page { at % 4096 + count_of edit.now ≤ 4096 }
+        requires one_page { at % page_len + count_of edit.now ≤ page_len }
         requires fits { Fits edit.now }
         ensures ok { OnOk result (cells_under self.new ≡ changed_from (cells_under self.old) at (count_of edit.now) (change_of edit.now)) }
         ensures err { OnErr result (cells_under self.new ≡ cells_under self.old) }
@@ -175,7 +176,7 @@ impl Directory {
     fn sweep(&mut self, place: usize, most: usize, each: Each) -> usize
         requires { place + most ≤ vec_len self.old.pages }
         ensures within { result ≤ most }
-        ensures swept { cells_under self.new ≡ changed_from (cells_under self.old) (4096 * (self.old.first + place)) (4096 * result)
+        ensures swept { cells_under self.new ≡ changed_from (cells_under self.old) (page_len * (self.old.first + place)) (page_len * result)
             (λ i cell. each_of each cell) }
     {
         for i in 0..most {
@@ -196,7 +197,8 @@ impl Directory {
     ) -> Result<usize, AllocError>
         requires { number + most ≤ 1024 }
         ensures within { IfOk result (λ n. n ≤ most) }
-        ensures ok { IfOk result (λ n. cells_under self.new ≡ changed_from (cells_under self.old) (4096 * number) (4096 * n) (λ i cell. each_of each cell)) }
+        ensures ok { IfOk result (λ n. cells_under self.new ≡ changed_from (cells_under self.old) (page_len * number) (page_len * n)
+            (λ i cell. each_of each cell)) }
         ensures err { OnErr result (cells_under self.new ≡ cells_under self.old) }
     {
         if most == 0 {

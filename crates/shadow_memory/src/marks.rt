@@ -4,7 +4,7 @@ ghost use Rattle.shadow_memory.specs.Firsts.{IsFirst, NonePass};
 ghost use Rattle.shadow_memory.specs.Shadows.{holds_word, is_bad, HoldNoWord, IsNextWord};
 ghost use Rattle.shadow_memory.specs.Cells.{set_at};
 ghost use Rattle.shadow_memory.specs.Marks.{defined, mark_of, shadow_of_mark, taken, IsCleanMark};
-ghost use Rattle.shadow_memory.specs.Places.{changed_from, is_between};
+ghost use Rattle.shadow_memory.specs.Places.{changed_from, is_between, page_len};
 ghost use Rattle.shadow_memory.specs.Codes.{code_at};
 
 use crate::cells::{Mark, RangeKind, is_bad_mark, mark_of_kind};
@@ -32,11 +32,11 @@ pub(crate) enum Marks {
 
 /// The first multiple of 4, from one on, that has four accessible and defined bytes, where all are of one kind.
 pub(crate) fn next_word_of(kind: RangeKind, from: usize) -> Option<usize>
-    requires within { from ≤ 4096 }
+    requires within { from ≤ page_len }
     requires aligned { from % 4 ≡ 0 }
-    ensures none { IfNone result (HoldNoWord (λ k. shadow_of_mark (mark_of kind)) from 4096) }
+    ensures none { IfNone result (HoldNoWord (λ k. shadow_of_mark (mark_of kind)) from page_len) }
     ensures some { IfSome result (IsNextWord (λ k. shadow_of_mark (mark_of kind)) from) }
-    ensures inside { IfSome result (λ at. at < 4096) }
+    ensures inside { IfSome result (λ at. at < page_len) }
 {
     if from < PAGE && kind == RangeKind::Defined {
         Some(from)
@@ -70,7 +70,7 @@ impl Mixed {
     ghost use Rattle.shadow_memory.specs.Places.{Agree, AgreeInPage};
 
     fn filled(alloc: Global, kind: RangeKind) -> Result<Mixed, AllocError>
-        ensures { IfOk result (λ mixed. (at : ℕ) → at < 4096 → marks_mixed mixed at ≡ mark_of kind) }
+        ensures { IfOk result (λ mixed. (at : ℕ) → at < page_len → marks_mixed mixed at ≡ mark_of kind) }
     {
         let codes = Codes::filled(alloc, code_of_kind(kind))?;
         Ok(Mixed {
@@ -80,7 +80,7 @@ impl Mixed {
     }
 
     fn mark(&self, at: usize) -> Mark
-        requires { at < 4096 }
+        requires { at < page_len }
         ensures value { result ≡ marks_mixed self.now at }
         ensures clean { IsCleanMark result }
     {
@@ -106,7 +106,7 @@ impl Mixed {
 
     // The side map is written first, which can fail. What it has of a byte that is not partly defined is never read.
     fn set(&mut self, at: usize, mark: Mark) -> Result<(), AllocError>
-        requires within { at < 4096 }
+        requires within { at < page_len }
         requires clean { IsCleanMark mark }
         ensures ok { OnOk result ((k : ℕ) → marks_mixed self.new k ≡ set_at (marks_mixed self.old) at mark k) }
         ensures err { OnErr result ((k : ℕ) → marks_mixed self.new k ≡ marks_mixed self.old k) }
@@ -127,7 +127,7 @@ impl Mixed {
     // Sets the marks from one place up to, not with, another.
     fn make(&mut self, from: usize, to: usize, kind: RangeKind)
         requires order { from ≤ to }
-        requires within { to ≤ 4096 }
+        requires within { to ≤ page_len }
         ensures { Agree (marks_mixed self.new) (λ k. if is_between from to k then mark_of kind else marks_mixed self.old k) }
     {
         self.codes.make(from, to, code_of_kind(kind));
@@ -137,7 +137,7 @@ impl Mixed {
     #[inline(always)]
     fn are_defined(&self, from: usize, to: usize) -> bool
         requires order { from ≤ to }
-        requires within { to ≤ 4096 }
+        requires within { to ≤ page_len }
         ensures { IsTrue result → (k : ℕ) → from ≤ k → k < to → marks_mixed self.now k ≡ mark_of RangeKind.Defined }
     {
         self.codes.are_defined(from, to)
@@ -146,7 +146,7 @@ impl Mixed {
     // Makes the bits of the accessible bytes defined.
     fn define(&mut self, from: usize, to: usize)
         requires order { from ≤ to }
-        requires within { to ≤ 4096 }
+        requires within { to ≤ page_len }
         ensures { Agree (marks_mixed self.new) (λ k. if is_between from to k then defined (marks_mixed self.old k) else marks_mixed self.old k) }
     {
         if self.are_defined(from, to) {
@@ -161,7 +161,7 @@ impl Mixed {
     // Has the accessible bytes take the bits undefined that one of a kind loads with.
     fn take(&mut self, from: usize, to: usize, kind: RangeKind)
         requires order { from ≤ to }
-        requires within { to ≤ 4096 }
+        requires within { to ≤ page_len }
         ensures { Agree (marks_mixed self.new) (λ k. if is_between from to k then taken (mark_of kind) (marks_mixed self.old k) else marks_mixed self.old k) }
     {
         self.codes.take(from, to, loaded_code(code_of_kind(kind)));
@@ -169,8 +169,8 @@ impl Mixed {
 
     // Has the accessible bytes take the bits undefined that others load with, none of which is defined in part.
     fn copy(&mut self, at: usize, source: &Mixed, from: usize, count: usize)
-        requires room { at + count ≤ 4096 }
-        requires within { from + count ≤ 4096 }
+        requires room { at + count ≤ page_len }
+        requires within { from + count ≤ page_len }
         requires whole { (k : ℕ) → from ≤ k → k < from + count → code_at source.now.codes k < 3 }
         ensures { Agree (marks_mixed self.new) (changed_from (marks_mixed self.old) at count (λ i mark. taken (marks_mixed source.now (from + i)) mark)) }
     {
@@ -180,7 +180,7 @@ impl Mixed {
     // The kind of the bytes from one place up to, not with, another, if they are of one.
     fn kind(&self, from: usize, to: usize) -> Option<RangeKind>
         requires order { from < to }
-        requires within { to ≤ 4096 }
+        requires within { to ≤ page_len }
         ensures { IfSome result (λ kind. (k : ℕ) → from ≤ k → k < to → marks_mixed self.now k ≡ mark_of kind) }
     {
         let kind = kind_of_code(self.codes.code(from))?;
@@ -194,7 +194,7 @@ impl Mixed {
     // The first bad byte from one place up to, not with, another. Defined bytes are skipped by a scan.
     fn first_bad(&self, from: usize, to: usize, need_defined: bool) -> Option<usize>
         requires order { from ≤ to }
-        requires within { to ≤ 4096 }
+        requires within { to ≤ page_len }
         ensures none { IfNone result (NonePass (λ k. is_bad need_defined (shadow_of_mark (marks_mixed self.now k))) from to) }
         ensures some { IfSome result (IsFirst (λ k. is_bad need_defined (shadow_of_mark (marks_mixed self.now k))) from to) }
     {
@@ -213,7 +213,7 @@ impl Mixed {
 
     // Are four bytes all accessible and defined?
     fn holds_word(&self, at: usize) -> bool
-        requires { at + 4 ≤ 4096 }
+        requires { at + 4 ≤ page_len }
         ensures { result ≡ holds_word (λ k. shadow_of_mark (marks_mixed self.now k)) at }
     {
         !is_bad_mark(self.mark(at), true)
@@ -224,11 +224,11 @@ impl Mixed {
 
     // The first multiple of 4, from one on, that has four such bytes.
     fn next_word(&self, from: usize) -> Option<usize>
-        requires within { from ≤ 4096 }
+        requires within { from ≤ page_len }
         requires aligned { from % 4 ≡ 0 }
-        ensures none { IfNone result (HoldNoWord (λ k. shadow_of_mark (marks_mixed self.now k)) from 4096) }
+        ensures none { IfNone result (HoldNoWord (λ k. shadow_of_mark (marks_mixed self.now k)) from page_len) }
         ensures some { IfSome result (IsNextWord (λ k. shadow_of_mark (marks_mixed self.now k)) from) }
-        ensures inside { IfSome result (λ at. at < 4096) }
+        ensures inside { IfSome result (λ at. at < page_len) }
     {
         for word in from / 4..PAGE / 4 {
             if self.holds_word(4 * word) {
@@ -282,7 +282,7 @@ impl Marks {
     ghost use Rattle.shadow_memory.specs.Places.{AgreeInPage};
 
     pub(crate) fn mark(&self, at: usize) -> Mark
-        requires { at < 4096 }
+        requires { at < page_len }
         ensures value { result ≡ marks_in self.now at }
         ensures clean { IsCleanMark result }
     {
@@ -294,7 +294,7 @@ impl Marks {
 
     /// Are four bytes all accessible and defined?
     pub(crate) fn holds_word(&self, at: usize) -> bool
-        requires { at + 4 ≤ 4096 }
+        requires { at + 4 ≤ page_len }
         ensures { result ≡ holds_word (λ k. shadow_of_mark (marks_in self.now k)) at }
     {
         match self {
@@ -305,11 +305,11 @@ impl Marks {
 
     /// The first multiple of 4, from one on, that has four accessible and defined bytes.
     pub(crate) fn next_word(&self, from: usize) -> Option<usize>
-        requires within { from ≤ 4096 }
+        requires within { from ≤ page_len }
         requires aligned { from % 4 ≡ 0 }
-        ensures none { IfNone result (HoldNoWord (λ k. shadow_of_mark (marks_in self.now k)) from 4096) }
+        ensures none { IfNone result (HoldNoWord (λ k. shadow_of_mark (marks_in self.now k)) from page_len) }
         ensures some { IfSome result (IsNextWord (λ k. shadow_of_mark (marks_in self.now k)) from) }
-        ensures inside { IfSome result (λ at. at < 4096) }
+        ensures inside { IfSome result (λ at. at < page_len) }
     {
         match self {
             Marks::Uniform(kind) => next_word_of(*kind, from),
@@ -320,7 +320,7 @@ impl Marks {
     /// The first bad byte from one place up to, not with, another.
     pub(crate) fn first_bad(&self, from: usize, to: usize, need_defined: bool) -> Option<usize>
         requires order { from ≤ to }
-        requires within { to ≤ 4096 }
+        requires within { to ≤ page_len }
         ensures none { IfNone result (NonePass (λ k. is_bad need_defined (shadow_of_mark (marks_in self.now k))) from to) }
         ensures some { IfSome result (IsFirst (λ k. is_bad need_defined (shadow_of_mark (marks_in self.now k))) from to) }
     {
@@ -331,7 +331,7 @@ impl Marks {
     }
 
     pub(crate) fn set(&mut self, alloc: Global, at: usize, mark: Mark) -> Result<(), AllocError>
-        requires within { at < 4096 }
+        requires within { at < page_len }
         requires clean { IsCleanMark mark }
         ensures ok { OnOk result (AgreeInPage (marks_in self.new) (set_at (marks_in self.old) at mark)) }
         ensures err { OnErr result (AgreeInPage (marks_in self.new) (marks_in self.old)) }
@@ -354,7 +354,7 @@ impl Marks {
     #[inline(always)]
     pub(crate) fn are_defined(&self, from: usize, to: usize) -> bool
         requires order { from ≤ to }
-        requires within { to ≤ 4096 }
+        requires within { to ≤ page_len }
         ensures { IsTrue result → (k : ℕ) → from ≤ k → k < to → marks_in self.now k ≡ mark_of RangeKind.Defined }
     {
         match self {
@@ -377,7 +377,7 @@ impl Marks {
     /// Makes the bits of the accessible bytes from one place up to, not with, another defined.
     pub(crate) fn define(&mut self, alloc: Global, from: usize, to: usize) -> Result<(), AllocError>
         requires order { from ≤ to }
-        requires within { to ≤ 4096 }
+        requires within { to ≤ page_len }
         ensures ok { OnOk result (AgreeInPage (marks_in self.new) (λ k. if is_between from to k then defined (marks_in self.old k) else marks_in self.old k)) }
         ensures err { OnErr result (AgreeInPage (marks_in self.new) (marks_in self.old)) }
     {
@@ -402,7 +402,7 @@ impl Marks {
         kind: RangeKind,
     ) -> Result<(), AllocError>
         requires order { from ≤ to }
-        requires within { to ≤ 4096 }
+        requires within { to ≤ page_len }
         ensures ok { OnOk result (AgreeInPage (marks_in self.new) (λ k.
             if is_between from to k then taken (mark_of kind) (marks_in self.old k) else marks_in self.old k)) }
         ensures err { OnErr result (AgreeInPage (marks_in self.new) (marks_in self.old)) }
@@ -431,8 +431,8 @@ impl Marks {
         from: usize,
         count: usize,
     ) -> Result<(), AllocError>
-        requires room { at + count ≤ 4096 }
-        requires within { from + count ≤ 4096 }
+        requires room { at + count ≤ page_len }
+        requires within { from + count ≤ page_len }
         requires whole { (k : ℕ) → from ≤ k → k < from + count → code_at source.now.codes k < 3 }
         ensures ok { OnOk result (AgreeInPage (marks_in self.new) (changed_from (marks_in self.old) at count
             (λ i mark. taken (marks_mixed source.now (from + i)) mark))) }
@@ -462,8 +462,8 @@ impl Marks {
         from: usize,
         count: usize,
     ) -> Result<(), AllocError>
-        requires room { at + count ≤ 4096 }
-        requires within { from + count ≤ 4096 }
+        requires room { at + count ≤ page_len }
+        requires within { from + count ≤ page_len }
         requires whole { AreWhole source.now from (from + count) }
         ensures ok { OnOk result (AgreeInPage (marks_in self.new) (changed_from (marks_in self.old) at count
             (λ i mark. taken (marks_in source.now (from + i)) mark))) }
@@ -482,7 +482,7 @@ impl Marks {
     /// The first place, from one up to another, whose byte is defined in part; the other place, if there is none.
     pub(crate) fn whole_end(&self, from: usize, to: usize) -> usize
         requires order { from ≤ to }
-        requires within { to ≤ 4096 }
+        requires within { to ≤ page_len }
         ensures start { from ≤ result }
         ensures within { result ≤ to }
         ensures whole { AreWhole self.now from result }
@@ -496,7 +496,7 @@ impl Marks {
     /// The kind of the bytes from one place up to, not with, another, if they are of one.
     pub(crate) fn kind(&self, from: usize, to: usize) -> Option<RangeKind>
         requires order { from < to }
-        requires within { to ≤ 4096 }
+        requires within { to ≤ page_len }
         ensures { IfSome result (λ kind. (k : ℕ) → from ≤ k → k < to → marks_in self.now k ≡ mark_of kind) }
     {
         match self {
@@ -514,7 +514,7 @@ impl Marks {
         kind: RangeKind,
     ) -> Result<(), AllocError>
         requires order { from ≤ to }
-        requires within { to ≤ 4096 }
+        requires within { to ≤ page_len }
         ensures ok { OnOk result (AgreeInPage (marks_in self.new) (λ k. if is_between from to k then mark_of kind else marks_in self.old k)) }
         ensures err { OnErr result (AgreeInPage (marks_in self.new) (marks_in self.old)) }
     {

@@ -5,7 +5,7 @@ ghost use Rattle.shadow_memory.specs.Shadows.{is_bad, shadow_of};
 ghost use Rattle.shadow_memory.specs.Directories.{cells_at};
 ghost use Rattle.shadow_memory.specs.Edits.{change_of, count_of, each_of, Fits};
 ghost use Rattle.shadow_memory.specs.Cells.{shadow_in, IsClean};
-ghost use Rattle.shadow_memory.specs.Places.{changed_from, AgreeInDirectory};
+ghost use Rattle.shadow_memory.specs.Places.{changed_from, page_len, AgreeInDirectory};
 ghost use Rattle.shadow_memory.specs.Views.{cells_seen};
 ghost use Rattle.shadow_memory.specs.Memories.{bytes_in, shadows_in, cells_of, cells_below};
 
@@ -44,7 +44,7 @@ impl DirectorySlot {
     #[inline(always)]
     fn view(&self, at: usize) -> View<'_>
         requires { at < 4194304 }
-        ensures { (a : ℕ) → a / 4096 ≡ at / 4096 → a < 4194304 → cells_below self.now a ≡ cells_seen result (a % 4096) }
+        ensures { (a : ℕ) → a / page_len ≡ at / page_len → a < 4194304 → cells_below self.now a ≡ cells_seen result (a % page_len) }
     {
         match self {
             DirectorySlot::Blank => View::Blank(RangeKind::NoAccess),
@@ -55,7 +55,7 @@ impl DirectorySlot {
     // The page of a place, which the one who asks holds too.
     fn slot(&self, at: usize) -> Result<PageSlot, AllocError>
         requires { at < 4194304 }
-        ensures { IfOk result (λ slot. (a : ℕ) → a / 4096 ≡ at / 4096 → a < 4194304 → cells_below self.now a ≡ cells_at slot (a % 4096)) }
+        ensures { IfOk result (λ slot. (a : ℕ) → a / page_len ≡ at / page_len → a < 4194304 → cells_below self.now a ≡ cells_at slot (a % page_len)) }
     {
         match self {
             DirectorySlot::Blank => Ok(PageSlot::Blank(RangeKind::NoAccess)),
@@ -77,7 +77,7 @@ impl DirectorySlot {
     #[inline(always)]
     fn put(&mut self, at: usize, bytes: &[u8]) -> bool
         requires within { at < 4194304 }
-        requires one_page { at % 4096 + length bytes.now ≤ 4096 }
+        requires one_page { at % page_len + length bytes.now ≤ page_len }
         ensures done { IsTrue result → AgreeInDirectory (cells_below self.new)
             (changed_from (cells_below self.old) at (length bytes.now) (received (slice_index bytes.now))) }
         ensures whole { IsTrue result → (k : ℕ) → at ≤ k → k < at + length bytes.now → (cells_below self.old k).accessible ≡ true }
@@ -94,7 +94,7 @@ impl DirectorySlot {
     // Changes cells of one page, in a directory of its own.
     fn change(&mut self, alloc: Global, at: usize, edit: &Edit<'_>) -> Result<(), AllocError>
         requires within { at < 4194304 }
-        requires one_page { at % 4096 + count_of edit.now ≤ 4096 }
+        requires one_page { at % page_len + count_of edit.now ≤ page_len }
         requires fits { Fits edit.now }
         ensures ok { OnOk result (AgreeInDirectory (cells_below self.new) (changed_from (cells_below self.old) at (count_of edit.now) (change_of edit.now))) }
         ensures err { OnErr result (AgreeInDirectory (cells_below self.new) (cells_below self.old)) }
@@ -187,7 +187,7 @@ impl Memory {
     /// The page of an address, to read.
     #[inline(always)]
     pub(crate) fn view(&self, addr: u32) -> View<'_>
-        ensures { (a : ℕ) → a / 4096 ≡ addr / 4096 → cells_of self.now a ≡ cells_seen result (a % 4096) }
+        ensures { (a : ℕ) → a / page_len ≡ addr / page_len → cells_of self.now a ≡ cells_seen result (a % page_len) }
     {
         let at = addr as usize;
         if at / DIRECTORY < self.directories.len() {
@@ -199,7 +199,7 @@ impl Memory {
 
     /// The page of an address, which the one who asks holds too.
     pub(crate) fn slot(&self, addr: u32) -> Result<PageSlot, AllocError>
-        ensures { IfOk result (λ slot. (a : ℕ) → a / 4096 ≡ addr / 4096 → cells_of self.now a ≡ cells_at slot (a % 4096)) }
+        ensures { IfOk result (λ slot. (a : ℕ) → a / page_len ≡ addr / page_len → cells_of self.now a ≡ cells_at slot (a % page_len)) }
     {
         let at = addr as usize;
         if at / DIRECTORY < self.directories.len() {
@@ -237,7 +237,7 @@ impl Memory {
     /// did; it takes no memory.
     #[inline(always)]
     pub(crate) fn put(&mut self, addr: u32, bytes: &[u8]) -> bool
-        requires { addr % 4096 + length bytes.now ≤ 4096 }
+        requires { addr % page_len + length bytes.now ≤ page_len }
         ensures done { IsTrue result → cells_of self.new ≡ changed_from (cells_of self.old) addr (length bytes.now) (received (slice_index bytes.now)) }
         ensures whole { IsTrue result → (k : ℕ) → addr ≤ k → k < addr + length bytes.now → (cells_of self.old k).accessible ≡ true }
         ensures kept { IsFalse result → cells_of self.new ≡ cells_of self.old }
@@ -249,7 +249,7 @@ impl Memory {
 
     /// Changes cells of one page, all of them or none.
     pub(crate) fn change(&mut self, addr: u32, edit: &Edit<'_>) -> Result<(), AllocError>
-        requires one_page { addr % 4096 + count_of edit.now ≤ 4096 }
+        requires one_page { addr % page_len + count_of edit.now ≤ page_len }
         requires fits { Fits edit.now }
         ensures ok { OnOk result (cells_of self.new ≡ changed_from (cells_of self.old) addr (count_of edit.now) (change_of edit.now)) }
         ensures err { OnErr result (cells_of self.new ≡ cells_of self.old) }

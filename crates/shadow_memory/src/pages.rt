@@ -2,7 +2,7 @@
 ghost use Rattle.std.specs.Prelude.{◌≡◌, ℕ, ◌+◌, ◌*◌, ◌%◌, ◌^◌, ◌<◌, ◌≤◌, true, OnOk, OnErr, IfOk, IfNone, IfSome, IsTrue, IsFalse, length, nat_lt, slice_index, vec_len};
 ghost use Rattle.shadow_memory.specs.Cells.{set_at, shadow_in, IsClean};
 ghost use Rattle.shadow_memory.specs.Marks.{blank};
-ghost use Rattle.shadow_memory.specs.Places.{changed_from, AgreeInPage};
+ghost use Rattle.shadow_memory.specs.Places.{changed_from, page_len, AgreeInPage};
 ghost use Rattle.shadow_memory.specs.Changes.{IsWidth};
 ghost use Rattle.shadow_memory.specs.Loads.{loaded_at};
 ghost use Rattle.shadow_memory.specs.Ranges.{little_word};
@@ -26,7 +26,7 @@ pub(crate) const PAGE: usize = 4096;
 pub(crate) struct Page {
     bytes: Vec<u8>,
     marks: Marks,
-    ghost long: { vec_len bytes ≡ 4096 },
+    ghost long: { vec_len bytes ≡ page_len },
 }
 
 #[tactic(auto, unfolding(crate::specs::Pages::cells_in, crate::specs::Pages::marks_in, crate::specs::Edits::count_of, crate::specs::Edits::change_of, crate::specs::Edits::each_of, crate::specs::Edits::Fits, crate::specs::Loads::loaded_at, crate::specs::Ranges::little_word, crate::specs::Ranges::first_from))]
@@ -49,7 +49,7 @@ impl Page {
     }
 
     pub(crate) fn cell(&self, at: usize) -> Cell
-        requires { at < 4096 }
+        requires { at < page_len }
         ensures value { result ≡ cells_in self.now at }
         ensures clean { IsClean result }
     {
@@ -60,7 +60,7 @@ impl Page {
     #[inline(always)]
     fn number(&self, at: usize, n: u32) -> u32
         requires width { IsWidth n }
-        requires within { at + n ≤ 4096 }
+        requires within { at + n ≤ page_len }
         ensures value { result ≡ little_word (λ i. if nat_lt i n then slice_index self.now.bytes.items (at + i) else 0) }
         ensures small { result < 2 ^ (8 * n) }
     {
@@ -76,7 +76,7 @@ impl Page {
     #[inline(always)]
     pub(crate) fn load(&self, at: usize, addr: u32, n: u32) -> Loaded
         requires width { IsWidth n }
-        requires within { at + n ≤ 4096 }
+        requires within { at + n ≤ page_len }
         ensures value { result ≡ loaded_at (λ i. cells_in self.now (at + i)) addr n }
         ensures small { result.value < 2 ^ (8 * n) }
         ensures small_undef { result.undef < 2 ^ (8 * n) }
@@ -95,7 +95,7 @@ impl Page {
     #[inline(never)]
     fn load_cells(&self, at: usize, addr: u32, n: u32) -> Loaded
         requires width { IsWidth n }
-        requires within { at + n ≤ 4096 }
+        requires within { at + n ≤ page_len }
         ensures value { result ≡ loaded_at (λ i. cells_in self.now (at + i)) addr n }
         ensures small { result.value < 2 ^ (8 * n) }
         ensures small_undef { result.undef < 2 ^ (8 * n) }
@@ -115,11 +115,11 @@ impl Page {
 
     /// The first multiple of 4, from one on, that has four accessible and defined bytes.
     pub(crate) fn next_word(&self, from: usize) -> Option<usize>
-        requires within { from ≤ 4096 }
+        requires within { from ≤ page_len }
         requires aligned { from % 4 ≡ 0 }
-        ensures none { IfNone result (HoldNoWord (λ k. shadow_in (cells_in self.now k)) from 4096) }
+        ensures none { IfNone result (HoldNoWord (λ k. shadow_in (cells_in self.now k)) from page_len) }
         ensures some { IfSome result (IsNextWord (λ k. shadow_in (cells_in self.now k)) from) }
-        ensures inside { IfSome result (λ at. at < 4096) }
+        ensures inside { IfSome result (λ at. at < page_len) }
     {
         self.marks.next_word(from)
     }
@@ -127,7 +127,7 @@ impl Page {
     // Are four bytes accessible and defined, with a value from low up to, not with, high?
     #[inline(always)]
     fn holds_in_range(&self, at: usize, low: u32, high: u64) -> bool
-        requires { at + 4 ≤ 4096 }
+        requires { at + 4 ≤ page_len }
         ensures { result ≡ holds_in_range (λ k. (cells_in self.now k).byte) (λ k. shadow_in (cells_in self.now k)) low high at }
     {
         if !may_lie_within(&self.bytes[at..at + 4], low, high) {
@@ -139,11 +139,11 @@ impl Page {
 
     /// The first multiple of 4, from one on, whose four bytes are so.
     pub(crate) fn next_in_range(&self, from: usize, low: u32, high: u64) -> Option<usize>
-        requires within { from ≤ 4096 }
+        requires within { from ≤ page_len }
         requires aligned { from % 4 ≡ 0 }
-        ensures none { IfNone result (HoldNoneInRange (λ k. (cells_in self.now k).byte) (λ k. shadow_in (cells_in self.now k)) low high from 4096) }
+        ensures none { IfNone result (HoldNoneInRange (λ k. (cells_in self.now k).byte) (λ k. shadow_in (cells_in self.now k)) low high from page_len) }
         ensures some { IfSome result (IsNextInRange (λ k. (cells_in self.now k).byte) (λ k. shadow_in (cells_in self.now k)) low high from) }
-        ensures inside { IfSome result (λ at. at < 4096) }
+        ensures inside { IfSome result (λ at. at < page_len) }
     {
         for word in from / 4..PAGE / 4 {
             if self.holds_in_range(4 * word, low, high) {
@@ -156,7 +156,7 @@ impl Page {
     /// The first bad byte from one place up to, not with, another.
     pub(crate) fn first_bad(&self, from: usize, to: usize, need_defined: bool) -> Option<usize>
         requires order { from ≤ to }
-        requires within { to ≤ 4096 }
+        requires within { to ≤ page_len }
         ensures none { IfNone result (NonePass (λ k. is_bad need_defined (shadow_in (cells_in self.now k))) from to) }
         ensures some { IfSome result (IsFirst (λ k. is_bad need_defined (shadow_in (cells_in self.now k))) from to) }
     {
@@ -164,7 +164,7 @@ impl Page {
     }
 
     fn set(&mut self, alloc: Global, at: usize, cell: Cell) -> Result<(), AllocError>
-        requires within { at < 4096 }
+        requires within { at < page_len }
         requires clean { IsClean cell }
         ensures ok { OnOk result (AgreeInPage (cells_in self.new) (set_at (cells_in self.old) at cell)) }
         ensures err { OnErr result (AgreeInPage (cells_in self.new) (cells_in self.old)) }
@@ -186,7 +186,7 @@ impl Page {
         kind: RangeKind,
     ) -> Result<(), AllocError>
         requires order { from ≤ to }
-        requires within { to ≤ 4096 }
+        requires within { to ≤ page_len }
         ensures ok { OnOk result (AgreeInPage (cells_in self.new) (λ k.
             if is_between from to k then ranged kind 0 (cells_in self.old k) else cells_in self.old k)) }
         ensures err { OnErr result (AgreeInPage (cells_in self.new) (cells_in self.old)) }
@@ -201,7 +201,7 @@ impl Page {
         count: usize,
         bytes: &[u8],
     ) -> Result<(), AllocError>
-        requires { at + count ≤ 4096 }
+        requires { at + count ≤ page_len }
         ensures ok { OnOk result (AgreeInPage (cells_in self.new) (changed_from (cells_in self.old) at count (filled (slice_index bytes.now)))) }
         ensures err { OnErr result (AgreeInPage (cells_in self.new) (cells_in self.old)) }
     {
@@ -220,7 +220,7 @@ impl Page {
         count: usize,
         kind: RangeKind,
     ) -> Result<(), AllocError>
-        requires { at + count ≤ 4096 }
+        requires { at + count ≤ page_len }
         ensures ok { OnOk result (AgreeInPage (cells_in self.new) (changed_from (cells_in self.old) at count (λ i cell. taken_cell (blank kind) cell))) }
         ensures err { OnErr result (AgreeInPage (cells_in self.new) (cells_in self.old)) }
     {
@@ -231,7 +231,7 @@ impl Page {
 
     // Changes bytes alike.
     fn all(&mut self, alloc: Global, at: usize, count: usize, each: Each) -> Result<(), AllocError>
-        requires { at + count ≤ 4096 }
+        requires { at + count ≤ page_len }
         ensures ok { OnOk result (AgreeInPage (cells_in self.new) (changed_from (cells_in self.old) at count (λ i cell. each_of each cell))) }
         ensures err { OnErr result (AgreeInPage (cells_in self.new) (cells_in self.old)) }
     {
@@ -251,8 +251,8 @@ impl Page {
         from: usize,
         count: usize,
     ) -> Result<(), AllocError>
-        requires room { at + count ≤ 4096 }
-        requires within { from + count ≤ 4096 }
+        requires room { at + count ≤ page_len }
+        requires within { from + count ≤ page_len }
         requires whole { AreWhole source.now.marks from (from + count) }
         ensures ok { OnOk result (AgreeInPage (cells_in self.new) (changed_from (cells_in self.old) at count
             (λ i cell. taken_cell (cells_in source.now (from + i)) cell))) }
@@ -266,7 +266,7 @@ impl Page {
     /// The first place, from one up to another, whose byte is defined in part; the other place, if there is none.
     pub(crate) fn whole_end(&self, from: usize, to: usize) -> usize
         requires order { from ≤ to }
-        requires within { to ≤ 4096 }
+        requires within { to ≤ page_len }
         ensures start { from ≤ result }
         ensures within { result ≤ to }
         ensures whole { AreWhole self.now.marks from result }
@@ -277,7 +277,7 @@ impl Page {
     /// The kind of the bytes from one place up to, not with, another, if they are zeros of one.
     pub(crate) fn zeros(&self, from: usize, to: usize) -> Option<RangeKind>
         requires order { from < to }
-        requires within { to ≤ 4096 }
+        requires within { to ≤ page_len }
         ensures { IfSome result (λ kind. (k : ℕ) → from ≤ k → k < to → cells_in self.now k ≡ blank kind) }
     {
         if !all_are(&self.bytes[from..to], 0) {
@@ -288,7 +288,7 @@ impl Page {
 
     /// The kind of the page once each byte changed so, if it is zeros of one then and that can be told without looking at the bytes.
     pub(crate) fn cleared(&self, each: Each) -> Option<RangeKind>
-        ensures { IfSome result (λ kind. (k : ℕ) → k < 4096 → each_of each (cells_in self.now k) ≡ blank kind) }
+        ensures { IfSome result (λ kind. (k : ℕ) → k < page_len → each_of each (cells_in self.now k) ≡ blank kind) }
     {
         match each {
             Each::Make(_) => None,
@@ -298,7 +298,7 @@ impl Page {
     }
 
     fn store(&mut self, alloc: Global, at: usize, bytes: &[u8]) -> Result<(), AllocError>
-        requires { at + length bytes.now ≤ 4096 }
+        requires { at + length bytes.now ≤ page_len }
         ensures ok { OnOk result (AgreeInPage (cells_in self.new) (changed_from (cells_in self.old) at (length bytes.now) (received (slice_index bytes.now)))) }
         ensures err { OnErr result (AgreeInPage (cells_in self.new) (cells_in self.old)) }
     {
@@ -310,7 +310,7 @@ impl Page {
     /// Stores bytes from a place on, if what is there is all accessible and defined. Says whether it did; it takes no memory.
     #[inline(always)]
     pub(crate) fn put(&mut self, at: usize, bytes: &[u8]) -> bool
-        requires { at + length bytes.now ≤ 4096 }
+        requires { at + length bytes.now ≤ page_len }
         ensures done { IsTrue result → AgreeInPage (cells_in self.new)
             (changed_from (cells_in self.old) at (length bytes.now) (received (slice_index bytes.now))) }
         ensures whole { IsTrue result → (k : ℕ) → at ≤ k → k < at + length bytes.now → (cells_in self.old k).accessible ≡ true }
@@ -330,7 +330,7 @@ impl Page {
         at: usize,
         edit: &Edit<'_>,
     ) -> Result<(), AllocError>
-        requires within { at + count_of edit.now ≤ 4096 }
+        requires within { at + count_of edit.now ≤ page_len }
         requires fits { Fits edit.now }
         ensures ok { OnOk result (AgreeInPage (cells_in self.new) (changed_from (cells_in self.old) at (count_of edit.now) (change_of edit.now))) }
         ensures err { OnErr result (AgreeInPage (cells_in self.new) (cells_in self.old)) }

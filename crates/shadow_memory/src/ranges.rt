@@ -1,7 +1,7 @@
 //! Changes of whole ranges: blank pages one after another at once, others page by page.
 ghost use Rattle.std.specs.Prelude.{◌≡◌, ◌+◌, ◌%◌, ◌<◌, ◌≤◌, ◌^◌, IfOk, OnOk, OnErr, length, slice_index};
 ghost use Rattle.shadow_memory.specs.Edits.{each_of};
-ghost use Rattle.shadow_memory.specs.Places.{changed_from};
+ghost use Rattle.shadow_memory.specs.Places.{changed_from, page_len};
 ghost use Rattle.shadow_memory.specs.Ranges.{changed_in, written};
 ghost use Rattle.shadow_memory.specs.Shadows.{made_so, stored_undef};
 ghost use Rattle.shadow_memory.specs.Changes.{filled, SomeFront};
@@ -21,7 +21,7 @@ pub(crate) fn count_in_page(at: u32, most: u32) -> u32
     requires { 0 < most }
     ensures some { 0 < result }
     ensures within { result ≤ most }
-    ensures one_page { at % 4096 + result ≤ 4096 }
+    ensures one_page { at % page_len + result ≤ page_len }
 {
     (PAGE_LEN - at % PAGE_LEN).min(most)
 }

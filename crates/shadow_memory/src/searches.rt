@@ -5,6 +5,7 @@ ghost use Rattle.shadow_memory.specs.Ranges.{above};
 ghost use Rattle.shadow_memory.specs.Shadows.{first_bad, HoldNoWord, IsNextWord};
 ghost use Rattle.shadow_memory.specs.Values.{HoldNoneInRange, IsNextInRange};
 ghost use Rattle.shadow_memory.specs.Memories.{bytes_in, cells_of, shadows_in};
+ghost use Rattle.shadow_memory.specs.Places.{page_len};
 
 use crate::cells::{Bad, RangeKind};
 use crate::memory::Memory;
@@ -27,7 +28,7 @@ impl Memory {
     // The kind of so many bytes of one page, if they are zeros of one.
     fn zeros_in_page(&self, addr: u32, count: u32) -> Option<RangeKind>
         requires some { 0 < count }
-        requires one_page { addr % 4096 + count ≤ 4096 }
+        requires one_page { addr % page_len + count ≤ page_len }
         ensures { IfSome result (λ kind. (i : ℕ) → i < count → cells_of self.now (above addr i) ≡ blank kind) }
     {
         let place = addr as usize % PAGE;

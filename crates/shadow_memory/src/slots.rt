@@ -1,7 +1,7 @@
 //! A page that may be blank, or shared.
 ghost use Rattle.std.specs.Prelude.{◌≡◌, ℕ, ◌+◌, ◌<◌, ◌≤◌, true, IfSome, IsTrue, IsFalse, OnOk, OnErr, length, slice_index};
 ghost use Rattle.shadow_memory.specs.Changes.{received};
-ghost use Rattle.shadow_memory.specs.Places.{changed_from, AgreeInPage};
+ghost use Rattle.shadow_memory.specs.Places.{changed_from, page_len, AgreeInPage};
 ghost use Rattle.shadow_memory.specs.Directories.{cells_at};
 ghost use Rattle.shadow_memory.specs.Views.{cells_seen};
 ghost use Rattle.shadow_memory.specs.Edits.{change_of, count_of, each_of, Fits, LeavesBlank};
@@ -46,8 +46,8 @@ fn blank_after(old: RangeKind, edit: &Edit<'_>) -> Option<RangeKind>
 // The kind of a page after a change of all of it, where it is known to be zeros of one.
 #[tactic(auto, unfolding(crate::specs::Edits::count_of, crate::specs::Edits::change_of, crate::specs::Edits::each_of))]
 fn cleared_by(page: &Page, edit: &Edit<'_>) -> Option<RangeKind>
-    ensures whole { IfSome result (λ kind. count_of edit.now ≡ 4096) }
-    ensures zeros { IfSome result (λ kind. (k : ℕ) → k < 4096 → change_of edit.now k (cells_in page.now k) ≡ blank kind) }
+    ensures whole { IfSome result (λ kind. count_of edit.now ≡ page_len) }
+    ensures zeros { IfSome result (λ kind. (k : ℕ) → k < page_len → change_of edit.now k (cells_in page.now k) ≡ blank kind) }
 {
     match edit {
         Edit::All(PAGE, each) => page.cleared(*each),
@@ -72,7 +72,7 @@ impl PageSlot {
     /// Stores bytes from a place on, if the page is its own and what is there is all accessible and defined. Says whether it did.
     #[inline(always)]
     pub(crate) fn put(&mut self, at: usize, bytes: &[u8]) -> bool
-        requires { at + length bytes.now ≤ 4096 }
+        requires { at + length bytes.now ≤ page_len }
         ensures done { IsTrue result → AgreeInPage (cells_at self.new)
             (changed_from (cells_at self.old) at (length bytes.now) (received (slice_index bytes.now))) }
         ensures whole { IsTrue result → (k : ℕ) → at ≤ k → k < at + length bytes.now → (cells_at self.old k).accessible ≡ true }
@@ -107,7 +107,7 @@ impl PageSlot {
         at: usize,
         edit: &Edit<'_>,
     ) -> Result<(), AllocError>
-        requires within { at + count_of edit.now ≤ 4096 }
+        requires within { at + count_of edit.now ≤ page_len }
         requires fits { Fits edit.now }
         ensures ok { OnOk result (AgreeInPage (cells_at self.new) (changed_from (cells_at self.old) at (count_of edit.now) (change_of edit.now))) }
         ensures err { OnErr result (AgreeInPage (cells_at self.new) (cells_at self.old)) }

@@ -8,6 +8,7 @@ ghost use Rattle.shadow_memory.specs.Firsts.{IsFirst, NonePass};
 ghost use Rattle.shadow_memory.specs.Shadows.{is_bad, HoldNoWord, IsNextWord};
 ghost use Rattle.shadow_memory.specs.Values.{holds_in_range, HoldNoneInRange, IsNextInRange};
 ghost use Rattle.shadow_memory.specs.Views.{cells_seen};
+ghost use Rattle.shadow_memory.specs.Places.{page_len};
 
 use crate::cells::{Cell, Loaded, RangeKind, blank_cell};
 use crate::marks::{first_bad_of, next_word_of};
@@ -26,7 +27,7 @@ pub(crate) enum View<'a> {
 #[tactic(auto, unfolding(crate::specs::Views::cells_seen, crate::specs::Loads::loaded_at, crate::specs::Ranges::little_word, crate::specs::Ranges::first_from))]
 impl View<'_> {
     pub(crate) fn cell(self, at: usize) -> Cell
-        requires { at < 4096 }
+        requires { at < page_len }
         ensures value { result ≡ cells_seen self.entry at }
         ensures clean { IsClean result }
     {
@@ -39,7 +40,7 @@ impl View<'_> {
     /// The kind of the bytes from one place up to, not with, another, if they are zeros of one.
     pub(crate) fn zeros(self, from: usize, to: usize) -> Option<RangeKind>
         requires order { from < to }
-        requires within { to ≤ 4096 }
+        requires within { to ≤ page_len }
         ensures { IfSome result (λ kind. (k : ℕ) → from ≤ k → k < to → cells_seen self.entry k ≡ blank kind) }
     {
         match self {
@@ -52,7 +53,7 @@ impl View<'_> {
     #[inline(always)]
     pub(crate) fn load(self, at: usize, addr: u32, n: u32) -> Loaded
         requires width { IsWidth n }
-        requires within { at + n ≤ 4096 }
+        requires within { at + n ≤ page_len }
         ensures value { result ≡ loaded_at (λ i. cells_seen self.entry (at + i)) addr n }
         ensures small { result.value < 2 ^ (8 * n) }
         ensures small_undef { result.undef < 2 ^ (8 * n) }
@@ -72,11 +73,11 @@ impl View<'_> {
 
     /// The first multiple of 4, from one on, that has four accessible and defined bytes.
     pub(crate) fn next_word(self, from: usize) -> Option<usize>
-        requires within { from ≤ 4096 }
+        requires within { from ≤ page_len }
         requires aligned { from % 4 ≡ 0 }
-        ensures none { IfNone result (HoldNoWord (λ k. shadow_in (cells_seen self.entry k)) from 4096) }
+        ensures none { IfNone result (HoldNoWord (λ k. shadow_in (cells_seen self.entry k)) from page_len) }
         ensures some { IfSome result (IsNextWord (λ k. shadow_in (cells_seen self.entry k)) from) }
-        ensures inside { IfSome result (λ at. at < 4096) }
+        ensures inside { IfSome result (λ at. at < page_len) }
     {
         match self {
             View::Blank(kind) => next_word_of(kind, from),
@@ -86,12 +87,12 @@ impl View<'_> {
 
     /// The first multiple of 4, from one on, whose four bytes are accessible and defined, with a value from low up to, not with, high.
     pub(crate) fn next_in_range(self, from: usize, low: u32, high: u64) -> Option<usize>
-        requires within { from ≤ 4096 }
+        requires within { from ≤ page_len }
         requires aligned { from % 4 ≡ 0 }
         requires positive { 0 < low }
-        ensures none { IfNone result (HoldNoneInRange (λ k. (cells_seen self.entry k).byte) (λ k. shadow_in (cells_seen self.entry k)) low high from 4096) }
+        ensures none { IfNone result (HoldNoneInRange (λ k. (cells_seen self.entry k).byte) (λ k. shadow_in (cells_seen self.entry k)) low high from page_len) }
         ensures some { IfSome result (IsNextInRange (λ k. (cells_seen self.entry k).byte) (λ k. shadow_in (cells_seen self.entry k)) low high from) }
-        ensures inside { IfSome result (λ at. at < 4096) }
+        ensures inside { IfSome result (λ at. at < page_len) }
     {
         match self {
             View::Blank(_) => None,
@@ -102,7 +103,7 @@ impl View<'_> {
     /// The first bad byte from one place up to, not with, another.
     pub(crate) fn first_bad(self, from: usize, to: usize, need_defined: bool) -> Option<usize>
         requires order { from ≤ to }
-        requires within { to ≤ 4096 }
+        requires within { to ≤ page_len }
         ensures none { IfNone result (NonePass (λ k. is_bad need_defined (shadow_in (cells_seen self.entry k))) from to) }
         ensures some { IfSome result (IsFirst (λ k. is_bad need_defined (shadow_in (cells_seen self.entry k))) from to) }
     {

@@ -13,7 +13,7 @@ use std::rc::Rc;
 #[tactic(auto, unfolding(crate::specs::Heaps::blocks_of))]
 impl Heap {
     ghost use Rattle.std.specs.Prelude.{IfOk, OnOk, OnErr};
-    ghost use Rattle.guest_heap.specs.Blocks.{IsPlace, Places, allocated, with_block};
+    ghost use Rattle.guest_heap.specs.Blocks.{IsPlace, Places, allocated, heap_begin, greatest_size, with_block};
     ghost use Rattle.guest_heap.specs.Steps.{place};
     ghost use Rattle.guest_heap.specs.Heaps.{blocks_of, redzone_in};
     ghost use Rattle.guest_heap.specs.States.{AreNoPlaces};
@@ -22,9 +22,9 @@ impl Heap {
     /// The least place from an address on, where there is none below it.
     fn place_from(&self, from: u64, size: u32, redzone: u32, known: &Bound) -> Option<u32>
         requires multiple { from % 16 ≡ 0 }
-        requires above { 0x40000000 + redzone ≤ from }
+        requires above { heap_begin + redzone ≤ from }
         requires below { from < 17179869184 }
-        requires small { size ≤ 16777216 }
+        requires small { size ≤ greatest_size }
         requires none { (q : ℕ) → q < from → ¬ (IsPlace (blocks_of self.now) size redzone q) }
         requires skipped { AreNoPlaces (blocks_of self.now) size redzone known.now.next known.now.until }
         ensures { Places (blocks_of self.now) size redzone result }
@@ -61,7 +61,7 @@ impl Heap {
     #[tactic(auto, unfolding(crate::specs::Heaps::blocks_of, crate::specs::Heaps::redzone_in))]
     fn raise_bound(&mut self, class: &SizeClass) -> Bound
         requires index { class.now.index < 268 }
-        requires small { class.now.least ≤ 16777216 }
+        requires small { class.now.least ≤ greatest_size }
         ensures same { blocks_of self.new ≡ blocks_of self.old }
         ensures redzone { redzone_in self.new ≡ redzone_in self.old }
         ensures size { result.size ≡ class.now.least }

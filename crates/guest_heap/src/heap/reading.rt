@@ -1,13 +1,13 @@
 //! What a heap answers of its blocks.
 ghost use Rattle.std.specs.Prelude.{◌≡◌, ◌≤◌, ℕ, None};
-ghost use Rattle.guest_heap.specs.Blocks.{near_of, high_end};
+ghost use Rattle.guest_heap.specs.Blocks.{near_of, heap_end, high_end};
 
 use crate::heap::Heap;
 use crate::region::{HEAP_BEGIN, HEAP_END, SLOTS};
 use call_stacks::{Block, Near, Place};
 
 fn near_of(block: &Block, address: u32) -> Near
-    requires { high_end block.now ≤ 0x60000000 }
+    requires { high_end block.now ≤ heap_end }
     ensures { result ≡ near_of block.now address }
 {
     let found = *block;

@@ -13,7 +13,7 @@ impl Heap {
     ghost use Rattle.guest_heap.specs.Entries.{IsNext, IsLast};
     ghost use Rattle.guest_heap.specs.States.{kept_at, either, IsNextKept, IsLastKept, MeetsBelow, MeetsFrom, EndsBelow, BeginsAbove};
     ghost use Rattle.guest_heap.specs.Heaps.{blocks_of, live_in, freed_in, first_in};
-    ghost use Rattle.guest_heap.specs.Blocks.{IsKept, Meets, high_end};
+    ghost use Rattle.guest_heap.specs.Blocks.{IsKept, Meets, heap_begin, heap_end, high_end};
 
     /// The kept block of a slot.
     fn kept_in(&self, slot: usize) -> Option<&Block>
@@ -128,10 +128,10 @@ impl Heap {
 
     /// Where the kept block's interval ends that begins below an address, or the region begins.
     pub(crate) fn end_below(&self, start: u32) -> u64
-        requires above { 0x40000000 ≤ start }
-        requires below { start < 0x60000000 }
+        requires above { heap_begin ≤ start }
+        requires below { start < heap_end }
         ensures end { EndsBelow (blocks_of self.now) start result }
-        ensures within { result ≤ 0x60000000 }
+        ensures within { result ≤ heap_end }
     {
         match self.kept_below(slot_of(start)) {
             Some(block) => high_end(block),
@@ -141,8 +141,8 @@ impl Heap {
 
     /// Where the kept block's interval begins that begins above an address, or the region ends.
     pub(crate) fn begin_above(&self, start: u32) -> u64
-        requires above { 0x40000000 ≤ start }
-        requires below { start < 0x60000000 }
+        requires above { heap_begin ≤ start }
+        requires below { start < heap_end }
         ensures begin { BeginsAbove (blocks_of self.now) start result }
     {
         match self.kept_from(slot_of(start) + 1) {
@@ -153,12 +153,12 @@ impl Heap {
 
     /// A kept block whose interval meets a range.
     pub(crate) fn meeting(&self, low: u64, high: u64) -> Option<&Block>
-        requires above { 0x40000000 ≤ low }
-        requires below { low ≤ 0x60000000 }
+        requires above { heap_begin ≤ low }
+        requires below { low ≤ heap_end }
         requires order { low < high }
         ensures some { IfSome result (λ b. IsKept (blocks_of self.now) b.now) }
         ensures meets { IfSome result (λ b. Meets low high b.now) }
-        ensures within { IfSome result (λ b. high_end b.now ≤ 0x60000000) }
+        ensures within { IfSome result (λ b. high_end b.now ≤ heap_end) }
         ensures none { IfNone result ((b : Block) → IsKept (blocks_of self.now) b → ¬ (Meets low high b)) }
     {
         // The one behind first: a walk from block to block then has each in front of it, and seldom looks back.

@@ -1,6 +1,6 @@
 //! The calls that a program makes of its environment.
 ghost use Rattle.std.specs.Prelude.{◌≡◌, ◌+◌, ◌-◌, ◌^◌, ◌<◌, ◌≤◌, ◌∷◌, [], length, min, nat_le, nat_lt, slice_index, false, Some, IfOk, OnOk};
-ghost use Rattle.guest_machine.specs.Calls.{argument, answers, call_tested, call_errors, heap_parameters, tested_from, errors_from, moved_len, exit_call, output_room};
+ghost use Rattle.guest_machine.specs.Calls.{argument, answers, call_tested, call_errors, heap_parameters, tested_from, errors_from, most_moved, moved_len, exit_call, output_room};
 ghost use Rattle.guest_machine.specs.Errors.{fault_of, buffer_errors};
 ghost use Rattle.shadow_memory.specs.Ranges.{written};
 ghost use Rattle.guest_machine.specs.Effects.{stored_core};
@@ -54,7 +54,7 @@ impl Guest {
     #[tactic(auto, unfolding(crate::specs::Calls::moved_len))]
     fn moved_len(&self) -> u32
         ensures value { result ≡ moved_len (core_of self.now) }
-        ensures few { result ≤ 4096 }
+        ensures few { result ≤ most_moved }
     {
         self.argument(A2).min(MOST_MOVED)
     }
@@ -161,7 +161,7 @@ impl Guest {
 
     /// Stores input at an address.
     fn store_input(&mut self, start: u32, given: &[u8]) -> Result<(), AllocError>
-        requires { length given.now ≤ 4096 }
+        requires { length given.now ≤ most_moved }
         ensures core { OnOk result (core_of self.new ≡ stored_core (core_of self.old) start (length given.now) 0) }
         ensures bytes { OnOk result (bytes_of self.new ≡ written (bytes_of self.old) start (length given.now) (slice_index given.now)) }
         ensures progress { self.new.progress ≡ self.old.progress }
@@ -267,7 +267,7 @@ impl Guest {
 
     /// Is there room for so many more bytes of output?
     fn has_room(&self, len: u32) -> bool
-        requires { len ≤ 4096 }
+        requires { len ≤ most_moved }
         ensures { result ≡ nat_le (self.now.progress.output_len + len) output_room }
     {
         let written = self.progress.output_len;

@@ -40,8 +40,7 @@ impl Guest {
         ensures groups { self.new.groups ≡ self.old.groups }
     {
         let trace = self.frames.trace(self.pc);
-        let found = self.heap.allocate(self.alloc, size, trace, redzone)?;
-        Ok(found)
+        self.heap.allocate(self.alloc, size, trace, redzone)
     }
 
     /// Makes a block's interval inaccessible.
