@@ -1,13 +1,16 @@
 -- The stages of a command on a program.
-use Rattle.std.proofs.Common.{◌≡◌, ◌⊎◌, ℕ, List, Option, Some, None, Result, Err, sym, subst}
+use Rattle.std.proofs.Common.{◌≡◌, ◌⊎◌, ℕ, List, Option, Some, None, Result, Ok, Err, IsErrAnd, inr, sym, subst}
 use Rattle.std.proofs.KnownBytes.{Appends-nil, Consumes-nil}
 use Rattle.guest_elf.specs.File.{IsImageOf, early_refusal, refusal}
 use Rattle.guest_elf.specs.declared.fault.ElfFault.{ElfFault}
 use Rattle.guest_elf.specs.declared.fault.ElfFault.TheVariants.{Memory}
 use Rattle.guest_elf.specs.declared.image.Image.{Image as ProgramImage}
 use Rattle.replay_session.specs.Scenario.{begun}
-use Rattle.replaycheck.specs.Carried.{Does, Giving, HasImage, IsFront, NoImage, Reports, Serves, Streams, Untouched, greatest_program, streams}
+use Rattle.replaycheck.specs.Carried.{Carried, CarriedWithImage, Does, Giving, HasInput, HasRules, IsFront, NoImage, Reports, Serves, Streams, Untouched}
+use Rattle.replaycheck.specs.Carried.{greatest_program, input_path, rules_path, streams}
+use Rattle.replaycheck.specs.Ends.{end_of}
 use Rattle.replaycheck.specs.Once.{IsReportOnce}
+use Rattle.replaycheck.specs.declared.arguments.Order.{Order}
 use Rattle.replaycheck.specs.declared.ends.End.{End}
 use Rattle.replaycheck.specs.declared.ends.End.TheVariants.{Image}
 use Rattle.suppressions.specs.Rules.{Rule}
@@ -15,8 +18,10 @@ use Rattle.suppressions.specs.Rules.{Rule}
 pub untouched : (left held : Option (List ℕ)) → Untouched (streams left held) (streams left held)
 untouched left held = (Consumes-nil left, Appends-nil held)
 
-pub has-image : (gives : Giving) (path front bytes : List ℕ) (image : ProgramImage) → IsFront gives path greatest_program front → bytes ≡ front → IsImageOf bytes image → HasImage gives path image
-has-image gives path front bytes image read same is = (front, read, subst (λ (xs : List ℕ). IsImageOf xs image) same is)
+-- the end that was passed on
+pub passed-on : {T : Type 0} (result : Result T End) (end : End) → IsErrAnd result (λ e. e ≡ end) → end_of result ≡ end
+passed-on (Ok x) end is = absurd is
+passed-on (Err e) end is = is
 
 pub no-image : {T : Type 0} (gives : Giving) (path front bytes : List ℕ) (fault : ElfFault) → IsFront gives path greatest_program front → bytes ≡ front
     → ((fault ≡ Memory) ⊎ (refusal bytes ≡ Some fault))
@@ -29,6 +34,19 @@ no-image gives path front bytes fault read same refused least = (
     λ early e. let told = least early (subst (λ (xs : List ℕ). early_refusal xs ≡ Some early) (sym same) e) in cc,
   ),
 )
+
+-- where the file gives a program, what becomes of it is what becomes of the command
+pub with-image : (gives : Giving) (order : Order) (front bytes : List ℕ) (image : ProgramImage) (old new : Streams) (end : End)
+    → IsFront gives order.file.now greatest_program front → bytes ≡ front → IsImageOf bytes image → CarriedWithImage gives order image old new end → Carried gives order old new end
+with-image gives order front bytes image old new end read same is carried =
+    inr (image, (front, read, subst (λ (xs : List ℕ). IsImageOf xs image) same is), carried)
+
+-- where all files give what is wanted, what is asked for is done
+pub with-all : (gives : Giving) (order : Order) (front bytes : List ℕ) (image : ProgramImage) (list : List Rule) (input : List ℕ) (old new : Streams) (end : End)
+    → IsFront gives order.file.now greatest_program front → bytes ≡ front → IsImageOf bytes image
+    → HasRules gives (rules_path order) list → HasInput gives (input_path order) input → Does order.step image list input old new end → Carried gives order old new end
+with-all gives order front bytes image list input old new end read same is rules given does =
+    with-image gives order front bytes image old new end read same is (inr (list, rules, inr (input, given, does)))
 
 pub does-report : (chosen : Option ℕ) (step : ℕ) (image : ProgramImage) (list : List Rule) (input : List ℕ) (left held-old held-new : Option (List ℕ)) (end : End) → chosen ≡ Some step
     → Reports (IsReportOnce image input list step) held-old held-new end → Does chosen image list input (streams left held-old) (streams left held-new) end

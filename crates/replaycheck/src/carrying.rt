@@ -3,14 +3,15 @@ ghost use Rattle.std.specs.Prelude.{◌≡◌, ◌≤◌, ◌<◌, ◌^◌, IfOk
 ghost use Rattle.replay_session.specs.Scenario.{begun};
 ghost use Rattle.replay_session.specs.Setups.{longest_input};
 ghost use Rattle.replaycheck.specs.Carried.{Carried, HasInput, HasRules, IsFront, NoBytes, NoInput, NoRules, Reports, Serves, streams};
+ghost use Rattle.replaycheck.specs.Ends.{end_of};
 ghost use Rattle.replaycheck.specs.Once.{IsReportOnce};
 
 use crate::arguments::Order;
 use crate::ends::End;
 use crate::files::{Files, ReadFault};
-use crate::run_once::{RunFault, run_once};
+use crate::run_once::run_once;
 use guest_elf::{Image, MOST_BYTES, read};
-use replay_session::{BeginFault, LONGEST_INPUT, ServeFault, Session, serve};
+use replay_session::{LONGEST_INPUT, Session, serve};
 use std::alloc::Global;
 use std::io::{Read, Write};
 use suppressions::{Suppression, TEXT_LIMIT, parse};
@@ -49,10 +50,7 @@ fn read_suppressions<'a, F: Files>(
     if text.len() > TEXT_LIMIT {
         return Err(End::SuppressionsTooLong);
     }
-    match parse(alloc, &text) {
-        Ok(suppressions) => Ok(suppressions),
-        Err(fault) => Err(End::Suppressions(fault)),
-    }
+    Ok(parse(alloc, &text)?)
 }
 
 /// The bytes of the input, if a file is named.
@@ -83,16 +81,11 @@ fn print_report<'a, W: Write>(
     suppressions: &[Suppression],
     step: u32,
     writer: &mut W,
-) -> End<'a>
+) -> Result<(), End<'a>>
     requires { length input.items ≤ longest_input }
-    ensures { Reports (IsReportOnce image.now input.items suppressions.now step) (W.contents writer.old) (W.contents writer.new) result }
+    ensures { Reports (IsReportOnce image.now input.items suppressions.now step) (W.contents writer.old) (W.contents writer.new) (end_of result) }
 {
-    match run_once(alloc, image, input, suppressions, step, writer) {
-        Ok(()) => End::Done,
-        Err(RunFault::InputTooLarge) => unreachable!(),
-        Err(RunFault::NoMemory) => End::NoMemory,
-        Err(RunFault::WriteFailed { .. }) => End::CannotWrite,
-    }
+    Ok(run_once(alloc, image, input, suppressions, step, writer)?)
 }
 
 /// Serves a session with a program.
@@ -103,26 +96,37 @@ fn serve_session<'a, R: Read, W: Write>(
     suppressions: Vec<Suppression>,
     reader: &mut R,
     writer: &mut W,
-) -> End<'a>
+) -> Result<(), End<'a>>
     requires { length input.items ≤ longest_input }
     ensures { Serves (begun image.entry input.items suppressions.items)
-        (streams (R.remaining reader.old) (W.contents writer.old)) (streams (R.remaining reader.new) (W.contents writer.new)) result }
+        (streams (R.remaining reader.old) (W.contents writer.old)) (streams (R.remaining reader.new) (W.contents writer.new)) (end_of result) }
 {
-    let session = match Session::begin(alloc, image, input, suppressions) {
-        Ok(session) => session,
-        Err(BeginFault::InputTooLarge) => unreachable!(),
-        Err(BeginFault::Memory) => return End::NoMemory,
-    };
-    match serve(session, reader, writer) {
-        Ok(()) => End::Done,
-        Err(ServeFault::ReadFailed { .. }) => End::CannotReadInput,
-        Err(ServeFault::Endless { .. }) => End::CannotReadInput,
-        Err(ServeFault::WriteFailed { .. }) => End::CannotWrite,
-        Err(ServeFault::NoMemory { .. }) => End::NoMemory,
+    let session = Session::begin(alloc, image, input, suppressions)?;
+    Ok(serve(session, reader, writer)?)
+}
+
+/// Follows an order: the program is read, then the suppressions, then the input, each judged before the next is read.
+fn follow_order<'a, F: Files, R: Read, W: Write>(
+    alloc: Global,
+    order: &Order<'a>,
+    files: &F,
+    reader: &mut R,
+    writer: &mut W,
+) -> Result<(), End<'a>>
+    ensures { Carried (F.gives files.now) order.now
+        (streams (R.remaining reader.old) (W.contents writer.old)) (streams (R.remaining reader.new) (W.contents writer.new)) (end_of result) }
+{
+    let file = read_front(alloc, files, order.file, MOST_BYTES)?;
+    let image = read(alloc, &file)?;
+    let suppressions = read_suppressions(alloc, files, order.suppressions)?;
+    let input = read_input(alloc, files, order.input)?;
+    match order.step {
+        Some(step) => print_report(alloc, &image, input, &suppressions, step, writer),
+        None => serve_session(alloc, image, input, suppressions, reader, writer),
     }
 }
 
-/// Does what is asked for: the program is read, then the suppressions, then the input, each judged before the next is read.
+/// Does what is asked for, and answers how the program ends.
 pub(crate) fn carry_out<'a, F: Files, R: Read, W: Write>(
     alloc: Global,
     order: &Order<'a>,
@@ -133,24 +137,8 @@ pub(crate) fn carry_out<'a, F: Files, R: Read, W: Write>(
     ensures { Carried (F.gives files.now) order.now
         (streams (R.remaining reader.old) (W.contents writer.old)) (streams (R.remaining reader.new) (W.contents writer.new)) result }
 {
-    let file = match read_front(alloc, files, order.file, MOST_BYTES) {
-        Ok(file) => file,
-        Err(end) => return end,
-    };
-    let image = match read(alloc, &file) {
-        Ok(image) => image,
-        Err(fault) => return End::Image(fault),
-    };
-    let suppressions = match read_suppressions(alloc, files, order.suppressions) {
-        Ok(suppressions) => suppressions,
-        Err(end) => return end,
-    };
-    let input = match read_input(alloc, files, order.input) {
-        Ok(input) => input,
-        Err(end) => return end,
-    };
-    match order.step {
-        Some(step) => print_report(alloc, &image, input, &suppressions, step, writer),
-        None => serve_session(alloc, image, input, suppressions, reader, writer),
+    match follow_order(alloc, order, files, reader, writer) {
+        Ok(()) => End::Done,
+        Err(end) => end,
     }
 }

@@ -1,8 +1,11 @@
 //! How the program ends: its error line and exit status.
 ghost use Rattle.std.specs.Prelude.{◌≡◌};
-ghost use Rattle.replaycheck.specs.Ends.{status_of};
+ghost use Rattle.replaycheck.specs.Ends.{end_of_begin, end_of_run, end_of_serve, status_of};
+ghost use Rattle.replaycheck.specs.declared.ends.End.TheVariants.{Image, Suppressions};
 
+use crate::run_once::RunFault;
 use guest_elf::ElfFault;
+use replay_session::{BeginFault, ServeFault};
 use std::io::Write;
 use suppressions::SuppFault;
 
@@ -26,6 +29,57 @@ pub enum End<'a> {
     /// An input of more than 1,048,576 bytes.
     InputTooLarge,
     NoMemory,
+}
+
+impl From<ElfFault> for End<'_> {
+    ghost from_gives = { λ fault end. end ≡ Image fault };
+
+    fn from(fault: ElfFault) -> Self {
+        End::Image(fault)
+    }
+}
+
+impl From<SuppFault> for End<'_> {
+    ghost from_gives = { λ fault end. end ≡ Suppressions fault };
+
+    fn from(fault: SuppFault) -> Self {
+        End::Suppressions(fault)
+    }
+}
+
+impl From<RunFault> for End<'_> {
+    ghost from_gives = { λ fault end. end ≡ end_of_run fault };
+
+    fn from(fault: RunFault) -> Self {
+        match fault {
+            RunFault::InputTooLarge => End::InputTooLarge,
+            RunFault::NoMemory => End::NoMemory,
+            RunFault::WriteFailed { .. } => End::CannotWrite,
+        }
+    }
+}
+
+impl From<BeginFault> for End<'_> {
+    ghost from_gives = { λ fault end. end ≡ end_of_begin fault };
+
+    fn from(fault: BeginFault) -> Self {
+        match fault {
+            BeginFault::InputTooLarge => End::InputTooLarge,
+            BeginFault::Memory => End::NoMemory,
+        }
+    }
+}
+
+impl From<ServeFault> for End<'_> {
+    ghost from_gives = { λ fault end. end ≡ end_of_serve fault };
+
+    fn from(fault: ServeFault) -> Self {
+        match fault {
+            ServeFault::ReadFailed { .. } | ServeFault::Endless { .. } => End::CannotReadInput,
+            ServeFault::WriteFailed { .. } => End::CannotWrite,
+            ServeFault::NoMemory { .. } => End::NoMemory,
+        }
+    }
 }
 
 /// Writes the error line, if the end has one, and answers the exit status, whatever becomes of the write.
