@@ -119,12 +119,29 @@ fn words_are_patchable_where_each_byte_is_loaded(rt: HostRuntime) -> Result<(), 
 }
 
 #[test]
-fn zeros_are_loaded_after_the_bytes(rt: HostRuntime) -> Result<(), Fail> {
-    let mut file = PROGRAM;
-    set_word(&mut file, MEMSZ, 0x0100_0000);
-    let image = read(rt.alloc(), &file)?;
-    assert!(rt; image.patchable(0x0100_FFFC));
-    assert!(rt; !image.patchable(0x0100_FFFD));
+fn the_last_loaded_word_is_patchable(rt: HostRuntime) -> Result<(), Fail> {
+    for (label, field, value, last, next) in [
+        (
+            "zeros after the bytes",
+            MEMSZ,
+            0x0100_0000,
+            0x0100_FFFC,
+            0x0100_FFFD,
+        ),
+        (
+            "up to the last address",
+            VADDR,
+            0xFFFF_FFF4,
+            0xFFFF_FFFC,
+            0xFFFF_FFFD,
+        ),
+    ] {
+        let mut file = PROGRAM;
+        set_word(&mut file, field, value);
+        let image = read(rt.alloc(), &file)?;
+        assert!(rt; image.patchable(last), "{label}");
+        assert!(rt; !image.patchable(next), "{label}");
+    }
     Ok(())
 }
 
@@ -137,16 +154,6 @@ fn without_bytes_the_offset_may_be_anywhere(rt: HostRuntime) -> Result<(), Fail>
     assert_eq!(rt; empty.segments().len(), 1);
     assert_eq!(rt; empty.segments()[0].bytes.len(), 0);
     assert!(rt; empty.patchable(0x10000));
-    Ok(())
-}
-
-#[test]
-fn a_segment_may_end_at_the_last_address(rt: HostRuntime) -> Result<(), Fail> {
-    let mut file = PROGRAM;
-    set_word(&mut file, VADDR, 0xFFFF_FFF4);
-    let image = read(rt.alloc(), &file)?;
-    assert!(rt; image.patchable(0xFFFF_FFFC));
-    assert!(rt; !image.patchable(0xFFFF_FFFD));
     Ok(())
 }
 
