@@ -3,13 +3,14 @@ use Rattle.std.proofs.Common.{◌≡◌, ℕ, zero, suc, List, [], ◌∷◌, �
 use Rattle.std.proofs.Math.Path.{fun_ext}
 use Rattle.std.specs.List.{AllZip}
 use Rattle.std.proofs.lemmas.Bool.{cases_lt}
-use Rattle.std.proofs.lemmas.List.{get_or_past}
+use Rattle.std.proofs.lemmas.List.{get_or_past, length-replicate}
 use Rattle.std.specs.declared.alloc.Global.{Global}
 use Rattle.std.specs.declared.rc.Rc.{Rc}
 use Rattle.guest_heap.specs.Entries.{AreNone, entry_of}
 use Rattle.guest_heap.specs.Leaves.{entries_in}
 use Rattle.guest_heap.specs.Branches.{entries_at, entries_under}
 use Rattle.guest_heap.specs.Tables.{entries_below, entries_of}
+use Rattle.guest_heap.specs.Unused.{AreUnused}
 use Rattle.guest_heap.specs.declared.entry.Entry.{Entry}
 use Rattle.guest_heap.specs.declared.table.leaf.Leaf.{Leaf}
 use Rattle.guest_heap.specs.declared.table.branch.Branch.{Branch}
@@ -63,10 +64,23 @@ pub branch_by_value : (p q : Rc Branch Global) → q.value ≡ p.value → entri
 unfolding entries_below
 branch_by_value p q e = rw e refl
 
-none_replicated : (n k : ℕ) → slice_index_or (replicate n (let none : Option (Rc Entry Global) = None in none)) k None ≡ None
+-- n slots, each empty: what is at a place, how many there are, and that none is in use
+none_replicated : {T : Type 0} (n k : ℕ) → slice_index_or (replicate n (let none : Option T = None in none)) k None ≡ None
 none_replicated zero k = refl
 none_replicated (suc n) zero = refl
 none_replicated (suc n) (suc k) = none_replicated n k
+
+pub as_many : {T : Type 0} (slots : List (Option T)) (n : ℕ) → slots ≡ replicate n None → length slots ≡ n
+as_many slots n e = ap length e ∙ length-replicate n None
+
+pub none_used : {T : Type 0} (slots : List (Option T)) (n : ℕ) → slots ≡ replicate n None → AreUnused slots 0
+none_used slots n e k _ = ap (λ xs. is_some (slice_index_or xs k None)) e ∙ ap is_some (none_replicated n k)
+
+-- a branch of nothing
+pub none_under : (branch : Branch) (n : ℕ) → branch.leaves.items ≡ replicate n None → entries_under branch ≡ (λ _. None)
+unfolding entries_under entries_at
+none_under branch n e =
+    fun_ext (λ k. ap (λ xs. entries_at (slice_index_or xs (k / 256) None) (k % 256)) e ∙ ap (λ leaf. entries_at leaf (k % 256)) (none_replicated n (k / 256)))
 
 -- a leaf of nothing
 pub none_in : (leaf : Leaf) (n : ℕ) → leaf.slots.items ≡ replicate n None → entries_in leaf ≡ (λ _. None)

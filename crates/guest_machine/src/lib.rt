@@ -5,7 +5,8 @@
 //! the 32 registers with their undefined bits; pc; whether it runs; the frames of the calls that it is in; the blocks of the
 //! heap; how much of the input was read, of the output written, and how many heap calls were made; and the errors so far,
 //! counted by kind and trace. It is moved by [`Machine::step`] alone, one instruction at a time, ECALL included, or one call of a
-//! function of the heap that the setup names by its first address; between steps a range can be marked and a word poked.
+//! function of the heap that the setup names by its first address; between steps a range can be marked and a word poked. Once it is
+//! halted a step changes nothing, so that [`Machine::rest`] makes any number of them at once.
 //!
 //! # Public items
 //!
@@ -13,17 +14,22 @@
 //! |---|---|
 //! | [`Machine::start`] | the machine before the first step of an image |
 //! | [`Machine::step`] | the machine after one step, and the addresses whose bytes it took or wrote |
-//! | [`Machine::rest`] | nothing: it makes steps of a machine that doesn't run, which stays as it is |
+//! | [`Machine::rest`] | nothing: it makes steps of a halted machine, which stays as it is, on the meter |
 //! | [`Machine::mark`] | the machine with a range made inaccessible, undefined or defined |
 //! | [`Machine::poke_word`] | the machine with the four bytes at an address changed |
 //! | [`Machine::share`] | a copy, which later changes of the other don't reach |
 //! | [`Machine::status`], [`Machine::pc`], [`Machine::register`] | whether it runs, and its registers |
-//! | [`Machine::position`], [`Machine::output_len`], [`Machine::heap_calls`] | what was read, written and called so far |
+//! | [`Machine::position`], [`Machine::end_seen`] | how much of the input was read so far, and whether its end was seen |
+//! | [`Machine::output_len`], [`Machine::heap_calls`] | what was written and called so far |
 //! | [`Machine::memory`], [`Machine::heap`] | the bytes with what is known of them, and the blocks of the heap |
 //! | [`Machine::groups`] | the errors so far, in order of first occurrence |
 //! | [`Hooks::new`], [`Hooks::at`] | the functions of the heap that are called by name, from a list in order of address; the one that begins at an address |
+//! | [`Input::new`], [`Input::len`], [`Input::into_vec`] | the bytes that can be read, from a vector; how many; the vector again |
+//! | [`Input::push`], [`Input::pop`] | nothing: the input has one byte more, or one less, at its end |
+//! | [`Register::new`] | the register of a number below 32 |
 //! | [`Meter::new`], [`Meter::read`] | a count of steps, raised by `step` and `rest` alone |
-//! | [`laws::keeps_words`], [`laws::keeps_input`], [`laws::keeps_heap`], [`laws::keeps_pokes`], [`laws::reads_on`], [`laws::stays_halted`] | nothing: their contracts are laws of one step |
+//! | [`laws::keeps_words`], [`laws::keeps_input`], [`laws::keeps_heap`], [`laws::keeps_pokes`] | nothing: their contracts are laws of one step |
+//! | [`laws::reads_on`], [`laws::keeps_end`], [`laws::end_stays`], [`laws::stays_halted`] | likewise |
 //!
 //! [`Setup`], [`Input`], [`Hooks`], [`Mark`], [`Touched`], [`Span`], [`Register`], [`Status`] and [`Stop`] are the values that these take and
 //! answer, [`USUAL_REDZONE`] and [`USUAL_VOLUME`] Memcheck's settings of the heap; those of memory, traces, blocks and errors are of the
@@ -43,8 +49,8 @@
 //! The calls between steps have the same form: `start` shows `start_state`, `mark` goes from a state to `marked`, `poke_word`
 //! to `poked`, `share` to the same state, and each observer answers a field of it. So a run of any length is the definition
 //! `pre` or `post`, by as many calls. The laws let a caller replay less after an edit: a step is the same if the edit changed
-//! only a word that it doesn't touch, input that it hasn't come to, or, where it is no heap call, the heap's options; and a
-//! word that it doesn't touch may as well be poked after it.
+//! only a word that it doesn't touch, input that it hasn't come to, or, where it is no heap call, the heap's options; a word
+//! that it doesn't touch may as well be poked after it; and a step of a halted machine need not be made.
 //!
 //! # Where the definitions stand
 //!
@@ -56,8 +62,8 @@
 //!   enters; the laws follow from this form.
 //! - `Effects` and `Calls`: what each class of instruction and each call of the environment leaves; `Alu`: what instructions
 //!   compute; `Instructions`: the class of each row of the instruction table; `Widths`: of accesses.
-//! - `HeapCalls`: `malloc`, `calloc`, `free` and `realloc` over the blocks of the crate `guest_heap`; `Hooks` and `NamedCalls`: where
-//!   they are called by name, and what such a call does before and after.
+//! - `HeapCalls`: `malloc`, `calloc`, `free` and `realloc` over the blocks of the crate `guest_heap`; `NamedCalls`: what a call of
+//!   them by name does before and after. Which function begins at an address is `hook_at` of the crate `guest_elf`.
 //! - `Errors`: what each test notes, with its note; `CallStack`: the frames by the hints of JAL and JALR; `StackPointer`: what a
 //!   move of the stack pointer makes inaccessible or undefined.
 //! - `State`, `Registers`, `Spans`: what a state is, and how registers and ranges of addresses change.

@@ -42,8 +42,6 @@ impl Meter {
         requires { self.old ≤ u64.MAX }
         ensures { self.new ≡ min (self.old + steps) u64.MAX }
     {
-        for _step in 0..steps {
-            self.rise();
-        }
+        self.steps = self.steps.saturating_add(u64::from(steps));
     }
 }

@@ -14,12 +14,14 @@
 //! | [`Suppression::is_on`], [`Suppression::switch`] | its switch |
 //! | [`is_suppressed`] | whether some suppression that is switched on matches |
 //! | [`LeakKinds::from_list`] | the leak kinds that a list of words names |
-//! | [`Parts::new`], [`Parts::next`], [`Parts::fork`] | the parts of a text, as words between spaces |
+//! | [`Parts::new`], [`Parts::next`], [`Parts::fork`] | the parts of a text, as words between spaces; the same parts again |
 //!
-//! [`Target`] is an error's or a leak's kind, [`SuppFault`] a refusal. `matches`, `is_suppressed`, `is_on` and `switch` take no
-//! memory and always answer, for any number of names. One walk fits the bytes of a name to a pattern and the names of a trace to
-//! frame lines, where `...` is the star. It goes back to the last star alone: the time is the length of the pattern times that of
-//! what it is fitted to, whatever the number of stars.
+//! [`Target`] is an error's or a leak's kind, [`LeakKinds`] a set of leak kinds, [`SuppFault`] a refusal, and [`TEXT_LIMIT`] how long
+//! a text may be. `matches`, `is_suppressed`, `is_on` and `switch` take no memory and always answer, for any number of names. One
+//! walk fits the bytes of a name to a pattern and the names of a trace to frame lines, where `...` is the star. It goes back to the
+//! last star alone: the time is the length of the pattern times that of what it is fitted to, whatever the number of stars. Where
+//! the first frame line wants a name that begins with a byte of its own, a trace whose innermost name begins otherwise is passed
+//! with no walk.
 //!
 //! # What a caller relies on
 //!
@@ -40,7 +42,7 @@
 //! - `Subjects`, `Rules`: which kinds a suppression is for, and what it matches.
 //! - `Words`, `Added`: the words of a suppression, and those of a session's command.
 //! - `Lines`, `Blocks`, `Texts`: the lines of a text that count, one block, and the whole text with its faults.
-//! - `Parts` is for this crate's proofs.
+//! - `Initials` and `Parts` are for this crate's proofs.
 //!
 //! Each relation stands beside a function that says the same: the relation to be read, the function for filters.
 //!

@@ -281,7 +281,9 @@ impl Machine {
         Ok((machine, touched))
     }
 
-    /// Makes so many steps of a machine that doesn't run. Each leaves it as it is and touches nothing, and the meter rises by one for each.
+    /// Makes so many steps of a machine, which must be halted: a step then leaves it as it is, touches nothing, and raises the meter
+    /// by one ([`laws::stays_halted`](crate::laws::stays_halted)). So the meter rises by what as many calls of [`Machine::step`] would
+    /// raise it by, though none is carried out.
     pub fn rest(&self, steps: u32, meter: &mut Meter)
         requires halted { (s : State) → Shows self.now s → is_running s.core.status ≡ false }
         requires metered { meter.old ≤ u64.MAX }
