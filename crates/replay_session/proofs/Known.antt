@@ -1,5 +1,5 @@
 -- Known bytes that grow.
-use Rattle.std.proofs.Common.{Result, Ok, Err, ◌≡◌, ℕ, List, [], ◌++◌, Option, None, Some, ◌∙◌, refl, ap, sym, append_assoc, arith, ◌+◌, ◌-◌, ◌<◌, ◌≤◌, length, take, drop, length-drop, subst}
+use Rattle.std.proofs.Common.{Result, Ok, Err, IfErr, IsErrAnd, ◌≡◌, ℕ, List, [], ◌++◌, Option, None, Some, ◌∙◌, refl, ap, sym, append_assoc, arith, ◌+◌, ◌-◌, ◌<◌, ◌≤◌, length, take, drop, length-drop, subst}
 use Rattle.std.proofs.Math.Seq.{take-add, take-length}
 use Rattle.std.specs.Io.KnownBytes.{Appends, Consumes, Keeps}
 use Rattle.std.specs.Result.{OnErr}
@@ -55,3 +55,8 @@ appends-keeps (Some x) (Some y) (Some z) p f k = k ∙ f
 pub at_refusal : {T E P : Type 0} (r : Result T E) → P → OnErr r P
 at_refusal (Ok x) p = tt
 at_refusal (Err e) p = p
+
+-- what holds of the error that was passed on
+pub at_error : {T E : Type 0} (r : Result T E) (error : E) (P : E → Type 0) → IsErrAnd r (λ e. e ≡ error) → P error → IfErr r P
+at_error (Ok x) error P is holds = tt
+at_error (Err e) error P is holds = subst P (sym is) holds

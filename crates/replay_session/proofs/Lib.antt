@@ -10,3 +10,4 @@ pub mod EditSteps
 pub mod WorkSteps
 pub mod LeastSteps
 pub mod LawSteps
+pub mod ToldSteps

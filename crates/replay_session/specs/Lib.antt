@@ -4,6 +4,7 @@ pub mod Setups
 pub mod Scenario
 pub mod Session
 pub mod Lines
+pub mod Stages
 pub mod Replies
 pub mod Serving
 pub mod Served

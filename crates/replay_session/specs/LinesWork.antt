@@ -1,14 +1,16 @@
 -- What lines cost in steps, said of the list of lines alone: where machines are held when a line is given, and from which of them a report
 -- goes on. No trail is in it.
-use Rattle.std.specs.Prelude.{◌≡◌, ℕ, ◌+◌, ◌-◌, ◌%◌, ◌≤◌, ◌⊎◌, ◌↔◌, List, [], ◌∷◌, ◌++◌, Result, Ok, min}
+use Rattle.std.specs.Prelude.{◌≡◌, ℕ, ◌+◌, ◌-◌, ◌%◌, ◌≤◌, ◌⊎◌, ◌↔◌, false, List, [], ◌∷◌, ◌++◌, Result, Ok, length, min}
 use Rattle.std.specs.List.{All}
 use Rattle.checkpoints.specs.FirstEffects.{IsBelowFirst}
 use Rattle.replay_session.specs.Scenario.{Scenario, accepted, applied}
 use Rattle.checkpoints.specs.Work.{Work}
+use Rattle.replay_session.specs.Replies.{Answers, HadMemory, Replies, worked_line}
+use Rattle.replay_session.specs.Stages.{Stage, fresh}
 use Rattle.replay_session.specs.Work.{ShowsAt, LineMoves, no_work}
 use Rattle.replay_session.specs.declared.fault.Fault.{Fault}
 use Rattle.replay_session.specs.declared.command.Command.{Command}
-use Rattle.replay_session.specs.declared.command.Command.TheVariants.{Report}
+use Rattle.replay_session.specs.declared.command.Command.TheVariants.{Report, Worked}
 
 -- a line that was given, and the scenario that it met
 pub record Given : Type 0 where
@@ -73,3 +75,21 @@ MadeByLines = (sc : Scenario) (lines : List (List ℕ)) (work : Work) → LinesM
 
 abbrev pub WorkIsOne : Type 0
 WorkIsOne = (past lines : List Given) (m n : ℕ) → AddUp past lines m → AddUp past lines n → m ≡ n
+
+-- lines were answered one after another, from a stage to a stage
+abbrev pub Leads : Stage → List (List ℕ) → List (List ℕ) → Stage → Type 0
+Leads old [] replies new = (replies ≡ []) × (new ≡ old)
+Leads old (line ∷ lines) [] new = ⊥
+Leads old (line ∷ lines) (reply ∷ replies) new = (next : Stage) × Replies old line reply next × Leads next lines replies new
+
+-- answers lead from stage to stage, where there is one for each line
+abbrev pub AnswersLead : Type 0
+AnswersLead = (old : Stage) (lines replies : List (List ℕ)) → Answers old lines replies → length replies ≡ length lines → (new : Stage) × Leads old lines replies new
+
+-- the law of `worked`: after lines of which none was answered `refused 1`, and where the trail isn't short, it tells the steps that the list of
+-- lines says
+abbrev pub TellsWork : Type 0
+TellsWork = (sc : Scenario) (lines replies : List (List ℕ)) (stage next : Stage) (line text : List ℕ)
+    → Leads (fresh sc) lines replies stage → All HadMemory replies → stage.short ≡ false
+    → accepted stage.scenario line ≡ Ok Worked → Replies stage line text next
+    → (steps : ℕ) × AddUp [] (given_from sc lines) steps × (text ≡ worked_line (min steps 18446744073709551615))

@@ -1,9 +1,11 @@
 -- What is written for a line, and for one line after another.
-use Rattle.std.specs.Prelude.{ℕ, ◌≡◌, ◌⊎◌, ◌++◌, List, [], ◌∷◌, Bool, Result, Ok, Err, IsOkAnd, MatchBool, codes, decimal, nat_le}
+use Rattle.std.specs.Prelude.{ℕ, ◌≡◌, ◌⊎◌, ◌++◌, List, [], ◌∷◌, Bool, false, Result, Ok, Err, IsOkAnd, MatchBool, codes, decimal, nat_le}
 use Rattle.std.specs.List.{flat_map}
 use Rattle.replay_session.specs.Faults.{number_of}
 use Rattle.replay_session.specs.Scenario.{Scenario, IsReportOf, accepted, applied, counted, most_lines}
 use Rattle.replay_session.specs.Session.{TakesMemory}
+use Rattle.replay_session.specs.Stages.{Stage}
+use Rattle.replay_session.specs.Work.{LineMoves, MayShorten}
 use Rattle.replay_session.specs.declared.command.Command.{Command}
 use Rattle.replay_session.specs.declared.command.Command.TheVariants.{Report, Worked}
 use Rattle.replay_session.specs.declared.fault.Fault.{Fault}
@@ -27,29 +29,46 @@ worked_line n = number_line (codes "worked ") n
 abbrev pub refused_line : Fault → List ℕ
 refused_line fault = number_line (codes "refused ") (number_of fault)
 
--- the text that answers a line; the number of steps made is left open
-abbrev pub IsReplyTo : Scenario → Result Command Fault → List ℕ → Type 0
-IsReplyTo sc (Ok Report) text = IsReportOf sc text
-IsReplyTo sc (Ok Worked) text = (n : ℕ) × (text ≡ worked_line n)
-IsReplyTo sc (Ok _) text = text ≡ done_line
-IsReplyTo sc (Err fault) text = text ≡ refused_line fault
+-- the text that answers a line, where so many steps were made
+abbrev pub IsReplyTo : Scenario → ℕ → Result Command Fault → List ℕ → Type 0
+IsReplyTo sc made (Ok Report) text = IsReportOf sc text
+IsReplyTo sc made (Ok Worked) text = text ≡ worked_line made
+IsReplyTo sc made (Ok _) text = text ≡ done_line
+IsReplyTo sc made (Err fault) text = text ≡ refused_line fault
 
--- one line, its reply and the scenario after it: as the scenario says, or memory was wanting where it may be, and the line only counts
-abbrev pub Replies : Scenario → List ℕ → List ℕ → Scenario → Type 0
-Replies sc line text after =
-    (IsReplyTo sc (accepted sc line) text × (after ≡ applied sc line))
+-- one line, its reply, and what is left after it, where so many steps were made: as the scenario says, or memory was wanting where it may be, and the
+-- line only counts
+abbrev pub Says : Scenario → ℕ → List ℕ → List ℕ → Scenario → Type 0
+Says sc made line text after =
+    (IsReplyTo sc made (accepted sc line) text × (after ≡ applied sc line))
     ⊎ (IsOkAnd (accepted sc line) TakesMemory × (text ≡ refused_line Memory) × (after ≡ counted sc))
+
+-- a reply isn't `refused 1`
+abbrev pub HadMemory : List ℕ → Type 0
+HadMemory text = text ≡ refused_line Memory → ⊥
+
+-- the line moves the work as it asks, unless it was answered `refused 1` or the trail is short after it
+abbrev pub Moves : Stage → List ℕ → List ℕ → Stage → Type 0
+Moves old line text new =
+    HadMemory text → new.short ≡ false → LineMoves old.scenario (accepted old.scenario line) old.work new.work
+
+-- one line, its reply and the stage after it, whose work is the number that `worked` tells
+abbrev pub Replies : Stage → List ℕ → List ℕ → Stage → Type 0
+Replies old line text new =
+    Says old.scenario new.work.made line text new.scenario
+    × Moves old line text new
+    × MayShorten (accepted old.scenario line) old.short new.short
 
 -- were all lines given that are answered?
 abbrev pub is_over : Scenario → Bool
 is_over sc = nat_le most_lines sc.lines
 
--- one reply for each line, up to the first that is told that there were too many; the next line meets the scenario after it
-abbrev pub Answers : Scenario → List (List ℕ) → List (List ℕ) → Type 0
-Answers sc [] replies = replies ≡ []
-Answers sc (line ∷ lines) [] = ⊥
-Answers sc (line ∷ lines) (reply ∷ replies) =
-    (after : Scenario) × Replies sc line reply after × MatchBool (is_over sc) (replies ≡ []) (Answers after lines replies)
+-- one reply for each line, up to the first that is told that there were too many; the next line meets the stage after it
+abbrev pub Answers : Stage → List (List ℕ) → List (List ℕ) → Type 0
+Answers stage [] replies = replies ≡ []
+Answers stage (line ∷ lines) [] = ⊥
+Answers stage (line ∷ lines) (reply ∷ replies) =
+    (after : Stage) × Replies stage line reply after × MatchBool (is_over stage.scenario) (replies ≡ []) (Answers after lines replies)
 
 -- replies, one after another
 abbrev pub joined : List (List ℕ) → List ℕ

@@ -1,55 +1,56 @@
 -- What serving some bytes does, between two reads.
-use Rattle.std.specs.Prelude.{ℕ, ◌≡◌, ◌+◌, ◌≤◌, ◌==◌, List, [], ◌∷◌, ◌++◌, Bool, true, Option, length, take, if◌then◌else◌}
-use Rattle.std.specs.Io.KnownBytes.{Appends}
+use Rattle.std.specs.Prelude.{ℕ, ◌≡◌, ◌+◌, ◌^◌, ◌<◌, ◌≤◌, ◌==◌, ◌⊎◌, List, [], ◌∷◌, ◌++◌, Bool, false, true, Option, length, take, if◌then◌else◌}
+use Rattle.std.specs.Io.KnownBytes.{Appends, Consumes, IsAtEnd}
 use Rattle.replay_session.specs.Lines.{lines_by}
 use Rattle.replay_session.specs.Replies.{Answers, Replies, joined}
-use Rattle.replay_session.specs.Scenario.{Scenario}
 use Rattle.replay_session.specs.Served.{standing}
-use Rattle.replay_session.specs.Session.{HasScenario}
+use Rattle.replay_session.specs.Stages.{Stage, HasStage}
 use Rattle.replay_session.specs.declared.serving.answer.Written.{Written}
+use Rattle.replay_session.specs.declared.serving.ServeFault.{ServeFault}
+use Rattle.replay_session.specs.declared.serving.ServeFault.TheVariants.{Endless, ReadFailed, WriteFailed}
 use Rattle.replay_session.specs.declared.session.Session.{Session}
 use Rattle.replay_session.specs.declared.serving.server.Server.{Server}
 
 -- a reply to the line was written
-pub record Answered (sc : Scenario) (session : Session) (old new : Written) (held-old held-new : Option (List ℕ)) (line : List ℕ) : Type 0 where
+pub record Answered (stage : Stage) (session : Session) (old new : Written) (held-old held-new : Option (List ℕ)) (line : List ℕ) : Type 0 where
   pub reply : List ℕ
-  pub after : Scenario
-  pub replies_to : Replies sc line reply after
-  pub has : HasScenario session after
+  pub after : Stage
+  pub replies_to : Replies stage line reply after
+  pub has : HasStage session after
   pub appended : Appends held-old held-new reply
   pub replies : new.replies ≡ standing (old.replies + 1)
   pub bytes : new.bytes ≡ standing (old.bytes + length reply)
 
 -- a front of a reply to the line was written
-pub record Cut (sc : Scenario) (old new : Written) (held-old held-new : Option (List ℕ)) (line : List ℕ) : Type 0 where
+pub record Cut (stage : Stage) (old new : Written) (held-old held-new : Option (List ℕ)) (line : List ℕ) : Type 0 where
   pub reply : List ℕ
   pub sent : ℕ
-  pub after : Scenario
-  pub replies_to : Replies sc line reply after
+  pub after : Stage
+  pub replies_to : Replies stage line reply after
   pub within : sent ≤ length reply
   pub appended : Appends held-old held-new (take sent reply)
   pub replies : new.replies ≡ standing (old.replies + (if sent == length reply then 1 else 0))
   pub bytes : new.bytes ≡ standing (old.bytes + sent)
 
 -- the bytes are served, and more may come: replies were written, to which those to the first lines of what comes are joined
-pub record Fed (sc : Scenario) (old new : Server) (held-old held-new : Option (List ℕ)) (bytes : List ℕ) : Type 0 where
+pub record Fed (stage : Stage) (old new : Server) (held-old held-new : Option (List ℕ)) (bytes : List ℕ) : Type 0 where
   pub done : List (List ℕ)
-  pub after : Scenario
-  pub has : HasScenario new.session after
+  pub after : Stage
+  pub has : HasStage new.session after
   pub appended : Appends held-old held-new (joined done)
   pub replies : standing new.written.replies ≡ standing (old.written.replies + length done)
   pub written : standing new.written.bytes ≡ standing (old.written.bytes + length (joined done))
   pub goes : (last : Bool) (more : List ℕ) (n all : ℕ) (rs : List (List ℕ)) → all ≡ n + length done → Answers after (take n (lines_by last new.kept.items more)) rs
-      → Answers sc (take all (lines_by last old.kept.items (bytes ++ more))) (done ++ rs)
+      → Answers stage (take all (lines_by last old.kept.items (bytes ++ more))) (done ++ rs)
 
 -- the session is over: whatever comes, these are all the replies
-pub record Over (sc : Scenario) (old new : Server) (held-old held-new : Option (List ℕ)) (bytes : List ℕ) : Type 0 where
+pub record Over (stage : Stage) (old new : Server) (held-old held-new : Option (List ℕ)) (bytes : List ℕ) : Type 0 where
   pub done : List (List ℕ)
   pub appended : Appends held-old held-new (joined done)
-  pub answers : (last : Bool) (more : List ℕ) → Answers sc (lines_by last old.kept.items (bytes ++ more)) done
+  pub answers : (last : Bool) (more : List ℕ) → Answers stage (lines_by last old.kept.items (bytes ++ more)) done
 
 -- a write failed: whole replies to the first of the lines were written, and a front of the reply to the next
-pub record Broken (sc : Scenario) (old new : Server) (held-old held-new : Option (List ℕ)) (lines : List (List ℕ)) : Type 0 where
+pub record Broken (stage : Stage) (old new : Server) (held-old held-new : Option (List ℕ)) (lines : List (List ℕ)) : Type 0 where
   pub done : List (List ℕ)
   pub last : List ℕ
   pub sent : ℕ
@@ -57,10 +58,47 @@ pub record Broken (sc : Scenario) (old new : Server) (held-old held-new : Option
   pub appended : Appends held-old held-new (joined done ++ take sent last)
   pub replies : standing new.written.replies ≡ standing (old.written.replies + length done + (if sent == length last then 1 else 0))
   pub written : standing new.written.bytes ≡ standing (old.written.bytes + length (joined done) + sent)
-  pub answers : Answers sc (take (length done + 1) lines) (done ++ last ∷ [])
+  pub answers : Answers stage (take (length done + 1) lines) (done ++ last ∷ [])
 
 -- the bytes end here: these are all the replies
-pub record Ended (sc : Scenario) (old : Server) (held-old held-new : Option (List ℕ)) : Type 0 where
+pub record Ended (stage : Stage) (old : Server) (held-old held-new : Option (List ℕ)) : Type 0 where
   pub done : List (List ℕ)
   pub appended : Appends held-old held-new (joined done)
-  pub answers : Answers sc (lines_by true old.kept.items []) done
+  pub answers : Answers stage (lines_by true old.kept.items []) done
+
+-- nothing was served yet
+abbrev pub IsFresh : Server → Type 0
+IsFresh server = (server.kept.items ≡ []) × (server.written.replies ≡ 0) × (server.written.bytes ≡ 0)
+
+-- some bytes were read, of which something holds for each stage that a server's session had
+abbrev pub Reads : Server → Option (List ℕ) → Option (List ℕ) → (Stage → List ℕ → Type 0) → Type 0
+Reads old left-old left-new P = (seen : List ℕ) × Consumes left-old left-new seen × ((stage : Stage) → HasStage old.session stage → P stage seen)
+
+-- the session has ended with the bytes that were read: it is over, or they are none since there are no more
+abbrev pub Ends : Stage → Server → Server → Option (List ℕ) → Option (List ℕ) → Option (List ℕ) → List ℕ → Type 0
+Ends stage old new left held-old held-new seen =
+    Over stage old new held-old held-new seen ⊎ ((seen ≡ []) × IsAtEnd left × Ended stage old held-old held-new)
+
+-- these are the numbers of replies and of bytes that were written
+abbrev pub Counts : Written → ℕ → ℕ → Type 0
+Counts written replies bytes = (replies ≡ written.replies) × (bytes ≡ written.bytes) × (replies < 2 ^ 64) × (bytes < 2 ^ 64)
+
+-- a fault tells that a write failed, and what was written
+abbrev pub IsWriteFailure : Written → ServeFault → Type 0
+IsWriteFailure written (WriteFailed replies bytes) = Counts written replies bytes
+IsWriteFailure written fault = ⊥
+
+-- a fault tells that no end was found, and what was written
+abbrev pub IsEndlessFault : Written → ServeFault → Type 0
+IsEndlessFault written (Endless replies bytes) = Counts written replies bytes
+IsEndlessFault written fault = ⊥
+
+-- a read failed, or a write did: of the reply to a line whose newline was read, or to the last line at the end
+abbrev pub Halts : ServeFault → Stage → Server → Server → Option (List ℕ) → Option (List ℕ) → Option (List ℕ) → List ℕ → Type 0
+Halts (ReadFailed replies bytes) stage old new left held-old held-new seen =
+    Counts new.written replies bytes × Fed stage old new held-old held-new seen
+Halts (WriteFailed replies bytes) stage old new left held-old held-new seen =
+    Counts new.written replies bytes
+    × (Broken stage old new held-old held-new (lines_by false old.kept.items seen)
+    ⊎ ((seen ≡ []) × IsAtEnd left × Broken stage old new held-old held-new (lines_by true old.kept.items [])))
+Halts fault stage old new left held-old held-new seen = ⊥

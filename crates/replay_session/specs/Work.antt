@@ -1,5 +1,5 @@
 -- How a line moves a session's work: the last step at which a machine is held, and how many steps were made.
-use Rattle.std.specs.Prelude.{◌≡◌, ℕ, ◌-◌, length, List, true, false, Some, slice_get, Result, Ok, Err}
+use Rattle.std.specs.Prelude.{◌≡◌, ℕ, ◌-◌, length, List, Bool, true, false, Some, slice_get, Result, Ok, Err}
 use Rattle.guest_machine.specs.declared.setup.Mark.{Mark as MarkAt}
 use Rattle.checkpoints.specs.FirstEffects.{MarkShows, InputShows, EndShows, HeapShows, PatchShows}
 use Rattle.checkpoints.specs.Trails.{last_held, meter_of, is_short}
@@ -48,10 +48,14 @@ LineMoves sc (Err fault) old new = LeavesWork old new
 abbrev pub MovesTrail : Scenario → Command → Trail → Trail → Type 0
 MovesTrail sc command old new = MovesWork sc command (work_on old) (work_on new)
 
--- no command but a patch makes a trail short, and one that is short stays so
+-- no command but a patch makes a trail short, and one that is short stays so: said of whether it is short before and after
+abbrev pub MayShorten : Result Command Fault → Bool → Bool → Type 0
+MayShorten (Ok (Patch addr word)) old new = old ≡ true → new ≡ true
+MayShorten outcome old new = new ≡ old
+
+-- and of the trails
 abbrev pub StaysWhole : Result Command Fault → Trail → Trail → Type 0
-StaysWhole (Ok (Patch addr word)) old new = is_short old ≡ true → is_short new ≡ true
-StaysWhole outcome old new = is_short new ≡ is_short old
+StaysWhole outcome old new = MayShorten outcome (is_short old) (is_short new)
 
 -- so does an accepted command of a session, and it moves the work so, unless memory was wanting or the trail is short after it
 abbrev pub Works : Session → Session → Command → Result Reply Fault → Type 0

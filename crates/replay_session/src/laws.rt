@@ -1,5 +1,5 @@
 //! What the lines of a session cost. Each law is the contract of a function that does nothing; a caller has it after the call.
-ghost use Rattle.replay_session.specs.LinesWork.{HeldByLines, MadeByLines, WorkIsOne};
+ghost use Rattle.replay_session.specs.LinesWork.{AnswersLead, HeldByLines, MadeByLines, TellsWork, WorkIsOne};
 
 /// If each line moves the work as [`crate::Session::command`] says of it, from a session that was just begun, then machines are held at just
 /// the steps that the list of lines says, and the steps made are the one number that it says.
@@ -8,4 +8,12 @@ pub fn work_of_lines()
     ensures held { HeldByLines }
     ensures made { MadeByLines }
     ensures one { WorkIsOne }
+{}
+
+/// The replies of [`crate::serve`] lead from stage to stage. After lines of which none was answered `refused 1`, and where no patch has left
+/// the trail short, `worked` tells the number that the list of lines says.
+#[tactic(auto, using(crate::proofs::ToldSteps::tells_work))]
+pub fn work_is_told()
+    ensures leads { AnswersLead }
+    ensures told { TellsWork }
 {}

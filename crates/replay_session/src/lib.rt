@@ -15,6 +15,7 @@
 //! | [`setup_with`] | an input, Memcheck's settings of the heap, and the functions of the heap that a program has by name |
 //! | [`send`] | writes all of some bytes and flushes; a [`Sent`] says how many were taken |
 //! | [`laws::work_of_lines`] | nothing: its contract says what any lines cost in steps |
+//! | [`laws::work_is_told`] | nothing: its contract says that `worked` tells this in a served session |
 //! | [`fakes`] | for tests: a reader and a writer over memory that fail where they are told to |
 //!
 //! # The lines
@@ -56,8 +57,10 @@
 //! - [`laws::work_of_lines`]: if each of any lines costs that, then after them machines are held at just the steps that the list of lines
 //!   says (`IsHeldAfter`), and the steps made are the one sum that it says (`AddUp`). Neither speaks of a trail.
 //! - [`serve`]: to the end, what was written is the replies to the lines of all bytes read, up to and with the first `refused 12`, and
-//!   nothing else (`Served`); on a fault, the whole replies to the first lines, and after a failed write a front of the next, with the
-//!   stated numbers of whole replies and bytes (`StopsBy`).
+//!   nothing else (`Served`); on a fault, the whole replies to the first lines whose newline was read, and after a failed write a front of
+//!   the next, with the stated numbers of whole replies and bytes (`StopsBy`). Bytes after the last newline are a line at the reader's
+//!   end alone. Each reply is that of the stage that the lines before it leave (`Stage`): the scenario, the work, and whether the trail
+//!   is short; so `worked` tells the work, and [`laws::work_is_told`] that this is the sum of the lines before.
 //! - A report is the text of one run from step zero over the scenario (`IsReportOf`); a state has one report (`replay_report::laws`).
 //!
 //! # Where the definitions stand
@@ -67,8 +70,9 @@
 //! - `Commands`: the language, a definition for each command over the fields of a line; `Faults`: the numbers of the refusals.
 //! - `Scenario`: the scenario, which lines are refused, and what an accepted command changes; `Setups`: the heap's defaults.
 //! - `Session`: that a session has a scenario, and one line of it.
-//! - `Work`: how a line moves the last held step and the number of steps made; `LinesWork`: the same of any lines, said of their list alone.
+//! - `Work`: how a line moves the last held step and the number of steps made; `Stages`: what the lines so far have left.
 //! - `Replies`: the text of each reply, and the replies to one line after another (`Answers`).
+//! - `LinesWork`: what any lines cost in steps, said of their list alone, and that `worked` tells it.
 //! - `Served`, over `Lines`: what was written for the bytes read.
 //! - `Serving` is for this crate's proofs.
 //!

@@ -7,11 +7,12 @@ mod texts;
 
 ghost use Rattle.std.specs.Prelude.{OnOk, IfErr};
 ghost use Rattle.replay_session.specs.Served.{ServedAll, ServedRead, StoppedBy};
-ghost use Rattle.replay_session.specs.Session.{ForEachScenario};
+ghost use Rattle.replay_session.specs.Serving.{IsFresh};
+ghost use Rattle.replay_session.specs.Stages.{ForEachStage};
 
 use crate::serving::server::Server;
 use crate::session::Session;
-use std::io::{ErrorKind, Read, Write};
+use std::io::{Read, Write};
 use thiserror::Error;
 
 /// How many calls of `read` are made at most.
@@ -43,16 +44,16 @@ pub fn serve<R: Read, W: Write>(
     writer: &mut W,
 ) -> Result<(), ServeFault>
     // To the end, the replies to the lines of all bytes were written, and nothing else.
-    ensures ok { OnOk result (ForEachScenario session.entry (λ sc.
-        ServedAll sc (R.remaining reader.old) (W.contents writer.old) (W.contents writer.new))) }
+    ensures ok { OnOk result (ForEachStage session.entry (λ stage.
+        ServedAll stage (R.remaining reader.old) (W.contents writer.old) (W.contents writer.new))) }
 
     // Of a reader that doesn't tell its bytes: these are the replies to the lines of some bytes.
-    ensures read { OnOk result (ForEachScenario session.entry (λ sc.
-        ServedRead sc (R.remaining reader.old) (R.remaining reader.new) (W.contents writer.old) (W.contents writer.new))) }
+    ensures read { OnOk result (ForEachStage session.entry (λ stage.
+        ServedRead stage (R.remaining reader.old) (R.remaining reader.new) (W.contents writer.old) (W.contents writer.new))) }
 
     // Some bytes were read and the others stay, and the fault says what was written for those.
-    ensures fault { IfErr result (λ fault. ForEachScenario session.entry (λ sc.
-        StoppedBy fault sc (R.remaining reader.old) (R.remaining reader.new) (W.contents writer.old) (W.contents writer.new))) }
+    ensures fault { IfErr result (λ fault. ForEachStage session.entry (λ stage.
+        StoppedBy fault stage (R.remaining reader.old) (R.remaining reader.new) (W.contents writer.old) (W.contents writer.new))) }
 {
     let Ok(mut server) = Server::new(session) else {
         return Err(ServeFault::NoMemory {
@@ -60,41 +61,28 @@ pub fn serve<R: Read, W: Write>(
             bytes: 0,
         });
     };
-    let mut chunk = [0u8; 512];
+    serve_from(&mut server, reader, writer)
+}
+
+/// Serves the bytes of a reader.
+fn serve_from<R: Read, W: Write>(
+    server: &mut Server<'_>,
+    reader: &mut R,
+    writer: &mut W,
+) -> Result<(), ServeFault>
+    requires { IsFresh server.old }
+    ensures ok { OnOk result (ForEachStage server.old.session (λ stage.
+        ServedAll stage (R.remaining reader.old) (W.contents writer.old) (W.contents writer.new))) }
+    ensures read { OnOk result (ForEachStage server.old.session (λ stage.
+        ServedRead stage (R.remaining reader.old) (R.remaining reader.new) (W.contents writer.old) (W.contents writer.new))) }
+    ensures fault { IfErr result (λ fault. ForEachStage server.old.session (λ stage.
+        StoppedBy fault stage (R.remaining reader.old) (R.remaining reader.new) (W.contents writer.old) (W.contents writer.new))) }
+{
+    let mut room = [0u8; 512];
     for _i in 0..READS {
-        match reader.read(&mut chunk) {
-            Ok(0) => match server.finish(writer) {
-                Ok(()) => return Ok(()),
-                Err(_) => {
-                    return Err(ServeFault::WriteFailed {
-                        replies: server.replies(),
-                        bytes: server.bytes(),
-                    });
-                }
-            },
-            Ok(n) => match server.feed(writer, &chunk[..n]) {
-                Ok(true) => return Ok(()),
-                Ok(false) => continue,
-                Err(_) => {
-                    return Err(ServeFault::WriteFailed {
-                        replies: server.replies(),
-                        bytes: server.bytes(),
-                    });
-                }
-            },
-            Err(e) => {
-                if e.kind() == ErrorKind::Interrupted {
-                    continue;
-                }
-                return Err(ServeFault::ReadFailed {
-                    replies: server.replies(),
-                    bytes: server.bytes(),
-                });
-            }
+        if server.turn(reader, writer, &mut room)? {
+            return Ok(());
         }
     }
-    Err(ServeFault::Endless {
-        replies: server.replies(),
-        bytes: server.bytes(),
-    })
+    Err(server.endless())
 }

@@ -98,6 +98,35 @@ fn edits_show(rt: HostRuntime) -> Result<(), Fail> {
     Ok(())
 }
 
+/// A mark that is taken out again, and a step after the one that `run` reports at.
+#[test]
+fn taken_out_and_late(rt: HostRuntime) -> Result<(), Fail> {
+    let alloc = rt.alloc();
+    for (label, lines, part) in [
+        (
+            "marked",
+            "goto 3\nmark 0 0x10000 4 undefined\nreport\n",
+            "ERROR SUMMARY: 1 errors from 1 contexts (suppressed: 0 from 0)\n",
+        ),
+        (
+            "taken out",
+            "goto 3\nmark 0 0x10000 4 undefined\nunmark 0\nreport\n",
+            "ERROR SUMMARY: 0 errors from 0 contexts (suppressed: 0 from 0)\n",
+        ),
+        (
+            "late",
+            "goto 1048577\nreport\n",
+            "ok\nstep 1048577\nstate exited 0\n",
+        ),
+    ] {
+        let script = &mut Script::new(lines.as_bytes());
+        let (taken, end) = served(alloc, &EXITS, script, 1 << 20)?;
+        let text = std::str::from_utf8(&taken).map_err(|_| Fail::from("no text"))?;
+        assert!(rt; end.is_ok() && text.contains(part), "{label}");
+    }
+    Ok(())
+}
+
 /// A byte at a time, with interruptions, or all at once; a carriage return goes before a newline alone.
 #[test]
 fn any_reader(rt: HostRuntime) -> Result<(), Fail> {

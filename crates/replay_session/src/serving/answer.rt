@@ -1,11 +1,11 @@
 //! One line, answered to a writer.
-ghost use Rattle.std.specs.Prelude.{◌≡◌, ◌+◌, if◌then◌else◌, IfOk, OnOk, OnErr};
+ghost use Rattle.std.specs.Prelude.{◌≡◌, ◌+◌, if◌then◌else◌, IfErr, IfOk, OnOk, OnErr};
 ghost use Rattle.replay_session.specs.Replies.{is_over};
-ghost use Rattle.replay_session.specs.Scenario.{Scenario};
 ghost use Rattle.replay_session.specs.Served.{standing};
-ghost use Rattle.replay_session.specs.Serving.{Answered, Cut};
-ghost use Rattle.replay_session.specs.Session.{HasScenario};
+ghost use Rattle.replay_session.specs.Serving.{Answered, Cut, IsWriteFailure};
+ghost use Rattle.replay_session.specs.Stages.{Stage, HasStage};
 
+use crate::serving::ServeFault;
 use crate::serving::send::{Sent, send};
 use crate::serving::texts::Texts;
 use crate::session::Session;
@@ -29,23 +29,20 @@ impl Written {
     }
 }
 
-/// A write or a flush failed.
-#[derive(Debug, Drop)]
-pub(crate) struct Stopped;
-
-/// Answers a line. Tells whether all lines were given before that are answered.
+/// Answers a line. Tells whether all lines were given before that are answered, or that a write or a flush failed.
 pub(crate) fn answer<W: Write>(
     session: &mut Session<'_>,
     texts: &mut Texts,
     written: &mut Written,
     writer: &mut W,
     line: &[u8],
-) -> Result<bool, Stopped>
-    ensures ok { IfOk result (λ over. (sc : Scenario) → HasScenario session.old sc → over ≡ is_over sc) }
-    ensures answered { OnOk result ((sc : Scenario) → HasScenario session.old sc →
-        Answered sc session.new written.old written.new (W.contents writer.old) (W.contents writer.new) line.now) }
-    ensures err { OnErr result ((sc : Scenario) → HasScenario session.old sc →
-        Cut sc written.old written.new (W.contents writer.old) (W.contents writer.new) line.now) }
+) -> Result<bool, ServeFault>
+    ensures ok { IfOk result (λ over. (stage : Stage) → HasStage session.old stage → over ≡ is_over stage.scenario) }
+    ensures answered { OnOk result ((stage : Stage) → HasStage session.old stage →
+        Answered stage session.new written.old written.new (W.contents writer.old) (W.contents writer.new) line.now) }
+    ensures err { OnErr result ((stage : Stage) → HasStage session.old stage →
+        Cut stage written.old written.new (W.contents writer.old) (W.contents writer.new) line.now) }
+    ensures fault { IfErr result (IsWriteFailure written.new) }
 {
     let over = session.is_over();
     texts.report.clear();
@@ -54,5 +51,12 @@ pub(crate) fn answer<W: Write>(
     let reply = texts.text(outcome);
     let Sent { taken, whole } = send(writer, reply);
     written.add(taken, taken == reply.len());
-    if whole { Ok(over) } else { Err(Stopped) }
+    if whole {
+        Ok(over)
+    } else {
+        Err(ServeFault::WriteFailed {
+            replies: written.replies,
+            bytes: written.bytes,
+        })
+    }
 }

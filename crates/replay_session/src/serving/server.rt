@@ -2,12 +2,13 @@
 ghost use Rattle.std.specs.Prelude.{◌≡◌, ◌≤◌, vec_len, vec_capacity};
 ghost use Rattle.replay_session.specs.Lines.{most_kept};
 
-use crate::serving::answer::{Stopped, Written, answer};
+use crate::serving::ServeFault;
+use crate::serving::answer::{Written, answer};
 use crate::serving::line_end::line_len;
 use crate::serving::texts::Texts;
 use crate::session::{LONGEST_LINE, Session};
 use std::alloc::AllocError;
-use std::io::Write;
+use std::io::{ErrorKind, Read, Write};
 
 /// How much of a line is kept: more than the longest line and a carriage return.
 const KEPT: usize = LONGEST_LINE + 2;
@@ -24,17 +25,14 @@ pub(crate) struct Server<'a> {
 }
 
 impl<'a> Server<'a> {
-    ghost use Rattle.std.specs.Prelude.{◌≡◌, ◌≢◌, ◌∷◌, [], ℕ, List, IfOk, OnOk, OnErr, true, false};
+    ghost use Rattle.std.specs.Prelude.{◌≡◌, ◌≢◌, ◌<◌, ◌∷◌, [], ℕ, List, IfErr, IfOk, OnOk, OnErr, length, true, false};
     ghost use Rattle.replay_session.specs.Lines.{KeepsByte, lines_by};
-    ghost use Rattle.replay_session.specs.Scenario.{Scenario};
-    ghost use Rattle.replay_session.specs.Serving.{Fed, Over, Broken, Ended};
-    ghost use Rattle.replay_session.specs.Session.{HasScenario};
+    ghost use Rattle.replay_session.specs.Serving.{Fed, Over, Broken, Ended, Ends, Halts, IsEndlessFault, IsFresh, IsWriteFailure, Reads};
+    ghost use Rattle.replay_session.specs.Stages.{Stage, HasStage};
 
     pub(crate) fn new(session: Session<'a>) -> Result<Self, AllocError>
         ensures session { IfOk result (λ server. server.session ≡ session.entry) }
-        ensures kept { IfOk result (λ server. server.kept.items ≡ []) }
-        ensures replies { IfOk result (λ server. server.written.replies ≡ 0) }
-        ensures bytes { IfOk result (λ server. server.written.bytes ≡ 0) }
+        ensures fresh { IfOk result IsFresh }
     {
         let alloc = session.allocator();
         let kept = Vec::with_capacity(alloc, KEPT)?;
@@ -65,14 +63,15 @@ impl<'a> Server<'a> {
     }
 
     /// Takes the next byte. Tells whether the session is over.
-    fn take<W: Write>(&mut self, writer: &mut W, byte: u8) -> Result<bool, Stopped>
-        ensures fed { result ≡ Ok false → (sc : Scenario) → HasScenario self.old.session sc →
-            Fed sc self.old self.new (W.contents writer.old) (W.contents writer.new) (byte ∷ []) }
-        ensures over { result ≡ Ok true → (sc : Scenario) → HasScenario self.old.session sc →
-            Over sc self.old self.new (W.contents writer.old) (W.contents writer.new) (byte ∷ []) }
-        ensures broken { OnErr result ((sc : Scenario) → HasScenario self.old.session sc →
-            (more : List ℕ) → Broken sc self.old self.new (W.contents writer.old) (W.contents writer.new)
-            (lines_by true self.old.kept.items (byte ∷ more))) }
+    fn take<W: Write>(&mut self, writer: &mut W, byte: u8) -> Result<bool, ServeFault>
+        ensures fed { result ≡ Ok false → (stage : Stage) → HasStage self.old.session stage →
+            Fed stage self.old self.new (W.contents writer.old) (W.contents writer.new) (byte ∷ []) }
+        ensures over { result ≡ Ok true → (stage : Stage) → HasStage self.old.session stage →
+            Over stage self.old self.new (W.contents writer.old) (W.contents writer.new) (byte ∷ []) }
+        ensures broken { OnErr result ((stage : Stage) → HasStage self.old.session stage →
+            (more : List ℕ) → Broken stage self.old self.new (W.contents writer.old) (W.contents writer.new)
+            (lines_by false self.old.kept.items (byte ∷ more))) }
+        ensures fault { IfErr result (IsWriteFailure self.new.written) }
     {
         if byte != b'\n' {
             self.keep(byte);
@@ -91,14 +90,19 @@ impl<'a> Server<'a> {
     }
 
     /// Takes the next bytes. Tells whether the session is over.
-    pub(crate) fn feed<W: Write>(&mut self, writer: &mut W, bytes: &[u8]) -> Result<bool, Stopped>
-        ensures fed { result ≡ Ok false → (sc : Scenario) → HasScenario self.old.session sc →
-            Fed sc self.old self.new (W.contents writer.old) (W.contents writer.new) bytes.now }
-        ensures over { result ≡ Ok true → (sc : Scenario) → HasScenario self.old.session sc →
-            Over sc self.old self.new (W.contents writer.old) (W.contents writer.new) bytes.now }
-        ensures broken { OnErr result ((sc : Scenario) → HasScenario self.old.session sc →
-            Broken sc self.old self.new (W.contents writer.old) (W.contents writer.new)
-            (lines_by true self.old.kept.items bytes.now)) }
+    pub(crate) fn feed<W: Write>(
+        &mut self,
+        writer: &mut W,
+        bytes: &[u8],
+    ) -> Result<bool, ServeFault>
+        ensures fed { result ≡ Ok false → (stage : Stage) → HasStage self.old.session stage →
+            Fed stage self.old self.new (W.contents writer.old) (W.contents writer.new) bytes.now }
+        ensures over { result ≡ Ok true → (stage : Stage) → HasStage self.old.session stage →
+            Over stage self.old self.new (W.contents writer.old) (W.contents writer.new) bytes.now }
+        ensures broken { OnErr result ((stage : Stage) → HasStage self.old.session stage →
+            Broken stage self.old self.new (W.contents writer.old) (W.contents writer.new)
+            (lines_by false self.old.kept.items bytes.now)) }
+        ensures fault { IfErr result (IsWriteFailure self.new.written) }
     {
         for byte in bytes {
             let over = self.take(writer, *byte)?;
@@ -110,12 +114,13 @@ impl<'a> Server<'a> {
     }
 
     /// Answers a last line with no newline, if there is one.
-    pub(crate) fn finish<W: Write>(&mut self, writer: &mut W) -> Result<(), Stopped>
-        ensures ended { OnOk result ((sc : Scenario) → HasScenario self.old.session sc →
-            Ended sc self.old (W.contents writer.old) (W.contents writer.new)) }
-        ensures broken { OnErr result ((sc : Scenario) → HasScenario self.old.session sc →
-            Broken sc self.old self.new (W.contents writer.old) (W.contents writer.new)
+    pub(crate) fn finish<W: Write>(&mut self, writer: &mut W) -> Result<(), ServeFault>
+        ensures ended { OnOk result ((stage : Stage) → HasStage self.old.session stage →
+            Ended stage self.old (W.contents writer.old) (W.contents writer.new)) }
+        ensures broken { OnErr result ((stage : Stage) → HasStage self.old.session stage →
+            Broken stage self.old self.new (W.contents writer.old) (W.contents writer.new)
             (lines_by true self.old.kept.items [])) }
+        ensures fault { IfErr result (IsWriteFailure self.new.written) }
     {
         if self.kept.is_empty() {
             return Ok(());
@@ -130,15 +135,59 @@ impl<'a> Server<'a> {
         Ok(())
     }
 
+    /// Reads once, into room for it, and answers the lines whose newline was read, or the last one at the reader's end. Tells whether the
+    /// session has ended.
+    pub(crate) fn turn<R: Read, W: Write>(
+        &mut self,
+        reader: &mut R,
+        writer: &mut W,
+        room: &mut [u8],
+    ) -> Result<bool, ServeFault>
+        requires { 0 < length room.old }
+        ensures goes { result ≡ Ok false → Reads self.old (R.remaining reader.old) (R.remaining reader.new) (λ stage seen.
+            Fed stage self.old self.new (W.contents writer.old) (W.contents writer.new) seen) }
+        ensures ends { result ≡ Ok true → Reads self.old (R.remaining reader.old) (R.remaining reader.new) (λ stage seen.
+            Ends stage self.old self.new (R.remaining reader.new) (W.contents writer.old) (W.contents writer.new) seen) }
+        ensures fault { IfErr result (λ fault. Reads self.old (R.remaining reader.old) (R.remaining reader.new) (λ stage seen.
+            Halts fault stage self.old self.new (R.remaining reader.new) (W.contents writer.old) (W.contents writer.new) seen)) }
+    {
+        match reader.read(room) {
+            Ok(0) => {
+                self.finish(writer)?;
+                Ok(true)
+            }
+            Ok(n) => self.feed(writer, &room[..n]),
+            Err(error) => {
+                if error.kind() == ErrorKind::Interrupted {
+                    return Ok(false);
+                }
+                Err(ServeFault::ReadFailed {
+                    replies: self.replies(),
+                    bytes: self.bytes(),
+                })
+            }
+        }
+    }
+
+    /// The fault of a reader that has no end.
+    pub(crate) fn endless(&self) -> ServeFault
+        ensures { IsEndlessFault self.now.written result }
+    {
+        ServeFault::Endless {
+            replies: self.replies(),
+            bytes: self.bytes(),
+        }
+    }
+
     /// How many whole replies were written.
-    pub(crate) fn replies(&self) -> u64
+    fn replies(&self) -> u64
         ensures { result ≡ self.now.written.replies }
     {
         self.written.replies
     }
 
     /// How many bytes were written.
-    pub(crate) fn bytes(&self) -> u64
+    fn bytes(&self) -> u64
         ensures { result ≡ self.now.written.bytes }
     {
         self.written.bytes

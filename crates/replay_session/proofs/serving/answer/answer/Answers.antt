@@ -4,10 +4,10 @@ use Rattle.replay_session.proofs.ReplySteps.{replied-to}
 use Rattle.replay_session.proofs.serving.answer.answer.Goals as goal
 
 pub returns-then-whole-clause-answered : goal.returns-then-whole-clause-answered
-returns-then-whole-clause-answered g c sc h =
-    let next = replied-to c.command-outcome.new.self sc c.args.line.now c.command-outcome.result c.clear.new.self.items c.command-outcome.new.out.items
+returns-then-whole-clause-answered g c stage h =
+    let next = replied-to c.args.session.now c.command-outcome.new.self stage c.args.line.now c.command-outcome.result c.clear.new.self.items c.command-outcome.new.out.items
     c.put.new.self.report.items c.text-reply.result.now
-    (c.command-outcome.ensures.meets sc h) c.clear.ensures.items (λ i. (c.put.ensures.report i).items) c.text-reply.ensures in
+    h (c.command-outcome.ensures.meets stage.scenario h.scenario) c.command-outcome.ensures.work c.command-outcome.ensures.whole c.clear.ensures.items (λ i. (c.put.ensures.report i).items) c.text-reply.ensures in
     let all : c.send-taken.result.taken ≡ length c.text-reply.result.now = c.send-taken.ensures.all c.if-whole.true in
     record {
       reply = c.text-reply.result.now;
@@ -20,10 +20,10 @@ returns-then-whole-clause-answered g c sc h =
     }
 
 pub returns-else-whole-clause-err : goal.returns-else-whole-clause-err
-returns-else-whole-clause-err g c sc h =
-    let next = replied-to c.command-outcome.new.self sc c.args.line.now c.command-outcome.result c.clear.new.self.items c.command-outcome.new.out.items
+returns-else-whole-clause-err g c stage h =
+    let next = replied-to c.args.session.now c.command-outcome.new.self stage c.args.line.now c.command-outcome.result c.clear.new.self.items c.command-outcome.new.out.items
     c.put.new.self.report.items c.text-reply.result.now
-    (c.command-outcome.ensures.meets sc h) c.clear.ensures.items (λ i. (c.put.ensures.report i).items) c.text-reply.ensures in
+    h (c.command-outcome.ensures.meets stage.scenario h.scenario) c.command-outcome.ensures.work c.command-outcome.ensures.whole c.clear.ensures.items (λ i. (c.put.ensures.report i).items) c.text-reply.ensures in
     record {
       reply = c.text-reply.result.now;
       sent = c.send-taken.result.taken;

@@ -4,21 +4,21 @@ use Rattle.replay_session.proofs.ServeSteps.{fed-none, fed-in, over-in, broken-i
 use Rattle.replay_session.proofs.serving.server.Server.feed.Goals as goal
 
 pub loop-byte-init : goal.loop-byte-init
-loop-byte-init g c sc h = fed-none sc _ _ h
+loop-byte-init g c stage h = fed-none stage _ _ h
 
 pub returns-then-over-clause-over : goal.returns-then-over-clause-over
-returns-then-over-clause-over g c = λ e sc h.
-    let fed = c.loop-byte.invariant sc h in
-    over-in sc _ c.loop-byte.self _ _ (g.W.Write.contents c.loop-byte.writer) _ c.args.bytes.now c.loop-byte.byte-index (omega arith) fed
+returns-then-over-clause-over g c = λ e stage h.
+    let fed = c.loop-byte.invariant stage h in
+    over-in stage _ c.loop-byte.self _ _ (g.W.Write.contents c.loop-byte.writer) _ c.args.bytes.now c.loop-byte.byte-index (omega arith) fed
     (c.in_ok-over.ensures.over (ap Ok c.if-over.true) fed.after fed.has)
 
 pub returns-in_err-over-clause-broken : goal.returns-in_err-over-clause-broken
-returns-in_err-over-clause-broken g c = at_refusal c.from_residual.result (λ sc h.
-    let fed = c.loop-byte.invariant sc h in
-    broken-in sc _ c.loop-byte.self _ _ (g.W.Write.contents c.loop-byte.writer) _ c.args.bytes.now c.loop-byte.byte-index (omega arith) fed (c.in_err-over.ensures.broken fed.after fed.has))
+returns-in_err-over-clause-broken g c = at_refusal c.from_residual.result (λ stage h.
+    let fed = c.loop-byte.invariant stage h in
+    broken-in stage _ c.loop-byte.self _ _ (g.W.Write.contents c.loop-byte.writer) _ c.args.bytes.now c.loop-byte.byte-index (omega arith) fed (c.in_err-over.ensures.broken fed.after fed.has))
 
 pub loop-byte-preserved : goal.loop-byte-preserved
-loop-byte-preserved g c sc h =
-    let fed = c.loop-byte.invariant sc h in
-    fed-in sc _ c.loop-byte.self _ _ (g.W.Write.contents c.loop-byte.writer) _ c.args.bytes.now c.loop-byte.byte-index (omega arith) fed
+loop-byte-preserved g c stage h =
+    let fed = c.loop-byte.invariant stage h in
+    fed-in stage _ c.loop-byte.self _ _ (g.W.Write.contents c.loop-byte.writer) _ c.args.bytes.now c.loop-byte.byte-index (omega arith) fed
     (c.in_ok-over.ensures.fed (ap Ok c.if-over.false) fed.after fed.has)

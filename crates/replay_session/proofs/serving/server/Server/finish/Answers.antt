@@ -5,16 +5,16 @@ use Rattle.replay_session.proofs.ServeSteps.{answer-ended, answer-broken-end, no
 use Rattle.replay_session.proofs.serving.server.Server.finish.Goals as goal
 
 pub returns-then-is_empty-clause-ended : goal.returns-then-is_empty-clause-ended
-returns-then-is_empty-clause-ended g c sc h =
+returns-then-is_empty-clause-ended g c stage h =
     let none : (length c.args.self.now.kept.items == 0) ≡ true = grind (arith, common_steps) in
-    none-ended sc c.args.self.now _ none
+    none-ended stage c.args.self.now _ none
 
 pub returns-clause-ended : goal.returns-clause-ended
-returns-clause-ended g c sc h =
+returns-clause-ended g c stage h =
     let some : (length c.args.self.now.kept.items == 0) ≡ false = grind (arith, common_steps) in
-    answer-ended sc c.args.self.now _ _ _ _ _ (c.in_ok-answer.ensures.answered sc h) c.deref.ensures.value some
+    answer-ended stage c.args.self.now _ _ _ _ _ (c.in_ok-answer.ensures.answered stage h) c.deref.ensures.value some
 
 pub returns-in_err-answer-clause-broken : goal.returns-in_err-answer-clause-broken
 returns-in_err-answer-clause-broken g c =
     let some : (length c.args.self.now.kept.items == 0) ≡ false = grind (arith, common_steps) in
-    at_refusal c.from_residual.result (λ sc h. answer-broken-end sc c.args.self.now _ _ _ _ (c.in_err-answer.ensures.err sc h) c.deref.ensures.value some)
+    at_refusal c.from_residual.result (λ stage h. answer-broken-end stage c.args.self.now _ _ _ _ (c.in_err-answer.ensures.err stage h) c.deref.ensures.value some)

@@ -1,0 +1,28 @@
+-- What the lines so far have left of a session: its scenario, and the work on its run.
+use Rattle.std.specs.Prelude.{◌≡◌, ℕ, Bool, false}
+use Rattle.checkpoints.specs.Trails.{is_short}
+use Rattle.checkpoints.specs.Work.{Work}
+use Rattle.replay_session.specs.Scenario.{Scenario}
+use Rattle.replay_session.specs.Session.{HasScenario, trail_of}
+use Rattle.replay_session.specs.Work.{no_work, work_on}
+use Rattle.replay_session.specs.declared.session.Session.{Session}
+
+-- a scenario, how far the work on its run has come, and whether the trail is short
+pub record Stage : Type 0 where
+  pub scenario : Scenario
+  pub work : Work
+  pub short : Bool
+
+-- the stage of a session that was just begun with a scenario
+abbrev pub fresh : Scenario → Stage
+fresh sc = record { scenario = sc; work = no_work; short = false }
+
+-- a session has a stage: it has the scenario, and its trail tells the work, and whether it is short
+pub record HasStage (session : Session) (stage : Stage) : Type 0 where
+  pub scenario : HasScenario session stage.scenario
+  pub work : work_on (trail_of session) ≡ stage.work
+  pub short : is_short (trail_of session) ≡ stage.short
+
+-- what holds of each stage that the session has
+abbrev pub ForEachStage : Session → (Stage → Type 0) → Type 0
+ForEachStage session P = (stage : Stage) → HasStage session stage → P stage
