@@ -1,4 +1,1 @@
-pub mod Once
-pub mod Ends
-pub mod Carried
-pub mod Orders
+pub mod Shown

@@ -1,20 +1,15 @@
 //! `replaycheck`: Memcheck for static RV32IM programs.
 #![tactic(auto)]
 
+ghost use Rattle.std.specs.Prelude.{◌≡◌, ◌≢◌, Bool};
+ghost use Rattle.std.specs.IoError.{error_kind};
+ghost use Rattle.std.specs.declared.io.ErrorKind.TheVariants.{OutOfMemory};
 ghost use Rattle.clap.specs.Words.{kind_of};
-ghost use Rattle.replaycheck.specs.Ends.{IsShownAs};
+ghost use Rattle.replaycheck.specs.Shown.{end_of_showing};
 
-mod arguments;
-mod carrying;
-mod ends;
-mod files;
-mod help;
-mod run_once;
-
-use crate::arguments::read_order;
-use crate::carrying::carry_out;
-use crate::ends::{End, tell};
 use clap::error::ErrorKind;
+use command_line::read_order;
+use driver::{End, carry_out, tell};
 use std::process::ExitCode;
 use std::rt::Env;
 use std::{env, io};
@@ -29,7 +24,10 @@ fn words_of<R: Env + AllocGlobal>(rt: &R) -> io::Result<Vec<String>> {
 }
 
 /// How the program ends where the words of the command line can't be had: but for want of memory, one of them is no text.
-fn end_without_words<'a>(error: &io::Error) -> End<'a> {
+fn end_without_words<'a>(error: &io::Error) -> End<'a>
+    ensures memory { error_kind error.now ≡ OutOfMemory → result ≡ End.NoMemory }
+    ensures text { error_kind error.now ≢ OutOfMemory → result ≡ End.NotText }
+{
     if error.kind() == io::ErrorKind::OutOfMemory {
         End::NoMemory
     } else {
@@ -37,20 +35,26 @@ fn end_without_words<'a>(error: &io::Error) -> End<'a> {
     }
 }
 
+/// How the program ends where help, the version or a fault of the command line is shown.
+fn end_of_showing<'a>(kind: ErrorKind, printed: bool) -> End<'a>
+    ensures { result ≡ end_of_showing kind printed }
+{
+    match kind {
+        ErrorKind::OutOfMemory => End::NoMemory,
+        ErrorKind::DisplayHelp | ErrorKind::DisplayVersion => {
+            if printed { End::Done } else { End::CannotWrite }
+        }
+        _ => End::Usage,
+    }
+}
+
 /// Shows help, the version or a fault of the command line, and answers how the program ends.
 fn show<'a, R: Print + Eprint>(rt: &R, error: &clap::Error) -> End<'a>
-    ensures { IsShownAs (kind_of error.now) result }
+    ensures { (printed : Bool) × (result ≡ end_of_showing (kind_of error.now) printed) }
 {
     match error.kind() {
-        ErrorKind::OutOfMemory => End::NoMemory,
-        ErrorKind::DisplayHelp | ErrorKind::DisplayVersion => match error.print(rt) {
-            Ok(()) => End::Done,
-            Err(_) => End::CannotWrite,
-        },
-        _ => {
-            let _shown = error.print(rt);
-            End::Usage
-        }
+        ErrorKind::OutOfMemory => end_of_showing(ErrorKind::OutOfMemory, false),
+        kind => end_of_showing(kind, error.print(rt).is_ok()),
     }
 }
 
@@ -61,8 +65,7 @@ fn finish(rt: &HostRuntime) -> u8 {
         Err(error) => return tell(&end_without_words(&error), &mut rt.stderr()),
     };
     let end = match read_order(rt.alloc(), &words) {
-        Ok(Some(order)) => carry_out(rt.alloc(), &order, rt, &mut rt.stdin(), &mut rt.stdout()),
-        Ok(None) => End::Usage,
+        Ok(order) => carry_out(rt.alloc(), &order, rt, &mut rt.stdin(), &mut rt.stdout()),
         Err(error) => show(rt, &error),
     };
     tell(&end, &mut rt.stderr())

@@ -1,0 +1,28 @@
+-- The step that a command line gives, and the error that is passed on.
+use Rattle.std.proofs.Common.{◌≡◌, ◌∙◌, ℕ, List, Option, Some, None, Result, Ok, Err, IfErr, IfSome, IsErrAnd, IsSomeAnd, codes, refl, subst, sym}
+use Rattle.std.specs.Str.Parse.{digits_value, without_leading_plus, ParsesUnsigned, ExplainsUnsignedError, HasUnsignedDigitsIfOk}
+use Rattle.std.specs.declared.num.ParseIntError.{ParseIntError}
+use Rattle.clap.proofs.WalkLemmas.{one_text-rows}
+use Rattle.clap.specs.Words.{ReadsOne, Text, one_of, one_text, rows_of}
+use Rattle.clap.specs.declared.parser.matches.Found.{Found}
+use Rattle.command_line.specs.Orders.{IsStepOf}
+
+-- what `u32::from_str` says
+abbrev from_text : List ℕ → Result ℕ ParseIntError → Type 0
+from_text text result = ParsesUnsigned 32 10 text result × ExplainsUnsignedError 10 text result × HasUnsignedDigitsIfOk text result
+
+read : (found : Option Text) (result : Option ℕ) → (found ≡ None → result ≡ None) → ((t : List ℕ) → found ≡ Some t → ReadsOne from_text t result)
+    → IfSome result (λ n. IsSomeAnd found (λ text. n ≡ digits_value 10 (without_leading_plus text)))
+read found None none reads = tt
+read None (Some n) none reads = let missing : Some n ≡ None = none refl in cc
+read (Some t) (Some n) none reads = (reads t refl).0.1
+
+pub is-step : (f : Found) (result : Option ℕ) → (one_text f (codes "step") ≡ None → result ≡ None)
+    → ((t : List ℕ) → one_text f (codes "step") ≡ Some t → ReadsOne from_text t result) → IfSome result (IsStepOf (rows_of f))
+is-step f result none reads =
+    read (one_of (codes "step") (rows_of f)) result (λ e. none (one_text-rows f (codes "step") ∙ e)) (λ t e. reads t (one_text-rows f (codes "step") ∙ e))
+
+-- what holds of the error that was passed on
+pub same-error : {T E : Type 0} (result : Result T E) (error : E) (P : E → Type 0) → IsErrAnd result (λ e. e ≡ error) → P error → IfErr result P
+same-error (Ok x) error P is holds = tt
+same-error (Err e) error P is holds = subst P (sym is) holds

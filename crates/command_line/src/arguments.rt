@@ -1,0 +1,151 @@
+//! The words of the command line, and the order that they give.
+ghost use Rattle.std.specs.Prelude.{◌≡◌, IfErr, IfOk, IfSome, IsSomeAnd, codes, false, map, string_bytes, true};
+ghost use Rattle.std.specs.Str.{bytes_eq};
+ghost use Rattle.clap.specs.Words.{FailsBy, app_of, fault_of, found_of, kind_of, rows_of, rule_of, subcommand_rows_of, takes};
+ghost use Rattle.clap.specs.declared.builder.command.Command.TheViews.{out-Command};
+ghost use Rattle.command_line.specs.Orders.{IsOrderFor, IsOrderOf, IsStepOf, command_line, file_argument, option, program_command, run_command, step_option, with_run};
+
+use crate::help::{ABOUT, AFTER_RUN, AFTER_SESSION, RUN, SESSION};
+use clap::error::ErrorKind;
+use clap::{Arg, ArgMatches, Command, Error, value_parser};
+use std::alloc::{AllocError, Global};
+
+/// The greatest step of a report.
+pub const MOST_STEPS: u32 = 4_194_304;
+
+/// What is asked for: a session with a program, or the report of one at a step.
+#[derive(Clone, Copy)]
+pub struct Order<'a> {
+    /// The program's file.
+    pub file: &'a str,
+    /// The file of the input, or none for an input of no bytes.
+    pub input: Option<&'a str>,
+    /// The file of suppressions.
+    pub suppressions: Option<&'a str>,
+    /// The step of a report, or none for a session.
+    pub step: Option<u32>,
+}
+
+/// The program's file, which must be given.
+fn file_argument<'a>(alloc: Global) -> Arg<'a>
+    ensures rule { rule_of result ≡ file_argument }
+    ensures local { result.global ≡ false }
+{
+    Arg::new(alloc, "FILE")
+        .required(true)
+        .help("A static ELF32 program for RV32IM")
+}
+
+/// An option with a value, under its long name.
+fn option<'a>(alloc: Global, name: &'a str, value: &'a str, help: &'a str) -> Arg<'a>
+    ensures rule { rule_of result ≡ option name.entry.now }
+    ensures local { result.global ≡ false }
+{
+    Arg::new(alloc, name)
+        .long(name)
+        .value_name(value)
+        .help(help)
+}
+
+/// A command on a program, with an input and suppressions.
+fn program_command<'a>(
+    alloc: Global,
+    name: &'a str,
+    about: &'a str,
+    after: &'a str,
+) -> Result<Command<'a>, AllocError>
+    ensures shape { IfOk result (λ command. app_of command ≡ program_command name.entry.now) }
+    ensures globals { IfOk result (λ command. (out-Command command).has_globals ≡ false) }
+{
+    let command = Command::new(alloc, name).about(about).after_help(after);
+    let command = command.arg(file_argument(alloc))?;
+    let bytes = "A file with the bytes that the program can read; none without it";
+    let command = command.arg(option(alloc, "input", "F", bytes))?;
+    let rules = "A file of suppressions, in Valgrind's form";
+    command.arg(option(alloc, "supp", "F", rules))
+}
+
+/// The step of `run`.
+fn step_argument<'a>(alloc: Global) -> Arg<'a>
+    ensures rule { rule_of result ≡ step_option }
+    ensures local { result.global ≡ false }
+{
+    let help = "The step to report at, from 0 to 4194304";
+    option(alloc, "step", "N", help)
+        .value_parser(value_parser!(u32).range(0..=i64::from(MOST_STEPS)))
+        .default_value("1048576")
+}
+
+/// The command `run`.
+fn run_command<'a>(alloc: Global) -> Result<Command<'a>, AllocError>
+    ensures shape { IfOk result (λ command. app_of command ≡ run_command) }
+    ensures globals { IfOk result (λ command. (out-Command command).has_globals ≡ false) }
+{
+    program_command(alloc, "run", RUN, AFTER_RUN)?.arg(step_argument(alloc))
+}
+
+/// The command line with `run` alone.
+fn with_run<'a>(alloc: Global) -> Result<Command<'a>, AllocError>
+    ensures { IfOk result (λ command. app_of command ≡ with_run) }
+{
+    let run = run_command(alloc)?;
+    Command::new(alloc, "replaycheck")
+        .version("0.1.0")
+        .about(ABOUT)
+        .subcommand_required(true)
+        .subcommand(run)
+}
+
+/// The whole command line.
+fn make_command<'a>(alloc: Global) -> Result<Command<'a>, AllocError>
+    ensures { IfOk result (λ command. app_of command ≡ command_line) }
+{
+    let session = program_command(alloc, "session", SESSION, AFTER_SESSION)?;
+    with_run(alloc)?.subcommand(session)
+}
+
+/// Reads the words of a command line, the program's name first. Help and the version are errors whose text goes to standard output.
+///
+/// Words that `clap` takes give an order: each value of one is required or has a default. As no clause of `clap` says that, one
+/// that is missing is told as want of memory.
+pub fn read_order<'a>(alloc: Global, words: &'a [String]) -> Result<Order<'a>, Error>
+    ensures order { IfOk result (IsOrderFor (map string_bytes words.entry.now)) }
+    // An order is given where the words have no fault; an error is of a kind of their first fault, or want of memory.
+    ensures kinds { FailsBy (fault_of command_line (map string_bytes words.entry.now)) result }
+    // A command line that is well formed is refused for want of memory alone.
+    ensures taken { IfErr result (λ error. takes command_line (map string_bytes words.entry.now) ≡ true → kind_of error ≡ ErrorKind.OutOfMemory) }
+{
+    let matches = make_command(alloc)?.try_get_matches_from(words)?;
+    match order_of(&matches) {
+        Some(order) => Ok(order),
+        None => Err(Error::from(AllocError)),
+    }
+}
+
+/// The step of what was found for the arguments of `run`.
+fn step_of(chosen: &ArgMatches<'_>) -> Option<u32>
+    ensures { IfSome result (IsStepOf (rows_of (found_of chosen.now))) }
+{
+    chosen.get_one::<u32>("step")
+}
+
+/// The order of what was found for the arguments of a command.
+fn order_within<'a>(is_run: bool, chosen: &ArgMatches<'a>) -> Option<Order<'a>>
+    ensures { IfSome result (IsOrderOf is_run (rows_of (found_of chosen.now))) }
+{
+    let step = if is_run { Some(step_of(chosen)?) } else { None };
+    Some(Order {
+        file: chosen.get_str("FILE")?,
+        input: chosen.get_str("input"),
+        suppressions: chosen.get_str("supp"),
+        step,
+    })
+}
+
+/// The order of what was found for a whole command line.
+fn order_of<'a>(matches: &ArgMatches<'a>) -> Option<Order<'a>>
+    ensures { IfSome result (λ order. IsSomeAnd (subcommand_rows_of matches.now) (λ found. IsOrderOf (bytes_eq found.0 (codes "run")) found.1 order)) }
+{
+    let (name, chosen) = matches.subcommand()?;
+    order_within(name == "run", chosen)
+}

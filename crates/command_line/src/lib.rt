@@ -1,0 +1,18 @@
+//! The command line: what its words ask for, by the parser `clap`.
+//!
+//! | Call | What it answers |
+//! |---|---|
+//! | [`read_order`] | the [`Order`] of the words; or the error of `clap`, whose kind says whether help, the version or a fault is shown |
+//! | [`MOST_STEPS`] | the greatest step of a report |
+//!
+//! # What a caller relies on
+//!
+//! An order is given exactly where `clap`'s model of the command line finds no fault in the words, and is then that of the words
+//! (`IsOrderFor`); an error is of a kind that the first fault may have. Only want of memory stands apart. The definitions stand in
+//! `specs/Orders.antt`.
+#![tactic(auto)]
+
+mod arguments;
+mod help;
+
+pub use arguments::{MOST_STEPS, Order, read_order};

@@ -1,0 +1,4 @@
+pub mod RunSteps
+pub mod Fronts
+pub mod Pieces
+pub mod Stages

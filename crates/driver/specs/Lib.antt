@@ -1,0 +1,4 @@
+pub mod Once
+pub mod Ends
+pub mod Opened
+pub mod Carried

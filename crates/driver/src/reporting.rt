@@ -1,0 +1,87 @@
+//! One program, one report.
+ghost use Rattle.std.specs.Prelude.{◌≡◌, ◌<◌, ◌↔◌, Err, IfOk, OnOk, IfErr, length};
+ghost use Rattle.replay_session.specs.Setups.{longest_input};
+ghost use Rattle.driver.specs.Once.{IsReportOnce, WritesReport, StopsBy};
+
+use checkpoints::run_to;
+use guest_elf::Image;
+use guest_machine::{Machine, Meter};
+use replay_report::{Options, render};
+use replay_session::{LONGEST_INPUT, Sent, send, setup_with};
+use std::alloc::{AllocError, Global};
+use std::io::Write;
+use suppressions::Suppression;
+use thiserror::Error;
+
+/// Why no whole report was written.
+#[derive(Clone, Copy, Debug, Error)]
+pub enum RunFault {
+    /// The input has more than 1,048,576 bytes; nothing was written.
+    #[error("the input is too large")]
+    InputTooLarge,
+    /// Nothing was written.
+    #[error("no memory")]
+    NoMemory,
+    /// A write or the flush at the end failed, or a write took nothing; so many bytes of the report were taken.
+    #[error("the write failed after {bytes} bytes")]
+    WriteFailed { bytes: u64 },
+}
+
+/// The report of a program with an input and suppressions at a step, with no marks and default options.
+fn report_once(
+    alloc: Global,
+    image: &Image,
+    input: Vec<u8>,
+    suppressions: &[Suppression],
+    step: u32,
+) -> Result<Vec<u8>, AllocError>
+    ensures { IfOk result (λ text. IsReportOnce image.now input.items suppressions.now step text.items) }
+{
+    let start = Machine::start(alloc, image)?;
+    let setup = setup_with(alloc, image, input)?;
+    let mut meter = Meter::new();
+    let machine = run_to(start, &setup, &[], step, &mut meter)?;
+    let input_len = setup.input.len() as u64;
+    let mut text = Vec::new(alloc);
+    render(
+        alloc,
+        &machine,
+        image,
+        suppressions,
+        &Options::default(),
+        step,
+        input_len,
+        &mut text,
+    )?;
+    Ok(text)
+}
+
+/// Writes the report of a program with an input and suppressions at a step, with no marks and default options.
+pub fn run_once<W: Write>(
+    alloc: Global,
+    image: &Image,
+    input: Vec<u8>,
+    suppressions: &[Suppression],
+    step: u32,
+    writer: &mut W,
+) -> Result<(), RunFault>
+    ensures ok { OnOk result (WritesReport (IsReportOnce image.now input.items suppressions.now step) (W.contents writer.old) (W.contents writer.new)) }
+    ensures large { (result ≡ Err RunFault.InputTooLarge) ↔ (longest_input < length input.items) }
+    ensures fault { IfErr result (λ fault. StopsBy fault (IsReportOnce image.now input.items suppressions.now step)
+        (W.contents writer.old) (W.contents writer.new)) }
+{
+    if input.len() > LONGEST_INPUT {
+        return Err(RunFault::InputTooLarge);
+    }
+    let Ok(text) = report_once(alloc, image, input, suppressions, step) else {
+        return Err(RunFault::NoMemory);
+    };
+    let Sent { taken, whole } = send(writer, &text);
+    if whole {
+        Ok(())
+    } else {
+        Err(RunFault::WriteFailed {
+            bytes: taken as u64,
+        })
+    }
+}

@@ -1,0 +1,11 @@
+//! Tests of the command line and of what the program does with an order, by the public calls of their crates.
+//!
+//! They stand apart from the crates that they test, since a crate with tests is proved a second time with them.
+#![tactic(auto)]
+
+#[cfg(test)]
+mod endings;
+#[cfg(test)]
+mod orders;
+#[cfg(test)]
+mod shelf;

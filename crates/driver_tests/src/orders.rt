@@ -1,0 +1,105 @@
+//! What lines of words ask for.
+use clap::error::ErrorKind;
+use command_line::{Order, read_order};
+use std::alloc::Global;
+use std::test::Fail;
+
+/// The words of a line, after the program's name.
+fn words_of(alloc: Global, line: &[&str]) -> Result<Vec<String>, Fail> {
+    let mut words = Vec::new(alloc);
+    words.push(format!(in alloc; "replaycheck")?)?;
+    for word in line {
+        words.push(format!(in alloc; "{word}")?)?;
+    }
+    Ok(words)
+}
+
+/// An order as a text: its files and its step, with `-` and -1 for what it leaves out.
+fn text_of(alloc: Global, order: &Order<'_>) -> Result<String, Fail> {
+    let file = order.file;
+    let input = order.input.unwrap_or("-");
+    let rules = order.suppressions.unwrap_or("-");
+    let step = order.step.map_or(-1, i64::from);
+    Ok(format!(in alloc; "{file} {input} {rules} {step}")?)
+}
+
+#[test]
+fn lines_give_orders(rt: HostRuntime) -> Result<(), Fail> {
+    let alloc = rt.alloc();
+    for (label, line, want) in [
+        (
+            "the usual step",
+            ["run", "program"].as_slice(),
+            "program - - 1048576",
+        ),
+        (
+            "the greatest step",
+            ["run", "--step=4194304", "f"].as_slice(),
+            "f - - 4194304",
+        ),
+        ("no minus", ["run", "f", "--step=-0"].as_slice(), "f - - 0"),
+        (
+            "a session with files",
+            ["session", "f", "--supp", "s", "--input=i"].as_slice(),
+            "f i s -1",
+        ),
+    ] {
+        let words = words_of(alloc, line)?;
+        let order = read_order(alloc, &words)?;
+        let text = text_of(alloc, &order)?;
+        let is_same = text.as_str() == want;
+        assert!(rt; is_same, "{label}");
+    }
+    Ok(())
+}
+
+#[test]
+fn lines_without_an_order(rt: HostRuntime) -> Result<(), Fail> {
+    let alloc = rt.alloc();
+    for (label, line, want) in [
+        ("nothing", [].as_slice(), ErrorKind::MissingSubcommand),
+        ("help", ["--help"].as_slice(), ErrorKind::DisplayHelp),
+        (
+            "help on a command",
+            ["run", "--help"].as_slice(),
+            ErrorKind::DisplayHelp,
+        ),
+        (
+            "the version",
+            ["--version"].as_slice(),
+            ErrorKind::DisplayVersion,
+        ),
+        (
+            "no file",
+            ["run"].as_slice(),
+            ErrorKind::MissingRequiredArgument,
+        ),
+        (
+            "no such command",
+            ["walk"].as_slice(),
+            ErrorKind::InvalidSubcommand,
+        ),
+        (
+            "a step too many",
+            ["run", "f", "--step=4194305"].as_slice(),
+            ErrorKind::ValueValidation,
+        ),
+        (
+            "twice",
+            ["run", "f", "--step=1", "--step=1"].as_slice(),
+            ErrorKind::ArgumentConflict,
+        ),
+        (
+            "a step of a session",
+            ["session", "f", "--step=1"].as_slice(),
+            ErrorKind::UnknownArgument,
+        ),
+    ] {
+        let words = words_of(alloc, line)?;
+        match read_order(alloc, &words) {
+            Ok(_) => assert!(rt; false, "{label}"),
+            Err(error) => assert!(rt; error.kind() == want, "{label}"),
+        }
+    }
+    Ok(())
+}

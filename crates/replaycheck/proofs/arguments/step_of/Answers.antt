@@ -1,6 +1,0 @@
-use Rattle.clap.specs.Words.{found_of}
-use Rattle.replaycheck.proofs.Steps.{is-step}
-use Rattle.replaycheck.proofs.arguments.step_of.Goals as goal
-
-pub returns : goal.returns
-returns c = is-step (found_of c.args.chosen.now) c.get_one.result c.get_one.ensures.value
