@@ -1,0 +1,101 @@
+"""Wrong bodies: the edits of crates/CRATE/wrong-bodies/, what they make of the sources, and the functions that they change.
+
+An edit is lines `file: src/FILE`, `old: TEXT` (standing once in that file) and `new: TEXT`; further pairs apply to what the earlier ones
+made. `gate: yes` has the gate try it. `function: PATH` names a function whose contract must refuse it, as `rt check --only` takes it;
+with none, these are the functions round the texts, and for a text outside of all functions those of its module.
+"""
+import re
+
+FOLDERS = ("must-fail", "wrong-bodies")
+HEAD = re.compile(r"( *)(?:pub(?:\(\w+\))? )?(?:const )?(?:unsafe )?fn (\w+)")
+
+
+class Fault(Exception):
+    """Why an edit can't be tried."""
+
+
+class Edit:
+    def __init__(self, path, folder=None):
+        self.path, self.folder = path, folder or path.parent.parent
+        self.crate = self.folder.name
+        self.name = f"{self.crate}/{path.stem}"
+        lines = [line.partition(":")[::2] for line in path.read_text(encoding="utf-8").splitlines()]
+        self.lines = [(word, text[1:] if text.startswith(" ") else text) for word, text in lines]
+        self.named = [text.strip() for word, text in self.lines if word == "function"]
+        self.in_gate = path.parent.name == "must-fail" or ("gate", "yes") in self.lines
+
+    def apply(self):
+        """The texts of the files that it changes, by their path in the crate, and the functions that it changes."""
+        texts, functions, source, old = {}, [], None, None
+        for word, text in self.lines:
+            if word == "file":
+                source = text.strip()
+                if not source.startswith("src/") or ".." in source:
+                    raise Fault(f"{source} is no file of src/")
+            elif word == "old":
+                old = text
+            elif word == "new":
+                if not source or not old:
+                    raise Fault("a line `new:` stands before any `file:` or `old:`")
+                if source not in texts:
+                    file = self.folder / source
+                    if not file.is_file():
+                        raise Fault(f"no file {source}")
+                    texts[source] = file.read_text(encoding="utf-8")
+                found = texts[source].count(old)
+                if found != 1:
+                    raise Fault(f"{source} has {found} of: {old.strip()}")
+                at = function_at(source, texts[source], texts[source].index(old) + len(old) - len(old.lstrip()))
+                functions += [at] if at not in functions else []
+                texts[source], old = texts[source].replace(old, text), None
+        if not texts:
+            raise Fault("it has no lines `old:` and `new:`")
+        inside = [it for it in functions if not any(module_of(source) == it for source in texts)]
+        functions = inside or functions
+        if not self.named and "" in functions:
+            raise Fault("a text of the root file stands in no function: name those whose contracts refuse it by lines `function: PATH`")
+        return texts, self.named or functions
+
+
+def function_at(source, text, place):
+    """The path below the crate of the function in which a place of a source stands, else of its module. Goes by the layout of `rt fmt`."""
+    lines = text.split("\n")
+    row = text.count("\n", 0, place)
+    for at in range(row, -1, -1):
+        head = HEAD.match(lines[at])
+        if head:
+            is_end = lambda i: lines[i].startswith(f"{head[1]}}}") or i == at and lines[i].endswith("}")
+            end = next((i for i in range(at, len(lines)) if is_end(i)), len(lines))
+            return path_of(source, lines, at, head) if row <= end else module_of(source)
+    return module_of(source)
+
+
+def module_of(source):
+    """The path of a source's module; empty for the root file."""
+    names = re.sub(r"(/mod)?\.rt$", "", source).split("/")[1:]
+    return "" if names in (["lib"], ["main"]) else "::".join(names)
+
+
+def path_of(source, lines, at, head):
+    """What `rt check --only` takes for the function whose head stands in a line: a method by its type alone, in whose module a check has it."""
+    while head[1] and at >= 0:
+        at -= 1
+        if re.match(r"(impl|trait|pub trait)\b", lines[at]):
+            return f"{owner(' '.join(lines[at : at + 4]))}::{head[2]}"
+    return "::".join(it for it in (module_of(source), head[2]) if it)
+
+
+def owner(text):
+    """What a check calls an impl, by its head: its type, and after that the trait."""
+    text = re.sub(r"^(pub )?(impl|trait)\b", "", text.partition("{")[0].partition(" where ")[0])
+    while re.search(r"<[^<>]*>", text):
+        text = re.sub(r"<[^<>]*>", "", text.replace("->", "  "))
+    trait, word, kind = text.partition(" for ")
+    last = [re.findall(r"\w+", it)[-1] for it in ([kind, trait] if word else [trait.partition(":")[0]])]
+    return "".join(last)
+
+
+def all_edits(top, crates=()):
+    """The edits of the crates named, or of all."""
+    found = [it for folder in FOLDERS for it in top.glob(f"crates/*/{folder}/*.edit")]
+    return [Edit(it) for it in sorted(found) if not crates or it.parts[-3] in crates]
