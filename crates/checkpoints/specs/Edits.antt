@@ -1,76 +1,69 @@
--- What an edit leaves of a trail: for which run the trail is right then, and which of its machines are kept.
-use Rattle.std.specs.Prelude.{◌≡◌, ℕ, ◌+◌, ◌*◌, ◌<◌, ◌≤◌, ◌⊎◌, List, Option, true, length, slice_index_or}
+-- What an edit leaves of a trail, by the edit's effect: for which run the trail is right then, and which of its machines are kept.
+use Rattle.std.specs.Prelude.{◌≡◌, ℕ, ◌⊎◌, List, Bool, Option, true, slice_index_or}
 use Rattle.guest_machine.specs.State.{State}
 use Rattle.guest_machine.specs.Run.{poked}
-use Rattle.guest_machine.specs.Laws.{Extends}
 use Rattle.guest_machine.specs.Shows.{Shows}
 use Rattle.guest_machine.specs.declared.machine.Machine.{Machine}
 use Rattle.guest_machine.specs.declared.setup.Setup.{Setup}
 use Rattle.guest_machine.specs.declared.setup.Mark.{Mark}
-use Rattle.checkpoints.specs.FirstEffects.{IsBelowFirst, DifferAtStep}
+use Rattle.checkpoints.specs.FirstEffects.{IsBelowFirst}
+use Rattle.checkpoints.specs.Effects.{EffectShows, Tells, DifferBy, Run, LeadsTo, written_by}
 use Rattle.checkpoints.specs.Work.{IsBelow, lowered}
 use Rattle.checkpoints.specs.Trails.{machines_of, is_short, last_held, KeepsJust, KeepsOnly, IsRightFor}
 use Rattle.checkpoints.specs.declared.trail.Trail.{Trail}
+use Rattle.checkpoints.specs.declared.effect.Effect.{Effect}
+use Rattle.checkpoints.specs.declared.effect.Effect.TheVariants.{Word}
 
 -- ---- for which run it is right
 
--- for other marks at a step
-abbrev pub IsRightForMarks : ℕ → Trail → Trail → Type 0
-IsRightForMarks step old new =
-    (start : State) (setup : Setup) (marks edited : List Mark) → DifferAtStep step marks edited → IsRightFor old start setup marks → IsRightFor new start setup edited
+abbrev pub IsRightForRun : Trail → Run → Type 0
+IsRightForRun trail run = IsRightFor trail run.start run.setup run.marks
 
--- for a setup that differs from the old one in a way
-abbrev pub IsRightForSetups : (Setup → Setup → Type 0) → Trail → Trail → Type 0
-IsRightForSetups Differ old new =
-    (start : State) (setup other : Setup) (marks : List Mark) → Differ setup other → IsRightFor old start setup marks → IsRightFor new start other marks
+-- for each run to which the edit leads
+abbrev pub IsRightForLed : Effect → Trail → Trail → Type 0
+IsRightForLed effect old new = (one other : Run) → LeadsTo effect one other → IsRightForRun old one → IsRightForRun new other
 
--- setups that differ in the options of the heap alone
-pub record DifferInHeap (setup other : Setup) : Type 0 where
-  pub input : setup.input ≡ other.input
-  pub hooks : setup.hooks ≡ other.hooks
-
--- the input without its last byte, which is at an offset
-abbrev pub LosesLast : ℕ → Setup → Setup → Type 0
-LosesLast offset setup other = Extends other setup × (length other.input ≡ offset)
+-- for that run, but for a word that is still to be written
+abbrev pub IsRightForEdited : Effect → Trail → Trail → Type 0
+IsRightForEdited effect old new =
+    (start : State) (setup other : Setup) (marks edited : List Mark) → DifferBy effect setup marks other edited
+    → IsRightFor old start setup marks → IsRightFor new start other edited
 
 -- for a start with a word written
 abbrev pub IsRightForPoked : ℕ → ℕ → Trail → Trail → Type 0
 IsRightForPoked addr word old new =
     (start : State) (setup : Setup) (marks : List Mark) → IsRightFor old start setup marks → IsRightFor new (poked start addr word) setup marks
 
--- machine i of the new trail is that of the old one with a word written
-abbrev pub HasWritten : ℕ → ℕ → Trail → Trail → ℕ → Type 0
-HasWritten addr word old new i =
-    (d : Machine) (s : State) → Shows (slice_index_or (machines_of old) i d) s → Shows (slice_index_or (machines_of new) i d) (poked s addr word)
+-- machine i of the new trail is that of the old one, with the word written where the edit writes one
+abbrev pub HasFollowed : Effect → Trail → Trail → ℕ → Type 0
+HasFollowed effect old new i =
+    (d : Machine) (s : State) → Shows (slice_index_or (machines_of old) i d) s → Shows (slice_index_or (machines_of new) i d) (written_by effect s)
 
--- ---- which machines are kept, by the steps at which the edit shows in a run
+-- ---- which machines are kept
 
--- those below the edit's first effect
-abbrev pub KeepsBelowFirst : (State → Setup → List Mark → ℕ → Type 0) → Trail → Trail → Type 0
-KeepsBelowFirst Shown old new =
-    (start : State) (setup : Setup) (marks : List Mark) → IsRightFor old start setup marks → KeepsJust (IsBelowFirst (Shown start setup marks)) old new
+-- an answer tells, of each run for which a trail is right, whether the edit shows at a step or before it
+abbrev pub TellsShown : Effect → Trail → ℕ → Bool → Type 0
+TellsShown effect trail k told =
+    (start : State) (setup : Setup) (marks : List Mark) → IsRightFor trail start setup marks → Tells (EffectShows effect start setup marks) k told
+
+-- just those below the edit's first effect
+abbrev pub KeepsBelowEffect : Effect → Trail → Trail → Type 0
+KeepsBelowEffect effect old new =
+    (start : State) (setup : Setup) (marks : List Mark) → IsRightFor old start setup marks
+    → KeepsJust (IsBelowFirst (EffectShows effect start setup marks)) old new
 
 -- and where memory failed, fewer of them, which the trail says
-abbrev pub KeepsBelowFirstOrIsShort : (State → Setup → List Mark → ℕ → Type 0) → Trail → Trail → Type 0
-KeepsBelowFirstOrIsShort Shown old new =
+abbrev pub KeepsBelowEffectOrIsShort : Effect → Trail → Trail → Type 0
+KeepsBelowEffectOrIsShort effect old new =
     (start : State) (setup : Setup) (marks : List Mark) → IsRightFor old start setup marks
-    → (KeepsJust (IsBelowFirst (Shown start setup marks)) old new × (is_short new ≡ is_short old))
-    ⊎ (KeepsOnly (IsBelowFirst (Shown start setup marks)) old new × (is_short new ≡ true))
+    → (KeepsJust (IsBelowFirst (EffectShows effect start setup marks)) old new × (is_short new ≡ is_short old))
+    ⊎ (KeepsOnly (IsBelowFirst (EffectShows effect start setup marks)) old new × (is_short new ≡ true))
+
+-- none but a written word makes a trail short; one that is short stays so
+abbrev pub StaysWhole : Effect → Trail → Trail → Type 0
+StaysWhole (Word addr word) old new = is_short old ≡ true → is_short new ≡ true
+StaysWhole _ old new = is_short new ≡ is_short old
 
 -- where the machines are kept below a step, the last step at which one is held follows from it
 abbrev pub KeepsLower : Type 0
 KeepsLower = (f : Option ℕ) (old new : Trail) → KeepsJust (IsBelow f) old new → last_held new ≡ lowered (last_held old) f
-
--- ---- looking for the last machine in which an edit doesn't show
-
--- it shows in each machine from index n on
-abbrev pub ShowsFrom : (State → Setup → List Mark → ℕ → Type 0) → Trail → ℕ → Type 0
-ShowsFrom Shown trail n =
-    (start : State) (setup : Setup) (marks : List Mark) → IsRightFor trail start setup marks
-    → (i : ℕ) → i < length (machines_of trail) → n ≤ i → Shown start setup marks (1024 * i)
-
--- and not in the one before
-abbrev pub ShowsNotBefore : (State → Setup → List Mark → ℕ → Type 0) → Trail → ℕ → Type 0
-ShowsNotBefore Shown trail n =
-    (start : State) (setup : Setup) (marks : List Mark) → IsRightFor trail start setup marks
-    → (i : ℕ) → i + 1 ≡ n → Shown start setup marks (1024 * i) → ⊥

@@ -44,27 +44,48 @@ same-step one other s k t g =
           events = s.events ++ effect.raised;
         }
 
+-- nothing is no value
+none-some : (x : ℕ) → ◌≡◌ {A = Option ℕ} None (Some x) → ⊥
+none-some x e = cc
+
 -- lists that are equal below a place have equal parts there
-same-part : (xs ys : List ℕ) (p n : ℕ) → length xs ≡ length ys → ((i : ℕ) → i < p + n → slice_get xs i ≡ slice_get ys i) → take n (drop p xs) ≡ take n (drop p ys)
-same-part [] [] p n e h = refl
-same-part [] (y ∷ ys) p n e h = absurd (omega arith)
-same-part (x ∷ xs) [] p n e h = absurd (omega arith)
-same-part (x ∷ xs) (y ∷ ys) zero zero e h = refl
-same-part (x ∷ xs) (y ∷ ys) zero (suc n) e h =
+same-part : (xs ys : List ℕ) (p n : ℕ) → ((i : ℕ) → i < p + n → slice_get xs i ≡ slice_get ys i) → take n (drop p xs) ≡ take n (drop p ys)
+same-part [] [] p n h = refl
+same-part [] (y ∷ ys) zero zero h = refl
+same-part [] (y ∷ ys) zero (suc n) h = absurd (none-some y (h zero (omega arith)))
+same-part [] (y ∷ ys) (suc p) n h = absurd (none-some y (h zero (omega arith)))
+same-part (x ∷ xs) [] zero zero h = refl
+same-part (x ∷ xs) [] zero (suc n) h = absurd (none-some x (sym (h zero (omega arith))))
+same-part (x ∷ xs) [] (suc p) n h = absurd (none-some x (sym (h zero (omega arith))))
+same-part (x ∷ xs) (y ∷ ys) zero zero h = refl
+same-part (x ∷ xs) (y ∷ ys) zero (suc n) h =
     let first : Some x ≡ Some y = h zero (omega arith) in
     let head : x ≡ y = cc in
-    ap₂ (λ a rest. a ∷ rest) head (same-part xs ys zero n (omega arith) (λ i k. h (suc i) (omega arith)))
-same-part (x ∷ xs) (y ∷ ys) (suc p) n e h = same-part xs ys p n (omega arith) (λ i k. h (suc i) (omega arith))
+    ap₂ (λ a rest. a ∷ rest) head (same-part xs ys zero n (λ i k. h (suc i) (omega arith)))
+same-part (x ∷ xs) (y ∷ ys) (suc p) n h = same-part xs ys p n (λ i k. h (suc i) (omega arith))
+
+-- what is given is the same where it doesn't reach the end of what is left
+front-intake : (asks : Option ℕ) (rest less more : ℕ) → rest < less → rest ≤ more → (intake_of asks less).count ≤ rest → intake_of asks less ≡ intake_of asks more
+front-intake None rest less more l m h = refl
+front-intake (Some n) rest less more l m h =
+    let same : min n less ≡ min n more = omega arith in
+    λ i. record { count = same i; ends = nat_lt (same i) n }
 
 pub keeps-input : KeepsInput
 unfolding exec seen taken-under intake_at
 keeps-input one other offset s d h =
+    let within : s.position + (taken-under s one).count ≤ offset = h in
+    let far = d.more in
+    let enough = d.enough in
+    let asks = deed_asks s.core (deed_at s.core s.bytes one.hooks) in
+    let same : intake_of asks (length one.input - s.position) ≡ intake_of asks (length other.input - s.position) =
+    front-intake asks (offset - s.position) (length one.input - s.position) (length other.input - s.position) (omega arith) (omega arith) (omega arith) in
+    let given : intake_of asks (length one.input - s.position) ≡ intake_of (deed_asks s.core (deed_at s.core s.bytes other.hooks)) (length other.input - s.position) =
+    same ∙ ap (λ hooks. intake_of (deed_asks s.core (deed_at s.core s.bytes hooks)) (length other.input - s.position)) d.hooks in
     let t : seen s one ≡ seen s other = λ i.
     let heap = is_heap_step s (d.hooks i) in
-    let intake = intake_of (deed_asks s.core (deed_at s.core s.bytes (d.hooks i))) (d.len i - s.position) in
-    record { intake = intake; written = length s.output; red_zone = cond heap (d.redzone i) 0; volume = cond heap (d.volume i) 0 } in
-    let within : s.position + (taken-under s one).count ≤ offset = h in
-    same-step one other s d.hooks t (same-part one.input other.input s.position (taken-under s one).count d.len (λ i k. d.bytes i (λ e. omega arith)))
+    record { intake = given i; written = length s.output; red_zone = cond heap (d.redzone i) 0; volume = cond heap (d.volume i) 0 } in
+    same-step one other s d.hooks t (same-part one.input other.input s.position (taken-under s one).count (λ i k. d.bytes i (omega arith)))
 
 heap-same : (one other : Setup) (s : State) → one.input ≡ other.input → one.hooks ≡ other.hooks → is_heap_step s one.hooks ≡ false → (touches s one ≡ touches s other) × (exec s one ≡ exec s other)
 unfolding seen taken-under intake_at
@@ -100,19 +121,11 @@ alike-some n less more l e = (omega arith, omega arith)
 few-asked : (n less : ℕ) → nat_lt (min n less) n ≡ false → n ≤ less
 few-asked n less e = let given : n ≤ min n less = grind (arith, nat_tests) in omega arith
 
-all-given : (n less : ℕ) → n ≤ less → nat_lt (min n less) n ≡ false
-all-given n less e = let given : n ≤ min n less = omega arith in grind (arith, nat_tests)
-
 unended : (asks : Option ℕ) (less more : ℕ) → less ≤ more → (intake_of asks less).ends ≡ false → Alike asks less more
 unended None less more l e = record { same = refl; within = omega arith }
 unended (Some n) less more l e =
     let a = alike-some n less more l (few-asked n less e) in
     record { same = λ i. record { count = a.0 i; ends = nat_lt (a.0 i) n }; within = a.1 }
-
--- no more is asked for where no more is given
-ungiven : (asks : Option ℕ) (less more : ℕ) → more ≡ less + 1 → (intake_of asks more).count ≤ less → (intake_of asks less).ends ≡ false
-ungiven None less more e h = refl
-ungiven (Some n) less more e h = all-given n less (omega arith)
 
 seen-false : (seen ends : Bool) → seen_also seen ends ≡ false → ends ≡ false
 seen-false seen true h = h
@@ -141,24 +154,9 @@ module _ (one other : Setup) (s : State) (x : Extends one other) where
       let n = (taken-under s one).count in
       same-step one other s x.hooks t (front-part one.input x.input.0 s.position n a.within ∙ ap (λ xs. take n (drop s.position xs)) (sym x.input.1))
 
-  -- nor does it where it leaves the last byte of the longer one
-  unread-ends : (exec s other).position ≤ length one.input → (taken-under s one).ends ≡ false
-  unfolding exec taken-under intake_at longer
-  unread-ends h =
-      let asks : deed_asks s.core (deed_at s.core s.bytes one.hooks) ≡ deed_asks s.core (deed_at s.core s.bytes other.hooks) = ap (λ hooks. deed_asks s.core (deed_at s.core s.bytes hooks)) x.hooks in
-      let l = longer in
-      let within : s.position + (intake_of (deed_asks s.core (deed_at s.core s.bytes other.hooks)) (left_at s.position other)).count ≤ length one.input = h in
-      let count : (intake_of (deed_asks s.core (deed_at s.core s.bytes one.hooks)) (left_at s.position other)).count ≤ left_at s.position one = (
-      let same = ap (λ o. (intake_of o (left_at s.position other)).count) asks in omega arith
-      ) in
-      ungiven (deed_asks s.core (deed_at s.core s.bytes one.hooks)) (left_at s.position one) (left_at s.position other) (omega arith) count
-
 pub keeps-end : KeepsEnd
 unfolding exec taken-under
-keeps-end = record {
-  unseen = λ one other s x h. end-same one other s x (seen-false s.end_seen (taken-under s one).ends h);
-  unread = λ one other s x h. end-same one other s x (unread-ends one other s x h);
-}
+keeps-end one other s x h = end-same one other s x (seen-false s.end_seen (taken-under s one).ends h)
 
 pub end-stays : EndStays
 unfolding exec

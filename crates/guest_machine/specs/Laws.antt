@@ -30,18 +30,19 @@ KeepsWords =
     (setup : Setup) (word : ℕ) (s t : State) → DifferWithin (InWord word) s t → TouchesNone (InWord word) s setup
     → (touches s setup ≡ touches t setup) × DifferWithin (InWord word) (exec s setup) (exec t setup)
 
--- two setups differ in the input's byte at one offset alone
-pub record DifferAt (offset : ℕ) (one other : Setup) : Type 0 where
+-- two setups have the same input below an offset; one has a byte there, and the other may have any from there on
+pub record SharesFront (offset : ℕ) (one other : Setup) : Type 0 where
   pub redzone : one.redzone ≡ other.redzone
   pub volume : one.volume ≡ other.volume
   pub hooks : one.hooks ≡ other.hooks
-  pub len : length one.input ≡ length other.input
-  pub bytes : (i : ℕ) → (i ≡ offset → ⊥) → slice_get one.input i ≡ slice_get other.input i
+  pub more : offset < length one.input
+  pub enough : offset ≤ length other.input
+  pub bytes : (i : ℕ) → i < offset → slice_get one.input i ≡ slice_get other.input i
 
--- a step that leaves the position at or below an offset doesn't look at the input there
+-- a step that leaves the position at or below an offset doesn't look at the input from there on
 abbrev pub KeepsInput : Type 0
 KeepsInput =
-    (one other : Setup) (offset : ℕ) (s : State) → DifferAt offset one other → (exec s one).position ≤ offset
+    (one other : Setup) (offset : ℕ) (s : State) → SharesFront offset one other → (exec s one).position ≤ offset
     → (touches s one ≡ touches s other) × (exec s one ≡ exec s other)
 
 -- is the step of a state a heap call?
@@ -71,11 +72,9 @@ pub record Extends (one other : Setup) : Type 0 where
   pub hooks : one.hooks ≡ other.hooks
   pub input : (byte : ℕ) × (other.input ≡ one.input ++ byte ∷ [])
 
--- a step goes the same way with one byte more at the end of the input where it hasn't seen the end without that byte, and where it
--- hasn't read it
-pub record KeepsEnd : Type 0 where
-  pub unseen : (one other : Setup) (s : State) → Extends one other → (exec s one).end_seen ≡ false → (touches s one ≡ touches s other) × (exec s one ≡ exec s other)
-  pub unread : (one other : Setup) (s : State) → Extends one other → (exec s other).position ≤ length one.input → (touches s one ≡ touches s other) × (exec s one ≡ exec s other)
+-- a step goes the same way with one byte more at the end of the input where it hasn't seen the end without that byte
+abbrev pub KeepsEnd : Type 0
+KeepsEnd = (one other : Setup) (s : State) → Extends one other → (exec s one).end_seen ≡ false → (touches s one ≡ touches s other) × (exec s one ≡ exec s other)
 
 -- the end of the input, once seen, stays seen
 abbrev pub EndStays : Type 0

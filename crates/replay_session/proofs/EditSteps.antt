@@ -1,18 +1,16 @@
 -- What the edits of a session are to its run: other marks at one step, another byte of the input, a word of the image.
-use Rattle.std.proofs.Common.{◌≡◌, ℕ, zero, suc, ◌+◌, ◌%◌, ◌^◌, ◌<◌, ◌==◌, ◌&&◌, Bool, true, false, cond, List, [], ◌∷◌, ◌++◌, ◌-◌, take, remove, length, get_or, refl, ap, sym, ◌∙◌, arith}
+use Rattle.std.proofs.Common.{◌≡◌, ℕ, zero, suc, ◌+◌, ◌%◌, ◌^◌, ◌<◌, ◌==◌, ◌&&◌, Bool, true, false, cond, List, [], ◌∷◌, ◌++◌, ◌-◌, min, take, remove, length, get_or, refl, ap, sym, ◌∙◌, arith}
 use Rattle.std.specs.Prelude.{slice_get, slice_set, is_some}
 use Rattle.std.proofs.lemmas.Bool.Decides.{nat_tests}
-use Rattle.std.proofs.lemmas.List.{length-set, take_all}
+use Rattle.std.proofs.lemmas.List.{length-set, length-take}
 use Rattle.error_events.proofs.SameKeys.{left-true, right-true}
 use Rattle.guest_elf.specs.Images.{loaded_at}
 use Rattle.guest_elf.specs.declared.image.Image.{Image}
-use Rattle.guest_machine.specs.Laws.{DifferAt}
+use Rattle.guest_machine.specs.Laws.{SharesFront}
 use Rattle.guest_machine.specs.Run.{marks_at}
 use Rattle.guest_machine.specs.declared.setup.Setup.{Setup}
 use Rattle.guest_machine.specs.declared.setup.Mark.{Mark}
-use Rattle.std.proofs.Math.Seq.{take-suc}
-use Rattle.checkpoints.specs.Edits.{LosesLast}
-use Rattle.checkpoints.specs.FirstEffects.{DifferAtStep}
+use Rattle.checkpoints.specs.Effects.{DifferAtStep}
 use Rattle.checkpoints.specs.Words.{IsWordIn}
 use Rattle.checkpoints.specs.Trails.{LoadsAs, loaded_of}
 use Rattle.checkpoints.specs.declared.trail.Trail.{Trail}
@@ -42,36 +40,42 @@ get-other (b ∷ bs) zero byte (suc i) n = refl
 get-other (b ∷ bs) (suc offset) byte zero n = refl
 get-other (b ∷ bs) (suc offset) byte (suc i) n = get-other bs offset byte i (λ e. n (ap suc e))
 
-pub differ_at : (one other : Setup) (offset byte : ℕ) → other.input ≡ slice_set one.input offset byte → one.redzone ≡ other.redzone → one.volume ≡ other.volume
-    → one.hooks ≡ other.hooks → DifferAt offset one other
-differ_at one other offset byte input redzone volume hooks = record {
-  redzone = redzone;
-  volume = volume;
-  hooks = hooks;
-  len = sym (ap length input ∙ length-set one.input offset byte);
-  bytes = λ i n. get-other one.input offset byte i n ∙ ap (λ bytes. slice_get bytes i) (sym input);
-}
+pub shares_replaced : (one other : Setup) (offset byte : ℕ) → offset < length one.input → other.input ≡ slice_set one.input offset byte
+    → one.redzone ≡ other.redzone → one.volume ≡ other.volume → one.hooks ≡ other.hooks → SharesFront offset one other
+shares_replaced one other offset byte some input redzone volume hooks =
+    let size : length other.input ≡ length one.input = ap length input ∙ length-set one.input offset byte in
+    record {
+      redzone = redzone;
+      volume = volume;
+      hooks = hooks;
+      more = some;
+      enough = omega arith;
+      bytes = λ i low. get-other one.input offset byte i (λ e. omega arith) ∙ ap (λ bytes. slice_get bytes i) (sym input);
+    }
 
 -- setups that are one, with inputs that are one
 pub with_input : (one other : Setup) (now next : List ℕ) → one ≡ other → now ≡ next → record one { input = now } ≡ record other { input = next }
 with_input one other now next setup input = λ i. record (setup i) { input = input i }
 
 -- the input without its last byte
-last-part : (bytes : List ℕ) → 0 < length bytes → (byte : ℕ) × (bytes ≡ take (length bytes - 1) bytes ++ byte ∷ [])
-last-part bytes some =
-    let n = length bytes - 1 in
-    let one : suc n ≡ length bytes = omega arith in (
-      get_or bytes n 0,
-      sym (take_all (suc n) bytes (omega arith)) ∙ take-suc bytes n 0 (omega arith),
-    )
+get-front : (bytes : List ℕ) (n i : ℕ) → i < n → slice_get bytes i ≡ slice_get (take n bytes) i
+get-front bytes zero i l = absurd (omega arith)
+get-front [] (suc n) i l = refl
+get-front (b ∷ bs) (suc n) zero l = refl
+get-front (b ∷ bs) (suc n) (suc i) l = get-front bs n i (omega arith)
 
-pub loses_last : (one other : Setup) (offset : ℕ) → 0 < length one.input → other.input ≡ take (length one.input - 1) one.input → offset ≡ length other.input
-    → one.redzone ≡ other.redzone → one.volume ≡ other.volume → one.hooks ≡ other.hooks → LosesLast offset one other
-loses_last one other offset some input at redzone volume hooks =
-    let last = last-part one.input some in (
-      record { redzone = sym redzone; volume = sym volume; hooks = sym hooks; input = (last.0, last.1 ∙ ap (λ front. front ++ last.0 ∷ []) (sym input)) },
-      sym at,
-    )
+pub shares_cut : (one other : Setup) (offset : ℕ) → 0 < length one.input → other.input ≡ take (length one.input - 1) one.input → offset ≡ length other.input
+    → one.redzone ≡ other.redzone → one.volume ≡ other.volume → one.hooks ≡ other.hooks → SharesFront offset one other
+shares_cut one other offset some input at redzone volume hooks =
+    let size : length other.input ≡ min (length one.input - 1) (length one.input) = ap length input ∙ length-take (length one.input - 1) one.input in
+    record {
+      redzone = redzone;
+      volume = volume;
+      hooks = hooks;
+      more = omega arith;
+      enough = omega arith;
+      bytes = λ i low. get-front one.input (length one.input - 1) i (omega arith) ∙ ap (λ bytes. slice_get bytes i) (sym input);
+    }
 
 -- a word of the image
 pub word_in : (trail : Trail) (image : Image) (addr : ℕ) → LoadsAs trail image → addr < 2 ^ 32 → is_word image addr ≡ true → IsWordIn (loaded_of trail) addr

@@ -2,7 +2,7 @@
 //! an edit first shows: a trail that is asked for step n makes those from the last multiple of 1024 that it holds, or n has.
 ghost use Rattle.checkpoints.specs.Trails.{LoadsAs};
 
-use checkpoints::{Trail, run_to};
+use checkpoints::{Effect, Trail, run_to};
 use guest_elf::{Image, read};
 use guest_machine::{Hooks, Input, Machine, Mark, Meter, Setup, Status, Stop};
 use guest_programs::{program, sized_program};
@@ -335,7 +335,7 @@ impl<'a> Edited<'a> {
     /// Patches a word whose bytes are loaded.
     fn patch(&mut self, addr: u32, word: u32) -> Result<(), AllocError> {
         if addr % 4 == 0 && self.image.patchable(addr) {
-            self.trail.patch(addr, word)?;
+            self.trail.follow(Effect::Word { addr, word })?;
         }
         Ok(())
     }
@@ -344,7 +344,7 @@ impl<'a> Edited<'a> {
     fn take_mark(&mut self) {
         if !self.marks.is_empty() {
             let mark = self.marks.remove(0);
-            self.trail.cut_mark(mark.step);
+            self.trail.cut(Effect::After(mark.step));
         }
     }
 
@@ -360,20 +360,20 @@ impl<'a> Edited<'a> {
                     len: 4,
                     kind,
                 })?;
-                self.trail.cut_mark(step);
+                self.trail.cut(Effect::After(step));
             }
             Act::TakeMark => self.take_mark(),
             Act::ReplaceInput(offset, bytes) => {
                 self.setup.input = Input::new(bytes.to_vec(self.alloc)?);
-                self.trail.cut_input(offset);
+                self.trail.cut(Effect::Input(offset));
             }
             Act::Append(byte) => {
                 self.setup.input.push(byte)?;
-                self.trail.cut_end();
+                self.trail.cut(Effect::End);
             }
             Act::SetRedZone(len) => {
                 self.setup.redzone = len;
-                self.trail.cut_heap();
+                self.trail.cut(Effect::Heap);
             }
         }
         Ok(None)

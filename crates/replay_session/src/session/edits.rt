@@ -6,6 +6,7 @@ use crate::command::Command;
 use crate::fault::Fault;
 use crate::reply::Reply;
 use crate::session::Session;
+use checkpoints::Effect;
 use checkpoints::laws::keeps_lower;
 use guest_machine::{Input, Mark};
 use std::mem;
@@ -45,7 +46,7 @@ impl<'a> Session<'a> {
         keeps_lower();
         let input = mem::replace(&mut self.setup.input, Input::new(Vec::new(self.alloc)));
         self.setup.input = with_byte(input, offset, byte);
-        self.trail.cut_input(offset);
+        self.trail.cut(Effect::Input(offset));
         Ok(Reply::Done)
     }
 
@@ -57,7 +58,7 @@ impl<'a> Session<'a> {
     {
         keeps_lower();
         self.setup.input.push(byte)?;
-        self.trail.cut_end();
+        self.trail.cut(Effect::End);
         Ok(Reply::Done)
     }
 
@@ -70,7 +71,7 @@ impl<'a> Session<'a> {
         keeps_lower();
         self.setup.input.pop();
         let last = self.setup.input.len();
-        self.trail.cut_input(last as u32);
+        self.trail.cut(Effect::Input(last as u32));
         Ok(Reply::Done)
     }
 
@@ -81,7 +82,7 @@ impl<'a> Session<'a> {
         ensures work { Works self.old self.new (Command.Patch addr word) result }
     {
         keeps_lower();
-        self.trail.patch(addr, word)?;
+        self.trail.follow(Effect::Word { addr, word })?;
         Ok(Reply::Done)
     }
 
@@ -92,7 +93,7 @@ impl<'a> Session<'a> {
     {
         keeps_lower();
         self.marks.push(mark)?;
-        self.trail.cut_mark(mark.step);
+        self.trail.cut(Effect::After(mark.step));
         Ok(Reply::Done)
     }
 
@@ -104,7 +105,7 @@ impl<'a> Session<'a> {
     {
         keeps_lower();
         let mark = self.marks.remove(index as usize);
-        self.trail.cut_mark(mark.step);
+        self.trail.cut(Effect::After(mark.step));
         Ok(Reply::Done)
     }
 
@@ -144,7 +145,7 @@ impl<'a> Session<'a> {
     {
         keeps_lower();
         self.setup.redzone = n;
-        self.trail.cut_heap();
+        self.trail.cut(Effect::Heap);
         Ok(Reply::Done)
     }
 
@@ -155,7 +156,7 @@ impl<'a> Session<'a> {
     {
         keeps_lower();
         self.setup.volume = n;
-        self.trail.cut_heap();
+        self.trail.cut(Effect::Heap);
         Ok(Reply::Done)
     }
 

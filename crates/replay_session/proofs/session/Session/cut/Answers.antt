@@ -2,7 +2,7 @@ use Rattle.std.proofs.Common.{◌≡◌, refl, inl, ◌∙◌, ◌-◌, ap, subs
 use Rattle.std.proofs.lemmas.List.{length-take}
 use Rattle.checkpoints.specs.FirstEffects.{IsBelowFirst, InputShows}
 use Rattle.checkpoints.specs.Trails.{KeepsJust}
-use Rattle.replay_session.proofs.EditSteps.{loses_last, with_input}
+use Rattle.replay_session.proofs.EditSteps.{shares_cut, with_input}
 use Rattle.replay_session.specs.Scenario.{first_state}
 use Rattle.replay_session.specs.Session.{trail_of}
 use Rattle.replay_session.proofs.WorkSteps.{right-of, moves-kept}
@@ -12,8 +12,8 @@ use Rattle.replay_session.proofs.session.Session.cut.Goals as goal
 pub returns-clause-edits : goal.returns-clause-edits
 unfolding first_state
 returns-clause-edits c sc out h =
-    let loses = loses_last c.args.self.now.setup (record c.args.self.now.setup { input = _ }) c.len-last.result c.requires c.pop.ensures c.len-last.ensures refl refl refl in
-    let trail = c.cut_input.ensures.shorter (first_state sc) _ _ _ loses h.trail in
+    let shares = shares_cut c.args.self.now.setup (record c.args.self.now.setup { input = _ }) c.len-last.result c.requires c.pop.ensures c.len-last.ensures refl refl refl in
+    let trail = c.cut.ensures.right (first_state sc) _ _ _ _ (shares, refl) h.trail in
     let setup = with_input _ _ _ _ h.setup (c.pop.ensures ∙ ap (λ (s : Setup). take (length s.input - 1) s.input) h.setup) in
     inl (record {
       replies = refl;
@@ -28,10 +28,10 @@ shorter bytes = omega (arith, length-take (length bytes - 1) bytes)
 pub returns-clause-work : goal.returns-clause-work
 unfolding trail_of
 returns-clause-work c = (
-  c.cut_input.ensures.short,
+  c.cut.ensures.short,
   λ wanted whole sc h.
       let last : c.len-last.result ≡ length sc.setup.input - 1 =
       c.len-last.ensures ∙ ap length c.pop.ensures ∙ shorter c.args.self.now.setup.input ∙ ap (λ (bytes : List ℕ). length bytes - 1) (λ i. (h.setup i).input) in
-      let P : ℕ → Type 0 = λ o. KeepsJust (IsBelowFirst (InputShows o (first_state sc) sc.setup sc.marks)) c.args.self.now.trail c.cut_input.new.self in
-      moves-kept c.keeps_lower.ensures _ _ _ (subst P last (c.cut_input.ensures.kept (first_state sc) sc.setup sc.marks (right-of c.args.self.now sc h))) c.cut_input.ensures.meter,
+      let P : ℕ → Type 0 = λ o. KeepsJust (IsBelowFirst (InputShows o (first_state sc) sc.setup sc.marks)) c.args.self.now.trail c.cut.new.self in
+      moves-kept c.keeps_lower.ensures _ _ _ (subst P last (c.cut.ensures.kept (first_state sc) sc.setup sc.marks (right-of c.args.self.now sc h))) c.cut.ensures.meter,
 )

@@ -8,7 +8,7 @@ use Rattle.replay_session.proofs.session.Session.set_redzone.Goals as goal
 pub returns-clause-edits : goal.returns-clause-edits
 unfolding first_state
 returns-clause-edits c sc out h =
-    let trail = c.cut_heap.ensures.right (first_state sc) _ (record c.args.self.now.setup { redzone = c.args.n }) _ (record { input = refl; hooks = refl }) h.trail in
+    let trail = c.cut.ensures.right (first_state sc) _ (record c.args.self.now.setup { redzone = c.args.n }) _ _ (record { input = refl; hooks = refl }, refl) h.trail in
     let setup = ap (λ (s : Setup). record s { redzone = c.args.n }) h.setup in
     inl (record {
       replies = refl;
@@ -19,6 +19,6 @@ returns-clause-edits c sc out h =
 pub returns-clause-work : goal.returns-clause-work
 unfolding trail_of
 returns-clause-work c = (
-  c.cut_heap.ensures.short,
-  λ wanted whole sc h. moves-kept c.keeps_lower.ensures _ _ _ (c.cut_heap.ensures.kept (first_state sc) sc.setup sc.marks (right-of c.args.self.now sc h)) c.cut_heap.ensures.meter,
+  c.cut.ensures.short,
+  λ wanted whole sc h. moves-kept c.keeps_lower.ensures _ _ _ (c.cut.ensures.kept (first_state sc) sc.setup sc.marks (right-of c.args.self.now sc h)) c.cut.ensures.meter,
 )
