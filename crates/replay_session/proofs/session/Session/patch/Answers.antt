@@ -20,8 +20,10 @@ returns-clause-edits c sc out h =
       has = record { image = h.image; trail = trail; setup = h.setup; marks = h.marks; rules = h.rules; options = h.options; step = h.step; lines = h.lines };
     })
 
-pub follow-requires-clause-within : goal.follow-requires-clause-within
-follow-requires-clause-within c = let small : c.args.addr < 2 ^ 32 = omega arith in word_in c.args.self.now.trail c.args.self.now.image c.args.addr c.args.self.now.loads small c.requires
+pub follow-requires : goal.follow-requires
+follow-requires c =
+    let small : c.args.addr < 2 ^ 32 = omega arith in
+    record { within = word_in c.args.self.now.trail c.args.self.now.image c.args.addr c.args.self.now.loads small c.requires }
 
 pub returns-clause-work : goal.returns-clause-work
 unfolding trail_of
