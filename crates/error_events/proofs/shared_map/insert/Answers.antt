@@ -1,12 +1,8 @@
-use Rattle.error_events.proofs.EntrySteps.{insert-absent}
+use Rattle.error_events.proofs.EntrySteps.{insert-absent, is-ok, own-entries}
 use Rattle.error_events.proofs.shared_map.insert.Goals as goal
-
-pub returns-in-Some-clause-ok : goal.returns-in-Some-clause-ok
-returns-in-Some-clause-ok g c =
-    let e = insert-absent g.K.PartialEq.eq c.args.key c.args.value c.args.shared.now.value.entries c.requires.absent in
-    cc (c.in_ok-insert.ensures.entries, c.in-Some.ensures.value)
 
 pub returns-clause-ok : goal.returns-clause-ok
 returns-clause-ok g c =
-    let e = insert-absent g.K.PartialEq.eq c.args.key c.args.value c.args.shared.now.value.entries c.requires.absent in
-    cc (c.in_ok-insert-2.ensures.entries, c.in_ok-map.ensures, c.in_ok-shared.ensures.ok)
+    let same = own-entries g.K.Clone.is_clone g.V.Clone.is_clone c.requires.keys c.requires.values c.args.shared.now.value c.in_ok-own.own.now c.in_ok-own.ensures.value in
+    let added = insert-absent g.K.PartialEq.eq c.args.key c.args.value c.args.shared.now.value.entries c.requires.absent in
+    cc (c.in_ok-insert.ensures.entries, same, added, c.make_mut.follows.holds c.insert.new.self (is-ok _ _ c.in_ok-own.was))
