@@ -42,8 +42,8 @@ fn freed_entry(
     Ok(Rc::new(alloc, made)?)
 }
 
-/// A live block's slot gets the entry of the freed one. Where memory fails the block stays live.
-fn pass(
+/// Takes a block out of the live ones, and puts its entry among the freed. Where memory fails it stays live.
+fn move_to_freed(
     alloc: Global,
     live: &mut Table,
     freed: &mut Table,
@@ -105,7 +105,7 @@ impl Heap {
         let entry = freed_entry(alloc, block, trace, self.next)?;
         let slot = slot_of(block.start);
         self.queue.prepare(alloc)?;
-        pass(alloc, &mut self.live, &mut self.freed, slot, &entry)?;
+        move_to_freed(alloc, &mut self.live, &mut self.freed, slot, &entry)?;
         self.queue.push(entry);
         self.next = next;
         self.held = held;

@@ -23,17 +23,17 @@ invariant_of-self-2 c =
     let heap = c.args.self.now in
     let P : ℕ → Entry = λ n. record { block = freed_by c.args.trace c.args.block.now; number = n } in
     let sizes = enqueued_volume (entries_of heap.live) (entries_of heap.freed) (queued heap.queue) heap.first heap.sound c.args.block.now c.args.trace c.requires
-    _ _ _ _ _ _ _ c.in_ok-pass.ensures.live c.in_ok-pass.ensures.freed c.push.ensures c.in_ok-prepare.ensures.same c.slot_of-slot.ensures refl (c.in_ok-entry.ensures ∙ ap P heap.numbered) in
+    _ _ _ _ _ _ _ c.in_ok-move_to_freed.ensures.live c.in_ok-move_to_freed.ensures.freed c.push.ensures c.in_ok-prepare.ensures.same c.slot_of-slot.ensures refl (c.in_ok-entry.ensures ∙ ap P heap.numbered) in
     let lengths = enqueued_length (entries_of heap.live) (entries_of heap.freed) (queued heap.queue) heap.first heap.sound c.args.block.now c.args.trace c.requires
-    _ _ _ _ _ _ _ c.in_ok-pass.ensures.live c.in_ok-pass.ensures.freed c.push.ensures c.in_ok-prepare.ensures.same c.slot_of-slot.ensures refl (c.in_ok-entry.ensures ∙ ap P heap.numbered) in
+    _ _ _ _ _ _ _ c.in_ok-move_to_freed.ensures.live c.in_ok-move_to_freed.ensures.freed c.push.ensures c.in_ok-prepare.ensures.same c.slot_of-slot.ensures refl (c.in_ok-entry.ensures ∙ ap P heap.numbered) in
     record {
       sound = enqueued_sound (entries_of heap.live) (entries_of heap.freed) (queued heap.queue) heap.first heap.sound c.args.block.now c.args.trace c.requires
-          _ _ _ _ _ _ _ c.in_ok-pass.ensures.live c.in_ok-pass.ensures.freed c.push.ensures c.in_ok-prepare.ensures.same c.slot_of-slot.ensures refl (c.in_ok-entry.ensures ∙ ap P heap.numbered);
+          _ _ _ _ _ _ _ c.in_ok-move_to_freed.ensures.live c.in_ok-move_to_freed.ensures.freed c.push.ensures c.in_ok-prepare.ensures.same c.slot_of-slot.ensures refl (c.in_ok-entry.ensures ∙ ap P heap.numbered);
       numbered = omega (arith, heap.numbered, lengths, c.in-Some.ensures);
       volume = omega (arith, heap.volume, sizes, c.in-Some-checked_add.ensures, c.from.ensures);
       bounded = (let Q : Blocks → Type 0 = λ bs. AreBounds bs heap.redzone heap.bounds.list.items in
           subst Q (sym (enqueued_shown (entries_of heap.live) (entries_of heap.freed) (queued heap.queue) heap.first heap.sound c.args.block.now c.args.trace c.requires
-          _ _ _ _ _ _ _ c.in_ok-pass.ensures.live c.in_ok-pass.ensures.freed c.push.ensures c.in_ok-prepare.ensures.same c.slot_of-slot.ensures refl
+          _ _ _ _ _ _ _ c.in_ok-move_to_freed.ensures.live c.in_ok-move_to_freed.ensures.freed c.push.ensures c.in_ok-prepare.ensures.same c.slot_of-slot.ensures refl
           (c.in_ok-entry.ensures ∙ ap P heap.numbered)))
           (no_more_freed (shown (entries_of heap.live) (queued heap.queue)) c.args.block.now c.args.trace heap.redzone heap.bounds.list.items c.requires
           heap.bounded));
@@ -45,7 +45,7 @@ returns-clause-ok c =
     let heap = c.args.self.now in
     let P : ℕ → Entry = λ n. record { block = freed_by c.args.trace c.args.block.now; number = n } in
     enqueued_shown (entries_of heap.live) (entries_of heap.freed) (queued heap.queue) heap.first heap.sound c.args.block.now c.args.trace c.requires
-    _ _ _ _ _ _ _ c.in_ok-pass.ensures.live c.in_ok-pass.ensures.freed c.push.ensures c.in_ok-prepare.ensures.same c.slot_of-slot.ensures refl (c.in_ok-entry.ensures ∙ ap P heap.numbered)
+    _ _ _ _ _ _ _ c.in_ok-move_to_freed.ensures.live c.in_ok-move_to_freed.ensures.freed c.push.ensures c.in_ok-prepare.ensures.same c.slot_of-slot.ensures refl (c.in_ok-entry.ensures ∙ ap P heap.numbered)
 
 pub invariant_of-self-in-Break-branch-3 : goal.invariant_of-self-in-Break-branch-3
 unfolding blocks_of
@@ -53,9 +53,9 @@ invariant_of-self-in-Break-branch-3 c =
     let heap = c.args.self.now in
     record {
       sound = spared_sound (entries_of heap.live) (entries_of heap.freed) (queued heap.queue) heap.first heap.sound c.args.block.now c.args.trace c.requires
-          _ _ _ _ _ c.in_err-pass.ensures.live_err c.prepare.ensures.same c.slot_of-slot.ensures c.in_err-pass.ensures.freed_err;
+          _ _ _ _ _ c.in_err-move_to_freed.ensures.live_err c.prepare.ensures.same c.slot_of-slot.ensures c.in_err-move_to_freed.ensures.freed_err;
       numbered = heap.numbered ∙ ap (λ es. heap.first + length es) (sym c.prepare.ensures.same);
       volume = heap.volume ∙ ap volume_in (sym c.prepare.ensures.same);
-      bounded = same_bounds (entries_of heap.live) (entries_of c.pass.new.live) (queued heap.queue) (queued c.prepare.new.self) heap.redzone
-          heap.bounds.list.items c.in_err-pass.ensures.live_err c.prepare.ensures.same heap.bounded;
+      bounded = same_bounds (entries_of heap.live) (entries_of c.move_to_freed.new.live) (queued heap.queue) (queued c.prepare.new.self) heap.redzone
+          heap.bounds.list.items c.in_err-move_to_freed.ensures.live_err c.prepare.ensures.same heap.bounded;
     }
