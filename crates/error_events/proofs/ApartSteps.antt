@@ -17,10 +17,14 @@ entries-merged before last young whole h =
     entries-push before whole ∙ ap (λ rest. entries_in before ++ rest) h ∙ sym (append_assoc (entries_in before) last young)
     ∙ ap (λ front. front ++ young) (sym (entries-push before last)) ∙ sym (entries-push (before ++ last ∷ []) young)
 
-pub length-pushed : {X : Type 0} (maps new : List (List X)) (kept : ℕ) (whole young : List X) → new ≡ take kept maps ++ whole ∷ []
-    → entries_in (take kept maps ++ whole ∷ []) ≡ entries_in (maps ++ young ∷ [])
-    → length (entries_in new) ≡ length (entries_in maps) + length young
-length-pushed maps new kept whole young is h = ap (λ ms. length (entries_in ms)) is ∙ ap length (h ∙ entries-push maps young) ∙ length-append (entries_in maps) young
+-- some maps, cut and with one behind them
+pub put-is : {X : Type 0} (read reserved cut new : List X) (kept : ℕ) (whole : X) → new ≡ cut ++ whole ∷ [] → cut ≡ take kept reserved → read ≡ reserved → new ≡ take kept read ++ whole ∷ []
+put-is read reserved cut new kept whole d e f = d ∙ ap (λ maps. maps ++ whole ∷ []) (e ∙ ap (take kept) (sym f))
+
+pub length-pushed : {X : Type 0} (maps new : List (List X)) (young copy : List X) (before more len : ℕ) → entries_in new ≡ entries_in (maps ++ copy ∷ []) → copy ≡ young
+    → before ≡ length (entries_in maps) → more ≡ length young → len ≡ before + more → len ≡ length (entries_in new)
+length-pushed maps new young copy before more len h same b m l =
+    l ∙ ap₂ (λ x y. x + y) b (m ∙ ap length (sym same)) ∙ sym (ap length (h ∙ entries-push maps copy) ∙ length-append (entries_in maps) copy)
 
 -- the keys --
 
@@ -57,10 +61,9 @@ module _ {K V : Type 0} (eq : K → K → Bool) where
     apart-merged whole e [] h = (tt, tt)
     apart-merged whole e (x ∷ xs) h = (subst (AreNew eq x) (sym (entries-merged xs last young whole e)) h.0, apart-merged whole e xs h.1)
 
-  -- the maps as a field has them, and a copy of a map
-  pub apart-copied : (maps now : List (List (K × V))) (old young copy : List (K × V)) → now ≡ maps → copy ≡ young → entries_in maps ≡ old → AreApart eq maps
-      → AreNew eq old young → AreApart eq (now ++ copy ∷ [])
-  apart-copied maps now old young copy h k v a n = subst (AreApart eq) (ap₂ (λ ms m. ms ++ m ∷ []) (sym h) (sym k)) (apart-push maps young a (subst (λ es. AreNew eq es young) (sym v) n))
+  -- maps, and a copy of a new one behind them
+  pub apart-copied : (maps : List (List (K × V))) (old young copy : List (K × V)) → copy ≡ young → entries_in maps ≡ old → AreApart eq maps → AreNew eq old young → AreApart eq (maps ++ copy ∷ [])
+  apart-copied maps old young copy h v a n = subst (λ m. AreApart eq (maps ++ m ∷ [])) (sym h) (apart-push maps young a (subst (λ es. AreNew eq es young) (sym v) n))
 
   module _ (maps before : List (List (K × V))) (last young : List (K × V)) (front : maps ≡ before ++ last ∷ []) where
     pub last-apart : AreApart eq (maps ++ young ∷ []) → AreNew eq last young

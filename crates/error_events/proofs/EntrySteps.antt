@@ -1,7 +1,7 @@
 -- Entries of a map: with a key that is new, and as a clone.
 use Rattle.std.proofs.Common.{◌≡◌, ℕ, ◌+◌, suc, length, nat_lt, not, arith, List, [], ◌∷◌, ◌++◌, Bool, true, false, cond, if◌then◌else◌, Option, Some, None, Result, Ok}
-use Rattle.std.proofs.Common.{Err, map, position, refl, ap, ap₂, sym, ◌∙◌}
-use Rattle.std.specs.Prelude.{MatchResult, IfOk}
+use Rattle.std.proofs.Common.{Err, map, position, refl, ap, ap₂, subst, sym, ◌∙◌, ◌⊎◌, inl, inr}
+use Rattle.std.specs.Prelude.{MatchResult, IfOk, IsOk, OnErr}
 use Rattle.std.specs.Option.{option_map}
 use Rattle.std.specs.List.{AllZip, position_or_len}
 use Rattle.std.proofs.lemmas.Bool.Decides.{nat_tests}
@@ -58,6 +58,21 @@ clone-entries C D c d [] [] h = refl
 clone-entries C D c d [] (f ∷ fs) h = absurd h
 clone-entries C D c d (e ∷ es) [] h = absurd h
 clone-entries C D c d (e ∷ es) (f ∷ fs) h = ap₂ (λ x xs. x ∷ xs) (ap₂ (λ k v. (k, v)) (c e.0 f.0 h.0.0) (d e.1 f.1 h.0.1)) (clone-entries C D c d es fs h.1)
+
+-- what a map holds that may be written: what it held, or a clone of that
+pub own-entries : {K V S : Type 0} (C : K → K → Type 0) (D : V → V → Type 0) → IsSameClone C → IsSameClone D → (m own : HashMap K V S) → (own ≡ m) ⊎ IsClone C D m own → own.entries ≡ m.entries
+own-entries C D c d m own (inl h) = ap (λ n. n.entries) h
+own-entries C D c d m own (inr h) = clone-entries C D c d m.entries own.entries h
+
+pub is-ok : {T E : Type 0} (r : Result T E) (x : T) → r ≡ Ok x → IsOk r
+is-ok r x h = subst IsOk (sym h) refl
+
+pub at-err : {T E : Type 0} (r : Result T E) (e : E) (P : Type 0) → r ≡ Err e → OnErr r P → P
+at-err r e P h on = subst (λ x. OnErr x P) h on
+
+pub on-err : {T E : Type 0} (r : Result T E) (P : Type 0) → P → OnErr r P
+on-err (Ok x) P h = tt
+on-err (Err e) P h = h
 
 pub clone-result : {K V S E : Type 0} (C : K → K → Type 0) (D : V → V → Type 0) → IsSameClone C → IsSameClone D → (m : HashMap K V S) (r : Result (HashMap K V S) E) (Q : E → Type 0)
     → MatchResult r (λ n. IsClone C D m n) Q → IfOk r (λ n. n.entries ≡ m.entries)

@@ -2,7 +2,7 @@ use crate::kind::Kind;
 use call_stacks::{Near, Trace};
 
 /// What an error says of an address (Memcheck manual, section 4.2.1).
-#[derive(Clone, Copy, Debug)]
+#[derive(Clone, Copy)]
 pub enum Note {
     /// Nothing: it is about none.
     Absent,
@@ -15,7 +15,7 @@ pub enum Note {
 }
 
 /// An error.
-#[derive(Clone, Copy, Debug)]
+#[derive(Clone, Copy)]
 pub struct Event {
     /// What it is.
     pub kind: Kind,
@@ -26,7 +26,7 @@ pub struct Event {
 }
 
 /// The errors of one kind and one trace.
-#[derive(Clone, Copy, Debug)]
+#[derive(Clone, Copy)]
 pub struct Group {
     /// What they are.
     pub kind: Kind,
@@ -39,7 +39,7 @@ pub struct Group {
 }
 
 /// What errors of one group share.
-#[derive(Clone, Copy, Debug, PartialEq, Eq, Hash)]
+#[derive(Clone, Copy, PartialEq, Eq, Hash)]
 pub(crate) struct Key {
     pub(crate) kind: Kind,
     pub(crate) trace: Trace,

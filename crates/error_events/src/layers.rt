@@ -85,6 +85,26 @@ fn taken_up<K: Eq + Hash + Copy + Drop, V: Copy + Drop>(
     }
 }
 
+/// Puts a new map behind others. It takes up the smaller ones before it.
+fn put_behind<K: Eq + Hash + Copy + Drop, V: Copy + Drop>(
+    alloc: Global,
+    maps: &mut Vec<SharedMap<K, V>>,
+    young: SharedMap<K, V>,
+) -> Result<(), AllocError>
+    requires keys { IsSameClone K.is_clone }
+    requires values { IsSameClone V.is_clone }
+    requires apart { AreApart K.eq (maps.old.items ++ young ∷ []) }
+    ensures apart { OnOk result (AreApart K.eq maps.new.items) }
+    ensures entries { OnOk result (entries_in maps.new.items ≡ entries_in (maps.old.items ++ young ∷ [])) }
+    ensures err { OnErr result (maps.new.items ≡ maps.old.items) }
+{
+    maps.reserve(1)?;
+    let (kept, whole) = taken_up(alloc, maps, young)?;
+    maps.truncate(kept);
+    maps.push(whole)?;
+    Ok(())
+}
+
 impl<K: Eq + Hash + Copy + Drop, V: Copy + Drop> Layers<K, V> {
     /// No maps, which take no memory.
     pub(crate) fn new(alloc: Global) -> Self
@@ -129,10 +149,7 @@ impl<K: Eq + Hash + Copy + Drop, V: Copy + Drop> Layers<K, V> {
         let Some(len) = self.len.checked_add(young.len()) else {
             return Err(AllocError);
         };
-        self.maps.reserve(1)?;
-        let (kept, whole) = taken_up(alloc, &self.maps, young.share()?)?;
-        self.maps.truncate(kept);
-        self.maps.push(whole)?;
+        put_behind(alloc, &mut self.maps, young.share()?)?;
         self.len = len;
         Ok(())
     }

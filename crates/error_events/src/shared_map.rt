@@ -35,6 +35,21 @@ fn copy<K: Eq + Hash + Copy + Drop, V: Copy + Drop>(
     map.clone()
 }
 
+/// Puts copies of a map's entries behind those of another.
+fn append<K: Eq + Hash + Copy + Drop, V: Copy + Drop>(
+    whole: &mut IndexMap<K, V>,
+    second: &IndexMap<K, V>,
+) -> Result<(), AllocError>
+    requires keys { IsSameClone K.is_clone }
+    requires values { IsSameClone V.is_clone }
+    requires apart { AreNew K.eq whole.old.entries second.now.entries }
+    ensures { OnOk result (whole.new.entries ≡ whole.old.entries ++ second.now.entries) }
+{
+    whole.reserve(second.len())?;
+    let mut rest = copy(second)?;
+    whole.append(&mut rest)
+}
+
 /// A map of the entries of two.
 fn join<K: Eq + Hash + Copy + Drop, V: Copy + Drop>(
     first: &IndexMap<K, V>,
@@ -46,15 +61,12 @@ fn join<K: Eq + Hash + Copy + Drop, V: Copy + Drop>(
     ensures { IfOk result (λ whole. whole.entries ≡ first.now.entries ++ second.now.entries) }
 {
     let mut whole = copy(first)?;
-    whole.reserve(second.len())?;
-    let mut rest = copy(second)?;
-    whole.append(&mut rest)?;
+    append(&mut whole, second)?;
     Ok(whole)
 }
 
 /// Inserts a pair. The other owners keep the map as it was.
 fn insert<K: Eq + Hash + Copy + Drop, V: Copy + Drop>(
-    alloc: Global,
     shared: &mut Rc<IndexMap<K, V>>,
     key: K,
     value: V,
@@ -65,13 +77,8 @@ fn insert<K: Eq + Hash + Copy + Drop, V: Copy + Drop>(
     ensures ok { OnOk result (shared.new.value.entries ≡ shared.old.value.entries ++ (key, value) ∷ []) }
     ensures err { OnErr result (shared.new.value.entries ≡ shared.old.value.entries) }
 {
-    if let Some(map) = Rc::get_mut(shared) {
-        map.insert(key, value)?;
-        return Ok(());
-    }
-    let mut map = copy(shared)?;
-    map.insert(key, value)?;
-    *shared = Rc::new(alloc, map)?;
+    let own = Rc::make_mut(shared)?;
+    own.insert(key, value)?;
     Ok(())
 }
 
@@ -112,14 +119,30 @@ impl<K: Eq + Hash + Copy + Drop, V: Copy + Drop> SharedMap<K, V> {
         ensures err { OnErr result (self.new ≡ self.old) }
     {
         match &mut self.map {
-            Some(shared) => insert(alloc, shared, key, value)?,
+            Some(shared) => insert(shared, key, value),
             None => {
-                let mut map = IndexMap::new(alloc);
-                map.insert(key, value)?;
-                self.map = Some(Rc::new(alloc, map)?);
+                *self = Self::with_one(alloc, key, value)?;
+                Ok(())
             }
         }
-        Ok(())
+    }
+
+    /// A map of one entry.
+    fn with_one(alloc: Global, key: K, value: V) -> Result<Self, AllocError>
+        ensures { IfOk result (λ one. one ≡ (key, value) ∷ []) }
+    {
+        let mut map = IndexMap::new(alloc);
+        map.insert(key, value)?;
+        Self::unshared(alloc, map)
+    }
+
+    /// A map that nothing shares yet.
+    fn unshared(alloc: Global, map: IndexMap<K, V>) -> Result<Self, AllocError>
+        ensures { IfOk result (λ unshared. unshared ≡ map.entries) }
+    {
+        Ok(SharedMap {
+            map: Some(Rc::new(alloc, map)?),
+        })
     }
 
     /// How many entries there are.
@@ -148,12 +171,7 @@ impl<K: Eq + Hash + Copy + Drop, V: Copy + Drop> SharedMap<K, V> {
         ensures { IfOk result (λ whole. whole ≡ self.now ++ other.now) }
     {
         match (&self.map, &other.map) {
-            (Some(first), Some(second)) => {
-                let whole = join(first, second)?;
-                Ok(SharedMap {
-                    map: Some(Rc::new(alloc, whole)?),
-                })
-            }
+            (Some(first), Some(second)) => Self::unshared(alloc, join(first, second)?),
             (Some(_), None) => self.share(),
             (None, _) => other.share(),
         }

@@ -1,7 +1,7 @@
 use call_stacks::Block;
 
 /// What the release of an address did.
-#[derive(Clone, Copy, Debug)]
+#[derive(Clone, Copy)]
 pub enum Released {
     /// The block that was live there is freed; it has the trace of the release.
     Done(Block),

@@ -25,13 +25,13 @@ hidden-are law rules image callers gs groups keep es same tests found =
     ∙ ap (λ ks. grouped (map (cut callers) (kept ks es))) (tests ∙ ap (map (test rules image)) same)
     ∙ ap (λ fs. grouped (map (cut callers) fs)) (law (hides rules image) es)
 
-pub shown-are : KeptByTest → (rules : List Rule) (image : Image) (callers : ℕ) (gs groups : List Group) (hidden keep : List Bool) (es : List Event)
-    → gs ≡ grouped es → hidden ≡ map (λ g. hides rules image g.kind g.trace) gs → keep ≡ map not hidden → groups ≡ regrouped callers keep es
+pub shown-are : KeptByTest → (rules : List Rule) (image : Image) (callers : ℕ) (gs groups : List Group) (hidden : List Bool) (es : List Event)
+    → gs ≡ grouped es → hidden ≡ map (λ g. hides rules image g.kind g.trace) gs → groups ≡ regrouped callers (map not hidden) es
     → groups ≡ shown_groups rules image callers es
 unfolding regrouped shown_groups
-shown-are law rules image callers gs groups hidden keep es same tests turned found =
+shown-are law rules image callers gs groups hidden es same tests found =
     found
-    ∙ ap (λ ks. grouped (map (cut callers) (kept ks es))) (turned ∙ ap (map not) (tests ∙ ap (map (test rules image)) same) ∙ map-not (test rules image) (grouped es))
+    ∙ ap (λ ks. grouped (map (cut callers) (kept ks es))) (ap (map not) (tests ∙ ap (map (test rules image)) same) ∙ map-not (test rules image) (grouped es))
     ∙ ap (λ fs. grouped (map (cut callers) fs)) (law (λ kind trace. not (hides rules image kind trace)) es)
 
 -- one more group is tested

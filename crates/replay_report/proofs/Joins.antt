@@ -1,37 +1,40 @@
 -- Pieces put at the end one after another.
-use Rattle.std.proofs.Common.{◌≡◌, ℕ, List, ◌++◌, ap, ap₂, sym, ◌∙◌, append_assoc, codes, length}
+use Rattle.std.proofs.Common.{◌≡◌, ℕ, ◌+◌, ◌<◌, List, [], ◌∷◌, ◌++◌, ap, ap₂, sym, ◌∙◌, append_assoc, append-nil, codes, get_or, length, take}
+use Rattle.std.proofs.lemmas.List.{take_more}
+use Rattle.std.proofs.lemmas.List.Concat.{flat_map-append}
+use Rattle.std.specs.List.{flat_map}
 use Rattle.std.specs.Fmt.{decimal}
-use Rattle.guest_elf.specs.declared.image.Image.{Image}
-use Rattle.guest_machine.specs.declared.status.Status.{Status}
-use Rattle.guest_machine.specs.declared.status.Status.TheVariants.{Running}
-use Rattle.error_events.specs.declared.event.Note.{Note}
-use Rattle.error_events.specs.declared.event.Note.TheVariants.{Elsewhere}
 use Rattle.replay_report.specs.Text.{address_text, newline}
 use Rattle.call_stacks.specs.declared.block.Block.{Block}
 use Rattle.error_events.specs.Parameters.{parameter_text}
 use Rattle.error_events.specs.declared.parameter.Parameter.{Parameter}
 use Rattle.error_events.specs.declared.kind.Fault3.{Fault3}
 use Rattle.error_events.specs.declared.event.Group.{Group}
-use Rattle.replay_report.specs.Lines.{state_line, note_lines, fault_text, param_text, state_text, near_back, error_total, shown_summary}
+use Rattle.replay_report.specs.Lines.{fault_text, param_text, state_text, near_back, error_total, shown_summary}
 
 -- a piece after others
 pub joined : {X : Type 0} (o p q a b : List X) → p ≡ o ++ a → q ≡ p ++ b → q ≡ o ++ (a ++ b)
 joined o p q a b d e = e ∙ ap (λ x. x ++ b) d ∙ append_assoc o a b
 
-pub running_joined : (o p q r : List ℕ) (pc : ℕ) (status : Status) → status ≡ Running → p ≡ o ++ codes "state running " → q ≡ p ++ address_text pc → r ≡ q ++ newline → r ≡ o ++ state_line status pc
-unfolding state_line
-running_joined o p q r pc status is d e f =
-    joined o q r (codes "state running " ++ address_text pc) newline (joined o p q (codes "state running ") (address_text pc) d e) f
-    ∙ ap (λ s. o ++ state_line s pc) (sym is)
+-- the items up to one, and that one
+pub next_taken : {X : Type 0} (xs : List X) (i : ℕ) (d x : X) → i < length xs → x ≡ get_or xs i d → take i xs ++ x ∷ [] ≡ take (i + 1) xs
+next_taken xs i d x within is = ap (λ y. take i xs ++ y ∷ []) is ∙ sym (take_more xs i d within)
 
-pub elsewhere_joined : (image : Image) (callers : ℕ) (o p q r t : List ℕ) (a : ℕ) (note : Note) → note ≡ Elsewhere a → p ≡ o ++ codes " Address "
-    → q ≡ p ++ address_text a → r ≡ q ++ codes " is not stack'd, malloc'd or (recently) free'd" → t ≡ r ++ newline → t ≡ o ++ note_lines image callers note
-unfolding note_lines
-elsewhere_joined image callers o p q r t a note is d e f g =
-    let address = codes " Address " ++ address_text a in
-    let text = address ++ codes " is not stack'd, malloc'd or (recently) free'd" in
-    joined o r t text newline (joined o q r address (codes " is not stack'd, malloc'd or (recently) free'd") (joined o p q (codes " Address ") (address_text a) d e) f) g
-    ∙ ap (λ n. o ++ note_lines image callers n) (sym is)
+-- what one more item adds after what those before it made, if it adds anything
+module _ {X Y : Type 0} (f : List X → List Y) (xs : List X) (i : ℕ) (d x : X) (o p q : List Y) (within : i < length xs) (is : x ≡ get_or xs i d) (before : p ≡ o ++ f (take i xs)) where
+  pub joined_more : (a : List Y) → f (take i xs ++ x ∷ []) ≡ f (take i xs) ++ a → q ≡ p ++ a → q ≡ o ++ f (take (i + 1) xs)
+  joined_more a more e = joined o p q (f (take i xs)) a before e ∙ ap (λ y. o ++ y) (sym more ∙ ap f (next_taken xs i d x within is))
+
+  pub joined_same : f (take i xs ++ x ∷ []) ≡ f (take i xs) → q ≡ p → q ≡ o ++ f (take (i + 1) xs)
+  joined_same same e = e ∙ before ∙ ap (λ y. o ++ y) (sym same ∙ ap f (next_taken xs i d x within is))
+
+pub flat_joined : {X Y : Type 0} (g : X → List Y) (xs : List X) (i : ℕ) (x : X) (o p q : List Y) → i < length xs → x ≡ get_or xs i x → p ≡ o ++ flat_map g (take i xs) → q ≡ p ++ g x
+    → q ≡ o ++ flat_map g (take (i + 1) xs)
+flat_joined g xs i x o p q within is before e =
+    joined_more (flat_map g) xs i x x o p q within is before (g x) (flat_map-append g (take i xs) (x ∷ []) ∙ ap (λ y. flat_map g (take i xs) ++ y) (append-nil (g x))) e
+
+pub running_joined : (o p q r : List ℕ) (pc : ℕ) → p ≡ o ++ codes "state running " → q ≡ p ++ address_text pc → r ≡ q ++ newline → r ≡ o ++ (codes "state running " ++ address_text pc ++ newline)
+running_joined o p q r pc d e f = joined o q r (codes "state running " ++ address_text pc) newline (joined o p q (codes "state running ") (address_text pc) d e) f
 
 pub param_joined : (o p q r t u : List ℕ) (parameter : Parameter) (fault : Fault3) → t ≡ parameter_text parameter → u ≡ fault_text fault
     → p ≡ o ++ codes "Syscall param " → q ≡ p ++ t → r ≡ q ++ u → r ≡ o ++ param_text parameter fault

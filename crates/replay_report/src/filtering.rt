@@ -1,5 +1,8 @@
 //! Which errors are shown, and their groups.
-ghost use Rattle.std.specs.Prelude.{◌≡◌, ◌<◌, IfOk, Some, map, not};
+ghost use Rattle.std.specs.Prelude.{◌≡◌, ◌<◌, IfOk, List, Some, length, map, not};
+ghost use Rattle.error_events.specs.Groups.{grouped};
+ghost use Rattle.error_events.specs.Regrouping.{regrouped};
+ghost use Rattle.error_events.specs.declared.event.Event.{Event};
 ghost use Rattle.error_events.specs.declared.event.Group.{Group};
 ghost use Rattle.error_events.specs.Shown.{groups_of};
 ghost use Rattle.guest_machine.specs.State.{State};
@@ -70,6 +73,21 @@ fn turned(alloc: Global, tests: &[bool]) -> Result<Vec<bool>, AllocError>
     tests.iter().map(|test| !*test).collect(alloc)
 }
 
+/// The groups of the errors that are shown, by which groups are hidden.
+fn shown_groups(
+    alloc: Global,
+    all: &Groups,
+    callers: u32,
+    hidden: &[bool],
+) -> Result<Vec<Group>, AllocError>
+    requires each { length hidden.now ≡ length (groups_of all.now) }
+    requires some { 0 < callers }
+    ensures { IfOk result (λ shown. (es : List Event) → groups_of all.now ≡ grouped es → shown.items ≡ regrouped callers (map not hidden.now) es) }
+{
+    let shown = turned(alloc, hidden)?;
+    all.regroup(callers, &shown)
+}
+
 /// The groups of the errors that are shown, and of those that are only counted.
 pub(crate) fn split_groups(
     alloc: Global,
@@ -84,10 +102,7 @@ pub(crate) fn split_groups(
 {
     let groups = machine.groups();
     let hidden = hidden_of(alloc, groups, suppressions, image)?;
-    let shown = turned(alloc, &hidden)?;
     kept_by_test();
-    Ok((
-        groups.regroup(callers, &shown)?,
-        groups.regroup(callers, &hidden)?,
-    ))
+    let shown = shown_groups(alloc, groups, callers, &hidden)?;
+    Ok((shown, groups.regroup(callers, &hidden)?))
 }

@@ -1,6 +1,7 @@
 //! The lines of a report on leaked blocks.
 ghost use Rattle.std.specs.Prelude.{◌≡◌, ◌++◌, ◌<◌, OnOk, codes};
 ghost use Rattle.std.specs.List.{flat_map};
+ghost use Rattle.replay_report.specs.Leaks.{leak_groups};
 ghost use Rattle.replay_report.specs.LeakLines.{leak_text, amount_text, leak_line, leak_lines, blocks_line, kind_line, total_lines, leak_section};
 
 use crate::leaks::{BlockSum, LeakKey, is_shown, leak_groups, split_records, sum_of, sum_of_kind};
@@ -67,7 +68,7 @@ fn push_group(
 }
 
 /// The groups of leaks whose kind is shown, in their order.
-pub(crate) fn push_leak_groups(
+fn push_leak_groups(
     out: &mut Vec<u8>,
     image: &Image,
     show: &[bool; 4],
@@ -115,6 +116,21 @@ pub(crate) fn push_totals(
     push_blocks(out, b"suppressed", sum_of(hidden))
 }
 
+/// The groups of some records whose kind is shown, in order of their first blocks.
+fn push_groups_of(
+    alloc: Global,
+    out: &mut Vec<u8>,
+    view: &View,
+    records: &[LeakRecord],
+) -> Result<(), AllocError>
+    requires { 0 < view.now.options.now.callers }
+    ensures { OnOk result (out.new.items ≡ out.old.items
+        ++ flat_map (leak_lines view.now.image.now view.now.options.now.show) (leak_groups view.now.options.now.callers records.now)) }
+{
+    let groups = leak_groups(alloc, records, view.options.callers)?;
+    push_leak_groups(out, view.image, &view.options.show, &groups)
+}
+
 /// The lines on leaked blocks, with these records of the live ones.
 #[tactic(auto, unfolding(crate::specs::LeakLines::leak_section), using(std::proofs::Common::append_assoc))]
 pub(crate) fn push_leaks(
@@ -127,7 +143,6 @@ pub(crate) fn push_leaks(
     ensures { OnOk result (out.new.items ≡ out.old.items ++ leak_section view.now.image.now view.now.suppressions.now view.now.options.now records.now) }
 {
     let (shown, hidden) = split_records(alloc, records, view.image, view.suppressions)?;
-    let groups = leak_groups(alloc, &shown, view.options.callers)?;
-    push_leak_groups(out, view.image, &view.options.show, &groups)?;
+    push_groups_of(alloc, out, view, &shown)?;
     push_totals(out, &shown, &hidden)
 }

@@ -1,5 +1,5 @@
 //! The live blocks that a report shows as leaked, their groups and their sums.
-ghost use Rattle.std.specs.Prelude.{◌≡◌, ◌<◌, IfOk, OnOk, map, unwrap_or};
+ghost use Rattle.std.specs.Prelude.{◌≡◌, ◌++◌, ◌<◌, IfOk, OnOk, map, unwrap_or};
 ghost use Rattle.replay_report.specs.Leaks.{is_hidden, shown_records, hidden_records, of_kind, sum_of, no_blocks, with_block, key_of, with_leak, leak_groups, is_shown};
 ghost use Rattle.indexmap.specs.IndexMap.{get_by as get};
 
@@ -13,7 +13,7 @@ use std::alloc::{AllocError, Global};
 use suppressions::{Suppression, Target, is_suppressed};
 
 /// What the blocks of a group have in common.
-#[derive(Clone, Copy, Debug, PartialEq, Eq, Hash)]
+#[derive(Clone, Copy, PartialEq, Eq, Hash)]
 pub(crate) struct LeakKey {
     pub(crate) kind: LeakKind,
     /// The first addresses of the traces of their allocations.
@@ -21,7 +21,7 @@ pub(crate) struct LeakKey {
 }
 
 /// How much some blocks are.
-#[derive(Clone, Copy, Debug, PartialEq, Eq)]
+#[derive(Clone, Copy)]
 pub(crate) struct BlockSum {
     pub(crate) bytes: u64,
     pub(crate) blocks: u64,
@@ -46,8 +46,29 @@ fn is_hidden(
     Ok(is_suppressed(suppressions, &Target::Leak(leak.kind), &names))
 }
 
+/// Puts each record with those that no suppression matches, or with the others.
+fn share_out(
+    alloc: Global,
+    records: &[LeakRecord],
+    image: &Image,
+    suppressions: &[Suppression],
+    shown: &mut Vec<LeakRecord>,
+    hidden: &mut Vec<LeakRecord>,
+) -> Result<(), AllocError>
+    ensures shown { OnOk result (shown.new.items ≡ shown.old.items ++ shown_records suppressions.now image.now records.now) }
+    ensures hidden { OnOk result (hidden.new.items ≡ hidden.old.items ++ hidden_records suppressions.now image.now records.now) }
+{
+    for record in records {
+        if is_hidden(alloc, record, image, suppressions)? {
+            hidden.push(*record)?;
+        } else {
+            shown.push(*record)?;
+        }
+    }
+    Ok(())
+}
+
 /// The records that no suppression matches, and the others.
-#[tactic(auto, using(crate::proofs::LeakSteps::shown_more, crate::proofs::LeakSteps::shown_same, crate::proofs::LeakSteps::hidden_more, crate::proofs::LeakSteps::hidden_same), unfolding(crate::specs::Leaks::shown_records, crate::specs::Leaks::hidden_records))]
 pub(crate) fn split_records(
     alloc: Global,
     records: &[LeakRecord],
@@ -59,13 +80,7 @@ pub(crate) fn split_records(
 {
     let mut shown = Vec::new(alloc);
     let mut hidden = Vec::new(alloc);
-    for record in records {
-        if is_hidden(alloc, record, image, suppressions)? {
-            hidden.push(*record)?;
-        } else {
-            shown.push(*record)?;
-        }
-    }
+    share_out(alloc, records, image, suppressions, &mut shown, &mut hidden)?;
     Ok((shown, hidden))
 }
 
@@ -92,7 +107,7 @@ pub(crate) fn sum_of(records: &[LeakRecord]) -> BlockSum
 }
 
 /// How much the blocks of a kind are.
-#[tactic(auto, using(crate::proofs::LeakSteps::kind_more, crate::proofs::LeakSteps::kind_same, crate::proofs::LeakSteps::leak_eq), unfolding(crate::specs::Leaks::of_kind, crate::specs::Leaks::sum_of))]
+#[tactic(auto, unfolding(crate::specs::Leaks::of_kind, crate::specs::Leaks::sum_of))]
 pub(crate) fn sum_of_kind(records: &[LeakRecord], kind: LeakKind) -> BlockSum
     ensures { result ≡ sum_of (of_kind kind records.now) }
 {

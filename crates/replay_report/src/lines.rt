@@ -1,7 +1,9 @@
 //! The lines of a report.
 ghost use Rattle.std.specs.Prelude.{◌≡◌, ◌++◌, ◌≤◌, ◌<◌, OnOk, codes, take};
+ghost use Rattle.std.specs.Fmt.{decimal};
 ghost use Rattle.std.specs.List.{flat_map};
-ghost use Rattle.replay_report.specs.Lines.{step_line, state_line, stop_word, input_line, output_line, fault_text, param_text, kind_text, error_line, frame_line, trace_lines, place_text, state_text, last_trace, near_front, near_back, note_lines, group_lines, error_total, shown_summary, hidden_summary, summary_line};
+ghost use Rattle.replay_report.specs.Lines.{step_line, state_line, stop_word, input_line, output_line, fault_text, param_text, kind_text, error_line, frame_line, trace_lines, place_text, state_text, last_trace, near_front, near_back, near_line, note_lines, group_lines, error_total, shown_summary, hidden_summary, summary_line};
+ghost use Rattle.replay_report.specs.Text.{address_text, newline};
 
 use crate::text::{push_address, push_name, push_number, push_text};
 use call_stacks::{Block, Near, Place, Trace};
@@ -32,30 +34,47 @@ fn stop_word(stop: Stop) -> &'static [u8]
     }
 }
 
+/// `state running A`
+#[tactic(auto, using(std::proofs::Common::append_assoc))]
+fn push_running(out: &mut Vec<u8>, pc: u32) -> Result<(), AllocError>
+    ensures { OnOk result (out.new.items ≡ out.old.items ++ (codes "state running " ++ address_text pc ++ newline)) }
+{
+    push_text(out, b"state running ")?;
+    push_address(out, pc)?;
+    push_text(out, b"\n")
+}
+
+/// `state exited C`
+#[tactic(auto, using(std::proofs::Common::append_assoc))]
+fn push_exited(out: &mut Vec<u8>, code: u8) -> Result<(), AllocError>
+    ensures { OnOk result (out.new.items ≡ out.old.items ++ (codes "state exited " ++ decimal code ++ newline)) }
+{
+    push_text(out, b"state exited ")?;
+    push_number(out, u64::from(code))?;
+    push_text(out, b"\n")
+}
+
+/// `state stopped W A`
+#[tactic(auto, using(std::proofs::Common::append_assoc))]
+fn push_stopped(out: &mut Vec<u8>, stop: Stop, pc: u32) -> Result<(), AllocError>
+    ensures { OnOk result (out.new.items ≡ out.old.items ++ (codes "state stopped " ++ stop_word stop ++ codes " " ++ address_text pc ++ newline)) }
+{
+    push_text(out, b"state stopped ")?;
+    push_text(out, stop_word(stop))?;
+    push_text(out, b" ")?;
+    push_address(out, pc)?;
+    push_text(out, b"\n")
+}
+
 /// `state running A`, `state exited C` or `state stopped W A`, where A is pc.
-#[tactic(auto, unfolding(crate::specs::Lines::state_line), using(std::proofs::Common::append_assoc))]
+#[tactic(auto, unfolding(crate::specs::Lines::state_line))]
 pub(crate) fn push_state(out: &mut Vec<u8>, status: Status, pc: u32) -> Result<(), AllocError>
     ensures { OnOk result (out.new.items ≡ out.old.items ++ state_line status pc) }
 {
     match status {
-        Status::Running => {
-            push_text(out, b"state running ")?;
-            push_address(out, pc)?;
-            push_text(out, b"\n")?;
-            Ok(())
-        }
-        Status::Exited(code) => {
-            push_text(out, b"state exited ")?;
-            push_number(out, u64::from(code))?;
-            push_text(out, b"\n")
-        }
-        Status::Stopped(stop) => {
-            push_text(out, b"state stopped ")?;
-            push_text(out, stop_word(stop))?;
-            push_text(out, b" ")?;
-            push_address(out, pc)?;
-            push_text(out, b"\n")
-        }
+        Status::Running => push_running(out, pc),
+        Status::Exited(code) => push_exited(out, code),
+        Status::Stopped(stop) => push_stopped(out, stop, pc),
     }
 }
 
@@ -103,20 +122,23 @@ fn push_param(out: &mut Vec<u8>, parameter: Parameter, fault: Fault3) -> Result<
     Ok(())
 }
 
+/// Bytes, and a number after them.
+#[tactic(auto, using(std::proofs::Common::append_assoc))]
+fn push_sized(out: &mut Vec<u8>, text: &[u8], n: u8) -> Result<(), AllocError>
+    ensures { OnOk result (out.new.items ≡ out.old.items ++ (text.now ++ decimal n)) }
+{
+    push_text(out, text)?;
+    push_number(out, u64::from(n))
+}
+
 /// What an error is called.
-#[tactic(auto, unfolding(crate::specs::Lines::kind_text), using(std::proofs::Common::append_assoc))]
+#[tactic(auto, unfolding(crate::specs::Lines::kind_text))]
 fn push_kind(out: &mut Vec<u8>, kind: Kind) -> Result<(), AllocError>
     ensures { OnOk result (out.new.items ≡ out.old.items ++ kind_text kind) }
 {
     match kind {
-        Kind::Read(n) => {
-            push_text(out, b"Invalid read of size ")?;
-            push_number(out, u64::from(n))
-        }
-        Kind::Write(n) => {
-            push_text(out, b"Invalid write of size ")?;
-            push_number(out, u64::from(n))
-        }
+        Kind::Read(n) => push_sized(out, b"Invalid read of size ", n),
+        Kind::Write(n) => push_sized(out, b"Invalid write of size ", n),
         Kind::Value => push_text(out, b"Use of uninitialised value of size 4"),
         Kind::Cond => push_text(
             out,
@@ -242,32 +264,49 @@ fn push_near_back(out: &mut Vec<u8>, block: &Block) -> Result<(), AllocError>
     Ok(())
 }
 
+/// What an error says of an address in a block, or near one.
+#[tactic(auto, using(std::proofs::Common::append_assoc))]
+fn push_near(
+    out: &mut Vec<u8>,
+    image: &Image,
+    callers: u32,
+    addr: u32,
+    near: &Near,
+) -> Result<(), AllocError>
+    ensures { OnOk result (out.new.items ≡ out.old.items ++ (near_line addr near.now ++ trace_lines image.now (take callers (last_trace near.now.block)))) }
+{
+    push_near_front(out, addr, near)?;
+    push_near_back(out, &near.block)?;
+    let trace = last_trace(&near.block);
+    push_trace(out, image, front(trace.addresses(), callers))
+}
+
+/// ` Address A`, and what is said of it.
+#[tactic(auto, using(std::proofs::Common::append_assoc))]
+fn push_about(out: &mut Vec<u8>, addr: u32, text: &[u8]) -> Result<(), AllocError>
+    ensures { OnOk result (out.new.items ≡ out.old.items ++ (codes " Address " ++ address_text addr ++ text.now ++ newline)) }
+{
+    push_text(out, b" Address ")?;
+    push_address(out, addr)?;
+    push_text(out, text)?;
+    push_text(out, b"\n")
+}
+
 /// What an error says of an address, if it says anything.
-#[tactic(auto, unfolding(crate::specs::Lines::note_lines), using(std::proofs::Common::append_assoc))]
+#[tactic(auto, unfolding(crate::specs::Lines::note_lines))]
 fn push_note(out: &mut Vec<u8>, image: &Image, callers: u32, note: &Note) -> Result<(), AllocError>
     ensures { OnOk result (out.new.items ≡ out.old.items ++ note_lines image.now callers note.now) }
 {
     match note {
         Note::Absent => Ok(()),
-        Note::Near(addr, near) => {
-            push_near_front(out, *addr, near)?;
-            push_near_back(out, &near.block)?;
-            let trace = last_trace(&near.block);
-            push_trace(out, image, front(trace.addresses(), callers))
-        }
-        Note::Stack(addr) => {
-            push_text(out, b" Address ")?;
-            push_address(out, *addr)?;
-            push_text(out, b" is in the stack region")?;
-            push_text(out, b"\n")?;
-            Ok(())
-        }
+        Note::Near(addr, near) => push_near(out, image, callers, *addr, near),
+        Note::Stack(addr) => push_about(out, *addr, b" is in the stack region"),
         Note::Elsewhere(addr) => {
-            push_text(out, b" Address ")?;
-            push_address(out, *addr)?;
-            push_text(out, b" is not stack'd, malloc'd or (recently) free'd")?;
-            push_text(out, b"\n")?;
-            Ok(())
+            push_about(
+                out,
+                *addr,
+                b" is not stack'd, malloc'd or (recently) free'd",
+            )
         }
     }
 }

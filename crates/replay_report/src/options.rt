@@ -5,7 +5,7 @@ use guest_elf::Image;
 use suppressions::Suppression;
 
 /// What a user chooses of a report (Memcheck manual, options `--num-callers` and `--show-leak-kinds`).
-#[derive(Clone, Copy, Debug, PartialEq, Eq)]
+#[derive(Clone, Copy)]
 pub struct Options {
     /// How many addresses of a trace are shown, from 1 to 24.
     pub callers: u32,

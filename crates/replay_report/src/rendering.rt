@@ -3,12 +3,16 @@ ghost use Rattle.std.specs.Prelude.{◌≡◌, ◌++◌, ◌<◌, ◌≤◌, IfO
 ghost use Rattle.call_stacks.specs.Frames.{longest_trace};
 ghost use Rattle.guest_machine.specs.State.{State};
 ghost use Rattle.guest_machine.specs.Shows.{Shows};
+ghost use Rattle.std.specs.List.{flat_map};
+ghost use Rattle.replay_report.specs.Lines.{group_lines, summary_line};
+ghost use Rattle.replay_report.specs.LeakLines.{leak_section};
 ghost use Rattle.replay_report.specs.Report.{head_lines, report_text, IsReport, AppendsReport};
 
 use crate::filtering::split_groups;
 use crate::leak_lines::push_leaks;
 use crate::lines::{push_groups, push_input, push_output, push_state, push_step, push_summary};
 use crate::options::{Options, View};
+use error_events::Group;
 use guest_elf::Image;
 use guest_machine::Machine;
 use leak_search::{LeakRecord, search};
@@ -36,6 +40,25 @@ fn push_head(out: &mut Vec<u8>, moment: &Moment) -> Result<(), AllocError>
     push_output(out, machine.output_len())
 }
 
+/// The lines of a report after its first, with these groups of errors and these records of the live blocks.
+#[tactic(auto, using(std::proofs::Common::append_assoc))]
+fn push_found(
+    alloc: Global,
+    out: &mut Vec<u8>,
+    view: &View,
+    shown: &[Group],
+    hidden: &[Group],
+    records: &[LeakRecord],
+) -> Result<(), AllocError>
+    requires { 0 < view.now.options.now.callers }
+    ensures { OnOk result (out.new.items ≡ out.old.items ++ (flat_map (group_lines view.now.image.now view.now.options.now.callers) shown.now
+        ++ leak_section view.now.image.now view.now.suppressions.now view.now.options.now records.now ++ summary_line shown.now hidden.now)) }
+{
+    push_groups(out, view.image, view.options.callers, shown)?;
+    push_leaks(alloc, out, view, records)?;
+    push_summary(out, shown, hidden)
+}
+
 /// The lines of a report, with these records of the live blocks.
 #[tactic(auto, unfolding(crate::specs::Report::report_text), using(std::proofs::Common::append_assoc))]
 fn push_report(
@@ -49,18 +72,15 @@ fn push_report(
     ensures { OnOk result ((s : State) → Shows moment.now.machine.now s → out.new.items ≡ out.old.items
         ++ report_text s view.now.image.now view.now.suppressions.now view.now.options.now moment.now.step moment.now.input_len records.now) }
 {
-    let callers = view.options.callers;
     push_head(out, moment)?;
     let (shown, hidden) = split_groups(
         alloc,
         moment.machine,
         view.image,
         view.suppressions,
-        callers,
+        view.options.callers,
     )?;
-    push_groups(out, view.image, callers, &shown)?;
-    push_leaks(alloc, out, view, records)?;
-    push_summary(out, &shown, &hidden)
+    push_found(alloc, out, view, &shown, &hidden, records)
 }
 
 /// The report.

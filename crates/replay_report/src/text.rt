@@ -59,7 +59,7 @@ fn shown_byte(b: u8) -> u8
 }
 
 /// A name, with `?` for each byte that is no printable ASCII character, or is a space.
-#[tactic(auto, unfolding(crate::specs::Text::shown_name), using(std::proofs::Common::append_assoc))]
+#[tactic(auto, unfolding(crate::specs::Text::shown_name))]
 pub(crate) fn push_name(out: &mut Vec<u8>, name: &[u8]) -> Result<(), AllocError>
     ensures { OnOk result (out.new.items ≡ out.old.items ++ shown_name name.now) }
 {

@@ -1,12 +1,15 @@
 //! Blocks that are freed, and blocks that are forgotten.
-ghost use Rattle.std.specs.Prelude.{◌≡◌, ◌<◌, ◌≤◌, ◌∷◌, ◌++◌, [], None, Some};
+ghost use Rattle.std.specs.Prelude.{◌≡◌, ◌<◌, ◌≤◌, ◌∷◌, ◌++◌, ◌⊎◌, [], None, Some, IfOk, OnErr, OnOk};
 ghost use Rattle.guest_heap.specs.Blocks.{freed_by};
+ghost use Rattle.guest_heap.specs.Entries.{with_entry};
+ghost use Rattle.guest_heap.specs.Tables.{entries_of};
 
 use crate::bounds::Opened;
 use crate::entry::Entry;
 use crate::heap::Heap;
 use crate::region::{HEAP_BEGIN, SLOTS, aligned, slot_of};
 use crate::released::Released;
+use crate::table::Table;
 use call_stacks::{Block, Trace};
 use std::alloc::{AllocError, Global};
 use std::rc::Rc;
@@ -21,6 +24,40 @@ fn freed_by(block: &Block, trace: Trace) -> Block
         trace: block.trace,
         freed: Some(trace),
     }
+}
+
+/// What is kept of a block that is freed, with how many were freed before it.
+fn freed_entry(
+    alloc: Global,
+    block: &Block,
+    trace: Trace,
+    number: u64,
+) -> Result<Rc<Entry>, AllocError>
+    ensures { IfOk result (λ entry. entry.value ≡ record { block = freed_by trace block.now; number = number }) }
+{
+    let made = Entry {
+        block: freed_by(block, trace),
+        number,
+    };
+    Ok(Rc::new(alloc, made)?)
+}
+
+/// Takes a block out of the live ones, and puts its entry among the freed. Where memory fails it stays live.
+fn move_to_freed(
+    alloc: Global,
+    live: &mut Table,
+    freed: &mut Table,
+    slot: usize,
+    entry: &Rc<Entry>,
+) -> Result<(), AllocError>
+    requires { slot < 33554432 }
+    ensures live { OnOk result (entries_of live.new ≡ with_entry (entries_of live.old) slot None) }
+    ensures freed { OnOk result (entries_of freed.new ≡ with_entry (entries_of freed.old) slot (Some entry.now.value)) }
+    ensures live_err { OnErr result (entries_of live.new ≡ entries_of live.old) }
+    ensures freed_err { OnErr result ((entries_of freed.new ≡ entries_of freed.old) ⊎ (entries_of freed.new ≡ with_entry (entries_of freed.old) slot (Some entry.now.value))) }
+{
+    freed.set(alloc, slot, Some(entry.clone()?))?;
+    live.set(alloc, slot, None)
 }
 
 #[tactic(auto, using(crate::proofs::FreeSteps::spare_sound, crate::proofs::BoundSteps::same_bounds), unfolding(crate::specs::Heaps::blocks_of))]
@@ -65,18 +102,10 @@ impl Heap {
         let Some(held) = self.held.checked_add(u64::from(block.size)) else {
             return Err(AllocError);
         };
-        self.queue.prepare(alloc)?;
-        let freed = freed_by(block, trace);
-        let number = self.next;
-        let made = Entry {
-            block: freed,
-            number,
-        };
-        let entry = Rc::new(alloc, made)?;
-        let shared = entry.clone()?;
+        let entry = freed_entry(alloc, block, trace, self.next)?;
         let slot = slot_of(block.start);
-        self.freed.set(alloc, slot, Some(shared))?;
-        self.live.set(alloc, slot, None)?;
+        self.queue.prepare(alloc)?;
+        move_to_freed(alloc, &mut self.live, &mut self.freed, slot, &entry)?;
         self.queue.push(entry);
         self.next = next;
         self.held = held;

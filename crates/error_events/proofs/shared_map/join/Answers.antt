@@ -1,7 +1,6 @@
-use Rattle.error_events.proofs.LayerSteps.{insert_all-new}
+use Rattle.std.proofs.Common.{sym, subst}
+use Rattle.error_events.specs.Entries.{AreNew}
 use Rattle.error_events.proofs.shared_map.join.Goals as goal
 
-pub returns : goal.returns
-returns g c =
-    let e = insert_all-new g.K.PartialEq.eq g.met.K.Eq.laws.symm c.args.first.now.entries c.args.second.now.entries c.requires.apart c.len.ensures.unique in
-    cc (c.in_ok-append.ensures.entries, c.in_ok-reserve.ensures.entries, c.in_ok-whole.ensures, c.in_ok-rest.ensures)
+pub append-requires-clause-apart : goal.append-requires-clause-apart
+append-requires-clause-apart g c = subst (λ es. AreNew g.K.PartialEq.eq es c.args.second.now.entries) (sym c.in_ok-whole.ensures) c.requires.apart

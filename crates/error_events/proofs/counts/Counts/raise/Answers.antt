@@ -1,4 +1,4 @@
-use Rattle.std.proofs.Common.{◌≡◌, ◌∙◌, ◌<◌, ◌≤◌, ◌+◌, ◌*◌, ◌-◌, ◌++◌, ◌/◌, ◌%◌, ap, length, arith}
+use Rattle.std.proofs.Common.{◌≡◌, ◌∙◌, ◌<◌, ◌+◌, ◌*◌, ◌-◌, ◌++◌, ◌/◌, ◌%◌, ap, length, arith}
 use Rattle.std.proofs.lemmas.List.{length-set}
 use Rattle.error_events.specs.Counts.{in_chunks}
 use Rattle.error_events.specs.CountLists.{counts_of}

@@ -1,4 +1,4 @@
-use Rattle.std.proofs.Common.{◌≡◌, ℕ, List, replicate, sym, subst}
+use Rattle.std.proofs.Common.{◌≡◌, ℕ, List, replicate, sym, subst, ◌∙◌}
 use Rattle.guest_heap.specs.Bounds.{AreFresh}
 use Rattle.guest_heap.specs.declared.bounds.Bound.{Bound}
 use Rattle.guest_heap.proofs.Bounding.{fresh_replicate}
@@ -10,3 +10,6 @@ fresh bounds n e = subst AreFresh (sym e) (fresh_replicate n)
 
 pub returns : goal.returns
 returns c = fresh _ _ c.loop-class.invariant
+
+pub returns-in_err-push : goal.returns-in_err-push
+returns-in_err-push c = fresh _ _ (c.in_err-push.ensures.items ∙ c.loop-class.invariant)

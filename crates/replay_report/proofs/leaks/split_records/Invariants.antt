@@ -1,8 +1,0 @@
-use Rattle.std.proofs.Common.{◌≡◌, take}
-use Rattle.replay_report.specs.Leaks.{shown_records, hidden_records}
-use Rattle.replay_report.proofs.leaks.split_records.Given as goal
-
-abbrev pub invariant-loop-record : goal.invariant-loop-record
-invariant-loop-record l =
-    (l.shown.items ≡ shown_records l.fn.suppressions l.fn.image (take l.record-index l.records))
-    × (l.hidden.items ≡ hidden_records l.fn.suppressions l.fn.image (take l.record-index l.records))
