@@ -71,17 +71,13 @@ fn marked(machine: Machine, kind: RangeKind) -> Result<Machine, AllocError> {
 #[test]
 fn a_program_starts_at_its_entry(rt: HostRuntime) -> Result<(), Fail> {
     let machine = started(rt.alloc(), &[0x05D0_0893, 0x0000_0513, 0x0000_0073])?;
-    assert_eq!(rt; machine.status(), Status::Running);
-    assert_eq!(rt; machine.pc(), 0x10000);
-    assert_eq!(rt; machine.position(), 0);
-    assert_eq!(rt; machine.output_len(), 0);
-    assert_eq!(rt; machine.heap_calls(), 0);
-    assert_eq!(rt; machine.groups().len(), 0);
+    assert!(rt; is_at(&machine, (Status::Running, 0x10000, 0, 0, 0)));
+    assert!(rt; machine.position() == 0);
+    assert!(rt; machine.output_len() == 0);
     for number in 0..32 {
-        let want = if number == 2 { 0x7FFF_FFF0 } else { 0 };
-        let bits = bits_of(&machine, number);
-        assert_eq!(rt; bits.value, want, "x{number}");
-        assert_eq!(rt; bits.undef, 0, "x{number}");
+        let value = if number == 2 { 0x7FFF_FFF0 } else { 0 };
+        let want = Bits { value, undef: 0 };
+        assert!(rt; bits_of(&machine, number) == want, "x{number}");
     }
     Ok(())
 }
@@ -97,71 +93,61 @@ const THREE_HUNDRED: u32 = 0x12C0_0513;
 
 const ECALL: u32 = 0x0000_0073;
 
-/// A program's words, its status and pc after five steps, a0, how many errors there are, and how many calls of the heap.
-type Row = (&'static [u32], Status, u32, u32, usize, u64);
+/// Where a program is: its status and pc, a0, how many errors there are, and how many calls of the heap.
+type State = (Status, u32, u32, usize, u64);
+
+/// A label, a program's words, and where it is after five steps.
+type Row = (&'static str, &'static [u32], State);
 
 const ROWS: [Row; 6] = [
     (
+        "exit",
         &[EXIT, THREE_HUNDRED, ECALL],
-        Status::Exited(44),
-        0x10008,
-        300,
-        0,
-        0,
+        (Status::Exited(44), 0x10008, 300, 0, 0),
     ),
     (
+        "a break",
         &[THREE_HUNDRED, 0x0010_0073],
-        Status::Stopped(Stop::Break),
-        0x10004,
-        300,
-        0,
-        0,
+        (Status::Stopped(Stop::Break), 0x10004, 300, 0, 0),
     ),
     (
+        "a misaligned jump",
         &[0x0020_0067],
-        Status::Stopped(Stop::Misaligned),
-        0x10000,
-        0,
-        0,
-        0,
+        (Status::Stopped(Stop::Misaligned), 0x10000, 0, 0, 0),
     ),
     (
+        "no instruction",
         &[0x6015_5513],
-        Status::Stopped(Stop::Illegal),
-        0x10000,
-        0,
-        0,
-        0,
+        (Status::Stopped(Stop::Illegal), 0x10000, 0, 0, 0),
     ),
-    // Past the program's last word.
     (
+        "past the last word",
         &[NO_CALL, ECALL],
-        Status::Stopped(Stop::Jump),
-        0x10008,
-        0xFFFF_FFDA,
-        1,
-        0,
+        (Status::Stopped(Stop::Jump), 0x10008, 0xFFFF_FFDA, 1, 0),
     ),
     // `addi a0, x0, 300; ..; jal x0, 0`
     (
+        "malloc, and a loop",
         &[MALLOC, THREE_HUNDRED, ECALL, 0x0000_006F],
-        Status::Running,
-        0x1000C,
-        0x4000_0010,
-        0,
-        1,
+        (Status::Running, 0x1000C, 0x4000_0010, 0, 1),
     ),
 ];
 
+/// Whether a machine is there.
+fn is_at(machine: &Machine, state: State) -> bool {
+    let (status, pc, answer, errors, calls) = state;
+    machine.status() == status
+        && machine.pc() == pc
+        && bits_of(machine, 10).value == answer
+        && machine.groups().len() == errors
+        && machine.heap_calls() == calls
+}
+
 #[test]
 fn programs_end_and_go_on(rt: HostRuntime) -> Result<(), Fail> {
-    for (words, status, pc, answer, errors, calls) in ROWS {
+    for (label, words, state) in ROWS {
         let machine = run(rt.alloc(), words, 5)?;
-        assert_eq!(rt; machine.status(), status);
-        assert_eq!(rt; machine.pc(), pc);
-        assert_eq!(rt; bits_of(&machine, 10).value, answer);
-        assert_eq!(rt; machine.groups().len(), errors);
-        assert_eq!(rt; machine.heap_calls(), calls);
+        assert!(rt; is_at(&machine, state), "{label}");
     }
     Ok(())
 }
@@ -173,7 +159,7 @@ fn a_machine_that_has_ended_rests(rt: HostRuntime) -> Result<(), Fail> {
     if let Status::Exited(_) = machine.status() {
         machine.rest(3, &mut meter);
     }
-    assert_eq!(rt; meter.read(), 3);
+    assert!(rt; meter.read() == 3);
     Ok(())
 }
 
@@ -192,13 +178,13 @@ fn touching(
     for (fetch, reads, writes) in rows {
         let (next, touched) = machine.step(setup, meter)?;
         machine = next;
-        assert_eq!(rt;
-            touched,
-            Touched {
-                fetch: *fetch,
-                reads: *reads,
-                writes: *writes
-            }
+        assert!(rt;
+            touched
+                == Touched {
+                    fetch: *fetch,
+                    reads: *reads,
+                    writes: *writes
+                }
         );
     }
     Ok(machine)
@@ -226,7 +212,7 @@ fn a_step_tells_what_it_touched(rt: HostRuntime) -> Result<(), Fail> {
         (None, None, None),
     ];
     touching(&rt, machine, &setup, &mut meter, &rows)?;
-    assert_eq!(rt; meter.read(), 5);
+    assert!(rt; meter.read() == 5);
     Ok(())
 }
 
@@ -246,9 +232,7 @@ fn functions_are_called_by_name(rt: HostRuntime) -> Result<(), Fail> {
         (None, span(0x4000_0010, 16), span(0x4000_00B0, 16)),
     ];
     let machine = touching(&rt, machine, &setup, &mut meter, &rows)?;
-    assert_eq!(rt; machine.pc(), 0);
-    assert_eq!(rt; machine.heap_calls(), 2);
-    assert_eq!(rt; bits_of(&machine, 10).value, 0x4000_00B0);
+    assert!(rt; is_at(&machine, (Status::Running, 0, 0x4000_00B0, 0, 2)));
     Ok(())
 }
 
@@ -272,8 +256,8 @@ fn an_input_is_read_to_its_end_and_written(rt: HostRuntime) -> Result<(), Fail> 
         let (next, _) = machine.step(&setup, &mut meter)?;
         machine = next;
     }
-    assert_eq!(rt; machine.position(), 2);
-    assert_eq!(rt; machine.output_len(), 3);
+    assert!(rt; machine.position() == 2);
+    assert!(rt; machine.output_len() == 3);
     assert!(rt; machine.end_seen());
     Ok(())
 }
@@ -284,12 +268,12 @@ fn a_mark_and_a_poke_are_seen(rt: HostRuntime) -> Result<(), Fail> {
     let start = started(rt.alloc(), &[0x0001_2503])?;
     let poked = start.poke_word(0x7FFF_FFF0, 0x8765_4321)?;
     let machine = stepped(rt.alloc(), marked(poked, RangeKind::Undefined)?, 1)?;
-    assert_eq!(rt;
-        bits_of(&machine, 10),
-        Bits {
-            value: 0x8765_4321,
-            undef: u32::MAX
-        }
+    assert!(rt;
+        bits_of(&machine, 10)
+            == Bits {
+                value: 0x8765_4321,
+                undef: u32::MAX
+            }
     );
     Ok(())
 }
@@ -300,10 +284,10 @@ fn a_copy_stays_as_it_was(rt: HostRuntime) -> Result<(), Fail> {
     let machine = started(rt.alloc(), &[0x0001_2503])?;
     let copy = machine.share()?;
     let later = stepped(rt.alloc(), machine.poke_word(0x7FFF_FFF0, 5)?, 1)?;
-    assert_eq!(rt; copy.pc(), 0x10000);
+    assert!(rt; copy.pc() == 0x10000);
     let again = stepped(rt.alloc(), copy, 1)?;
-    assert_eq!(rt; bits_of(&again, 10).value, 0);
-    assert_eq!(rt; bits_of(&later, 10).value, 5);
+    assert!(rt; bits_of(&again, 10).value == 0);
+    assert!(rt; bits_of(&later, 10).value == 5);
     Ok(())
 }
 
@@ -324,10 +308,10 @@ fn the_laws_can_be_called() {
 fn an_input_grows_and_shrinks_at_its_end(rt: HostRuntime) -> Result<(), Fail> {
     let mut input = Input::new(b"ab".to_vec(rt.alloc())?);
     input.push(b'c')?;
-    assert_eq!(rt; input.len(), 3);
+    assert!(rt; input.len() == 3);
     input.pop();
     input.pop();
     let bytes = input.into_vec();
-    assert_eq!(rt; bytes.as_slice(), b"a".as_slice());
+    assert!(rt; bytes.as_slice() == b"a".as_slice());
     Ok(())
 }

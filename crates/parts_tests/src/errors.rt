@@ -1,35 +1,35 @@
 //! Errors with their groups, by hand.
 use call_stacks::Trace;
 use error_events::{Event, Fault3, Group, Groups, Kind, Note, Parameter};
-use std::alloc::AllocError;
-use std::process::Abort;
+use std::alloc::{AllocError, Global};
 use std::test::Fail;
 
 const READ: Kind = Kind::Read(4);
 
 const PARAM: Kind = Kind::Param(Parameter::ReadBuffer, Fault3::Unaddressable);
 
-/// Asserts the kind, the addresses, the count and the note of a group.
-fn shows(
-    rt: &impl Abort,
-    group: Option<Group>,
-    kind: Kind,
-    addresses: &[u32],
-    count: u64,
-    at: u32,
-) {
+/// Whether a group has this kind, these addresses, this count and the note of this address.
+fn shows(group: Option<Group>, kind: Kind, addresses: &[u32], count: u64, at: u32) -> bool {
     match group {
         Some(group) => {
-            assert!(rt; group.kind == kind);
-            assert!(rt; group.trace.addresses() == addresses);
-            assert_eq!(rt; group.count, count);
-            match group.note {
-                Note::Elsewhere(address) => assert_eq!(rt; address, at),
-                _ => assert!(rt; false),
-            }
+            group.kind == kind
+                && group.trace.addresses() == addresses
+                && group.count == count
+                && matches!(group.note, Note::Elsewhere(address) if address == at)
         }
-        None => assert!(rt; false),
+        None => false,
     }
+}
+
+/// One more read, at an address, whose note names another.
+fn add_read(groups: &mut Groups, address: u32, at: u32) -> Result<(), AllocError> {
+    let trace = Trace::of(address);
+    let note = Note::Elsewhere(at);
+    groups.add(Event {
+        kind: READ,
+        trace,
+        note,
+    })
 }
 
 /// Errors, each by its kind, its addresses and the address of its note.
@@ -40,70 +40,75 @@ const ADDED: [(Kind, &[u32], u32); 4] = [
     (READ, &[8, 20], 4),
 ];
 
-/// Their groups, each with its count.
-const GROUPS: [(Kind, &[u32], u64, u32); 3] = [
+/// A group's kind, addresses, count, and the address of its note.
+type Row = (Kind, &'static [u32], u64, u32);
+
+/// Their groups.
+const GROUPS: [Row; 3] = [
     (READ, &[8, 20], 2, 1),
     (PARAM, &[8, 20], 1, 2),
     (READ, &[8, 24], 1, 3),
 ];
 
 /// Those by the first address alone.
-const REGROUPED: [(Kind, &[u32], u64, u32); 2] = [(READ, &[8], 3, 1), (PARAM, &[8], 1, 2)];
+const REGROUPED: [Row; 2] = [(READ, &[8], 3, 1), (PARAM, &[8], 1, 2)];
 
-#[test]
-fn counted_by_kind_and_trace(rt: HostRuntime) -> Result<(), Fail> {
-    let mut groups = Groups::new(rt.alloc());
+/// The last of them alone.
+const LAST_REGROUPED: [Row; 1] = [(READ, &[8], 1, 3)];
+
+/// The groups of the errors above.
+fn added(alloc: Global) -> Result<Groups, Fail> {
+    let mut groups = Groups::new(alloc);
     for (kind, addresses, at) in ADDED {
         let trace = Trace::new(addresses).ok_or("1 to 24 addresses")?;
         let note = Note::Elsewhere(at);
         groups.add(Event { kind, trace, note })?;
     }
+    Ok(groups)
+}
+
+#[test]
+fn counted_by_kind_and_trace(rt: HostRuntime) -> Result<(), Fail> {
+    let groups = added(rt.alloc())?;
     for (i, (kind, addresses, count, at)) in GROUPS.iter().enumerate() {
-        shows(&rt, groups.get(i), *kind, addresses, *count, *at);
+        assert!(rt;
+            shows(groups.get(i), *kind, addresses, *count, *at),
+            "group {i}"
+        );
     }
     assert!(rt; groups.get(3).is_none());
     Ok(())
 }
 
+/// Whether a copy, of two errors at 8, stays as it was once one more comes at 8 and one at 12.
+fn stays(groups: &mut Groups) -> Result<bool, AllocError> {
+    let early = groups.share()?;
+    add_read(groups, 8, 3)?;
+    add_read(groups, 12, 3)?;
+    Ok(
+        early.len() == 1
+            && shows(early.get(0), READ, &[8], 2, 1)
+            && shows(groups.get(0), READ, &[8], 3, 1)
+            && shows(groups.get(1), READ, &[12], 1, 3),
+    )
+}
+
 #[test]
 fn a_copy_stays_as_it_was(rt: HostRuntime) -> Result<(), Fail> {
     let mut groups = Groups::new(rt.alloc());
-    for at in [1, 2] {
-        let trace = Trace::of(8);
-        let note = Note::Elsewhere(at);
-        groups.add(Event {
-            kind: READ,
-            trace,
-            note,
-        })?;
-    }
-    let early = groups.share()?;
-    for address in [8, 12] {
-        let trace = Trace::of(address);
-        let note = Note::Elsewhere(3);
-        groups.add(Event {
-            kind: READ,
-            trace,
-            note,
-        })?;
-    }
-    assert_eq!(rt; early.len(), 1);
-    shows(&rt, early.get(0), READ, &[8], 2, 1);
-    shows(&rt, groups.get(0), READ, &[8], 3, 1);
-    shows(&rt, groups.get(1), READ, &[12], 1, 3);
+    add_read(&mut groups, 8, 1)?;
+    add_read(&mut groups, 8, 2)?;
+    assert!(rt; stays(&mut groups)?);
     Ok(())
 }
 
-/// One more error of a group after a copy was made; the copy's count stays.
-fn raised_apart(rt: &impl Abort, groups: &mut Groups, address: u32) -> Result<(), AllocError> {
+/// Whether a copy keeps its count of a group that has one more error then.
+fn raised_apart(groups: &mut Groups, address: u32) -> Result<bool, AllocError> {
     let early = groups.share()?;
-    let trace = Trace::of(address);
-    let note = Note::Elsewhere(1);
-    let kind = READ;
-    groups.add(Event { kind, trace, note })?;
-    shows(rt, early.get(address as usize), READ, &[address], 1, 1);
-    shows(rt, groups.get(address as usize), READ, &[address], 2, 1);
-    Ok(())
+    add_read(groups, address, 1)?;
+    let was = early.get(address as usize);
+    let is = groups.get(address as usize);
+    Ok(shows(was, READ, &[address], 1, 1) && shows(is, READ, &[address], 2, 1))
 }
 
 /// Of 600 groups one in the first chunk of counts, one at the end of a chunk, and one after the chunks.
@@ -111,34 +116,40 @@ fn raised_apart(rt: &impl Abort, groups: &mut Groups, address: u32) -> Result<()
 fn copies_have_counts_of_their_own(rt: HostRuntime) -> Result<(), Fail> {
     let mut groups = Groups::new(rt.alloc());
     for address in 0..600u32 {
-        let trace = Trace::of(address);
-        let note = Note::Elsewhere(1);
-        let kind = READ;
-        groups.add(Event { kind, trace, note })?;
+        add_read(&mut groups, address, 1)?;
     }
-    raised_apart(&rt, &mut groups, 5)?;
-    raised_apart(&rt, &mut groups, 511)?;
-    raised_apart(&rt, &mut groups, 599)?;
+    for address in [5, 511, 599] {
+        assert!(rt; raised_apart(&mut groups, address)?, "group {address}");
+    }
     Ok(())
+}
+
+/// Whether the groups that are kept, by the first address alone, are these.
+fn regroups(groups: &Groups, keep: &[bool], wanted: &[Row]) -> Result<bool, AllocError> {
+    if groups.len() != keep.len() {
+        return Ok(false);
+    }
+    let regrouped = groups.regroup(1, keep)?;
+    Ok(
+        regrouped.len() == wanted.len()
+            && regrouped
+                .iter()
+                .zip(wanted)
+                .all(|(group, row)| is_row(group, row)),
+    )
+}
+
+/// Whether a group is a row's.
+fn is_row(group: &Group, row: &Row) -> bool {
+    let (kind, addresses, count, at) = row;
+    shows(Some(*group), *kind, addresses, *count, *at)
 }
 
 #[test]
 fn grouped_by_the_first_address(rt: HostRuntime) -> Result<(), Fail> {
-    let mut groups = Groups::new(rt.alloc());
-    for (kind, addresses, at) in ADDED {
-        let trace = Trace::new(addresses).ok_or("1 to 24 addresses")?;
-        let note = Note::Elsewhere(at);
-        groups.add(Event { kind, trace, note })?;
-    }
-    assert_eq!(rt; groups.len(), 3);
-    let all = groups.regroup(1, &[true, true, true])?;
-    assert_eq!(rt; all.len(), 2);
-    for (group, (kind, addresses, count, at)) in all.iter().zip(REGROUPED) {
-        shows(&rt, Some(*group), kind, addresses, count, at);
-    }
-    let some = groups.regroup(1, &[false, false, true])?;
-    assert_eq!(rt; some.len(), 1);
-    shows(&rt, some.first().copied(), READ, &[8], 1, 3);
+    let groups = added(rt.alloc())?;
+    assert!(rt; regroups(&groups, &[true, true, true], &REGROUPED)?);
+    assert!(rt; regroups(&groups, &[false, false, true], &LAST_REGROUPED)?);
     Ok(())
 }
 

@@ -42,9 +42,8 @@ fn places_one_after_another(rt: HostRuntime) -> Result<(), Fail> {
     let trace = Trace::new(&TRACE).ok_or("no trace")?;
     let mut heap = Heap::new(rt.alloc());
     for (size, redzone, place) in PLACES {
-        assert_eq!(rt;
-            heap.allocate(rt.alloc(), size, trace, redzone)?,
-            place,
+        assert!(rt;
+            heap.allocate(rt.alloc(), size, trace, redzone)? == place,
             "{size} bytes, a red zone of {redzone}"
         );
     }
@@ -55,17 +54,16 @@ fn places_one_after_another(rt: HostRuntime) -> Result<(), Fail> {
 fn frees_what_is_live(rt: HostRuntime) -> Result<(), Fail> {
     let trace = Trace::new(&TRACE).ok_or("no trace")?;
     let mut heap = Heap::new(rt.alloc());
-    assert_eq!(rt; heap.allocate(rt.alloc(), 8, trace, 16)?, Some(0x4000_0010));
+    assert!(rt; heap.allocate(rt.alloc(), 8, trace, 16)? == Some(0x4000_0010));
     assert!(rt; is_nothing(&heap.release(rt.alloc(), 0, trace, 8)?));
     assert!(rt; is_invalid(&heap.release(rt.alloc(), 0x4000_0011, trace, 8)?));
-    assert_eq!(rt; start_of(heap.live(0)), Some(0x4000_0010));
-    assert_eq!(rt;
-        freed_start(&heap.release(rt.alloc(), 0x4000_0010, trace, 8)?),
-        Some(0x4000_0010)
+    assert!(rt; start_of(heap.live(0)) == Some(0x4000_0010));
+    assert!(rt;
+        freed_start(&heap.release(rt.alloc(), 0x4000_0010, trace, 8)?) == Some(0x4000_0010)
     );
     assert!(rt; is_invalid(&heap.release(rt.alloc(), 0x4000_0010, trace, 8)?));
-    assert_eq!(rt; start_of(heap.live(0)), None);
-    assert_eq!(rt; near_at(&heap, 0x4000_0010), Some((Place::Inside, 0)));
+    assert!(rt; start_of(heap.live(0)) == None);
+    assert!(rt; near_at(&heap, 0x4000_0010) == Some((Place::Inside, 0)));
     Ok(())
 }
 
@@ -73,9 +71,8 @@ fn frees_what_is_live(rt: HostRuntime) -> Result<(), Fail> {
 fn forgets_beyond_the_volume(rt: HostRuntime) -> Result<(), Fail> {
     let trace = Trace::new(&TRACE).ok_or("no trace")?;
     for (volume, place) in AFTER_RELEASE {
-        assert_eq!(rt;
-            placed_after_release(rt.alloc(), trace, volume)?,
-            place,
+        assert!(rt;
+            placed_after_release(rt.alloc(), trace, volume)? == place,
             "a volume of {volume}"
         );
     }
@@ -86,13 +83,13 @@ fn forgets_beyond_the_volume(rt: HostRuntime) -> Result<(), Fail> {
 fn tells_what_is_near(rt: HostRuntime) -> Result<(), Fail> {
     let trace = Trace::new(&TRACE).ok_or("no trace")?;
     let mut heap = Heap::new(rt.alloc());
-    assert_eq!(rt; heap.allocate(rt.alloc(), 8, trace, 16)?, Some(0x4000_0010));
+    assert!(rt; heap.allocate(rt.alloc(), 8, trace, 16)? == Some(0x4000_0010));
     let copy = heap.share()?;
     for (address, near) in NEAR {
-        assert_eq!(rt; near_at(&copy, address), near, "at {address:#010x}");
+        assert!(rt; near_at(&copy, address) == near, "at {address:#010x}");
     }
-    assert_eq!(rt; start_of(heap.live(0x4000_0010)), Some(0x4000_0010));
-    assert_eq!(rt; start_of(heap.live(0x4000_0011)), None);
+    assert!(rt; start_of(heap.live(0x4000_0010)) == Some(0x4000_0010));
+    assert!(rt; start_of(heap.live(0x4000_0011)) == None);
     Ok(())
 }
 

@@ -14,6 +14,11 @@ const fn cell(byte: u8, accessible: bool, undef: u8) -> Cell {
     }
 }
 
+/// Whether addresses hold these cells.
+fn holds(memory: &Memory, cells: &[(u32, Cell)]) -> bool {
+    cells.iter().all(|(addr, cell)| memory.byte(*addr) == *cell)
+}
+
 /// One byte is written into each of 1,025 memories that share their pages; after each write, the ones before it have theirs and
 /// the ones after it have none.
 #[test]
@@ -35,15 +40,14 @@ fn shares_are_apart(rt: HostRuntime) -> Result<(), Fail> {
         let mut i = 0usize;
         for other in &shares {
             let want = if i < written { (i & 0x7f) as u8 } else { b'b' };
-            assert_eq!(rt;
-                other.byte(0x1000_0001).byte,
-                want,
+            assert!(rt;
+                other.byte(0x1000_0001).byte == want,
                 "copy {i} of {written} written"
             );
             i = i.saturating_add(1);
         }
     }
-    assert_eq!(rt; first.load(0x1000_0000, 4).value, 0x6463_6261);
+    assert!(rt; first.load(0x1000_0000, 4).value == 0x6463_6261);
     Ok(())
 }
 
@@ -60,21 +64,25 @@ fn accesses_cross_pages(rt: HostRuntime) -> Result<(), Fail> {
             undef: 0x0000_F000,
         };
         let bad = memory.store(*addr, 4, bits)?;
-        assert_eq!(rt; bad, Some(addr.wrapping_add(3)));
-        assert_eq!(rt; memory.byte(addr.wrapping_add(1)), cell(0x22, true, 0xF0));
-        assert_eq!(rt; memory.byte(*next), cell(0x33, true, 0));
-        assert_eq!(rt; memory.byte(next.wrapping_add(1)), cell(0x44, false, 0));
+        assert!(rt; bad == Some(addr.wrapping_add(3)));
+        let stored = [
+            (addr.wrapping_add(1), cell(0x22, true, 0xF0)),
+            (*next, cell(0x33, true, 0)),
+            (next.wrapping_add(1), cell(0x44, false, 0)),
+        ];
+        assert!(rt; holds(&memory, &stored));
         let loaded = memory.load(*addr, 4);
-        assert_eq!(rt; loaded.value, 0x4433_2211);
-        assert_eq!(rt; loaded.undef, 0xF000);
-        assert_eq!(rt; loaded.bad, Some(addr.wrapping_add(3)));
-        assert_eq!(rt; memory.load(*next, 2).value, 0x4433);
+        assert!(rt; (loaded.value, loaded.undef, loaded.bad) == (0x4433_2211, 0xF000, bad));
+        assert!(rt; memory.load(*next, 2).value == 0x4433);
         memory.copy_with_shadow(*addr, 0x5FFF, 4)?;
-        assert_eq!(rt; memory.byte(0x6000), cell(0x22, false, 0));
+        assert!(rt; memory.byte(0x6000) == cell(0x22, false, 0));
         memory.set_range(0x5FFF, 4, RangeKind::Undefined)?;
         memory.copy_with_shadow(*addr, 0x5FFF, 4)?;
-        assert_eq!(rt; memory.byte(0x6000), cell(0x22, true, 0xF0));
-        assert_eq!(rt; memory.byte(0x6002), cell(0x44, true, 0));
+        let copied = [
+            (0x6000, cell(0x22, true, 0xF0)),
+            (0x6002, cell(0x44, true, 0)),
+        ];
+        assert!(rt; holds(&memory, &copied));
     }
     Ok(())
 }
@@ -86,36 +94,40 @@ fn pages_split_and_fold(rt: HostRuntime) -> Result<(), Fail> {
     let mut memory = Memory::new(alloc);
     memory.fill(0x4000, 0x2000, b"xyz")?;
     memory.set_range(0x4010, 16, RangeKind::NoAccess)?;
-    assert_eq!(rt; memory.byte(0x400F), cell(0, true, 0));
-    assert_eq!(rt; memory.byte(0x4010), cell(0, false, 0));
+    assert!(rt;
+        holds(
+            &memory,
+            &[(0x400F, cell(0, true, 0)), (0x4010, cell(0, false, 0))]
+        )
+    );
     let partly = Bits {
         value: 7,
         undef: 0x81,
     };
-    assert_eq!(rt; memory.store(0x4030, 1, partly)?, None);
-    assert_eq!(rt; memory.byte(0x4030), cell(7, true, 0x81));
-    assert_eq!(rt;
-        memory.first_bad(0x4000, 0x2000, true),
-        Some(Bad {
-            addr: 0x4010,
-            accessible: false
-        })
+    assert!(rt; memory.store(0x4030, 1, partly)? == None);
+    assert!(rt; memory.byte(0x4030) == cell(7, true, 0x81));
+    assert!(rt;
+        memory.first_bad(0x4000, 0x2000, true)
+            == Some(Bad {
+                addr: 0x4010,
+                accessible: false
+            })
     );
-    assert_eq!(rt;
-        memory.first_bad(0x4020, 0x1000, true),
-        Some(Bad {
-            addr: 0x4030,
-            accessible: true
-        })
+    assert!(rt;
+        memory.first_bad(0x4020, 0x1000, true)
+            == Some(Bad {
+                addr: 0x4030,
+                accessible: true
+            })
     );
-    assert_eq!(rt; memory.first_bad(0x4020, 0x1000, false), None);
-    assert_eq!(rt; memory.next_word(0x400D), Some(0x4020));
-    assert_eq!(rt; memory.next_word(0x402D), Some(0x4034));
-    assert_eq!(rt; memory.next_word(0x6000), None);
+    assert!(rt; memory.first_bad(0x4020, 0x1000, false) == None);
+    assert!(rt; memory.next_word(0x400D) == Some(0x4020));
+    assert!(rt; memory.next_word(0x402D) == Some(0x4034));
+    assert!(rt; memory.next_word(0x6000) == None);
     memory.set_range(0x4000, 0x1000, RangeKind::Defined)?;
-    assert_eq!(rt; memory.first_bad(0x4000, 0x2000, true), None);
-    assert_eq!(rt; memory.load(0x4000, 4).value, 0x007A_7978);
-    assert_eq!(rt; memory.byte(0x4030), cell(7, true, 0));
+    assert!(rt; memory.first_bad(0x4000, 0x2000, true) == None);
+    assert!(rt; memory.load(0x4000, 4).value == 0x007A_7978);
+    assert!(rt; memory.byte(0x4030) == cell(7, true, 0));
     Ok(())
 }
 
@@ -126,21 +138,24 @@ fn bytes_come_and_go(rt: HostRuntime) -> Result<(), Fail> {
     let mut memory = Memory::new(alloc);
     memory.set_range(0x8FFE, 3, RangeKind::Undefined)?;
     memory.store_bytes(0x8FFE, b"pqrs")?;
-    assert_eq!(rt; memory.byte(0x9000), cell(b'r', true, 0));
-    assert_eq!(rt; memory.byte(0x9001), cell(b's', false, 0));
+    let stored = [
+        (0x9000, cell(b'r', true, 0)),
+        (0x9001, cell(b's', false, 0)),
+    ];
+    assert!(rt; holds(&memory, &stored));
     memory.poke_word(0x8FFF, 0x0403_0201)?;
-    assert_eq!(rt; memory.byte(0x8FFE).byte, b'p');
-    assert_eq!(rt; memory.load(0x8FFF, 4).value, 0x0403_0201);
-    assert_eq!(rt; memory.byte(0x9001), cell(3, false, 0));
+    assert!(rt; memory.byte(0x8FFE).byte == b'p');
+    assert!(rt; memory.load(0x8FFF, 4).value == 0x0403_0201);
+    assert!(rt; memory.byte(0x9001) == cell(3, false, 0));
     Ok(())
 }
 
 #[test]
 fn scans(rt: HostRuntime) -> Result<(), Fail> {
     let bytes = *b"aaaaaaaaaaaaaaaaaaaaab";
-    assert_eq!(rt; first_not(&bytes, b'a'), Some(21));
-    assert_eq!(rt; first_not(&bytes[..21], b'a'), None);
-    assert_eq!(rt; first_not(&bytes, b'b'), Some(0));
+    assert!(rt; first_not(&bytes, b'a') == Some(21));
+    assert!(rt; first_not(&bytes[..21], b'a') == None);
+    assert!(rt; first_not(&bytes, b'b') == Some(0));
     assert!(rt; all_are(&bytes[..17], b'a'));
     assert!(rt; !all_are(&bytes, b'a'));
     Ok(())
@@ -196,13 +211,10 @@ fn values_are_found(rt: HostRuntime) -> Result<(), Fail> {
         value: 0x70,
         undef: 0x100,
     };
-    assert_eq!(rt; memory.store(0x5020, 4, partly)?, None);
+    assert!(rt; memory.store(0x5020, 4, partly)? == None);
     memory.store_bytes(0x5032, b"\x90\x90\x90\x90")?;
     for (shows, from, low, high, found) in SEARCHES {
-        assert_eq!(rt;
-            (shows, memory.next_in_range(from, low, high)),
-            (shows, found)
-        );
+        assert!(rt; memory.next_in_range(from, low, high) == found, "{shows}");
     }
     Ok(())
 }

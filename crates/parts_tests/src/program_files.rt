@@ -19,9 +19,9 @@ const LARGER: [u8; 4] = [0x00, 0x20, 0x00, 0x00];
 fn files(rt: HostRuntime) -> Result<(), Fail> {
     let words = [0x05D0_0893, 0x0000_0513, 0x0000_0073];
     let exit = program(rt.alloc(), &words)?;
-    assert_eq!(rt; exit.as_slice(), EXIT.as_slice());
+    assert!(rt; exit.as_slice() == EXIT.as_slice());
     let larger = sized_program(rt.alloc(), &words, 0x2000)?;
-    assert_eq!(rt; larger.len(), 96);
-    assert_eq!(rt; &larger[72..76], LARGER.as_slice());
+    assert!(rt; larger.len() == 96);
+    assert!(rt; &larger[72..76] == LARGER.as_slice());
     Ok(())
 }

@@ -16,12 +16,12 @@ fn drops_the_oldest_of_257_frames(rt: HostRuntime) -> Result<(), Fail> {
     let copy = stack.share()?;
     // The oldest is gone: a return to it changes nothing.
     stack.back_to(0x1004);
-    assert_eq!(rt; stack.trace(8).addresses().len(), 24);
-    assert_eq!(rt; stack.trace(8).addresses().get(1).copied(), Some(0x2000));
+    assert!(rt; stack.trace(8).addresses().len() == 24);
+    assert!(rt; stack.trace(8).addresses().get(1).copied() == Some(0x2000));
     // The second is the oldest that was kept: a return to it takes all.
     stack.back_to(0x1014);
-    assert_eq!(rt; stack.trace(8).addresses().len(), 1);
-    assert_eq!(rt; copy.trace(8).addresses().len(), 24);
+    assert!(rt; stack.trace(8).addresses().len() == 1);
+    assert!(rt; copy.trace(8).addresses().len() == 24);
     Ok(())
 }
 

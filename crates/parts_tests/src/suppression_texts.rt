@@ -11,7 +11,7 @@ fn reads(rt: &impl Abort, alloc: Global, text: &str, count: usize)
     requires { length text.now ≤ TEXT_LIMIT }
 {
     match parse(alloc, text.as_bytes()) {
-        Ok(list) => assert_eq!(rt; list.len(), count, "{text}"),
+        Ok(list) => assert!(rt; list.len() == count, "{text}"),
         Err(_) => assert!(rt; false, "{text}"),
     }
 }
@@ -145,7 +145,7 @@ fn frame_lines_on_200_names(rt: HostRuntime) {
     let cond = Target::Error(Kind::Cond);
     match recursion(alloc, 198) {
         Ok(names) => {
-            assert_eq!(rt; names.len(), 200);
+            assert!(rt; names.len() == 200);
             added(&rt, alloc, "Cond fun:max ... fun:ma?n", cond, &names, true);
             added(
                 &rt,

@@ -93,7 +93,7 @@ fn edits_show(rt: HostRuntime) -> Result<(), Fail> {
         ("ok\n", 3),
         ("worked 9\n", 1),
     ] {
-        assert_eq!(rt; text.matches(part).count(), want);
+        assert!(rt; text.matches(part).count() == want, "{part}");
     }
     Ok(())
 }
@@ -140,7 +140,7 @@ fn any_reader(rt: HostRuntime) -> Result<(), Fail> {
     slow.interruptions = Interruptions::EverySecond;
     let (taken, end) = served(alloc, &EXITS, &mut slow, 1 << 20)?;
     assert!(rt; end.is_ok());
-    assert_eq!(rt; taken.as_slice(), want.as_slice());
+    assert!(rt; taken.as_slice() == want.as_slice());
     Ok(())
 }
 
@@ -164,7 +164,7 @@ fn faults_tell_what_was_written(rt: HostRuntime) -> Result<(), Fail> {
         let mut failing = Script::new(lines);
         failing.bytes = lines.len();
         let (taken, end) = served(alloc, &EXITS, &mut failing, left)?;
-        assert_eq!(rt; end, Err(fault), "{label}");
+        assert!(rt; end == Err(fault), "{label}");
         let front = &taken[..taken.len().min(BEGINNING.len())];
         assert!(rt; BEGINNING.starts_with(front), "{label}");
     }
@@ -258,13 +258,12 @@ fn without_an_end(rt: HostRuntime) -> Result<(), Fail> {
         );
         let (taken, end) = served(alloc, &EXITS, &mut reader, 1 << 20)?;
         let bytes = 3 * replies;
-        assert_eq!(rt;
-            end,
-            Err(ServeFault::ReadFailed { replies, bytes }),
+        assert!(rt;
+            end == Err(ServeFault::ReadFailed { replies, bytes }),
             "{label}"
         );
-        assert_eq!(rt; taken.len() as u64, bytes, "{label}");
-        assert_eq!(rt; reader.reads, 10_000, "{label}");
+        assert!(rt; taken.len() as u64 == bytes, "{label}");
+        assert!(rt; reader.reads == 10_000, "{label}");
     }
     Ok(())
 }
@@ -391,17 +390,17 @@ fn too_many_lines(rt: HostRuntime) -> Result<(), Fail> {
     let image = read(alloc, &file).map_err(|_| Fail::from("the image is refused"))?;
     let mut session = Session::begin(alloc, image, Vec::new(alloc), Vec::new(alloc))?;
     let mut out = Vec::new(alloc);
-    assert_eq!(rt; session.command(b"goto 3", &mut out), Ok(Reply::Done));
-    assert_eq!(rt; session.command(b"report", &mut out), Ok(Reply::Report));
-    assert_eq!(rt; out.as_slice(), EXIT_REPORT);
+    assert!(rt; session.command(b"goto 3", &mut out) == Ok(Reply::Done));
+    assert!(rt; session.command(b"report", &mut out) == Ok(Reply::Report));
+    assert!(rt; out.as_slice() == EXIT_REPORT);
     for _ in 2..100_000 {
-        assert_eq!(rt; session.command(b"worked", &mut out), Ok(Reply::Work(3)));
+        assert!(rt; session.command(b"worked", &mut out) == Ok(Reply::Work(3)));
     }
     for _ in 0..2 {
         let refused = session.command(b"report", &mut out);
-        assert_eq!(rt; refused.map_err(|fault| fault.number()), Err(12));
+        assert!(rt; refused.map_err(|fault| fault.number()) == Err(12));
     }
-    assert_eq!(rt; out.len(), EXIT_REPORT.len());
+    assert!(rt; out.len() == EXIT_REPORT.len());
     Ok(())
 }
 
@@ -412,7 +411,7 @@ fn begins(rt: &impl Abort, alloc: Global, bytes: usize) -> Result<bool, Fail> {
     match Session::begin(alloc, image, input, Vec::new(alloc)) {
         Ok(_) => Ok(true),
         Err(fault) => {
-            assert_eq!(rt; fault, BeginFault::InputTooLarge);
+            assert!(rt; fault == BeginFault::InputTooLarge);
             Ok(false)
         }
     }
