@@ -38,6 +38,8 @@ impl Guest {
     }
 
     /// Records an error at this instruction.
+    #[cold]
+    #[inline(never)]
     #[tactic(auto, unfolding(error_events::specs::Adding::add_events))]
     pub(super) fn raise(&mut self, kind: Kind, note: Note) -> Result<(), AllocError>
         ensures core { core_of self.new ≡ core_of self.old }
@@ -50,19 +52,6 @@ impl Guest {
         self.groups.add(Event { kind, trace, note })
     }
 
-    /// Records that a word with undefined bits is carried out.
-    #[cold]
-    #[inline(never)]
-    #[tactic(auto, unfolding(crate::specs::Errors::event_unless, error_events::specs::Adding::add_events))]
-    fn raise_value(&mut self) -> Result<(), AllocError>
-        ensures core { core_of self.new ≡ core_of self.old }
-        ensures memory { self.new.memory ≡ self.old.memory }
-        ensures progress { self.new.progress ≡ self.old.progress }
-        ensures groups { OnOk result (Raises self.old self.new (event_unless false (here (core_of self.old)) Kind.Value)) }
-    {
-        self.raise(Kind::Value, Note::Absent)
-    }
-
     /// Tests the undefined bits of a word that is to be carried out.
     #[inline(always)]
     #[tactic(auto, unfolding(crate::specs::Errors::event_unless, error_events::specs::Adding::add_events))]
@@ -73,7 +62,7 @@ impl Guest {
         ensures groups { OnOk result (Raises self.old self.new (event_unless (undef == 0) (here (core_of self.old)) Kind.Value)) }
     {
         if undef != 0 {
-            return self.raise_value();
+            return self.raise(Kind::Value, Note::Absent);
         }
         Ok(())
     }
@@ -95,41 +84,25 @@ impl Guest {
         Ok(())
     }
 
-    /// Records the first inaccessible byte of a load of so many, if there is one.
+    /// Records the first inaccessible byte of an access, if there is one.
     #[inline(always)]
     #[tactic(auto, unfolding(crate::specs::Errors::event_about, error_events::specs::Adding::add_events))]
-    pub(super) fn test_load(&mut self, len: u8, bad: Option<u32>) -> Result<(), AllocError>
+    pub(super) fn test_access(&mut self, kind: Kind, bad: Option<u32>) -> Result<(), AllocError>
         ensures core { core_of self.new ≡ core_of self.old }
         ensures memory { self.new.memory ≡ self.old.memory }
         ensures progress { self.new.progress ≡ self.old.progress }
-        ensures groups { OnOk result (Raises self.old self.new (event_about (core_of self.old).blocks (here (core_of self.old)) (Kind.Read len) bad)) }
+        ensures groups { OnOk result (Raises self.old self.new (event_about (core_of self.old).blocks (here (core_of self.old)) kind bad)) }
     {
         match bad {
             None => Ok(()),
-            Some(_) => self.raise_about(Kind::Read(len), bad),
-        }
-    }
-
-    /// Records the first inaccessible byte of a store of so many, if there is one.
-    #[inline(always)]
-    #[tactic(auto, unfolding(crate::specs::Errors::event_about, error_events::specs::Adding::add_events))]
-    pub(super) fn test_store(&mut self, len: u8, bad: Option<u32>) -> Result<(), AllocError>
-        ensures core { core_of self.new ≡ core_of self.old }
-        ensures memory { self.new.memory ≡ self.old.memory }
-        ensures progress { self.new.progress ≡ self.old.progress }
-        ensures groups { OnOk result (Raises self.old self.new (event_about (core_of self.old).blocks (here (core_of self.old)) (Kind.Write len) bad)) }
-    {
-        match bad {
-            None => Ok(()),
-            Some(_) => self.raise_about(Kind::Write(len), bad),
+            Some(_) => self.raise_about(kind, bad),
         }
     }
 
     /// Tests that a register is defined, and makes it so.
-    #[cold]
-    #[inline(never)]
+    #[inline(always)]
     #[tactic(auto, unfolding(crate::specs::Registers::tested, crate::specs::Errors::event_unless, error_events::specs::Adding::add_events))]
-    fn test(&mut self, r: Register, kind: Kind) -> Result<(), AllocError>
+    pub(super) fn test(&mut self, r: Register, kind: Kind) -> Result<(), AllocError>
         ensures core { OnOk result (core_of self.new ≡ tested (core_of self.old) r) }
         ensures memory { self.new.memory ≡ self.old.memory }
         ensures progress { self.new.progress ≡ self.old.progress }
@@ -140,53 +113,6 @@ impl Guest {
             self.raise(kind, Note::Absent)?;
             self.define(r);
         }
-        Ok(())
-    }
-
-    /// Tests a register from which an address or a jump's target is computed.
-    #[inline(always)]
-    #[tactic(auto, unfolding(crate::specs::Registers::tested, crate::specs::Errors::event_unless, error_events::specs::Adding::add_events))]
-    pub(super) fn test_value(&mut self, r: Register) -> Result<(), AllocError>
-        ensures core { OnOk result (core_of self.new ≡ tested (core_of self.old) r) }
-        ensures memory { self.new.memory ≡ self.old.memory }
-        ensures progress { self.new.progress ≡ self.old.progress }
-        ensures heap { self.new.heap ≡ self.old.heap }
-        ensures groups { OnOk result (Raises self.old self.new (value_errors (core_of self.old) r)) }
-    {
-        if self.read_register(r).undef != 0 {
-            return self.test(r, Kind::Value);
-        }
-        Ok(())
-    }
-
-    /// Tests a register that has a parameter of a call.
-    pub(super) fn test_parameter(
-        &mut self,
-        r: Register,
-        parameter: Parameter,
-    ) -> Result<(), AllocError>
-        ensures core { OnOk result (core_of self.new ≡ tested (core_of self.old) r) }
-        ensures memory { self.new.memory ≡ self.old.memory }
-        ensures progress { self.new.progress ≡ self.old.progress }
-        ensures heap { self.new.heap ≡ self.old.heap }
-        ensures groups { OnOk result (Raises self.old self.new (parameter_errors (core_of self.old) r parameter)) }
-    {
-        self.test(r, Kind::Param(parameter, Fault3::Contains))
-    }
-
-    /// Records that a branch depends on undefined bits, and makes its registers defined.
-    #[cold]
-    #[inline(never)]
-    #[tactic(auto, unfolding(crate::specs::Errors::event_unless, error_events::specs::Adding::add_events))]
-    fn raise_branch(&mut self, rs1: Register, rs2: Register) -> Result<(), AllocError>
-        ensures core { OnOk result (core_of self.new ≡ defined (defined (core_of self.old) rs1) rs2) }
-        ensures memory { self.new.memory ≡ self.old.memory }
-        ensures progress { self.new.progress ≡ self.old.progress }
-        ensures groups { OnOk result (Raises self.old self.new (event_unless false (here (core_of self.old)) Kind.Cond)) }
-    {
-        self.raise(Kind::Cond, Note::Absent)?;
-        self.define(rs1);
-        self.define(rs2);
         Ok(())
     }
 
@@ -205,7 +131,9 @@ impl Guest {
         ensures groups { OnOk result (Raises self.old self.new (branch_errors (core_of self.old) comparison rs1 rs2)) }
     {
         if is_undecided(comparison, self.read_register(rs1), self.read_register(rs2)) {
-            return self.raise_branch(rs1, rs2);
+            self.raise(Kind::Cond, Note::Absent)?;
+            self.define(rs1);
+            self.define(rs2);
         }
         Ok(())
     }

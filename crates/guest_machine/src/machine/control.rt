@@ -1,6 +1,7 @@
 //! Where a machine goes next: pc, whether it runs, and the frames of the calls that it is in.
 ghost use Rattle.std.specs.Prelude.{◌≡◌, ◌%◌};
-ghost use Rattle.guest_machine.specs.Effects.{moved_to, advanced, stopped, exited, jumped, followed, linked_jump};
+ghost use Rattle.guest_machine.specs.Effects.{moved_to, advanced, stopped, exited, jumped, linked_jump};
+ghost use Rattle.guest_machine.specs.CallStack.{hinted};
 ghost use Rattle.guest_machine.specs.NamedCalls.{returned_to};
 ghost use Rattle.guest_machine.specs.Shows.{core_of};
 
@@ -9,6 +10,24 @@ use crate::machine::Guest;
 use crate::machine::registers::known;
 use crate::register::Register;
 use crate::status::{Status, Stop};
+use call_stacks::CallStack;
+
+/// Calls and returns, by the hint of a jump from an address to another.
+#[tactic(auto, unfolding(crate::specs::CallStack::hinted))]
+fn follow(frames: &mut CallStack, hint: StackHint, pc: u32, to: u32)
+    ensures { frames.new ≡ hinted hint pc to frames.old }
+{
+    let after = pc.wrapping_add(4);
+    match hint {
+        StackHint::NoHint => {}
+        StackHint::Pop => frames.back_to(to),
+        StackHint::Push => frames.call(pc, after),
+        StackHint::PopPush => {
+            frames.back_to(to);
+            frames.call(pc, after);
+        }
+    }
+}
 
 impl Guest {
     /// Goes to an address.
@@ -70,26 +89,6 @@ impl Guest {
         }
     }
 
-    /// Calls and returns, by the hint of a jump to an address.
-    #[tactic(auto, unfolding(crate::specs::CallStack::hinted))]
-    fn follow(&mut self, hint: StackHint, to: u32)
-        ensures core { core_of self.new ≡ followed (core_of self.old) hint to }
-        ensures memory { self.new.memory ≡ self.old.memory }
-        ensures progress { self.new.progress ≡ self.old.progress }
-        ensures groups { self.new.groups ≡ self.old.groups }
-    {
-        let after = self.pc.wrapping_add(4);
-        match hint {
-            StackHint::NoHint => {}
-            StackHint::Pop => self.frames.back_to(to),
-            StackHint::Push => self.frames.call(self.pc, after),
-            StackHint::PopPush => {
-                self.frames.back_to(to);
-                self.frames.call(self.pc, after);
-            }
-        }
-    }
-
     /// Goes to an address, and leaves the address after this instruction in rd.
     #[tactic(auto, unfolding(crate::specs::Effects::linked_jump))]
     pub(super) fn linked_jump(&mut self, hint: StackHint, rd: Register, to: u32)
@@ -100,7 +99,7 @@ impl Guest {
     {
         if to % 4 == 0 {
             let link = self.pc.wrapping_add(4);
-            self.follow(hint, to);
+            follow(&mut self.frames, hint, self.pc, to);
             self.set_register(rd, known(link));
             self.move_to(to);
         } else {

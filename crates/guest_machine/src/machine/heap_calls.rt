@@ -1,5 +1,5 @@
 //! What the calls of the heap do, and those by number.
-ghost use Rattle.std.specs.Prelude.{◌≡◌, ◌+◌, ◌*◌, ◌≤◌, ◌<◌, max, min, None, Some, IfSome, IfOk, OnOk};
+ghost use Rattle.std.specs.Prelude.{◌≡◌, ◌+◌, ◌*◌, ◌≤◌, ◌<◌, max, None, Some, IfSome, IfOk, OnOk};
 ghost use Rattle.std.specs.Option.{option_map};
 ghost use Rattle.shadow_memory.specs.Ranges.{written, window};
 ghost use Rattle.shadow_memory.specs.Changes.{AreApart};
@@ -136,19 +136,6 @@ impl Guest {
         place_is_least();
     }
 
-    fn count_heap_call(&mut self)
-        ensures core { core_of self.new ≡ core_of self.old }
-        ensures memory { self.new.memory ≡ self.old.memory }
-        ensures position { self.new.progress.position ≡ self.old.progress.position }
-        ensures end_seen { self.new.progress.end_seen ≡ self.old.progress.end_seen }
-        ensures output { self.new.progress.output_len ≡ self.old.progress.output_len }
-        ensures counted { self.new.progress.heap_calls ≡ min (self.old.progress.heap_calls + 1) u64.MAX }
-        ensures heap { self.new.heap ≡ self.old.heap }
-        ensures groups { self.new.groups ≡ self.old.groups }
-    {
-        self.progress.heap_calls = self.progress.heap_calls.saturating_add(1);
-    }
-
     /// A block for so many members of a size, with zeros in it; where they are is told.
     #[tactic(auto, unfolding(crate::specs::HeapCalls::block_at))]
     fn give_members(
@@ -236,7 +223,7 @@ impl Guest {
     }
 
     /// Moves a live block to a place for another size, which is answered; where there is none, it stays and 0 is answered.
-    #[tactic(auto, unfolding(crate::specs::HeapCalls::resized), using(crate::proofs::HeapSteps::moved_apart))]
+    #[tactic(auto, unfolding(crate::specs::HeapCalls::resized))]
     fn move_block(
         &mut self,
         block: Block,
@@ -315,7 +302,7 @@ impl Guest {
         ensures reads { IfOk result (λ used. used.reads ≡ (work_uses function (core_of self.old).blocks x y setup.now.redzone).reads) }
         ensures writes { IfOk result (λ used. used.writes ≡ (work_uses function (core_of self.old).blocks x y setup.now.redzone).writes) }
     {
-        self.count_heap_call();
+        self.progress.count_heap_call();
         match function {
             Hook::Malloc => {
                 self.give_block(x, setup.redzone)?;

@@ -3,11 +3,12 @@ ghost use Rattle.std.specs.Prelude.{◌≡◌, IfOk, OnOk};
 ghost use Rattle.guest_machine.specs.Doing.{uses_by_name, DoesNamed};
 
 use crate::machine::Guest;
-use crate::machine::calls::{A0, A1};
+use crate::machine::calls::{A0, A1, heap_parameters};
 use crate::machine::step::{NOTHING, Used};
 use crate::register::Register;
 use crate::setup::Setup;
 use crate::status::Stop;
+use error_events::Kind;
 use guest_elf::Hook;
 use std::alloc::AllocError;
 
@@ -27,12 +28,12 @@ impl Guest {
         let to = self.argument(RA) / 2 * 2;
         let x = self.argument(A0);
         let y = self.argument(A1);
-        self.test_value(Register::new(RA))?;
+        self.test(Register::new(RA), Kind::Value)?;
         if to % 4 != 0 {
             self.stop(Stop::Misaligned);
             return Ok(NOTHING);
         }
-        self.test_heap(function)?;
+        self.test_parameters(heap_parameters(function))?;
         let used = self.heap_work(function, x, y, setup)?;
         self.return_to(to);
         Ok(used)
