@@ -15,6 +15,7 @@ use crate::machine::step::{NOTHING, Used};
 use crate::register::Register;
 use crate::setup::Setup;
 use crate::span::Span;
+use crate::status::Status;
 use error_events::{Fault3, Kind, Parameter};
 use guest_elf::Hook;
 use shadow_memory::Bad;
@@ -138,7 +139,7 @@ impl Guest {
     {
         let code = (self.argument(A0) % 256) as u8;
         self.test_call(call)?;
-        self.exit(code);
+        self.status = Status::Exited(code);
         Ok(())
     }
 

@@ -1,6 +1,6 @@
 //! Where a machine goes next: pc, whether it runs, and the frames of the calls that it is in.
 ghost use Rattle.std.specs.Prelude.{◌≡◌, ◌%◌};
-ghost use Rattle.guest_machine.specs.Effects.{moved_to, advanced, stopped, exited, jumped, linked_jump};
+ghost use Rattle.guest_machine.specs.Effects.{advanced, stopped, jumped, linked_jump};
 ghost use Rattle.guest_machine.specs.CallStack.{hinted};
 ghost use Rattle.guest_machine.specs.NamedCalls.{returned_to};
 ghost use Rattle.guest_machine.specs.Shows.{core_of};
@@ -30,17 +30,6 @@ fn follow(frames: &mut CallStack, hint: StackHint, pc: u32, to: u32)
 }
 
 impl Guest {
-    /// Goes to an address.
-    #[inline(always)]
-    pub(super) fn move_to(&mut self, to: u32)
-        ensures core { core_of self.new ≡ moved_to (core_of self.old) to }
-        ensures memory { self.new.memory ≡ self.old.memory }
-        ensures progress { self.new.progress ≡ self.old.progress }
-        ensures groups { self.new.groups ≡ self.old.groups }
-    {
-        self.pc = to;
-    }
-
     /// Goes on to the next instruction.
     #[inline(always)]
     pub(super) fn advance(&mut self)
@@ -63,16 +52,6 @@ impl Guest {
         self.status = Status::Stopped(stop);
     }
 
-    /// Ends with an exit status.
-    pub(super) fn exit(&mut self, code: u8)
-        ensures core { core_of self.new ≡ exited (core_of self.old) code }
-        ensures memory { self.new.memory ≡ self.old.memory }
-        ensures progress { self.new.progress ≡ self.old.progress }
-        ensures groups { self.new.groups ≡ self.old.groups }
-    {
-        self.status = Status::Exited(code);
-    }
-
     /// Goes to an address, or stops where it is no multiple of 4.
     #[inline(always)]
     #[tactic(auto, unfolding(crate::specs::Effects::jumped))]
@@ -83,7 +62,7 @@ impl Guest {
         ensures groups { self.new.groups ≡ self.old.groups }
     {
         if to % 4 == 0 {
-            self.move_to(to);
+            self.pc = to;
         } else {
             self.stop(Stop::Misaligned);
         }
@@ -101,7 +80,7 @@ impl Guest {
             let link = self.pc.wrapping_add(4);
             follow(&mut self.frames, hint, self.pc, to);
             self.set_register(rd, known(link));
-            self.move_to(to);
+            self.pc = to;
         } else {
             self.stop(Stop::Misaligned);
         }
@@ -116,6 +95,6 @@ impl Guest {
         ensures groups { self.new.groups ≡ self.old.groups }
     {
         self.frames.back_to(to);
-        self.move_to(to);
+        self.pc = to;
     }
 }

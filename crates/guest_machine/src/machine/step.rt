@@ -243,7 +243,6 @@ impl Guest {
 
     /// The same, said of each state that is held.
     #[inline(always)]
-    #[tactic(auto, using(crate::proofs::Showing::holds_exec, crate::proofs::Showing::touched_exec))]
     fn step(&mut self, setup: &Setup) -> Result<Touched, AllocError>
         ensures holds { OnOk result ((s : State) → Holds self.old s → Holds self.new (exec s setup.now)) }
         ensures touched { IfOk result (λ t. (s : State) → Holds self.old s → has_touched t ≡ touches s setup.now) }
