@@ -6,7 +6,7 @@ ghost use Rattle.shadow_memory.specs.Ranges.{written};
 ghost use Rattle.guest_machine.specs.Effects.{stored_core};
 ghost use Rattle.guest_machine.specs.Exec.{no_intake, nothing, given_at, read_uses, write_uses};
 ghost use Rattle.guest_machine.specs.Shows.{core_of, bytes_of};
-ghost use Rattle.guest_machine.specs.Doing.{uses_by, read_intake, Raises, Does, DoesRow, DoesRead, DoesWrite};
+ghost use Rattle.guest_machine.specs.Doing.{used_of, uses_by, read_intake, Raises, Does, DoesRow, DoesRead, DoesWrite};
 
 use crate::environment_call::EnvironmentCall;
 use crate::instruction::Instruction;
@@ -91,13 +91,14 @@ impl Guest {
 
     /// A call that only answers.
     #[tactic(auto, unfolding(error_events::specs::Adding::add_events))]
-    fn test_and_answer(&mut self, call: EnvironmentCall, n: u32) -> Result<(), AllocError>
-        ensures { OnOk result (Does self.old self.new (answers (core_of self.old) call n) nothing false no_intake) }
+    fn test_and_answer(&mut self, call: EnvironmentCall, n: u32) -> Result<Used, AllocError>
+        ensures does { OnOk result (Does self.old self.new (answers (core_of self.old) call n) nothing false no_intake) }
+        ensures uses { IfOk result (λ used. used ≡ used_of nothing) }
     {
         self.test_call(call)?;
         self.answer(n);
         self.advance();
-        Ok(())
+        Ok(NOTHING)
     }
 
     /// Stores input at an address.
@@ -134,23 +135,23 @@ impl Guest {
         Ok(())
     }
 
-    fn exit_call(&mut self, call: EnvironmentCall) -> Result<(), AllocError>
-        ensures { OnOk result (Does self.old self.new (exit_call (core_of self.old) call) nothing false no_intake) }
+    fn exit_call(&mut self, call: EnvironmentCall) -> Result<Used, AllocError>
+        ensures uses { IfOk result (λ used. used ≡ used_of nothing) }
+        ensures does { OnOk result (Does self.old self.new (exit_call (core_of self.old) call) nothing false no_intake) }
     {
         let code = (self.argument(A0) % 256) as u8;
         self.test_call(call)?;
         self.status = Status::Exited(code);
-        Ok(())
+        Ok(NOTHING)
     }
 
     #[tactic(auto, unfolding(crate::specs::Calls::read_call, crate::specs::Exec::call_asks, error_events::specs::Adding::add_events), using(crate::proofs::Showing::add_events_append))]
-    fn read_call(&mut self, setup: &Setup) -> Result<Option<Span>, AllocError>
+    fn read_call(&mut self, setup: &Setup) -> Result<Used, AllocError>
         ensures does { OnOk result (DoesRead self.old self.new setup.now) }
-        ensures writes { IfOk result (λ written. written ≡ (read_uses (core_of self.old) (read_intake self.old setup.now).count).writes) }
+        ensures uses { IfOk result (λ used. used ≡ used_of (read_uses (core_of self.old) (read_intake self.old setup.now).count)) }
     {
         if self.argument(A0) != 0 {
-            self.test_and_answer(EnvironmentCall::Read, BAD_DESCRIPTOR)?;
-            return Ok(None);
+            return self.test_and_answer(EnvironmentCall::Read, BAD_DESCRIPTOR);
         }
         let start = self.argument(A1);
         let asked = self.moved_len();
@@ -162,31 +163,35 @@ impl Guest {
         self.progress.note_read(asked, n);
         self.answer(n);
         self.advance();
-        Ok(Some(Span { start, len: n }))
+        Ok(Used {
+            reads: None,
+            writes: Some(Span { start, len: n }),
+        })
     }
 
     #[tactic(auto, unfolding(crate::specs::Calls::write_call, crate::specs::Calls::appends, error_events::specs::Adding::add_events), using(crate::proofs::Showing::add_events_append, crate::proofs::Showing::length_taken))]
-    fn write_call(&mut self) -> Result<Option<Span>, AllocError>
+    fn write_call(&mut self) -> Result<Used, AllocError>
         ensures does { OnOk result (DoesWrite self.old self.new) }
-        ensures reads { IfOk result (λ taken. taken ≡ (write_uses (core_of self.old) self.old.progress.output_len).reads) }
+        ensures uses { IfOk result (λ used. used ≡ used_of (write_uses (core_of self.old) self.old.progress.output_len)) }
     {
         let descriptor = self.argument(A0);
         if descriptor != 1 && descriptor != 2 {
-            self.test_and_answer(EnvironmentCall::Write, BAD_DESCRIPTOR)?;
-            return Ok(None);
+            return self.test_and_answer(EnvironmentCall::Write, BAD_DESCRIPTOR);
         }
         let start = self.argument(A1);
         let len = self.moved_len();
         if !self.progress.has_room(len) {
-            self.test_and_answer(EnvironmentCall::Write, NO_SPACE)?;
-            return Ok(None);
+            return self.test_and_answer(EnvironmentCall::Write, NO_SPACE);
         }
         self.test_call(EnvironmentCall::Write)?;
         self.test_buffer(Parameter::WriteBuffer, true, start, len)?;
         self.progress.output_len += u64::from(len);
         self.answer(len);
         self.advance();
-        Ok(Some(Span { start, len }))
+        Ok(Used {
+            reads: Some(Span { start, len }),
+            writes: None,
+        })
     }
 
     /// Carries ECALL out, and says which bytes it took and which it wrote.
@@ -195,34 +200,15 @@ impl Guest {
     #[tactic(auto, unfolding(crate::specs::Calls::call_at, crate::specs::Exec::call_effect, crate::specs::Exec::call_uses, crate::specs::Exec::calls_heap, crate::specs::Exec::row_asks, crate::specs::Exec::call_asks, crate::specs::Exec::row_uses, crate::specs::Exec::row_effect))]
     pub(super) fn call_environment(&mut self, setup: &Setup) -> Result<Used, AllocError>
         ensures does { OnOk result (DoesRow self.old self.new (Some Instruction.CallEnvironment) setup.now) }
-        ensures reads { IfOk result (λ used. used.reads ≡ (uses_by self.old (Some Instruction.CallEnvironment) setup.now).reads) }
-        ensures writes { IfOk result (λ used. used.writes ≡ (uses_by self.old (Some Instruction.CallEnvironment) setup.now).writes) }
+        ensures uses { IfOk result (λ used. used ≡ used_of (uses_by self.old (Some Instruction.CallEnvironment) setup.now)) }
     {
         let call = EnvironmentCall::of(self.argument(A7));
         match call {
-            EnvironmentCall::Read => {
-                let writes = self.read_call(setup)?;
-                Ok(Used {
-                    reads: None,
-                    writes,
-                })
-            }
-            EnvironmentCall::Write => {
-                let reads = self.write_call()?;
-                Ok(Used {
-                    reads,
-                    writes: None,
-                })
-            }
-            EnvironmentCall::Exit | EnvironmentCall::ExitGroup => {
-                self.exit_call(call)?;
-                Ok(NOTHING)
-            }
+            EnvironmentCall::Read => self.read_call(setup),
+            EnvironmentCall::Write => self.write_call(),
+            EnvironmentCall::Exit | EnvironmentCall::ExitGroup => self.exit_call(call),
             EnvironmentCall::Heap(function) => self.heap_call(function, setup),
-            EnvironmentCall::Unknown => {
-                self.test_and_answer(EnvironmentCall::Unknown, NO_SUCH_CALL)?;
-                Ok(NOTHING)
-            }
+            EnvironmentCall::Unknown => self.test_and_answer(call, NO_SUCH_CALL),
         }
     }
 }

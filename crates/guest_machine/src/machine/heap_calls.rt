@@ -9,10 +9,10 @@ ghost use Rattle.guest_machine.specs.StackPointer.{ranged};
 ghost use Rattle.guest_machine.specs.HeapCalls.{placed, closed, carved, copied, IsClearOf, given_block, freed, released_here, is_invalid, free_errors, moving_in, resizing, resized, resize_errors};
 ghost use Rattle.guest_machine.specs.Effects.{no_bytes};
 ghost use Rattle.guest_machine.specs.Calls.{answered};
-ghost use Rattle.guest_machine.specs.Exec.{work_uses, heap_uses, calloc_uses, moved_from, moved_into, taken_from, written_to};
+ghost use Rattle.guest_machine.specs.Exec.{work_uses, heap_uses, calloc_uses, taken_from, written_to};
 ghost use Rattle.guest_machine.specs.Spans.{span_at};
 ghost use Rattle.guest_machine.specs.Shows.{core_of, bytes_of};
-ghost use Rattle.guest_machine.specs.Doing.{Raises, DoesWork, DoesHeapCall};
+ghost use Rattle.guest_machine.specs.Doing.{Raises, used_of, used_in_move, DoesWork, DoesHeapCall};
 
 use crate::environment_call::EnvironmentCall;
 use crate::machine::Guest;
@@ -234,8 +234,7 @@ impl Guest {
         requires live { (core_of self.old).blocks.live block.start ≡ Some block }
         ensures core { OnOk result (core_of self.new
             ≡ resized (core_of self.old) block.start size redzone volume (moving_in (core_of self.old).blocks block size redzone)) }
-        ensures reads { IfOk result (λ used. used.reads ≡ moved_from (moving_in (core_of self.old).blocks block size redzone) block.start size) }
-        ensures writes { IfOk result (λ used. used.writes ≡ moved_into (moving_in (core_of self.old).blocks block size redzone) size) }
+        ensures uses { IfOk result (λ used. used ≡ used_in_move (moving_in (core_of self.old).blocks block size redzone) block.start size) }
         ensures bytes { IfOk result (λ used. bytes_of self.new ≡ written_to (bytes_of self.old) used.writes (taken_from (bytes_of self.old) used.reads)) }
         ensures progress { self.new.progress ≡ self.old.progress }
         ensures groups { self.new.groups ≡ self.old.groups }
@@ -265,8 +264,7 @@ impl Guest {
     #[tactic(auto, unfolding(crate::specs::HeapCalls::resizing, crate::specs::HeapCalls::resized, crate::specs::HeapCalls::resize_errors, error_events::specs::Adding::add_events))]
     fn resize(&mut self, p: u32, size: u32, redzone: u32, volume: u32) -> Result<Used, AllocError>
         ensures core { OnOk result (core_of self.new ≡ resized (core_of self.old) p size redzone volume (resizing (core_of self.old).blocks p size redzone)) }
-        ensures reads { IfOk result (λ used. used.reads ≡ moved_from (resizing (core_of self.old).blocks p size redzone) p size) }
-        ensures writes { IfOk result (λ used. used.writes ≡ moved_into (resizing (core_of self.old).blocks p size redzone) size) }
+        ensures uses { IfOk result (λ used. used ≡ used_in_move (resizing (core_of self.old).blocks p size redzone) p size) }
         ensures bytes { IfOk result (λ used. bytes_of self.new ≡ written_to (bytes_of self.old) used.writes (taken_from (bytes_of self.old) used.reads)) }
         ensures progress { self.new.progress ≡ self.old.progress }
         ensures groups { OnOk result (Raises self.old self.new (resize_errors (core_of self.old) p (resizing (core_of self.old).blocks p size redzone))) }
@@ -299,8 +297,7 @@ impl Guest {
         setup: &Setup,
     ) -> Result<Used, AllocError>
         ensures does { OnOk result (DoesWork self.old self.new function x y setup.now) }
-        ensures reads { IfOk result (λ used. used.reads ≡ (work_uses function (core_of self.old).blocks x y setup.now.redzone).reads) }
-        ensures writes { IfOk result (λ used. used.writes ≡ (work_uses function (core_of self.old).blocks x y setup.now.redzone).writes) }
+        ensures uses { IfOk result (λ used. used ≡ used_of (work_uses function (core_of self.old).blocks x y setup.now.redzone)) }
     {
         self.progress.count_heap_call();
         match function {
@@ -327,8 +324,7 @@ impl Guest {
     #[tactic(auto, using(crate::proofs::Showing::add_events_append))]
     pub(super) fn heap_call(&mut self, function: Hook, setup: &Setup) -> Result<Used, AllocError>
         ensures does { OnOk result (DoesHeapCall self.old self.new function setup.now) }
-        ensures reads { IfOk result (λ used. used.reads ≡ (heap_uses function (core_of self.old) setup.now.redzone).reads) }
-        ensures writes { IfOk result (λ used. used.writes ≡ (heap_uses function (core_of self.old) setup.now.redzone).writes) }
+        ensures uses { IfOk result (λ used. used ≡ used_of (heap_uses function (core_of self.old) setup.now.redzone)) }
     {
         let x = self.argument(A0);
         let y = self.argument(A1);

@@ -5,7 +5,7 @@ ghost use Rattle.guest_machine.specs.Errors.{fetch_undef};
 ghost use Rattle.guest_machine.specs.Instructions.{row_of};
 ghost use Rattle.guest_machine.specs.Exec.{no_intake, nothing, is_running, is_aligned, called_here, fetches, unfetched, exec, touches, has_touched, IsFetched};
 ghost use Rattle.guest_machine.specs.Shows.{core_of, bytes_of, Holds, Shows};
-ghost use Rattle.guest_machine.specs.Doing.{uses_by, touched_by, Does, DoesRow, DoesRound, DoesStep};
+ghost use Rattle.guest_machine.specs.Doing.{used_of, uses_by, touched_by, Does, DoesRow, DoesRound, DoesStep};
 
 use crate::alu::computed;
 use crate::hooks::Hooks;
@@ -58,11 +58,9 @@ impl Guest {
         row: Option<Instruction>,
         used: &mut Used,
     ) -> Result<(), AllocError>
-        requires reads { used.old.reads ≡ None }
-        requires writes { used.old.writes ≡ None }
+        requires { used.old ≡ used_of nothing }
         ensures does { OnOk result (DoesRow self.old self.new row setup.now) }
-        ensures reads { OnOk result (used.new.reads ≡ (uses_by self.old row setup.now).reads) }
-        ensures writes { OnOk result (used.new.writes ≡ (uses_by self.old row setup.now).writes) }
+        ensures uses { OnOk result (used.new ≡ used_of (uses_by self.old row setup.now)) }
     {
         let Some(instruction) = row else {
             self.stop(Stop::Illegal);
@@ -204,11 +202,9 @@ impl Guest {
     #[tactic(auto, using(crate::proofs::Showing::add_events_append))]
     fn round(&mut self, setup: &Setup, word: Bits, used: &mut Used) -> Result<(), AllocError>
         requires undef { word.undef ≡ fetch_undef (core_of self.old) }
-        requires reads { used.old.reads ≡ None }
-        requires writes { used.old.writes ≡ None }
+        requires unused { used.old ≡ used_of nothing }
         ensures does { OnOk result (DoesRound self.old self.new (row_of word.value) setup.now) }
-        ensures reads { OnOk result (used.new.reads ≡ (uses_by self.old (row_of word.value) setup.now).reads) }
-        ensures writes { OnOk result (used.new.writes ≡ (uses_by self.old (row_of word.value) setup.now).writes) }
+        ensures uses { OnOk result (used.new ≡ used_of (uses_by self.old (row_of word.value) setup.now)) }
     {
         let stack_pointer = self.read_register(Register::new(2));
         self.test_word(word.undef)?;
