@@ -1,5 +1,6 @@
 -- What the machine's private functions do to the parts that it shows.
 use Rattle.std.specs.Prelude.{◌≡◌, ℕ, ◌+◌, true, false, Bool, length, List, Option, None}
+use Rattle.guest_machine.specs.State.{Core}
 use Rattle.guest_machine.specs.Effects.{Effect}
 use Rattle.guest_machine.specs.Calls.{read_call, write_call}
 use Rattle.guest_machine.specs.HeapCalls.{Resizing, heap_work, heap_call}
@@ -20,6 +21,13 @@ use Rattle.guest_machine.specs.declared.setup.Touched.{Touched}
 -- the errors are grouped after the earlier ones
 abbrev pub Raises : Guest → Guest → List Event → Type 0
 Raises old new events = groups_of new.groups ≡ add_events (groups_of old.groups) events
+
+-- memory, registers, frames and blocks are changed to these, and nothing else is
+pub record Changes (old new : Guest) (made : Core) (stored : ℕ → ℕ) : Type 0 where
+  pub core : core_of new ≡ made
+  pub bytes : bytes_of new ≡ stored
+  pub progress : new.progress ≡ old.progress
+  pub groups : new.groups ≡ old.groups
 
 -- new is old after this effect, with these uses; a heap call is counted, and so is what is given of the input
 pub record Does (old new : Guest) (effect : Effect) (uses : Uses) (heap : Bool) (intake : Intake) : Type 0 where

@@ -6,7 +6,7 @@ ghost use Rattle.shadow_memory.specs.Ranges.{written};
 ghost use Rattle.guest_machine.specs.Effects.{stored_core};
 ghost use Rattle.guest_machine.specs.Exec.{no_intake, nothing, given_at, read_uses, write_uses};
 ghost use Rattle.guest_machine.specs.Shows.{core_of, bytes_of};
-ghost use Rattle.guest_machine.specs.Doing.{used_of, uses_by, read_intake, Raises, Does, DoesRow, DoesRead, DoesWrite};
+ghost use Rattle.guest_machine.specs.Doing.{used_of, uses_by, read_intake, Raises, Changes, Does, DoesRow, DoesRead, DoesWrite};
 
 use crate::environment_call::EnvironmentCall;
 use crate::instruction::Instruction;
@@ -104,10 +104,7 @@ impl Guest {
     /// Stores input at an address.
     fn store_input(&mut self, start: u32, given: &[u8]) -> Result<(), AllocError>
         requires { length given.now ≤ most_moved }
-        ensures core { OnOk result (core_of self.new ≡ stored_core (core_of self.old) start (length given.now) 0) }
-        ensures bytes { OnOk result (bytes_of self.new ≡ written (bytes_of self.old) start (length given.now) (slice_index given.now)) }
-        ensures progress { self.new.progress ≡ self.old.progress }
-        ensures groups { self.new.groups ≡ self.old.groups }
+        ensures { OnOk result (Changes self.old self.new (stored_core (core_of self.old) start (length given.now) 0) (written (bytes_of self.old) start (length given.now) (slice_index given.now))) }
     {
         self.memory.store_bytes(start, given)?;
         Ok(())
