@@ -22,6 +22,22 @@ use Rattle.guest_machine.specs.declared.setup.Touched.{Touched}
 abbrev pub Raises : Guest → Guest → List Event → Type 0
 Raises old new events = groups_of new.groups ≡ add_events (groups_of old.groups) events
 
+-- registers, pc, status and frames are set so, and nothing else is changed
+pub record Sets (old new : Guest) (made : Core) : Type 0 where
+  pub core : core_of new ≡ made
+  pub memory : new.memory ≡ old.memory
+  pub progress : new.progress ≡ old.progress
+  pub heap : new.heap ≡ old.heap
+  pub groups : new.groups ≡ old.groups
+
+-- and these errors are noted
+pub record Notes (old new : Guest) (made : Core) (events : List Event) : Type 0 where
+  pub core : core_of new ≡ made
+  pub memory : new.memory ≡ old.memory
+  pub progress : new.progress ≡ old.progress
+  pub heap : new.heap ≡ old.heap
+  pub groups : Raises old new events
+
 -- memory, registers, frames and blocks are changed to these, and nothing else is
 pub record Changes (old new : Guest) (made : Core) (stored : ℕ → ℕ) : Type 0 where
   pub core : core_of new ≡ made

@@ -6,7 +6,7 @@ ghost use Rattle.shadow_memory.specs.Ranges.{written};
 ghost use Rattle.guest_machine.specs.Effects.{stored_core};
 ghost use Rattle.guest_machine.specs.Exec.{no_intake, nothing, given_at, read_uses, write_uses};
 ghost use Rattle.guest_machine.specs.Shows.{core_of, bytes_of};
-ghost use Rattle.guest_machine.specs.Doing.{used_of, uses_by, read_intake, Raises, Changes, Does, DoesRow, DoesRead, DoesWrite};
+ghost use Rattle.guest_machine.specs.Doing.{used_of, uses_by, read_intake, Changes, Notes, Does, DoesRow, DoesRead, DoesWrite};
 
 use crate::environment_call::EnvironmentCall;
 use crate::instruction::Instruction;
@@ -61,11 +61,7 @@ impl Guest {
     /// Tests the parameters of a call, which are in a0 and on, in order.
     pub(super) fn test_parameters(&mut self, parameters: &[Parameter]) -> Result<(), AllocError>
         requires { length parameters.now ≤ 3 }
-        ensures core { OnOk result (core_of self.new ≡ tested_from (core_of self.old) 10 parameters.now) }
-        ensures memory { self.new.memory ≡ self.old.memory }
-        ensures progress { self.new.progress ≡ self.old.progress }
-        ensures heap { self.new.heap ≡ self.old.heap }
-        ensures groups { OnOk result (Raises self.old self.new (errors_from (core_of self.old) 10 parameters.now)) }
+        ensures { OnOk result (Notes self.old self.new (tested_from (core_of self.old) 10 parameters.now) (errors_from (core_of self.old) 10 parameters.now)) }
     {
         let mut r = A0;
         for &parameter in parameters {
@@ -78,11 +74,7 @@ impl Guest {
     /// Tests a call's number, and then its parameters in order.
     #[tactic(auto, unfolding(error_events::specs::Adding::add_events), using(crate::proofs::Showing::add_events_append))]
     pub(super) fn test_call(&mut self, call: EnvironmentCall) -> Result<(), AllocError>
-        ensures core { OnOk result (core_of self.new ≡ call_tested (core_of self.old) call) }
-        ensures memory { self.new.memory ≡ self.old.memory }
-        ensures progress { self.new.progress ≡ self.old.progress }
-        ensures heap { self.new.heap ≡ self.old.heap }
-        ensures groups { OnOk result (Raises self.old self.new (call_errors (core_of self.old) call)) }
+        ensures { OnOk result (Notes self.old self.new (call_tested (core_of self.old) call) (call_errors (core_of self.old) call)) }
     {
         let number = Kind::Param(Parameter::SyscallNumber, Fault3::Contains);
         self.test(Register::new(A7), number)?;
@@ -119,10 +111,7 @@ impl Guest {
         start: u32,
         n: u32,
     ) -> Result<(), AllocError>
-        ensures core { core_of self.new ≡ core_of self.old }
-        ensures memory { self.new.memory ≡ self.old.memory }
-        ensures progress { self.new.progress ≡ self.old.progress }
-        ensures groups { OnOk result (Raises self.old self.new (buffer_errors (core_of self.old) parameter need_defined start n)) }
+        ensures { OnOk result (Notes self.old self.new (core_of self.old) (buffer_errors (core_of self.old) parameter need_defined start n)) }
     {
         if let Some(bad) = self.memory.first_bad(start, n, need_defined) {
             let kind = Kind::Param(parameter, fault_of(bad));

@@ -4,7 +4,7 @@ ghost use Rattle.guest_machine.specs.Registers.{defined, tested};
 ghost use Rattle.guest_machine.specs.Effects.{branch_tested, branch_errors};
 ghost use Rattle.guest_machine.specs.Errors.{here, event_of, event_unless, event_about, note_at, region_note, register_errors, value_errors, parameter_errors};
 ghost use Rattle.guest_machine.specs.Shows.{core_of};
-ghost use Rattle.guest_machine.specs.Doing.{Raises};
+ghost use Rattle.guest_machine.specs.Doing.{Notes};
 
 use crate::alu::is_undecided;
 use crate::instruction::Comparison;
@@ -42,11 +42,7 @@ impl Guest {
     #[inline(never)]
     #[tactic(auto, unfolding(error_events::specs::Adding::add_events))]
     pub(super) fn raise(&mut self, kind: Kind, note: Note) -> Result<(), AllocError>
-        ensures core { core_of self.new ≡ core_of self.old }
-        ensures memory { self.new.memory ≡ self.old.memory }
-        ensures progress { self.new.progress ≡ self.old.progress }
-        ensures heap { self.new.heap ≡ self.old.heap }
-        ensures groups { OnOk result (Raises self.old self.new (event_of (here (core_of self.old)) kind note ∷ [])) }
+        ensures { OnOk result (Notes self.old self.new (core_of self.old) (event_of (here (core_of self.old)) kind note ∷ [])) }
     {
         let trace = self.frames.trace(self.pc);
         self.groups.add(Event { kind, trace, note })
@@ -56,10 +52,7 @@ impl Guest {
     #[inline(always)]
     #[tactic(auto, unfolding(crate::specs::Errors::event_unless, error_events::specs::Adding::add_events))]
     pub(super) fn test_word(&mut self, undef: u32) -> Result<(), AllocError>
-        ensures core { core_of self.new ≡ core_of self.old }
-        ensures memory { self.new.memory ≡ self.old.memory }
-        ensures progress { self.new.progress ≡ self.old.progress }
-        ensures groups { OnOk result (Raises self.old self.new (event_unless (undef == 0) (here (core_of self.old)) Kind.Value)) }
+        ensures { OnOk result (Notes self.old self.new (core_of self.old) (event_unless (undef == 0) (here (core_of self.old)) Kind.Value)) }
     {
         if undef != 0 {
             return self.raise(Kind::Value, Note::Absent);
@@ -72,10 +65,7 @@ impl Guest {
     #[inline(never)]
     #[tactic(auto, unfolding(crate::specs::Errors::event_about, error_events::specs::Adding::add_events))]
     pub(super) fn raise_about(&mut self, kind: Kind, fault: Option<u32>) -> Result<(), AllocError>
-        ensures core { core_of self.new ≡ core_of self.old }
-        ensures memory { self.new.memory ≡ self.old.memory }
-        ensures progress { self.new.progress ≡ self.old.progress }
-        ensures groups { OnOk result (Raises self.old self.new (event_about (core_of self.old).blocks (here (core_of self.old)) kind fault)) }
+        ensures { OnOk result (Notes self.old self.new (core_of self.old) (event_about (core_of self.old).blocks (here (core_of self.old)) kind fault)) }
     {
         if let Some(addr) = fault {
             let note = self.note_at(addr);
@@ -88,10 +78,7 @@ impl Guest {
     #[inline(always)]
     #[tactic(auto, unfolding(crate::specs::Errors::event_about, error_events::specs::Adding::add_events))]
     pub(super) fn test_access(&mut self, kind: Kind, bad: Option<u32>) -> Result<(), AllocError>
-        ensures core { core_of self.new ≡ core_of self.old }
-        ensures memory { self.new.memory ≡ self.old.memory }
-        ensures progress { self.new.progress ≡ self.old.progress }
-        ensures groups { OnOk result (Raises self.old self.new (event_about (core_of self.old).blocks (here (core_of self.old)) kind bad)) }
+        ensures { OnOk result (Notes self.old self.new (core_of self.old) (event_about (core_of self.old).blocks (here (core_of self.old)) kind bad)) }
     {
         match bad {
             None => Ok(()),
@@ -103,11 +90,7 @@ impl Guest {
     #[inline(always)]
     #[tactic(auto, unfolding(crate::specs::Registers::tested, crate::specs::Errors::event_unless, error_events::specs::Adding::add_events))]
     pub(super) fn test(&mut self, r: Register, kind: Kind) -> Result<(), AllocError>
-        ensures core { OnOk result (core_of self.new ≡ tested (core_of self.old) r) }
-        ensures memory { self.new.memory ≡ self.old.memory }
-        ensures progress { self.new.progress ≡ self.old.progress }
-        ensures heap { self.new.heap ≡ self.old.heap }
-        ensures groups { OnOk result (Raises self.old self.new (register_errors (core_of self.old) r kind)) }
+        ensures { OnOk result (Notes self.old self.new (tested (core_of self.old) r) (register_errors (core_of self.old) r kind)) }
     {
         if self.read_register(r).undef != 0 {
             self.raise(kind, Note::Absent)?;
@@ -125,10 +108,7 @@ impl Guest {
         rs1: Register,
         rs2: Register,
     ) -> Result<(), AllocError>
-        ensures core { OnOk result (core_of self.new ≡ branch_tested (core_of self.old) comparison rs1 rs2) }
-        ensures memory { self.new.memory ≡ self.old.memory }
-        ensures progress { self.new.progress ≡ self.old.progress }
-        ensures groups { OnOk result (Raises self.old self.new (branch_errors (core_of self.old) comparison rs1 rs2)) }
+        ensures { OnOk result (Notes self.old self.new (branch_tested (core_of self.old) comparison rs1 rs2) (branch_errors (core_of self.old) comparison rs1 rs2)) }
     {
         if is_undecided(comparison, self.read_register(rs1), self.read_register(rs2)) {
             self.raise(Kind::Cond, Note::Absent)?;

@@ -4,6 +4,7 @@ ghost use Rattle.guest_machine.specs.Effects.{advanced, stopped, jumped, linked_
 ghost use Rattle.guest_machine.specs.CallStack.{hinted};
 ghost use Rattle.guest_machine.specs.NamedCalls.{returned_to};
 ghost use Rattle.guest_machine.specs.Shows.{core_of};
+ghost use Rattle.guest_machine.specs.Doing.{Sets};
 
 use crate::hint::StackHint;
 use crate::machine::Guest;
@@ -33,10 +34,7 @@ impl Guest {
     /// Goes on to the next instruction.
     #[inline(always)]
     pub(super) fn advance(&mut self)
-        ensures core { core_of self.new ≡ advanced (core_of self.old) }
-        ensures memory { self.new.memory ≡ self.old.memory }
-        ensures progress { self.new.progress ≡ self.old.progress }
-        ensures groups { self.new.groups ≡ self.old.groups }
+        ensures { Sets self.old self.new (advanced (core_of self.old)) }
     {
         self.pc = self.pc.wrapping_add(4);
     }
@@ -44,10 +42,7 @@ impl Guest {
     /// Stops for good, at this pc.
     #[inline(always)]
     pub(super) fn stop(&mut self, stop: Stop)
-        ensures core { core_of self.new ≡ stopped (core_of self.old) stop }
-        ensures memory { self.new.memory ≡ self.old.memory }
-        ensures progress { self.new.progress ≡ self.old.progress }
-        ensures groups { self.new.groups ≡ self.old.groups }
+        ensures { Sets self.old self.new (stopped (core_of self.old) stop) }
     {
         self.status = Status::Stopped(stop);
     }
@@ -56,10 +51,7 @@ impl Guest {
     #[inline(always)]
     #[tactic(auto, unfolding(crate::specs::Effects::jumped))]
     pub(super) fn jump(&mut self, to: u32)
-        ensures core { core_of self.new ≡ jumped (core_of self.old) to }
-        ensures memory { self.new.memory ≡ self.old.memory }
-        ensures progress { self.new.progress ≡ self.old.progress }
-        ensures groups { self.new.groups ≡ self.old.groups }
+        ensures { Sets self.old self.new (jumped (core_of self.old) to) }
     {
         if to % 4 == 0 {
             self.pc = to;
@@ -71,10 +63,7 @@ impl Guest {
     /// Goes to an address, and leaves the address after this instruction in rd.
     #[tactic(auto, unfolding(crate::specs::Effects::linked_jump))]
     pub(super) fn linked_jump(&mut self, hint: StackHint, rd: Register, to: u32)
-        ensures core { core_of self.new ≡ linked_jump (core_of self.old) hint rd to }
-        ensures memory { self.new.memory ≡ self.old.memory }
-        ensures progress { self.new.progress ≡ self.old.progress }
-        ensures groups { self.new.groups ≡ self.old.groups }
+        ensures { Sets self.old self.new (linked_jump (core_of self.old) hint rd to) }
     {
         if to % 4 == 0 {
             let link = self.pc.wrapping_add(4);
@@ -89,10 +78,7 @@ impl Guest {
     /// Returns to an address.
     #[tactic(auto, unfolding(crate::specs::CallStack::hinted))]
     pub(super) fn return_to(&mut self, to: u32)
-        ensures core { core_of self.new ≡ returned_to to (core_of self.old) }
-        ensures memory { self.new.memory ≡ self.old.memory }
-        ensures progress { self.new.progress ≡ self.old.progress }
-        ensures groups { self.new.groups ≡ self.old.groups }
+        ensures { Sets self.old self.new (returned_to to (core_of self.old)) }
     {
         self.frames.back_to(to);
         self.pc = to;

@@ -10,7 +10,7 @@ ghost use Rattle.guest_machine.specs.Widths.{width_len, width_limit};
 ghost use Rattle.guest_machine.specs.Effects.{results_in, load, store, branch, jump, jump_register, branched};
 ghost use Rattle.guest_machine.specs.Exec.{no_intake, nothing, accessed, writing, taken_from};
 ghost use Rattle.guest_machine.specs.Shows.{core_of, bytes_of};
-ghost use Rattle.guest_machine.specs.Doing.{Raises, Does};
+ghost use Rattle.guest_machine.specs.Doing.{Notes, Does};
 
 use crate::alu::{extended, passes};
 use crate::hint::StackHint;
@@ -69,10 +69,7 @@ impl Guest {
     /// The low bytes at an address and their undefined bits; the first inaccessible one is noted.
     #[inline(always)]
     fn take(&mut self, start: u32, width: Width) -> Result<Bits, AllocError>
-        ensures core { core_of self.new ≡ core_of self.old }
-        ensures memory { self.new.memory ≡ self.old.memory }
-        ensures progress { self.new.progress ≡ self.old.progress }
-        ensures groups { OnOk result (Raises self.old self.new (access_errors (core_of self.old) (ReadError (width_len width)) start (width_len width))) }
+        ensures notes { OnOk result (Notes self.old self.new (core_of self.old) (access_errors (core_of self.old) (ReadError (width_len width)) start (width_len width))) }
         ensures value { IfOk result (λ bits. bits.value ≡ little_word (window (bytes_of self.old) start (width_len width))) }
         ensures undef { IfOk result (λ bits. bits.undef ≡ taken_undef (core_of self.old) start (width_len width)) }
         ensures small { IfOk result (λ bits. bits.value < width_limit width) }

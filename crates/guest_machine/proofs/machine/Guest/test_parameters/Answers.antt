@@ -26,14 +26,16 @@ loop-parameter-preserved c =
       heap = made.heap ∙ inv.heap;
     }
 
-pub returns-clause-core : goal.returns-clause-core
-returns-clause-core c =
+pub returns : goal.returns
+returns c =
     let loop = c.loop-parameter in
-    let past : length c.args.parameters.now ≤ loop.parameter-index = c.loop-parameter-test.false in
-    tested-end (core_of loop.self) loop.r loop.parameter-index c.args.parameters.now past ∙ loop.invariant.core
-
-pub returns-clause-groups : goal.returns-clause-groups
-returns-clause-groups c =
-    let loop = c.loop-parameter in
-    let past : length c.args.parameters.now ≤ loop.parameter-index = c.loop-parameter-test.false in
-    errors-end (core_of loop.self) (groups_of loop.self.groups) loop.r loop.parameter-index c.args.parameters.now past ∙ loop.invariant.groups
+    let inv = loop.invariant in
+    let ps = c.args.parameters.now in
+    let past : length ps ≤ loop.parameter-index = c.loop-parameter-test.false in
+    record {
+      core = tested-end (core_of loop.self) loop.r loop.parameter-index ps past ∙ inv.core;
+      memory = inv.memory;
+      progress = inv.progress;
+      heap = inv.heap;
+      groups = errors-end (core_of loop.self) (groups_of loop.self.groups) loop.r loop.parameter-index ps past ∙ inv.groups;
+    }
