@@ -1,8 +1,8 @@
 //! The tests of a step, and the errors that they record.
-ghost use Rattle.std.specs.Prelude.{◌≡◌, ◌∷◌, ◌<◌, ◌==◌, [], false, OnOk};
-ghost use Rattle.guest_machine.specs.Registers.{defined, tested};
+ghost use Rattle.std.specs.Prelude.{◌≡◌, ◌∷◌, ◌<◌, ◌==◌, [], OnOk};
+ghost use Rattle.guest_machine.specs.Registers.{tested};
 ghost use Rattle.guest_machine.specs.Effects.{branch_tested, branch_errors};
-ghost use Rattle.guest_machine.specs.Errors.{here, event_of, event_unless, event_about, note_at, region_note, register_errors, value_errors, parameter_errors};
+ghost use Rattle.guest_machine.specs.Errors.{here, event_of, event_unless, event_about, note_at, region_note, register_errors};
 ghost use Rattle.guest_machine.specs.Shows.{core_of};
 ghost use Rattle.guest_machine.specs.Doing.{Notes};
 
@@ -10,7 +10,7 @@ use crate::alu::is_undecided;
 use crate::instruction::Comparison;
 use crate::machine::Guest;
 use crate::register::Register;
-use error_events::{Event, Fault3, Kind, Note, Parameter};
+use error_events::{Event, Kind, Note};
 use guest_elf::{STACK_BEGIN, STACK_END};
 use std::alloc::AllocError;
 
