@@ -6,4 +6,6 @@ pub mod PokeLaw
 pub mod SetupLaw
 pub mod HeapSteps
 pub mod HookSteps
+pub mod TestSteps
+pub mod Products
 pub mod Halted

@@ -1,10 +1,11 @@
 -- What the machine's private functions do to the parts that it shows.
 use Rattle.std.specs.Prelude.{◌≡◌, ℕ, ◌+◌, true, false, Bool, length, List, Option, None}
+use Rattle.guest_machine.specs.State.{Core}
 use Rattle.guest_machine.specs.Effects.{Effect}
 use Rattle.guest_machine.specs.Calls.{read_call, write_call}
-use Rattle.guest_machine.specs.HeapCalls.{heap_work, heap_call}
+use Rattle.guest_machine.specs.HeapCalls.{Resizing, heap_work, heap_call}
 use Rattle.guest_machine.specs.NamedCalls.{returns, named_call}
-use Rattle.guest_machine.specs.Exec.{Uses, Terms, Intake, no_intake, intake_of, intake_at, seen_also, left_at, row_asks, call_asks, counted, written_to, row_uses, row_effect, rounded, calls_heap, read_uses, write_uses, work_uses, heap_uses, named_uses, terms_of, given_at, taken_from, is_heap_deed, deed_at, uses_at, effect_at, touched_at}
+use Rattle.guest_machine.specs.Exec.{Uses, Terms, Intake, no_intake, intake_of, intake_at, seen_also, left_at, row_asks, call_asks, counted, written_to, row_uses, row_effect, rounded, calls_heap, read_uses, write_uses, work_uses, heap_uses, named_uses, moved_from, moved_into, terms_of, given_at, taken_from, is_heap_deed, deed_at, uses_at, effect_at, touched_at}
 use Rattle.guest_machine.specs.Shows.{core_of, bytes_of}
 use Rattle.error_events.specs.Adding.{add_events}
 use Rattle.error_events.specs.Shown.{groups_of}
@@ -13,12 +14,36 @@ use Rattle.guest_elf.specs.declared.hook.Hook.{Hook}
 use Rattle.guest_machine.specs.declared.environment_call.EnvironmentCall.TheVariants.{Read}
 use Rattle.guest_machine.specs.declared.instruction.Instruction.{Instruction}
 use Rattle.guest_machine.specs.declared.machine.Guest.{Guest}
+use Rattle.guest_machine.specs.declared.machine.step.Used.{Used}
 use Rattle.guest_machine.specs.declared.setup.Setup.{Setup}
 use Rattle.guest_machine.specs.declared.setup.Touched.{Touched}
 
 -- the errors are grouped after the earlier ones
 abbrev pub Raises : Guest → Guest → List Event → Type 0
 Raises old new events = groups_of new.groups ≡ add_events (groups_of old.groups) events
+
+-- registers, pc, status and frames are set so, and nothing else is changed
+pub record Sets (old new : Guest) (made : Core) : Type 0 where
+  pub core : core_of new ≡ made
+  pub memory : new.memory ≡ old.memory
+  pub progress : new.progress ≡ old.progress
+  pub heap : new.heap ≡ old.heap
+  pub groups : new.groups ≡ old.groups
+
+-- and these errors are noted
+pub record Notes (old new : Guest) (made : Core) (events : List Event) : Type 0 where
+  pub core : core_of new ≡ made
+  pub memory : new.memory ≡ old.memory
+  pub progress : new.progress ≡ old.progress
+  pub heap : new.heap ≡ old.heap
+  pub groups : Raises old new events
+
+-- memory, registers, frames and blocks are changed to these, and nothing else is
+pub record Changes (old new : Guest) (made : Core) (stored : ℕ → ℕ) : Type 0 where
+  pub core : core_of new ≡ made
+  pub bytes : bytes_of new ≡ stored
+  pub progress : new.progress ≡ old.progress
+  pub groups : new.groups ≡ old.groups
 
 -- new is old after this effect, with these uses; a heap call is counted, and so is what is given of the input
 pub record Does (old new : Guest) (effect : Effect) (uses : Uses) (heap : Bool) (intake : Intake) : Type 0 where
@@ -29,6 +54,14 @@ pub record Does (old new : Guest) (effect : Effect) (uses : Uses) (heap : Bool) 
   pub output : new.progress.output_len ≡ old.progress.output_len + length effect.output
   pub heap_calls : new.progress.heap_calls ≡ counted old.progress.heap_calls heap
   pub groups : Raises old new effect.raised
+
+-- uses, as the code has them
+abbrev pub used_of : Uses → Used
+used_of uses = record { reads = uses.reads; writes = uses.writes }
+
+-- those of a block that goes to a place for another size
+abbrev pub used_in_move : Resizing → ℕ → ℕ → Used
+used_in_move what p size = record { reads = moved_from what p size; writes = moved_into what size }
 
 -- an instruction carried out by a machine: what it sees of the setup, what it uses, and that new is old after it
 abbrev pub row_terms : Guest → Option Instruction → Setup → Terms

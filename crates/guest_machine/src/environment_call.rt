@@ -5,7 +5,7 @@ ghost use Rattle.guest_machine.specs.Calls.{call_of};
 use guest_elf::Hook;
 
 /// What a program asks of its environment by ECALL.
-#[derive(Clone, Copy, Debug, PartialEq, Eq)]
+#[derive(Clone, Copy)]
 pub(crate) enum EnvironmentCall {
     Read,
     Write,

@@ -5,7 +5,7 @@ ghost use Rattle.guest_machine.specs.CallStack.{is_link, jal_hint, jalr_hint};
 use crate::register::Register;
 
 /// What a jump does to a stack of return addresses (RISC-V Unprivileged ISA 20191213, section 2.5, table 2.1).
-#[derive(Clone, Copy, Debug, PartialEq, Eq)]
+#[derive(Clone, Copy)]
 pub(crate) enum StackHint {
     NoHint,
     Pop,

@@ -7,7 +7,7 @@ use crate::width::Width;
 use rv_decode::{Insn, Op, decode};
 
 /// What a branch compares (RISC-V Unprivileged ISA 20191213, section 2.5).
-#[derive(Clone, Copy, Debug, PartialEq, Eq)]
+#[derive(Clone, Copy)]
 pub(crate) enum Comparison {
     Equal,
     NotEqual,
@@ -18,7 +18,7 @@ pub(crate) enum Comparison {
 }
 
 /// What an instruction computes of two numbers (sections 2.4 and 7).
-#[derive(Clone, Copy, Debug, PartialEq, Eq)]
+#[derive(Clone, Copy)]
 pub(crate) enum Operation {
     Add,
     Sub,

@@ -22,6 +22,9 @@ use guest_heap::Heap;
 use shadow_memory::Memory;
 use std::alloc::Global;
 
+/// The bytes of output that there is room for.
+const OUTPUT_ROOM: u64 = 65_536;
+
 /// How far a program has come, which only adds up: bytes of input read and whether its end was seen, bytes of output, heap calls made.
 #[derive(Clone, Copy)]
 pub(crate) struct Progress {
@@ -29,6 +32,43 @@ pub(crate) struct Progress {
     end_seen: bool,
     output_len: u64,
     heap_calls: u64,
+}
+
+impl Progress {
+    ghost use Rattle.std.specs.Prelude.{◌+◌, ◌^◌, ◌<◌, ◌≤◌, min, nat_lt, nat_le};
+    ghost use Rattle.guest_machine.specs.Calls.{most_moved, output_room};
+    ghost use Rattle.guest_machine.specs.Exec.{seen_also};
+
+    /// Counts n bytes of the input as read, of those that were asked for.
+    fn note_read(&mut self, asked: u32, n: u32)
+        requires { self.old.position + n < 2 ^ 64 }
+        ensures position { self.new.position ≡ self.old.position + n }
+        ensures end_seen { self.new.end_seen ≡ seen_also self.old.end_seen (nat_lt n asked) }
+        ensures output { self.new.output_len ≡ self.old.output_len }
+        ensures heap_calls { self.new.heap_calls ≡ self.old.heap_calls }
+    {
+        self.position += u64::from(n);
+        if n < asked {
+            self.end_seen = true;
+        }
+    }
+
+    /// Is there room for so many more bytes of output?
+    fn has_room(&self, len: u32) -> bool
+        requires { len ≤ most_moved }
+        ensures { result ≡ nat_le (self.now.output_len + len) output_room }
+    {
+        self.output_len <= OUTPUT_ROOM && self.output_len + u64::from(len) <= OUTPUT_ROOM
+    }
+
+    fn count_heap_call(&mut self)
+        ensures position { self.new.position ≡ self.old.position }
+        ensures end_seen { self.new.end_seen ≡ self.old.end_seen }
+        ensures output { self.new.output_len ≡ self.old.output_len }
+        ensures counted { self.new.heap_calls ≡ min (self.old.heap_calls + 1) u64.MAX }
+    {
+        self.heap_calls = self.heap_calls.saturating_add(1);
+    }
 }
 
 /// A guest machine between two steps. What it holds stands on the heap, so that a step moves one pointer.

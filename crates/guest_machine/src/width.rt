@@ -3,7 +3,7 @@ ghost use Rattle.shadow_memory.specs.Changes.{IsWidth};
 ghost use Rattle.guest_machine.specs.Widths.{width_len};
 
 /// How many bytes a load or a store has.
-#[derive(Clone, Copy, Debug, PartialEq, Eq)]
+#[derive(Clone, Copy)]
 pub(crate) enum Width {
     Byte,
     Half,

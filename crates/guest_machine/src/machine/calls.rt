@@ -1,12 +1,12 @@
 //! The calls that a program makes of its environment.
-ghost use Rattle.std.specs.Prelude.{◌≡◌, ◌+◌, ◌-◌, ◌^◌, ◌<◌, ◌≤◌, ◌∷◌, [], length, min, nat_le, nat_lt, slice_index, false, Some, IfOk, OnOk};
-ghost use Rattle.guest_machine.specs.Calls.{argument, answers, call_tested, call_errors, heap_parameters, tested_from, errors_from, most_moved, moved_len, exit_call, output_room};
+ghost use Rattle.std.specs.Prelude.{◌≡◌, ◌+◌, ◌-◌, ◌^◌, ◌<◌, ◌≤◌, length, min, slice_index, false, Some, IfOk, OnOk};
+ghost use Rattle.guest_machine.specs.Calls.{argument, answers, call_tested, call_errors, parameters_of, heap_parameters, tested_from, errors_from, most_moved, moved_len, exit_call};
 ghost use Rattle.guest_machine.specs.Errors.{fault_of, buffer_errors};
 ghost use Rattle.shadow_memory.specs.Ranges.{written};
 ghost use Rattle.guest_machine.specs.Effects.{stored_core};
-ghost use Rattle.guest_machine.specs.Exec.{no_intake, nothing, given_at, read_uses, write_uses, seen_also};
+ghost use Rattle.guest_machine.specs.Exec.{no_intake, nothing, given_at, read_uses, write_uses};
 ghost use Rattle.guest_machine.specs.Shows.{core_of, bytes_of};
-ghost use Rattle.guest_machine.specs.Doing.{uses_by, read_intake, Raises, Does, DoesRow, DoesRead, DoesWrite};
+ghost use Rattle.guest_machine.specs.Doing.{used_of, uses_by, read_intake, Changes, Notes, Does, DoesRow, DoesRead, DoesWrite};
 
 use crate::environment_call::EnvironmentCall;
 use crate::instruction::Instruction;
@@ -15,6 +15,7 @@ use crate::machine::step::{NOTHING, Used};
 use crate::register::Register;
 use crate::setup::Setup;
 use crate::span::Span;
+use crate::status::Status;
 use error_events::{Fault3, Kind, Parameter};
 use guest_elf::Hook;
 use shadow_memory::Bad;
@@ -31,8 +32,6 @@ const A7: u8 = 17;
 
 /// The most bytes that one call moves.
 const MOST_MOVED: u32 = 4096;
-/// The bytes of output that there is room for.
-const OUTPUT_ROOM: u64 = 65_536;
 
 /// EBADF negated, modulo 2^32: what a call answers that names no open file.
 const BAD_DESCRIPTOR: u32 = u32::MAX - 8;
@@ -59,113 +58,45 @@ impl Guest {
         self.argument(A2).min(MOST_MOVED)
     }
 
-    /// Tests one parameter after the call's number.
-    #[tactic(auto, unfolding(crate::specs::Calls::tested_from, crate::specs::Calls::errors_from, error_events::specs::Adding::add_events), using(crate::proofs::Showing::add_events_append))]
-    fn test_one(&mut self, first: Parameter) -> Result<(), AllocError>
-        ensures core { OnOk result (core_of self.new ≡ tested_from (core_of self.old) 10 (first ∷ [])) }
-        ensures memory { self.new.memory ≡ self.old.memory }
-        ensures progress { self.new.progress ≡ self.old.progress }
-        ensures heap { self.new.heap ≡ self.old.heap }
-        ensures groups { OnOk result (Raises self.old self.new (errors_from (core_of self.old) 10 (first ∷ []))) }
+    /// Tests the parameters of a call, which are in a0 and on, in order.
+    pub(super) fn test_parameters(&mut self, parameters: &[Parameter]) -> Result<(), AllocError>
+        requires { length parameters.now ≤ 3 }
+        ensures { OnOk result (Notes self.old self.new (tested_from (core_of self.old) 10 parameters.now) (errors_from (core_of self.old) 10 parameters.now)) }
     {
-        self.test_parameter(Register::new(A0), first)
-    }
-
-    /// Tests two parameters after the call's number.
-    #[tactic(auto, unfolding(crate::specs::Calls::tested_from, crate::specs::Calls::errors_from, error_events::specs::Adding::add_events), using(crate::proofs::Showing::add_events_append))]
-    fn test_two(&mut self, first: Parameter, second: Parameter) -> Result<(), AllocError>
-        ensures core { OnOk result (core_of self.new ≡ tested_from (core_of self.old) 10 (first ∷ second ∷ [])) }
-        ensures memory { self.new.memory ≡ self.old.memory }
-        ensures progress { self.new.progress ≡ self.old.progress }
-        ensures heap { self.new.heap ≡ self.old.heap }
-        ensures groups { OnOk result (Raises self.old self.new (errors_from (core_of self.old) 10 (first ∷ second ∷ []))) }
-    {
-        self.test_parameter(Register::new(A0), first)?;
-        self.test_parameter(Register::new(A1), second)
-    }
-
-    /// Tests three parameters after the call's number.
-    #[tactic(auto, unfolding(crate::specs::Calls::tested_from, crate::specs::Calls::errors_from, error_events::specs::Adding::add_events), using(crate::proofs::Showing::add_events_append))]
-    fn test_three(
-        &mut self,
-        first: Parameter,
-        second: Parameter,
-        third: Parameter,
-    ) -> Result<(), AllocError>
-        ensures core { OnOk result (core_of self.new ≡ tested_from (core_of self.old) 10 (first ∷ second ∷ third ∷ [])) }
-        ensures memory { self.new.memory ≡ self.old.memory }
-        ensures progress { self.new.progress ≡ self.old.progress }
-        ensures heap { self.new.heap ≡ self.old.heap }
-        ensures groups { OnOk result (Raises self.old self.new (errors_from (core_of self.old) 10 (first ∷ second ∷ third ∷ []))) }
-    {
-        self.test_parameter(Register::new(A0), first)?;
-        self.test_parameter(Register::new(A1), second)?;
-        self.test_parameter(Register::new(A2), third)
-    }
-
-    /// Tests a heap call's parameters in order.
-    #[tactic(auto, unfolding(crate::specs::Calls::heap_parameters))]
-    pub(super) fn test_heap(&mut self, function: Hook) -> Result<(), AllocError>
-        ensures core { OnOk result (core_of self.new ≡ tested_from (core_of self.old) 10 (heap_parameters function)) }
-        ensures memory { self.new.memory ≡ self.old.memory }
-        ensures progress { self.new.progress ≡ self.old.progress }
-        ensures heap { self.new.heap ≡ self.old.heap }
-        ensures groups { OnOk result (Raises self.old self.new (errors_from (core_of self.old) 10 (heap_parameters function))) }
-    {
-        match function {
-            Hook::Malloc => self.test_one(Parameter::MallocSize),
-            Hook::Free => self.test_one(Parameter::FreePointer),
-            Hook::Calloc => self.test_two(Parameter::CallocMembers, Parameter::CallocSize),
-            Hook::Realloc => self.test_two(Parameter::ReallocPointer, Parameter::ReallocSize),
+        let mut r = A0;
+        for &parameter in parameters {
+            self.test(Register::new(r), Kind::Param(parameter, Fault3::Contains))?;
+            r += 1;
         }
+        Ok(())
     }
 
     /// Tests a call's number, and then its parameters in order.
-    #[tactic(auto, unfolding(crate::specs::Calls::parameters_of, crate::specs::Calls::tested_from, crate::specs::Calls::errors_from, error_events::specs::Adding::add_events), using(crate::proofs::Showing::add_events_append))]
+    #[tactic(auto, unfolding(error_events::specs::Adding::add_events), using(crate::proofs::Showing::add_events_append))]
     pub(super) fn test_call(&mut self, call: EnvironmentCall) -> Result<(), AllocError>
-        ensures core { OnOk result (core_of self.new ≡ call_tested (core_of self.old) call) }
-        ensures memory { self.new.memory ≡ self.old.memory }
-        ensures progress { self.new.progress ≡ self.old.progress }
-        ensures heap { self.new.heap ≡ self.old.heap }
-        ensures groups { OnOk result (Raises self.old self.new (call_errors (core_of self.old) call)) }
+        ensures { OnOk result (Notes self.old self.new (call_tested (core_of self.old) call) (call_errors (core_of self.old) call)) }
     {
-        self.test_parameter(Register::new(A7), Parameter::SyscallNumber)?;
-        match call {
-            EnvironmentCall::Read => self.test_three(
-                Parameter::ReadFd,
-                Parameter::ReadBuffer,
-                Parameter::ReadCount,
-            ),
-            EnvironmentCall::Write => self.test_three(
-                Parameter::WriteFd,
-                Parameter::WriteBuffer,
-                Parameter::WriteCount,
-            ),
-            EnvironmentCall::Exit => self.test_one(Parameter::ExitStatus),
-            EnvironmentCall::ExitGroup => self.test_one(Parameter::ExitGroupStatus),
-            EnvironmentCall::Heap(function) => self.test_heap(function),
-            EnvironmentCall::Unknown => Ok(()),
-        }
+        let number = Kind::Param(Parameter::SyscallNumber, Fault3::Contains);
+        self.test(Register::new(A7), number)?;
+        self.test_parameters(parameters_of(call))
     }
 
     /// A call that only answers.
     #[tactic(auto, unfolding(error_events::specs::Adding::add_events))]
-    fn test_and_answer(&mut self, call: EnvironmentCall, n: u32) -> Result<(), AllocError>
-        ensures { OnOk result (Does self.old self.new (answers (core_of self.old) call n) nothing false no_intake) }
+    fn test_and_answer(&mut self, call: EnvironmentCall, n: u32) -> Result<Used, AllocError>
+        ensures does { OnOk result (Does self.old self.new (answers (core_of self.old) call n) nothing false no_intake) }
+        ensures uses { IfOk result (λ used. used ≡ used_of nothing) }
     {
         self.test_call(call)?;
         self.answer(n);
         self.advance();
-        Ok(())
+        Ok(NOTHING)
     }
 
     /// Stores input at an address.
     fn store_input(&mut self, start: u32, given: &[u8]) -> Result<(), AllocError>
         requires { length given.now ≤ most_moved }
-        ensures core { OnOk result (core_of self.new ≡ stored_core (core_of self.old) start (length given.now) 0) }
-        ensures bytes { OnOk result (bytes_of self.new ≡ written (bytes_of self.old) start (length given.now) (slice_index given.now)) }
-        ensures progress { self.new.progress ≡ self.old.progress }
-        ensures groups { self.new.groups ≡ self.old.groups }
+        ensures { OnOk result (Changes self.old self.new (stored_core (core_of self.old) start (length given.now) 0) (written (bytes_of self.old) start (length given.now) (slice_index given.now))) }
     {
         self.memory.store_bytes(start, given)?;
         Ok(())
@@ -180,10 +111,7 @@ impl Guest {
         start: u32,
         n: u32,
     ) -> Result<(), AllocError>
-        ensures core { core_of self.new ≡ core_of self.old }
-        ensures memory { self.new.memory ≡ self.old.memory }
-        ensures progress { self.new.progress ≡ self.old.progress }
-        ensures groups { OnOk result (Raises self.old self.new (buffer_errors (core_of self.old) parameter need_defined start n)) }
+        ensures { OnOk result (Notes self.old self.new (core_of self.old) (buffer_errors (core_of self.old) parameter need_defined start n)) }
     {
         if let Some(bad) = self.memory.first_bad(start, n, need_defined) {
             let kind = Kind::Param(parameter, fault_of(bad));
@@ -193,40 +121,23 @@ impl Guest {
         Ok(())
     }
 
-    /// Counts n bytes of the input as read, of those that were asked for.
-    fn note_read(&mut self, asked: u32, n: u32)
-        requires { self.old.progress.position + n < 2 ^ 64 }
-        ensures core { core_of self.new ≡ core_of self.old }
-        ensures memory { self.new.memory ≡ self.old.memory }
-        ensures position { self.new.progress.position ≡ self.old.progress.position + n }
-        ensures end_seen { self.new.progress.end_seen ≡ seen_also self.old.progress.end_seen (nat_lt n asked) }
-        ensures output { self.new.progress.output_len ≡ self.old.progress.output_len }
-        ensures heap_calls { self.new.progress.heap_calls ≡ self.old.progress.heap_calls }
-        ensures groups { self.new.groups ≡ self.old.groups }
-    {
-        self.progress.position += u64::from(n);
-        if n < asked {
-            self.progress.end_seen = true;
-        }
-    }
-
-    fn exit_call(&mut self, call: EnvironmentCall) -> Result<(), AllocError>
-        ensures { OnOk result (Does self.old self.new (exit_call (core_of self.old) call) nothing false no_intake) }
+    fn exit_call(&mut self, call: EnvironmentCall) -> Result<Used, AllocError>
+        ensures uses { IfOk result (λ used. used ≡ used_of nothing) }
+        ensures does { OnOk result (Does self.old self.new (exit_call (core_of self.old) call) nothing false no_intake) }
     {
         let code = (self.argument(A0) % 256) as u8;
         self.test_call(call)?;
-        self.exit(code);
-        Ok(())
+        self.status = Status::Exited(code);
+        Ok(NOTHING)
     }
 
     #[tactic(auto, unfolding(crate::specs::Calls::read_call, crate::specs::Exec::call_asks, error_events::specs::Adding::add_events), using(crate::proofs::Showing::add_events_append))]
-    fn read_call(&mut self, setup: &Setup) -> Result<Option<Span>, AllocError>
+    fn read_call(&mut self, setup: &Setup) -> Result<Used, AllocError>
         ensures does { OnOk result (DoesRead self.old self.new setup.now) }
-        ensures writes { IfOk result (λ written. written ≡ (read_uses (core_of self.old) (read_intake self.old setup.now).count).writes) }
+        ensures uses { IfOk result (λ used. used ≡ used_of (read_uses (core_of self.old) (read_intake self.old setup.now).count)) }
     {
         if self.argument(A0) != 0 {
-            self.test_and_answer(EnvironmentCall::Read, BAD_DESCRIPTOR)?;
-            return Ok(None);
+            return self.test_and_answer(EnvironmentCall::Read, BAD_DESCRIPTOR);
         }
         let start = self.argument(A1);
         let asked = self.moved_len();
@@ -235,43 +146,38 @@ impl Guest {
         self.test_call(EnvironmentCall::Read)?;
         self.test_buffer(Parameter::ReadBuffer, false, start, asked)?;
         self.store_input(start, given)?;
-        self.note_read(asked, n);
+        self.progress.note_read(asked, n);
         self.answer(n);
         self.advance();
-        Ok(Some(Span { start, len: n }))
+        Ok(Used {
+            reads: None,
+            writes: Some(Span { start, len: n }),
+        })
     }
 
     #[tactic(auto, unfolding(crate::specs::Calls::write_call, crate::specs::Calls::appends, error_events::specs::Adding::add_events), using(crate::proofs::Showing::add_events_append, crate::proofs::Showing::length_taken))]
-    fn write_call(&mut self) -> Result<Option<Span>, AllocError>
+    fn write_call(&mut self) -> Result<Used, AllocError>
         ensures does { OnOk result (DoesWrite self.old self.new) }
-        ensures reads { IfOk result (λ taken. taken ≡ (write_uses (core_of self.old) self.old.progress.output_len).reads) }
+        ensures uses { IfOk result (λ used. used ≡ used_of (write_uses (core_of self.old) self.old.progress.output_len)) }
     {
         let descriptor = self.argument(A0);
         if descriptor != 1 && descriptor != 2 {
-            self.test_and_answer(EnvironmentCall::Write, BAD_DESCRIPTOR)?;
-            return Ok(None);
+            return self.test_and_answer(EnvironmentCall::Write, BAD_DESCRIPTOR);
         }
         let start = self.argument(A1);
         let len = self.moved_len();
-        if !self.has_room(len) {
-            self.test_and_answer(EnvironmentCall::Write, NO_SPACE)?;
-            return Ok(None);
+        if !self.progress.has_room(len) {
+            return self.test_and_answer(EnvironmentCall::Write, NO_SPACE);
         }
         self.test_call(EnvironmentCall::Write)?;
         self.test_buffer(Parameter::WriteBuffer, true, start, len)?;
         self.progress.output_len += u64::from(len);
         self.answer(len);
         self.advance();
-        Ok(Some(Span { start, len }))
-    }
-
-    /// Is there room for so many more bytes of output?
-    fn has_room(&self, len: u32) -> bool
-        requires { len ≤ most_moved }
-        ensures { result ≡ nat_le (self.now.progress.output_len + len) output_room }
-    {
-        let written = self.progress.output_len;
-        written <= OUTPUT_ROOM && written + u64::from(len) <= OUTPUT_ROOM
+        Ok(Used {
+            reads: Some(Span { start, len }),
+            writes: None,
+        })
     }
 
     /// Carries ECALL out, and says which bytes it took and which it wrote.
@@ -280,35 +186,54 @@ impl Guest {
     #[tactic(auto, unfolding(crate::specs::Calls::call_at, crate::specs::Exec::call_effect, crate::specs::Exec::call_uses, crate::specs::Exec::calls_heap, crate::specs::Exec::row_asks, crate::specs::Exec::call_asks, crate::specs::Exec::row_uses, crate::specs::Exec::row_effect))]
     pub(super) fn call_environment(&mut self, setup: &Setup) -> Result<Used, AllocError>
         ensures does { OnOk result (DoesRow self.old self.new (Some Instruction.CallEnvironment) setup.now) }
-        ensures reads { IfOk result (λ used. used.reads ≡ (uses_by self.old (Some Instruction.CallEnvironment) setup.now).reads) }
-        ensures writes { IfOk result (λ used. used.writes ≡ (uses_by self.old (Some Instruction.CallEnvironment) setup.now).writes) }
+        ensures uses { IfOk result (λ used. used ≡ used_of (uses_by self.old (Some Instruction.CallEnvironment) setup.now)) }
     {
         let call = EnvironmentCall::of(self.argument(A7));
         match call {
-            EnvironmentCall::Read => {
-                let writes = self.read_call(setup)?;
-                Ok(Used {
-                    reads: None,
-                    writes,
-                })
-            }
-            EnvironmentCall::Write => {
-                let reads = self.write_call()?;
-                Ok(Used {
-                    reads,
-                    writes: None,
-                })
-            }
-            EnvironmentCall::Exit | EnvironmentCall::ExitGroup => {
-                self.exit_call(call)?;
-                Ok(NOTHING)
-            }
+            EnvironmentCall::Read => self.read_call(setup),
+            EnvironmentCall::Write => self.write_call(),
+            EnvironmentCall::Exit | EnvironmentCall::ExitGroup => self.exit_call(call),
             EnvironmentCall::Heap(function) => self.heap_call(function, setup),
-            EnvironmentCall::Unknown => {
-                self.test_and_answer(EnvironmentCall::Unknown, NO_SUCH_CALL)?;
-                Ok(NOTHING)
-            }
+            EnvironmentCall::Unknown => self.test_and_answer(call, NO_SUCH_CALL),
         }
+    }
+}
+
+/// The parameters of a heap call.
+#[tactic(auto, unfolding(crate::specs::Calls::heap_parameters))]
+pub(super) fn heap_parameters(function: Hook) -> &'static [Parameter]
+    ensures list { result.now ≡ heap_parameters function }
+    ensures few { length result.now ≤ 3 }
+{
+    match function {
+        Hook::Malloc => &[Parameter::MallocSize],
+        Hook::Free => &[Parameter::FreePointer],
+        Hook::Calloc => &[Parameter::CallocMembers, Parameter::CallocSize],
+        Hook::Realloc => &[Parameter::ReallocPointer, Parameter::ReallocSize],
+    }
+}
+
+/// The parameters of a call.
+#[tactic(auto, unfolding(crate::specs::Calls::parameters_of))]
+fn parameters_of(call: EnvironmentCall) -> &'static [Parameter]
+    ensures list { result.now ≡ parameters_of call }
+    ensures few { length result.now ≤ 3 }
+{
+    match call {
+        EnvironmentCall::Read => &[
+            Parameter::ReadFd,
+            Parameter::ReadBuffer,
+            Parameter::ReadCount,
+        ],
+        EnvironmentCall::Write => &[
+            Parameter::WriteFd,
+            Parameter::WriteBuffer,
+            Parameter::WriteCount,
+        ],
+        EnvironmentCall::Exit => &[Parameter::ExitStatus],
+        EnvironmentCall::ExitGroup => &[Parameter::ExitGroupStatus],
+        EnvironmentCall::Heap(function) => heap_parameters(function),
+        EnvironmentCall::Unknown => &[],
     }
 }
 

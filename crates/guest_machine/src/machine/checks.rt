@@ -1,16 +1,16 @@
 //! The tests of a step, and the errors that they record.
-ghost use Rattle.std.specs.Prelude.{◌≡◌, ◌∷◌, ◌<◌, ◌==◌, [], false, OnOk};
-ghost use Rattle.guest_machine.specs.Registers.{defined, tested};
+ghost use Rattle.std.specs.Prelude.{◌≡◌, ◌∷◌, ◌<◌, ◌==◌, [], OnOk};
+ghost use Rattle.guest_machine.specs.Registers.{tested};
 ghost use Rattle.guest_machine.specs.Effects.{branch_tested, branch_errors};
-ghost use Rattle.guest_machine.specs.Errors.{here, event_of, event_unless, event_about, note_at, region_note, register_errors, value_errors, parameter_errors};
+ghost use Rattle.guest_machine.specs.Errors.{here, event_of, event_unless, event_about, note_at, region_note, register_errors};
 ghost use Rattle.guest_machine.specs.Shows.{core_of};
-ghost use Rattle.guest_machine.specs.Doing.{Raises};
+ghost use Rattle.guest_machine.specs.Doing.{Notes};
 
 use crate::alu::is_undecided;
 use crate::instruction::Comparison;
 use crate::machine::Guest;
 use crate::register::Register;
-use error_events::{Event, Fault3, Kind, Note, Parameter};
+use error_events::{Event, Kind, Note};
 use guest_elf::{STACK_BEGIN, STACK_END};
 use std::alloc::AllocError;
 
@@ -38,42 +38,24 @@ impl Guest {
     }
 
     /// Records an error at this instruction.
+    #[cold]
+    #[inline(never)]
     #[tactic(auto, unfolding(error_events::specs::Adding::add_events))]
     pub(super) fn raise(&mut self, kind: Kind, note: Note) -> Result<(), AllocError>
-        ensures core { core_of self.new ≡ core_of self.old }
-        ensures memory { self.new.memory ≡ self.old.memory }
-        ensures progress { self.new.progress ≡ self.old.progress }
-        ensures heap { self.new.heap ≡ self.old.heap }
-        ensures groups { OnOk result (Raises self.old self.new (event_of (here (core_of self.old)) kind note ∷ [])) }
+        ensures { OnOk result (Notes self.old self.new (core_of self.old) (event_of (here (core_of self.old)) kind note ∷ [])) }
     {
         let trace = self.frames.trace(self.pc);
         self.groups.add(Event { kind, trace, note })
-    }
-
-    /// Records that a word with undefined bits is carried out.
-    #[cold]
-    #[inline(never)]
-    #[tactic(auto, unfolding(crate::specs::Errors::event_unless, error_events::specs::Adding::add_events))]
-    fn raise_value(&mut self) -> Result<(), AllocError>
-        ensures core { core_of self.new ≡ core_of self.old }
-        ensures memory { self.new.memory ≡ self.old.memory }
-        ensures progress { self.new.progress ≡ self.old.progress }
-        ensures groups { OnOk result (Raises self.old self.new (event_unless false (here (core_of self.old)) Kind.Value)) }
-    {
-        self.raise(Kind::Value, Note::Absent)
     }
 
     /// Tests the undefined bits of a word that is to be carried out.
     #[inline(always)]
     #[tactic(auto, unfolding(crate::specs::Errors::event_unless, error_events::specs::Adding::add_events))]
     pub(super) fn test_word(&mut self, undef: u32) -> Result<(), AllocError>
-        ensures core { core_of self.new ≡ core_of self.old }
-        ensures memory { self.new.memory ≡ self.old.memory }
-        ensures progress { self.new.progress ≡ self.old.progress }
-        ensures groups { OnOk result (Raises self.old self.new (event_unless (undef == 0) (here (core_of self.old)) Kind.Value)) }
+        ensures { OnOk result (Notes self.old self.new (core_of self.old) (event_unless (undef == 0) (here (core_of self.old)) Kind.Value)) }
     {
         if undef != 0 {
-            return self.raise_value();
+            return self.raise(Kind::Value, Note::Absent);
         }
         Ok(())
     }
@@ -83,10 +65,7 @@ impl Guest {
     #[inline(never)]
     #[tactic(auto, unfolding(crate::specs::Errors::event_about, error_events::specs::Adding::add_events))]
     pub(super) fn raise_about(&mut self, kind: Kind, fault: Option<u32>) -> Result<(), AllocError>
-        ensures core { core_of self.new ≡ core_of self.old }
-        ensures memory { self.new.memory ≡ self.old.memory }
-        ensures progress { self.new.progress ≡ self.old.progress }
-        ensures groups { OnOk result (Raises self.old self.new (event_about (core_of self.old).blocks (here (core_of self.old)) kind fault)) }
+        ensures { OnOk result (Notes self.old self.new (core_of self.old) (event_about (core_of self.old).blocks (here (core_of self.old)) kind fault)) }
     {
         if let Some(addr) = fault {
             let note = self.note_at(addr);
@@ -95,98 +74,28 @@ impl Guest {
         Ok(())
     }
 
-    /// Records the first inaccessible byte of a load of so many, if there is one.
+    /// Records the first inaccessible byte of an access, if there is one.
     #[inline(always)]
     #[tactic(auto, unfolding(crate::specs::Errors::event_about, error_events::specs::Adding::add_events))]
-    pub(super) fn test_load(&mut self, len: u8, bad: Option<u32>) -> Result<(), AllocError>
-        ensures core { core_of self.new ≡ core_of self.old }
-        ensures memory { self.new.memory ≡ self.old.memory }
-        ensures progress { self.new.progress ≡ self.old.progress }
-        ensures groups { OnOk result (Raises self.old self.new (event_about (core_of self.old).blocks (here (core_of self.old)) (Kind.Read len) bad)) }
+    pub(super) fn test_access(&mut self, kind: Kind, bad: Option<u32>) -> Result<(), AllocError>
+        ensures { OnOk result (Notes self.old self.new (core_of self.old) (event_about (core_of self.old).blocks (here (core_of self.old)) kind bad)) }
     {
         match bad {
             None => Ok(()),
-            Some(_) => self.raise_about(Kind::Read(len), bad),
-        }
-    }
-
-    /// Records the first inaccessible byte of a store of so many, if there is one.
-    #[inline(always)]
-    #[tactic(auto, unfolding(crate::specs::Errors::event_about, error_events::specs::Adding::add_events))]
-    pub(super) fn test_store(&mut self, len: u8, bad: Option<u32>) -> Result<(), AllocError>
-        ensures core { core_of self.new ≡ core_of self.old }
-        ensures memory { self.new.memory ≡ self.old.memory }
-        ensures progress { self.new.progress ≡ self.old.progress }
-        ensures groups { OnOk result (Raises self.old self.new (event_about (core_of self.old).blocks (here (core_of self.old)) (Kind.Write len) bad)) }
-    {
-        match bad {
-            None => Ok(()),
-            Some(_) => self.raise_about(Kind::Write(len), bad),
+            Some(_) => self.raise_about(kind, bad),
         }
     }
 
     /// Tests that a register is defined, and makes it so.
-    #[cold]
-    #[inline(never)]
+    #[inline(always)]
     #[tactic(auto, unfolding(crate::specs::Registers::tested, crate::specs::Errors::event_unless, error_events::specs::Adding::add_events))]
-    fn test(&mut self, r: Register, kind: Kind) -> Result<(), AllocError>
-        ensures core { OnOk result (core_of self.new ≡ tested (core_of self.old) r) }
-        ensures memory { self.new.memory ≡ self.old.memory }
-        ensures progress { self.new.progress ≡ self.old.progress }
-        ensures heap { self.new.heap ≡ self.old.heap }
-        ensures groups { OnOk result (Raises self.old self.new (register_errors (core_of self.old) r kind)) }
+    pub(super) fn test(&mut self, r: Register, kind: Kind) -> Result<(), AllocError>
+        ensures { OnOk result (Notes self.old self.new (tested (core_of self.old) r) (register_errors (core_of self.old) r kind)) }
     {
         if self.read_register(r).undef != 0 {
             self.raise(kind, Note::Absent)?;
             self.define(r);
         }
-        Ok(())
-    }
-
-    /// Tests a register from which an address or a jump's target is computed.
-    #[inline(always)]
-    #[tactic(auto, unfolding(crate::specs::Registers::tested, crate::specs::Errors::event_unless, error_events::specs::Adding::add_events))]
-    pub(super) fn test_value(&mut self, r: Register) -> Result<(), AllocError>
-        ensures core { OnOk result (core_of self.new ≡ tested (core_of self.old) r) }
-        ensures memory { self.new.memory ≡ self.old.memory }
-        ensures progress { self.new.progress ≡ self.old.progress }
-        ensures heap { self.new.heap ≡ self.old.heap }
-        ensures groups { OnOk result (Raises self.old self.new (value_errors (core_of self.old) r)) }
-    {
-        if self.read_register(r).undef != 0 {
-            return self.test(r, Kind::Value);
-        }
-        Ok(())
-    }
-
-    /// Tests a register that has a parameter of a call.
-    pub(super) fn test_parameter(
-        &mut self,
-        r: Register,
-        parameter: Parameter,
-    ) -> Result<(), AllocError>
-        ensures core { OnOk result (core_of self.new ≡ tested (core_of self.old) r) }
-        ensures memory { self.new.memory ≡ self.old.memory }
-        ensures progress { self.new.progress ≡ self.old.progress }
-        ensures heap { self.new.heap ≡ self.old.heap }
-        ensures groups { OnOk result (Raises self.old self.new (parameter_errors (core_of self.old) r parameter)) }
-    {
-        self.test(r, Kind::Param(parameter, Fault3::Contains))
-    }
-
-    /// Records that a branch depends on undefined bits, and makes its registers defined.
-    #[cold]
-    #[inline(never)]
-    #[tactic(auto, unfolding(crate::specs::Errors::event_unless, error_events::specs::Adding::add_events))]
-    fn raise_branch(&mut self, rs1: Register, rs2: Register) -> Result<(), AllocError>
-        ensures core { OnOk result (core_of self.new ≡ defined (defined (core_of self.old) rs1) rs2) }
-        ensures memory { self.new.memory ≡ self.old.memory }
-        ensures progress { self.new.progress ≡ self.old.progress }
-        ensures groups { OnOk result (Raises self.old self.new (event_unless false (here (core_of self.old)) Kind.Cond)) }
-    {
-        self.raise(Kind::Cond, Note::Absent)?;
-        self.define(rs1);
-        self.define(rs2);
         Ok(())
     }
 
@@ -199,13 +108,12 @@ impl Guest {
         rs1: Register,
         rs2: Register,
     ) -> Result<(), AllocError>
-        ensures core { OnOk result (core_of self.new ≡ branch_tested (core_of self.old) comparison rs1 rs2) }
-        ensures memory { self.new.memory ≡ self.old.memory }
-        ensures progress { self.new.progress ≡ self.old.progress }
-        ensures groups { OnOk result (Raises self.old self.new (branch_errors (core_of self.old) comparison rs1 rs2)) }
+        ensures { OnOk result (Notes self.old self.new (branch_tested (core_of self.old) comparison rs1 rs2) (branch_errors (core_of self.old) comparison rs1 rs2)) }
     {
         if is_undecided(comparison, self.read_register(rs1), self.read_register(rs2)) {
-            return self.raise_branch(rs1, rs2);
+            self.raise(Kind::Cond, Note::Absent)?;
+            self.define(rs1);
+            self.define(rs2);
         }
         Ok(())
     }

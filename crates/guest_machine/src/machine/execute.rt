@@ -1,15 +1,16 @@
 //! The instructions.
 ghost use Rattle.std.specs.Prelude.{◌≡◌, ◌<◌, false, Some, OnOk, IfOk};
 ghost use Rattle.shadow_memory.specs.Ranges.{byte_of, written};
-ghost use Rattle.shadow_memory.specs.Shadows.{first_inaccessible};
+ghost use Rattle.shadow_memory.specs.Shadows.{first_inaccessible, stored_undef};
+ghost use Rattle.shadow_memory.specs.Memories.{bytes_in, shadows_in};
 ghost use Rattle.error_events.specs.declared.kind.Kind.TheVariants.{Read as ReadError};
 ghost use Rattle.shadow_memory.specs.Ranges.{little_word, window};
 ghost use Rattle.guest_machine.specs.Errors.{access_errors, taken_undef};
 ghost use Rattle.guest_machine.specs.Widths.{width_len, width_limit};
-ghost use Rattle.guest_machine.specs.Effects.{results_in, load, store, branch, jump, jump_register, branched, stored_core};
+ghost use Rattle.guest_machine.specs.Effects.{results_in, load, store, branch, jump, jump_register, branched};
 ghost use Rattle.guest_machine.specs.Exec.{no_intake, nothing, accessed, writing, taken_from};
 ghost use Rattle.guest_machine.specs.Shows.{core_of, bytes_of};
-ghost use Rattle.guest_machine.specs.Doing.{Raises, Does};
+ghost use Rattle.guest_machine.specs.Doing.{Notes, Does};
 
 use crate::alu::{extended, passes};
 use crate::hint::StackHint;
@@ -19,8 +20,23 @@ use crate::register::Register;
 use crate::span::Span;
 use crate::width::Width;
 use definedness::Bits;
-use shadow_memory::Loaded;
+use error_events::Kind;
+use shadow_memory::{Loaded, Memory};
 use std::alloc::AllocError;
+
+/// Stores the low bytes of a number, and answers the first inaccessible address: each width by itself, so that a word is stored as one.
+#[inline(always)]
+fn put(memory: &mut Memory, start: u32, width: Width, bits: Bits) -> Result<Option<u32>, AllocError>
+    ensures fault { IfOk result (λ fault. fault ≡ first_inaccessible (shadows_in memory.old) start (width_len width)) }
+    ensures shadows { OnOk result (shadows_in memory.new ≡ stored_undef (shadows_in memory.old) start (width_len width) bits.undef) }
+    ensures bytes { OnOk result (bytes_in memory.new ≡ written (bytes_in memory.old) start (width_len width) (byte_of bits.value)) }
+{
+    match width {
+        Width::Byte => memory.store(start, 1, bits),
+        Width::Half => memory.store(start, 2, bits),
+        Width::Word => memory.store(start, 4, bits),
+    }
+}
 
 impl Guest {
     /// Writes rd and goes on.
@@ -53,17 +69,14 @@ impl Guest {
     /// The low bytes at an address and their undefined bits; the first inaccessible one is noted.
     #[inline(always)]
     fn take(&mut self, start: u32, width: Width) -> Result<Bits, AllocError>
-        ensures core { core_of self.new ≡ core_of self.old }
-        ensures memory { self.new.memory ≡ self.old.memory }
-        ensures progress { self.new.progress ≡ self.old.progress }
-        ensures groups { OnOk result (Raises self.old self.new (access_errors (core_of self.old) (ReadError (width_len width)) start (width_len width))) }
+        ensures notes { OnOk result (Notes self.old self.new (core_of self.old) (access_errors (core_of self.old) (ReadError (width_len width)) start (width_len width))) }
         ensures value { IfOk result (λ bits. bits.value ≡ little_word (window (bytes_of self.old) start (width_len width))) }
         ensures undef { IfOk result (λ bits. bits.undef ≡ taken_undef (core_of self.old) start (width_len width)) }
         ensures small { IfOk result (λ bits. bits.value < width_limit width) }
         ensures small_undef { IfOk result (λ bits. bits.undef < width_limit width) }
     {
         let loaded = self.loaded(start, width);
-        self.test_load(width.byte_len(), loaded.bad)?;
+        self.test_access(Kind::Read(width.byte_len()), loaded.bad)?;
         Ok(Bits {
             value: loaded.value,
             undef: loaded.undef,
@@ -85,7 +98,7 @@ impl Guest {
         ensures reads { IfOk result (λ span. span ≡ accessed (core_of self.old) rs1 imm width) }
     {
         let start = self.target(rs1, imm);
-        self.test_value(rs1)?;
+        self.test(rs1, Kind::Value)?;
         let loaded = self.take(start, width)?;
         let value = extended(width, signed, loaded.value);
         let undef = extended(width, signed, loaded.undef);
@@ -109,31 +122,15 @@ impl Guest {
         ensures writes { IfOk result (λ span. span ≡ accessed (core_of self.old) rs1 imm width) }
     {
         let to = self.target(rs1, imm);
-        self.test_value(rs1)?;
+        self.test(rs1, Kind::Value)?;
         let stored = self.read_register(rs2);
-        let fault = self.put(to, width, stored)?;
-        self.test_store(width.byte_len(), fault)?;
+        let fault = put(&mut self.memory, to, width, stored)?;
+        self.test_access(Kind::Write(width.byte_len()), fault)?;
         self.advance();
         Ok(Span {
             start: to,
             len: width.len(),
         })
-    }
-
-    /// Stores the low bytes of a number, and answers the first inaccessible address.
-    #[inline(always)]
-    fn put(&mut self, start: u32, width: Width, bits: Bits) -> Result<Option<u32>, AllocError>
-        ensures fault { IfOk result (λ fault. fault ≡ first_inaccessible (core_of self.old).shadow start (width_len width)) }
-        ensures core { OnOk result (core_of self.new ≡ stored_core (core_of self.old) start (width_len width) bits.undef) }
-        ensures bytes { OnOk result (bytes_of self.new ≡ written (bytes_of self.old) start (width_len width) (byte_of bits.value)) }
-        ensures progress { self.new.progress ≡ self.old.progress }
-        ensures groups { self.new.groups ≡ self.old.groups }
-    {
-        match width {
-            Width::Byte => self.memory.store(start, 1, bits),
-            Width::Half => self.memory.store(start, 2, bits),
-            Width::Word => self.memory.store(start, 4, bits),
-        }
     }
 
     #[inline(always)]
@@ -180,7 +177,7 @@ impl Guest {
         ensures { OnOk result (Does self.old self.new (jump_register (core_of self.old) rd rs1 imm) nothing false no_intake) }
     {
         let to = self.target(rs1, imm) / 2 * 2;
-        self.test_value(rs1)?;
+        self.test(rs1, Kind::Value)?;
         self.linked_jump(StackHint::of_jalr(rd, rs1), rd, to);
         Ok(())
     }

@@ -1,5 +1,5 @@
 //! What the calls of the heap do, and those by number.
-ghost use Rattle.std.specs.Prelude.{◌≡◌, ◌+◌, ◌*◌, ◌≤◌, ◌<◌, max, min, None, Some, IfSome, IfOk, OnOk};
+ghost use Rattle.std.specs.Prelude.{◌≡◌, ◌+◌, ◌*◌, ◌≤◌, ◌<◌, max, None, Some, IfSome, IfOk, OnOk};
 ghost use Rattle.std.specs.Option.{option_map};
 ghost use Rattle.shadow_memory.specs.Ranges.{written, window};
 ghost use Rattle.shadow_memory.specs.Changes.{AreApart};
@@ -9,10 +9,10 @@ ghost use Rattle.guest_machine.specs.StackPointer.{ranged};
 ghost use Rattle.guest_machine.specs.HeapCalls.{placed, closed, carved, copied, IsClearOf, given_block, freed, released_here, is_invalid, free_errors, moving_in, resizing, resized, resize_errors};
 ghost use Rattle.guest_machine.specs.Effects.{no_bytes};
 ghost use Rattle.guest_machine.specs.Calls.{answered};
-ghost use Rattle.guest_machine.specs.Exec.{work_uses, heap_uses, calloc_uses, moved_from, moved_into, taken_from, written_to};
+ghost use Rattle.guest_machine.specs.Exec.{work_uses, heap_uses, calloc_uses, taken_from, written_to};
 ghost use Rattle.guest_machine.specs.Spans.{span_at};
 ghost use Rattle.guest_machine.specs.Shows.{core_of, bytes_of};
-ghost use Rattle.guest_machine.specs.Doing.{Raises, DoesWork, DoesHeapCall};
+ghost use Rattle.guest_machine.specs.Doing.{Raises, Changes, used_of, used_in_move, DoesWork, DoesHeapCall};
 
 use crate::environment_call::EnvironmentCall;
 use crate::machine::Guest;
@@ -47,10 +47,7 @@ impl Guest {
     fn close(&mut self, p: u32, size: u32, redzone: u32) -> Result<(), AllocError>
         requires low { redzone ≤ p }
         requires high { p + max size 1 + redzone ≤ heap_end }
-        ensures core { OnOk result (core_of self.new ≡ closed (core_of self.old) p size redzone) }
-        ensures bytes { OnOk result (bytes_of self.new ≡ bytes_of self.old) }
-        ensures progress { self.new.progress ≡ self.old.progress }
-        ensures groups { self.new.groups ≡ self.old.groups }
+        ensures { OnOk result (Changes self.old self.new (closed (core_of self.old) p size redzone) (bytes_of self.old)) }
     {
         let len = redzone + size.max(1) + redzone;
         self.make(p - redzone, len, RangeKind::NoAccess)
@@ -60,10 +57,7 @@ impl Guest {
     fn carve(&mut self, p: u32, size: u32, redzone: u32) -> Result<(), AllocError>
         requires low { redzone ≤ p }
         requires high { p + max size 1 + redzone ≤ heap_end }
-        ensures core { OnOk result (core_of self.new ≡ carved (core_of self.old) p size redzone RangeKind.Undefined) }
-        ensures bytes { OnOk result (bytes_of self.new ≡ bytes_of self.old) }
-        ensures progress { self.new.progress ≡ self.old.progress }
-        ensures groups { self.new.groups ≡ self.old.groups }
+        ensures { OnOk result (Changes self.old self.new (carved (core_of self.old) p size redzone RangeKind.Undefined) (bytes_of self.old)) }
     {
         self.close(p, size, redzone)?;
         self.make(p, size, RangeKind::Undefined)
@@ -72,10 +66,7 @@ impl Guest {
     /// Writes zeros, which are accessible and defined.
     #[tactic(auto, using(crate::proofs::HeapSteps::zeros_written))]
     fn write_zeros(&mut self, start: u32, len: u32) -> Result<(), AllocError>
-        ensures core { OnOk result (core_of self.new ≡ ranged (core_of self.old) start len RangeKind.Defined) }
-        ensures bytes { OnOk result (bytes_of self.new ≡ written (bytes_of self.old) start len no_bytes) }
-        ensures progress { self.new.progress ≡ self.old.progress }
-        ensures groups { self.new.groups ≡ self.old.groups }
+        ensures { OnOk result (Changes self.old self.new (ranged (core_of self.old) start len RangeKind.Defined) (written (bytes_of self.old) start len no_bytes)) }
     {
         self.memory.fill(start, len, &[])?;
         Ok(())
@@ -84,10 +75,7 @@ impl Guest {
     /// A block of a size, if there is a place for it, whose address is answered; 0 is answered where there is none.
     #[tactic(auto, unfolding(crate::specs::HeapCalls::block_at))]
     fn give_block(&mut self, size: u32, redzone: u32) -> Result<(), AllocError>
-        ensures core { OnOk result (core_of self.new ≡ given_block (core_of self.old) size redzone RangeKind.Undefined) }
-        ensures bytes { OnOk result (bytes_of self.new ≡ bytes_of self.old) }
-        ensures progress { self.new.progress ≡ self.old.progress }
-        ensures groups { self.new.groups ≡ self.old.groups }
+        ensures { OnOk result (Changes self.old self.new (given_block (core_of self.old) size redzone RangeKind.Undefined) (bytes_of self.old)) }
     {
         match self.take_place(size, redzone)? {
             None => self.answer(0),
@@ -102,11 +90,9 @@ impl Guest {
     /// The same with zeros in it; where they are is told.
     #[tactic(auto, unfolding(crate::specs::HeapCalls::block_at))]
     fn give_zeros(&mut self, size: u32, redzone: u32) -> Result<Option<Span>, AllocError>
-        ensures core { OnOk result (core_of self.new ≡ given_block (core_of self.old) size redzone RangeKind.Defined) }
         ensures span { IfOk result (λ span. span ≡ option_map (λ p. span_at p size) (place (core_of self.old).blocks size redzone)) }
-        ensures bytes { IfOk result (λ span. bytes_of self.new ≡ written_to (bytes_of self.old) span no_bytes) }
-        ensures progress { self.new.progress ≡ self.old.progress }
-        ensures groups { self.new.groups ≡ self.old.groups }
+        ensures changes { IfOk result (λ span. Changes self.old self.new
+            (given_block (core_of self.old) size redzone RangeKind.Defined) (written_to (bytes_of self.old) span no_bytes)) }
     {
         match self.take_place(size, redzone)? {
             None => {
@@ -136,19 +122,6 @@ impl Guest {
         place_is_least();
     }
 
-    fn count_heap_call(&mut self)
-        ensures core { core_of self.new ≡ core_of self.old }
-        ensures memory { self.new.memory ≡ self.old.memory }
-        ensures position { self.new.progress.position ≡ self.old.progress.position }
-        ensures end_seen { self.new.progress.end_seen ≡ self.old.progress.end_seen }
-        ensures output { self.new.progress.output_len ≡ self.old.progress.output_len }
-        ensures counted { self.new.progress.heap_calls ≡ min (self.old.progress.heap_calls + 1) u64.MAX }
-        ensures heap { self.new.heap ≡ self.old.heap }
-        ensures groups { self.new.groups ≡ self.old.groups }
-    {
-        self.progress.heap_calls = self.progress.heap_calls.saturating_add(1);
-    }
-
     /// A block for so many members of a size, with zeros in it; where they are is told.
     #[tactic(auto, unfolding(crate::specs::HeapCalls::block_at))]
     fn give_members(
@@ -157,11 +130,9 @@ impl Guest {
         size: u32,
         redzone: u32,
     ) -> Result<Option<Span>, AllocError>
-        ensures core { OnOk result (core_of self.new ≡ given_block (core_of self.old) (members * size) redzone RangeKind.Defined) }
         ensures span { IfOk result (λ span. span ≡ (calloc_uses (core_of self.old).blocks (members * size) redzone).writes) }
-        ensures bytes { IfOk result (λ span. bytes_of self.new ≡ written_to (bytes_of self.old) span no_bytes) }
-        ensures progress { self.new.progress ≡ self.old.progress }
-        ensures groups { self.new.groups ≡ self.old.groups }
+        ensures changes { IfOk result (λ span. Changes self.old self.new
+            (given_block (core_of self.old) (members * size) redzone RangeKind.Defined) (written_to (bytes_of self.old) span no_bytes)) }
     {
         let size = u64::from(members) * u64::from(size);
         match u32::try_from(size) {
@@ -177,11 +148,8 @@ impl Guest {
     /// Frees a live block; at another address nothing. Answers whether the address is neither a live block's nor 0.
     #[tactic(auto, unfolding(crate::specs::HeapCalls::freed))]
     fn release(&mut self, p: u32, volume: u32) -> Result<bool, AllocError>
-        ensures core { OnOk result (core_of self.new ≡ freed (core_of self.old) (released_here (core_of self.old) p) volume) }
         ensures invalid { IfOk result (λ invalid. invalid ≡ is_invalid (released_here (core_of self.old) p)) }
-        ensures bytes { OnOk result (bytes_of self.new ≡ bytes_of self.old) }
-        ensures progress { self.new.progress ≡ self.old.progress }
-        ensures groups { self.new.groups ≡ self.old.groups }
+        ensures changes { OnOk result (Changes self.old self.new (freed (core_of self.old) (released_here (core_of self.old) p) volume) (bytes_of self.old)) }
     {
         let trace = self.frames.trace(self.pc);
         match self.heap.release(self.alloc, p, trace, volume)? {
@@ -200,7 +168,7 @@ impl Guest {
     fn free(&mut self, p: u32, volume: u32) -> Result<(), AllocError>
         ensures core { OnOk result (core_of self.new ≡ answered (freed (core_of self.old) (released_here (core_of self.old) p) volume) 0) }
         ensures bytes { OnOk result (bytes_of self.new ≡ bytes_of self.old) }
-        ensures progress { self.new.progress ≡ self.old.progress }
+        ensures progress { OnOk result (self.new.progress ≡ self.old.progress) }
         ensures groups { OnOk result (Raises self.old self.new (free_errors (core_of self.old) (released_here (core_of self.old) p) p)) }
     {
         if self.release(p, volume)? {
@@ -226,17 +194,14 @@ impl Guest {
     #[tactic(auto, using(crate::proofs::HeapSteps::copied_written))]
     fn copy(&mut self, from: u32, to: u32, n: u32) -> Result<(), AllocError>
         requires { AreApart from to n }
-        ensures core { OnOk result (core_of self.new ≡ copied (core_of self.old) from to n) }
-        ensures bytes { OnOk result (bytes_of self.new ≡ written (bytes_of self.old) to n (window (bytes_of self.old) from n)) }
-        ensures progress { self.new.progress ≡ self.old.progress }
-        ensures groups { self.new.groups ≡ self.old.groups }
+        ensures { OnOk result (Changes self.old self.new (copied (core_of self.old) from to n) (written (bytes_of self.old) to n (window (bytes_of self.old) from n))) }
     {
         self.memory.copy_with_shadow(from, to, n)?;
         Ok(())
     }
 
     /// Moves a live block to a place for another size, which is answered; where there is none, it stays and 0 is answered.
-    #[tactic(auto, unfolding(crate::specs::HeapCalls::resized), using(crate::proofs::HeapSteps::moved_apart))]
+    #[tactic(auto, unfolding(crate::specs::HeapCalls::resized))]
     fn move_block(
         &mut self,
         block: Block,
@@ -245,13 +210,10 @@ impl Guest {
         volume: u32,
     ) -> Result<Used, AllocError>
         requires live { (core_of self.old).blocks.live block.start ≡ Some block }
-        ensures core { OnOk result (core_of self.new
-            ≡ resized (core_of self.old) block.start size redzone volume (moving_in (core_of self.old).blocks block size redzone)) }
-        ensures reads { IfOk result (λ used. used.reads ≡ moved_from (moving_in (core_of self.old).blocks block size redzone) block.start size) }
-        ensures writes { IfOk result (λ used. used.writes ≡ moved_into (moving_in (core_of self.old).blocks block size redzone) size) }
-        ensures bytes { IfOk result (λ used. bytes_of self.new ≡ written_to (bytes_of self.old) used.writes (taken_from (bytes_of self.old) used.reads)) }
-        ensures progress { self.new.progress ≡ self.old.progress }
-        ensures groups { self.new.groups ≡ self.old.groups }
+        ensures uses { IfOk result (λ used. used ≡ used_in_move (moving_in (core_of self.old).blocks block size redzone) block.start size) }
+        ensures changes { IfOk result (λ used. Changes self.old self.new
+            (resized (core_of self.old) block.start size redzone volume (moving_in (core_of self.old).blocks block size redzone))
+            (written_to (bytes_of self.old) used.writes (taken_from (bytes_of self.old) used.reads))) }
     {
         self.heap.in_region();
         let from = block.start;
@@ -278,10 +240,9 @@ impl Guest {
     #[tactic(auto, unfolding(crate::specs::HeapCalls::resizing, crate::specs::HeapCalls::resized, crate::specs::HeapCalls::resize_errors, error_events::specs::Adding::add_events))]
     fn resize(&mut self, p: u32, size: u32, redzone: u32, volume: u32) -> Result<Used, AllocError>
         ensures core { OnOk result (core_of self.new ≡ resized (core_of self.old) p size redzone volume (resizing (core_of self.old).blocks p size redzone)) }
-        ensures reads { IfOk result (λ used. used.reads ≡ moved_from (resizing (core_of self.old).blocks p size redzone) p size) }
-        ensures writes { IfOk result (λ used. used.writes ≡ moved_into (resizing (core_of self.old).blocks p size redzone) size) }
+        ensures uses { IfOk result (λ used. used ≡ used_in_move (resizing (core_of self.old).blocks p size redzone) p size) }
         ensures bytes { IfOk result (λ used. bytes_of self.new ≡ written_to (bytes_of self.old) used.writes (taken_from (bytes_of self.old) used.reads)) }
-        ensures progress { self.new.progress ≡ self.old.progress }
+        ensures progress { OnOk result (self.new.progress ≡ self.old.progress) }
         ensures groups { OnOk result (Raises self.old self.new (resize_errors (core_of self.old) p (resizing (core_of self.old).blocks p size redzone))) }
     {
         if p == 0 {
@@ -312,10 +273,9 @@ impl Guest {
         setup: &Setup,
     ) -> Result<Used, AllocError>
         ensures does { OnOk result (DoesWork self.old self.new function x y setup.now) }
-        ensures reads { IfOk result (λ used. used.reads ≡ (work_uses function (core_of self.old).blocks x y setup.now.redzone).reads) }
-        ensures writes { IfOk result (λ used. used.writes ≡ (work_uses function (core_of self.old).blocks x y setup.now.redzone).writes) }
+        ensures uses { IfOk result (λ used. used ≡ used_of (work_uses function (core_of self.old).blocks x y setup.now.redzone)) }
     {
-        self.count_heap_call();
+        self.progress.count_heap_call();
         match function {
             Hook::Malloc => {
                 self.give_block(x, setup.redzone)?;
@@ -340,8 +300,7 @@ impl Guest {
     #[tactic(auto, using(crate::proofs::Showing::add_events_append))]
     pub(super) fn heap_call(&mut self, function: Hook, setup: &Setup) -> Result<Used, AllocError>
         ensures does { OnOk result (DoesHeapCall self.old self.new function setup.now) }
-        ensures reads { IfOk result (λ used. used.reads ≡ (heap_uses function (core_of self.old) setup.now.redzone).reads) }
-        ensures writes { IfOk result (λ used. used.writes ≡ (heap_uses function (core_of self.old) setup.now.redzone).writes) }
+        ensures uses { IfOk result (λ used. used ≡ used_of (heap_uses function (core_of self.old) setup.now.redzone)) }
     {
         let x = self.argument(A0);
         let y = self.argument(A1);

@@ -1,13 +1,14 @@
 //! The calls of the heap by name.
 ghost use Rattle.std.specs.Prelude.{◌≡◌, IfOk, OnOk};
-ghost use Rattle.guest_machine.specs.Doing.{uses_by_name, DoesNamed};
+ghost use Rattle.guest_machine.specs.Doing.{used_of, uses_by_name, DoesNamed};
 
 use crate::machine::Guest;
-use crate::machine::calls::{A0, A1};
+use crate::machine::calls::{A0, A1, heap_parameters};
 use crate::machine::step::{NOTHING, Used};
 use crate::register::Register;
 use crate::setup::Setup;
 use crate::status::Stop;
+use error_events::Kind;
 use guest_elf::Hook;
 use std::alloc::AllocError;
 
@@ -21,18 +22,17 @@ impl Guest {
     #[tactic(auto, unfolding(crate::specs::NamedCalls::named_by, crate::specs::Exec::named_uses_by, error_events::specs::Adding::add_events), using(crate::proofs::Showing::add_events_append))]
     pub(super) fn call_by_name(&mut self, function: Hook, setup: &Setup) -> Result<Used, AllocError>
         ensures does { OnOk result (DoesNamed self.old self.new function setup.now) }
-        ensures reads { IfOk result (λ used. used.reads ≡ (uses_by_name self.old function setup.now).reads) }
-        ensures writes { IfOk result (λ used. used.writes ≡ (uses_by_name self.old function setup.now).writes) }
+        ensures uses { IfOk result (λ used. used ≡ used_of (uses_by_name self.old function setup.now)) }
     {
         let to = self.argument(RA) / 2 * 2;
         let x = self.argument(A0);
         let y = self.argument(A1);
-        self.test_value(Register::new(RA))?;
+        self.test(Register::new(RA), Kind::Value)?;
         if to % 4 != 0 {
             self.stop(Stop::Misaligned);
             return Ok(NOTHING);
         }
-        self.test_heap(function)?;
+        self.test_parameters(heap_parameters(function))?;
         let used = self.heap_work(function, x, y, setup)?;
         self.return_to(to);
         Ok(used)

@@ -4,6 +4,7 @@ ghost use Rattle.guest_machine.specs.Registers.{known, register, set_register, d
 ghost use Rattle.guest_machine.specs.Effects.{target};
 ghost use Rattle.guest_machine.specs.Calls.{answered};
 ghost use Rattle.guest_machine.specs.Shows.{core_of};
+ghost use Rattle.guest_machine.specs.Doing.{Sets};
 
 use crate::machine::Guest;
 use crate::register::Register;
@@ -29,11 +30,7 @@ impl Guest {
     #[inline(always)]
     #[tactic(auto, unfolding(crate::specs::Registers::set_register))]
     pub(super) fn set_register(&mut self, r: Register, bits: Bits)
-        ensures core { core_of self.new ≡ set_register (core_of self.old) r bits }
-        ensures memory { self.new.memory ≡ self.old.memory }
-        ensures progress { self.new.progress ≡ self.old.progress }
-        ensures heap { self.new.heap ≡ self.old.heap }
-        ensures groups { self.new.groups ≡ self.old.groups }
+        ensures { Sets self.old self.new (set_register (core_of self.old) r bits) }
     {
         let i = r.number();
         if i != 0 {
@@ -43,11 +40,7 @@ impl Guest {
 
     /// Makes a register defined.
     pub(super) fn define(&mut self, r: Register)
-        ensures core { core_of self.new ≡ defined (core_of self.old) r }
-        ensures memory { self.new.memory ≡ self.old.memory }
-        ensures progress { self.new.progress ≡ self.old.progress }
-        ensures heap { self.new.heap ≡ self.old.heap }
-        ensures groups { self.new.groups ≡ self.old.groups }
+        ensures { Sets self.old self.new (defined (core_of self.old) r) }
     {
         let value = self.read_register(r).value;
         self.set_register(r, known(value));
@@ -64,10 +57,7 @@ impl Guest {
 
     /// Leaves a call's answer in a0.
     pub(super) fn answer(&mut self, n: u32)
-        ensures core { core_of self.new ≡ answered (core_of self.old) n }
-        ensures memory { self.new.memory ≡ self.old.memory }
-        ensures progress { self.new.progress ≡ self.old.progress }
-        ensures groups { self.new.groups ≡ self.old.groups }
+        ensures { Sets self.old self.new (answered (core_of self.old) n) }
     {
         self.set_register(Register::new(10), known(n));
     }

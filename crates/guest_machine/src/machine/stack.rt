@@ -2,6 +2,7 @@
 ghost use Rattle.std.specs.Prelude.{◌≡◌, ◌≤◌, OnOk};
 ghost use Rattle.guest_machine.specs.StackPointer.{is_stack_pointer, ranged, framed, stack_moved, stack_ruled};
 ghost use Rattle.guest_machine.specs.Shows.{core_of, bytes_of};
+ghost use Rattle.guest_machine.specs.Doing.{Changes};
 
 use crate::machine::Guest;
 use crate::register::Register;
@@ -23,10 +24,7 @@ fn is_stack_pointer(bits: Bits) -> bool
 impl Guest {
     /// Makes a range accessible or inaccessible; byte values stay.
     pub(super) fn make(&mut self, start: u32, len: u32, kind: RangeKind) -> Result<(), AllocError>
-        ensures core { OnOk result (core_of self.new ≡ ranged (core_of self.old) start len kind) }
-        ensures bytes { OnOk result (bytes_of self.new ≡ bytes_of self.old) }
-        ensures progress { self.new.progress ≡ self.old.progress }
-        ensures groups { self.new.groups ≡ self.old.groups }
+        ensures { OnOk result (Changes self.old self.new (ranged (core_of self.old) start len kind) (bytes_of self.old)) }
     {
         self.memory.set_range(start, len, kind)?;
         Ok(())
@@ -36,10 +34,7 @@ impl Guest {
     #[tactic(auto, unfolding(crate::specs::StackPointer::framed))]
     fn frame(&mut self, low: u32, high: u32, kind: RangeKind) -> Result<(), AllocError>
         requires { low ≤ high }
-        ensures core { OnOk result (core_of self.new ≡ framed (core_of self.old) low high kind) }
-        ensures bytes { OnOk result (bytes_of self.new ≡ bytes_of self.old) }
-        ensures progress { self.new.progress ≡ self.old.progress }
-        ensures groups { self.new.groups ≡ self.old.groups }
+        ensures { OnOk result (Changes self.old self.new (framed (core_of self.old) low high kind) (bytes_of self.old)) }
     {
         if high - low <= LARGEST_FRAME {
             self.make(low, high - low, kind)?;
@@ -51,10 +46,7 @@ impl Guest {
     #[inline(always)]
     #[tactic(auto, unfolding(crate::specs::StackPointer::stack_ruled, crate::specs::StackPointer::stack_moved))]
     pub(super) fn stack_rule(&mut self, old: Bits) -> Result<(), AllocError>
-        ensures core { OnOk result (core_of self.new ≡ stack_ruled old (core_of self.old)) }
-        ensures bytes { OnOk result (bytes_of self.new ≡ bytes_of self.old) }
-        ensures progress { self.new.progress ≡ self.old.progress }
-        ensures groups { self.new.groups ≡ self.old.groups }
+        ensures { OnOk result (Changes self.old self.new (stack_ruled old (core_of self.old)) (bytes_of self.old)) }
     {
         let new = self.read_register(Register::new(2));
         if new.value == old.value {

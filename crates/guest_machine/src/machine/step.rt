@@ -3,9 +3,9 @@ ghost use Rattle.std.specs.Prelude.{◌≡◌, ◌+◌, ◌&&◌, ◌≤◌, min
 ghost use Rattle.guest_machine.specs.State.{State};
 ghost use Rattle.guest_machine.specs.Errors.{fetch_undef};
 ghost use Rattle.guest_machine.specs.Instructions.{row_of};
-ghost use Rattle.guest_machine.specs.Exec.{no_intake, nothing, is_running, is_aligned, called_here, fetches, unfetched, jump_fault, exec, touches, has_touched, IsFetched};
+ghost use Rattle.guest_machine.specs.Exec.{no_intake, nothing, is_running, is_aligned, called_here, fetches, unfetched, exec, touches, has_touched, IsFetched};
 ghost use Rattle.guest_machine.specs.Shows.{core_of, bytes_of, Holds, Shows};
-ghost use Rattle.guest_machine.specs.Doing.{uses_by, touched_by, Does, DoesRow, DoesRound, DoesStep};
+ghost use Rattle.guest_machine.specs.Doing.{used_of, uses_by, touched_by, Does, DoesRow, DoesRound, DoesStep};
 
 use crate::alu::computed;
 use crate::hooks::Hooks;
@@ -58,11 +58,9 @@ impl Guest {
         row: Option<Instruction>,
         used: &mut Used,
     ) -> Result<(), AllocError>
-        requires reads { used.old.reads ≡ None }
-        requires writes { used.old.writes ≡ None }
+        requires { used.old ≡ used_of nothing }
         ensures does { OnOk result (DoesRow self.old self.new row setup.now) }
-        ensures reads { OnOk result (used.new.reads ≡ (uses_by self.old row setup.now).reads) }
-        ensures writes { OnOk result (used.new.writes ≡ (uses_by self.old row setup.now).writes) }
+        ensures uses { OnOk result (used.new ≡ used_of (uses_by self.old row setup.now)) }
     {
         let Some(instruction) = row else {
             self.stop(Stop::Illegal);
@@ -138,20 +136,6 @@ impl Guest {
         Ok(())
     }
 
-    /// A fetch that meets an inaccessible byte.
-    #[cold]
-    #[inline(never)]
-    #[tactic(auto, unfolding(crate::specs::Errors::event_about, error_events::specs::Adding::add_events))]
-    fn jump_fault(&mut self, fault: Option<u32>) -> Result<(), AllocError>
-        ensures { OnOk result (Does self.old self.new (jump_fault (core_of self.old) fault) nothing false no_intake) }
-    {
-        if fault.is_some() {
-            self.raise_about(Kind::Jump, fault)?;
-            self.stop(Stop::Jump);
-        }
-        Ok(())
-    }
-
     /// Whether it runs, and pc is a multiple of 4.
     #[inline(always)]
     fn is_ready(&self) -> bool
@@ -195,14 +179,17 @@ impl Guest {
 
     /// A step that takes no word and calls no function by name.
     #[inline(always)]
-    #[tactic(auto, unfolding(crate::specs::Exec::unfetched, error_events::specs::Adding::add_events))]
+    #[tactic(auto, unfolding(crate::specs::Exec::unfetched, crate::specs::Errors::event_about, error_events::specs::Adding::add_events))]
     fn halt(&mut self) -> Result<(), AllocError>
         ensures { OnOk result (Does self.old self.new (unfetched (core_of self.old)) nothing false no_intake) }
     {
         if let Status::Running = self.status {
             if self.pc % 4 == 0 {
                 let fault = self.memory.load(self.pc, 4).bad;
-                self.jump_fault(fault)?;
+                if fault.is_some() {
+                    self.raise_about(Kind::Jump, fault)?;
+                    self.stop(Stop::Jump);
+                }
             } else {
                 self.stop(Stop::Misaligned);
             }
@@ -215,11 +202,9 @@ impl Guest {
     #[tactic(auto, using(crate::proofs::Showing::add_events_append))]
     fn round(&mut self, setup: &Setup, word: Bits, used: &mut Used) -> Result<(), AllocError>
         requires undef { word.undef ≡ fetch_undef (core_of self.old) }
-        requires reads { used.old.reads ≡ None }
-        requires writes { used.old.writes ≡ None }
+        requires unused { used.old ≡ used_of nothing }
         ensures does { OnOk result (DoesRound self.old self.new (row_of word.value) setup.now) }
-        ensures reads { OnOk result (used.new.reads ≡ (uses_by self.old (row_of word.value) setup.now).reads) }
-        ensures writes { OnOk result (used.new.writes ≡ (uses_by self.old (row_of word.value) setup.now).writes) }
+        ensures uses { OnOk result (used.new ≡ used_of (uses_by self.old (row_of word.value) setup.now)) }
     {
         let stack_pointer = self.read_register(Register::new(2));
         self.test_word(word.undef)?;
@@ -254,7 +239,6 @@ impl Guest {
 
     /// The same, said of each state that is held.
     #[inline(always)]
-    #[tactic(auto, using(crate::proofs::Showing::holds_exec, crate::proofs::Showing::touched_exec))]
     fn step(&mut self, setup: &Setup) -> Result<Touched, AllocError>
         ensures holds { OnOk result ((s : State) → Holds self.old s → Holds self.new (exec s setup.now)) }
         ensures touched { IfOk result (λ t. (s : State) → Holds self.old s → has_touched t ≡ touches s setup.now) }
