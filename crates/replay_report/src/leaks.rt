@@ -47,7 +47,7 @@ fn is_hidden(
 }
 
 /// Puts each record with those that no suppression matches, or with the others.
-fn share_out(
+fn divide(
     alloc: Global,
     records: &[LeakRecord],
     image: &Image,
@@ -80,7 +80,7 @@ pub(crate) fn split_records(
 {
     let mut shown = Vec::new(alloc);
     let mut hidden = Vec::new(alloc);
-    share_out(alloc, records, image, suppressions, &mut shown, &mut hidden)?;
+    divide(alloc, records, image, suppressions, &mut shown, &mut hidden)?;
     Ok((shown, hidden))
 }
 

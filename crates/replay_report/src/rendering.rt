@@ -42,7 +42,7 @@ fn push_head(out: &mut Vec<u8>, moment: &Moment) -> Result<(), AllocError>
 
 /// The lines of a report after its first, with these groups of errors and these records of the live blocks.
 #[tactic(auto, using(std::proofs::Common::append_assoc))]
-fn push_found(
+fn push_findings(
     alloc: Global,
     out: &mut Vec<u8>,
     view: &View,
@@ -80,7 +80,7 @@ fn push_report(
         view.suppressions,
         view.options.callers,
     )?;
-    push_found(alloc, out, view, &shown, &hidden, records)
+    push_findings(alloc, out, view, &shown, &hidden, records)
 }
 
 /// The report.

@@ -1,6 +1,6 @@
 use Rattle.std.proofs.Common.{◌≡◌, ◌++◌, take}
 use Rattle.replay_report.specs.Leaks.{shown_records, hidden_records}
-use Rattle.replay_report.proofs.leaks.share_out.Given as goal
+use Rattle.replay_report.proofs.leaks.divide.Given as goal
 
 abbrev pub invariant-loop-record : goal.invariant-loop-record
 invariant-loop-record l =
