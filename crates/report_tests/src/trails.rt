@@ -396,9 +396,8 @@ fn told(alloc: Global, program: Program, acts: &[Act]) -> Result<Vec<Told>, Fail
 #[test]
 fn edits_cost_what_follows_them(rt: HostRuntime) -> Result<(), Fail> {
     for (label, program, acts, wanted) in CASES {
-        assert_eq!(rt;
-            told(rt.alloc(), program, acts)?.as_slice(),
-            wanted,
+        assert!(rt;
+            told(rt.alloc(), program, acts)?.as_slice() == wanted,
             "{label}"
         );
     }
@@ -413,6 +412,6 @@ fn a_run_has_no_need_of_a_trail(rt: HostRuntime) -> Result<(), Fail> {
     let mut meter = Meter::new();
     let start = Machine::start(rt.alloc(), &image)?;
     let machine = run_to(start, &setup, &[], 10, &mut meter)?;
-    assert_eq!(rt; (meter.read(), machine.status()), (10, Status::Exited(7)));
+    assert!(rt; (meter.read(), machine.status()) == (10, Status::Exited(7)));
     Ok(())
 }

@@ -1,5 +1,5 @@
 -- Marks that take what others load with, by their numbers.
-use Rattle.std.proofs.Common.{◌≡◌, ◌≢◌, ℕ, Bool, List, true, false, refl, ap, ap₂, length, set, slice_index, sym, ◌∙◌, ◌+◌, ◌/◌, ◌%◌, ◌-◌, ◌==◌, ◌<◌, ◌≤◌, inl, inr, cond, arith}
+use Rattle.std.proofs.Common.{◌≡◌, ◌≢◌, ℕ, Bool, List, true, false, refl, ap, ap₂, length, set, slice_index, sym, ◌∙◌, ◌+◌, ◌*◌, ◌/◌, ◌%◌, ◌-◌, ◌==◌, ◌<◌, ◌≤◌, inl, inr, cond, arith}
 use Rattle.std.proofs.lemmas.Bool.{cases_Bool, cases_eq}
 use Rattle.std.proofs.lemmas.Bool.Decides.{nat_tests}
 use Rattle.std.proofs.lemmas.Grind.{get_or-set_at}
@@ -108,6 +108,10 @@ four-inside at k aligned here = grind (arith, nat_tests)
 
 four-outside : (at k : ℕ) → at % 4 ≡ 0 → k / 4 ≢ at / 4 → is_between at (at + 4) k ≡ false
 four-outside at k aligned away = grind (arith, nat_tests)
+
+-- a byte whose four numbers are one
+pub four-alike : (code place : ℕ) → code < 4 → place < 4 → part_of (code * 85) place ≡ code
+four-alike code place small within = grind (arith, nat_tests)
 
 -- the four numbers in a byte that took what those in another load as
 pub four-copied : (packed source : List ℕ) (at from made : ℕ) → at % 4 ≡ 0 → from % 4 ≡ 0 → at / 4 < length packed

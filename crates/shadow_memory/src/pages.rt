@@ -14,7 +14,7 @@ use crate::cells::{Cell, Loaded, Mark, RangeKind, marked_cell};
 use crate::edits::{Each, Edit};
 use crate::laws::all_are;
 use crate::marks::Marks;
-use crate::slices::{set_all, write_at};
+use crate::slices::{fill_at, set_all, write_at};
 use crate::words::{ABSENT, loaded_from, may_lie_within, word};
 use std::alloc::{AllocError, Global};
 
@@ -206,9 +206,7 @@ impl Page {
         ensures err { OnErr result (AgreeInPage (cells_in self.new) (cells_in self.old)) }
     {
         self.marks.make(alloc, at, at + count, RangeKind::Defined)?;
-        let len = bytes.len().min(count);
-        write_at(&mut self.bytes, at, &bytes[..len]);
-        set_all(&mut self.bytes, at + len, at + count, 0);
+        fill_at(&mut self.bytes, at, count, bytes);
         Ok(())
     }
 

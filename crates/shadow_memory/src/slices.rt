@@ -1,5 +1,5 @@
 //! Parts of slices of bytes, written as a whole.
-ghost use Rattle.std.specs.Prelude.{◌≡◌, ℕ, ◌+◌, ◌≤◌, if◌then◌else◌, length, slice_index};
+ghost use Rattle.std.specs.Prelude.{◌≡◌, ℕ, ◌+◌, ◌-◌, ◌≤◌, if◌then◌else◌, length, slice_index};
 ghost use Rattle.shadow_memory.specs.Places.{is_between};
 ghost use Rattle.shadow_memory.specs.Changes.{overwritten};
 
@@ -31,4 +31,14 @@ pub(crate) fn write_at(bytes: &mut [u8], at: usize, made: &[u8])
     for i in 0..made.len() {
         bytes[at + i] = made[i];
     }
+}
+
+/// Writes bytes from a place on, with zeros after them, over so many places.
+pub(crate) fn fill_at(bytes: &mut [u8], at: usize, count: usize, made: &[u8])
+    requires { at + count ≤ length bytes.old }
+    ensures { (k : ℕ) → slice_index bytes.new k ≡ (if is_between at (at + count) k then slice_index made.now (k - at) else slice_index bytes.old k) }
+{
+    let len = made.len().min(count);
+    write_at(bytes, at, &made[..len]);
+    set_all(bytes, at + len, at + count, 0);
 }

@@ -1,13 +1,10 @@
 use Rattle.std.proofs.Common.{◌≡◌, ℕ, List, ◌∙◌, ◌+◌, ◌-◌, ◌*◌, ◌/◌, ◌%◌, ◌<◌, ◌≤◌, sym, arith, ap, slice_index, drop, take, length, inl, refl}
-use Rattle.std.proofs.lemmas.Bool.Decides.{nat_tests}
 use Rattle.std.proofs.lemmas.List.{length-drop, length-take}
 use Rattle.shadow_memory.specs.Codes.{code_at}
 use Rattle.shadow_memory.specs.Parts.{part_of}
 use Rattle.shadow_memory.proofs.Parts.{rest-read}
+use Rattle.shadow_memory.proofs.Taking.{four-alike}
 use Rattle.shadow_memory.proofs.codes.Codes.skip.Goals as goal
-
-part-all : (code place : ℕ) → code < 4 → place < 4 → part_of (code * 85) place ≡ code
-part-all code place small within = grind (arith, nat_tests)
 
 -- the number of a place whose byte was scanned
 scanned : (packed xs : List ℕ) (from at code : ℕ) → xs ≡ packed → from ≤ at → from / 4 ≤ length xs → code < 4
@@ -16,7 +13,7 @@ scanned packed xs from at code same start inside small is =
     let e : from / 4 + (at / 4 - from / 4) ≡ at / 4 = omega arith in
     let byte : slice_index packed (at / 4) ≡ code * 85 =
     ap (λ (l : List ℕ). slice_index l (at / 4)) (sym same) ∙ ap (slice_index xs) (sym e) ∙ sym (rest-read xs (from / 4) (from / 4) (at / 4 - from / 4) inside (inl refl)) ∙ is in
-    ap (λ b. part_of b (at % 4)) byte ∙ part-all code (at % 4) small (omega arith)
+    ap (λ b. part_of b (at % 4)) byte ∙ four-alike code (at % 4) small (omega arith)
 
 pub returns-in-Some-clause-same : goal.returns-in-Some-clause-same
 unfolding code_at
