@@ -96,7 +96,8 @@ impl Guest {
     /// Stores input at an address.
     fn store_input(&mut self, start: u32, given: &[u8]) -> Result<(), AllocError>
         requires { length given.now ≤ most_moved }
-        ensures { OnOk result (Changes self.old self.new (stored_core (core_of self.old) start (length given.now) 0) (written (bytes_of self.old) start (length given.now) (slice_index given.now))) }
+        ensures { OnOk result (Changes self.old self.new (stored_core (core_of self.old) start (length given.now) 0)
+            (written (bytes_of self.old) start (length given.now) (slice_index given.now))) }
     {
         self.memory.store_bytes(start, given)?;
         Ok(())

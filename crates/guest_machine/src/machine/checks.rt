@@ -1,8 +1,8 @@
 //! The tests of a step, and the errors that they record.
-ghost use Rattle.std.specs.Prelude.{◌≡◌, ◌∷◌, ◌<◌, ◌==◌, [], OnOk};
-ghost use Rattle.guest_machine.specs.Registers.{tested};
+ghost use Rattle.std.specs.Prelude.{◌≡◌, ◌∷◌, ◌<◌, ◌==◌, [], false, OnOk};
+ghost use Rattle.guest_machine.specs.Registers.{defined, tested};
 ghost use Rattle.guest_machine.specs.Effects.{branch_tested, branch_errors};
-ghost use Rattle.guest_machine.specs.Errors.{here, event_of, event_unless, event_about, note_at, region_note, register_errors};
+ghost use Rattle.guest_machine.specs.Errors.{here, event_of, event_unless, event_about, note_at, region_note, register_errors, value_errors};
 ghost use Rattle.guest_machine.specs.Shows.{core_of};
 ghost use Rattle.guest_machine.specs.Doing.{Notes};
 
@@ -48,6 +48,17 @@ impl Guest {
         self.groups.add(Event { kind, trace, note })
     }
 
+    /// Records that a word with undefined bits is carried out. Out of line, as all that makes a note is: its room on the stack is no
+    /// step's.
+    #[cold]
+    #[inline(never)]
+    #[tactic(auto, unfolding(crate::specs::Errors::event_unless, error_events::specs::Adding::add_events))]
+    fn raise_value(&mut self) -> Result<(), AllocError>
+        ensures { OnOk result (Notes self.old self.new (core_of self.old) (event_unless false (here (core_of self.old)) Kind.Value)) }
+    {
+        self.raise(Kind::Value, Note::Absent)
+    }
+
     /// Tests the undefined bits of a word that is to be carried out.
     #[inline(always)]
     #[tactic(auto, unfolding(crate::specs::Errors::event_unless, error_events::specs::Adding::add_events))]
@@ -55,7 +66,7 @@ impl Guest {
         ensures { OnOk result (Notes self.old self.new (core_of self.old) (event_unless (undef == 0) (here (core_of self.old)) Kind.Value)) }
     {
         if undef != 0 {
-            return self.raise(Kind::Value, Note::Absent);
+            return self.raise_value();
         }
         Ok(())
     }
@@ -74,20 +85,33 @@ impl Guest {
         Ok(())
     }
 
-    /// Records the first inaccessible byte of an access, if there is one.
+    /// Records the first inaccessible byte of a load of so many, if there is one.
     #[inline(always)]
     #[tactic(auto, unfolding(crate::specs::Errors::event_about, error_events::specs::Adding::add_events))]
-    pub(super) fn test_access(&mut self, kind: Kind, bad: Option<u32>) -> Result<(), AllocError>
-        ensures { OnOk result (Notes self.old self.new (core_of self.old) (event_about (core_of self.old).blocks (here (core_of self.old)) kind bad)) }
+    pub(super) fn test_load(&mut self, len: u8, bad: Option<u32>) -> Result<(), AllocError>
+        ensures { OnOk result (Notes self.old self.new (core_of self.old) (event_about (core_of self.old).blocks (here (core_of self.old)) (Kind.Read len) bad)) }
     {
         match bad {
             None => Ok(()),
-            Some(_) => self.raise_about(kind, bad),
+            Some(_) => self.raise_about(Kind::Read(len), bad),
+        }
+    }
+
+    /// Records the first inaccessible byte of a store of so many, if there is one.
+    #[inline(always)]
+    #[tactic(auto, unfolding(crate::specs::Errors::event_about, error_events::specs::Adding::add_events))]
+    pub(super) fn test_store(&mut self, len: u8, bad: Option<u32>) -> Result<(), AllocError>
+        ensures { OnOk result (Notes self.old self.new (core_of self.old) (event_about (core_of self.old).blocks (here (core_of self.old)) (Kind.Write len) bad)) }
+    {
+        match bad {
+            None => Ok(()),
+            Some(_) => self.raise_about(Kind::Write(len), bad),
         }
     }
 
     /// Tests that a register is defined, and makes it so.
-    #[inline(always)]
+    #[cold]
+    #[inline(never)]
     #[tactic(auto, unfolding(crate::specs::Registers::tested, crate::specs::Errors::event_unless, error_events::specs::Adding::add_events))]
     pub(super) fn test(&mut self, r: Register, kind: Kind) -> Result<(), AllocError>
         ensures { OnOk result (Notes self.old self.new (tested (core_of self.old) r) (register_errors (core_of self.old) r kind)) }
@@ -96,6 +120,31 @@ impl Guest {
             self.raise(kind, Note::Absent)?;
             self.define(r);
         }
+        Ok(())
+    }
+
+    /// Tests a register from which an address or a jump's target is computed.
+    #[inline(always)]
+    #[tactic(auto, unfolding(crate::specs::Registers::tested, crate::specs::Errors::event_unless, error_events::specs::Adding::add_events))]
+    pub(super) fn test_value(&mut self, r: Register) -> Result<(), AllocError>
+        ensures { OnOk result (Notes self.old self.new (tested (core_of self.old) r) (value_errors (core_of self.old) r)) }
+    {
+        if self.read_register(r).undef != 0 {
+            return self.test(r, Kind::Value);
+        }
+        Ok(())
+    }
+
+    /// Records that a branch depends on undefined bits, and makes its registers defined.
+    #[cold]
+    #[inline(never)]
+    #[tactic(auto, unfolding(crate::specs::Errors::event_unless, error_events::specs::Adding::add_events))]
+    fn raise_branch(&mut self, rs1: Register, rs2: Register) -> Result<(), AllocError>
+        ensures { OnOk result (Notes self.old self.new (defined (defined (core_of self.old) rs1) rs2) (event_unless false (here (core_of self.old)) Kind.Cond)) }
+    {
+        self.raise(Kind::Cond, Note::Absent)?;
+        self.define(rs1);
+        self.define(rs2);
         Ok(())
     }
 
@@ -111,9 +160,7 @@ impl Guest {
         ensures { OnOk result (Notes self.old self.new (branch_tested (core_of self.old) comparison rs1 rs2) (branch_errors (core_of self.old) comparison rs1 rs2)) }
     {
         if is_undecided(comparison, self.read_register(rs1), self.read_register(rs2)) {
-            self.raise(Kind::Cond, Note::Absent)?;
-            self.define(rs1);
-            self.define(rs2);
+            return self.raise_branch(rs1, rs2);
         }
         Ok(())
     }

@@ -20,7 +20,6 @@ use crate::register::Register;
 use crate::span::Span;
 use crate::width::Width;
 use definedness::Bits;
-use error_events::Kind;
 use shadow_memory::{Loaded, Memory};
 use std::alloc::AllocError;
 
@@ -76,7 +75,7 @@ impl Guest {
         ensures small_undef { IfOk result (λ bits. bits.undef < width_limit width) }
     {
         let loaded = self.loaded(start, width);
-        self.test_access(Kind::Read(width.byte_len()), loaded.bad)?;
+        self.test_load(width.byte_len(), loaded.bad)?;
         Ok(Bits {
             value: loaded.value,
             undef: loaded.undef,
@@ -98,7 +97,7 @@ impl Guest {
         ensures reads { IfOk result (λ span. span ≡ accessed (core_of self.old) rs1 imm width) }
     {
         let start = self.target(rs1, imm);
-        self.test(rs1, Kind::Value)?;
+        self.test_value(rs1)?;
         let loaded = self.take(start, width)?;
         let value = extended(width, signed, loaded.value);
         let undef = extended(width, signed, loaded.undef);
@@ -122,10 +121,10 @@ impl Guest {
         ensures writes { IfOk result (λ span. span ≡ accessed (core_of self.old) rs1 imm width) }
     {
         let to = self.target(rs1, imm);
-        self.test(rs1, Kind::Value)?;
+        self.test_value(rs1)?;
         let stored = self.read_register(rs2);
         let fault = put(&mut self.memory, to, width, stored)?;
-        self.test_access(Kind::Write(width.byte_len()), fault)?;
+        self.test_store(width.byte_len(), fault)?;
         self.advance();
         Ok(Span {
             start: to,
@@ -177,7 +176,7 @@ impl Guest {
         ensures { OnOk result (Does self.old self.new (jump_register (core_of self.old) rd rs1 imm) nothing false no_intake) }
     {
         let to = self.target(rs1, imm) / 2 * 2;
-        self.test(rs1, Kind::Value)?;
+        self.test_value(rs1)?;
         self.linked_jump(StackHint::of_jalr(rd, rs1), rd, to);
         Ok(())
     }

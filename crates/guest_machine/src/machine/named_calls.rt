@@ -8,7 +8,6 @@ use crate::machine::step::{NOTHING, Used};
 use crate::register::Register;
 use crate::setup::Setup;
 use crate::status::Stop;
-use error_events::Kind;
 use guest_elf::Hook;
 use std::alloc::AllocError;
 
@@ -27,7 +26,7 @@ impl Guest {
         let to = self.argument(RA) / 2 * 2;
         let x = self.argument(A0);
         let y = self.argument(A1);
-        self.test(Register::new(RA), Kind::Value)?;
+        self.test_value(Register::new(RA))?;
         if to % 4 != 0 {
             self.stop(Stop::Misaligned);
             return Ok(NOTHING);

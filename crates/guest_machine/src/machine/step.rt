@@ -3,7 +3,7 @@ ghost use Rattle.std.specs.Prelude.{◌≡◌, ◌+◌, ◌&&◌, ◌≤◌, min
 ghost use Rattle.guest_machine.specs.State.{State};
 ghost use Rattle.guest_machine.specs.Errors.{fetch_undef};
 ghost use Rattle.guest_machine.specs.Instructions.{row_of};
-ghost use Rattle.guest_machine.specs.Exec.{no_intake, nothing, is_running, is_aligned, called_here, fetches, unfetched, exec, touches, has_touched, IsFetched};
+ghost use Rattle.guest_machine.specs.Exec.{no_intake, nothing, is_running, is_aligned, called_here, fetches, unfetched, jump_fault, exec, touches, has_touched, IsFetched};
 ghost use Rattle.guest_machine.specs.Shows.{core_of, bytes_of, Holds, Shows};
 ghost use Rattle.guest_machine.specs.Doing.{used_of, uses_by, touched_by, Does, DoesRow, DoesRound, DoesStep};
 
@@ -177,19 +177,30 @@ impl Guest {
         }
     }
 
+    /// A fetch that meets an inaccessible byte.
+    #[cold]
+    #[inline(never)]
+    #[tactic(auto, unfolding(crate::specs::Errors::event_about, error_events::specs::Adding::add_events))]
+    fn jump_fault(&mut self, fault: Option<u32>) -> Result<(), AllocError>
+        ensures { OnOk result (Does self.old self.new (jump_fault (core_of self.old) fault) nothing false no_intake) }
+    {
+        if fault.is_some() {
+            self.raise_about(Kind::Jump, fault)?;
+            self.stop(Stop::Jump);
+        }
+        Ok(())
+    }
+
     /// A step that takes no word and calls no function by name.
     #[inline(always)]
-    #[tactic(auto, unfolding(crate::specs::Exec::unfetched, crate::specs::Errors::event_about, error_events::specs::Adding::add_events))]
+    #[tactic(auto, unfolding(crate::specs::Exec::unfetched, error_events::specs::Adding::add_events))]
     fn halt(&mut self) -> Result<(), AllocError>
         ensures { OnOk result (Does self.old self.new (unfetched (core_of self.old)) nothing false no_intake) }
     {
         if let Status::Running = self.status {
             if self.pc % 4 == 0 {
                 let fault = self.memory.load(self.pc, 4).bad;
-                if fault.is_some() {
-                    self.raise_about(Kind::Jump, fault)?;
-                    self.stop(Stop::Jump);
-                }
+                self.jump_fault(fault)?;
             } else {
                 self.stop(Stop::Misaligned);
             }
