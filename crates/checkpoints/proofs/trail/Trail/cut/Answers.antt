@@ -1,4 +1,3 @@
-use Rattle.std.proofs.Common.{◌≡◌, ◌*◌, ◌-◌, ◌<◌, refl}
 use Rattle.checkpoints.specs.Effects.{EffectShows}
 use Rattle.checkpoints.proofs.EffectSteps.{right-cut, keeps-cut}
 use Rattle.checkpoints.proofs.trail.Trail.cut.Goals as goal

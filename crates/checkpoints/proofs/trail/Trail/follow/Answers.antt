@@ -1,4 +1,4 @@
-use Rattle.std.proofs.Common.{refl, inl}
+use Rattle.std.proofs.Common.{inl}
 use Rattle.checkpoints.proofs.EffectSteps.{led-by-word, led-by-cut, followed-by-cut, whole-by-cut}
 use Rattle.std.proofs.lemmas.Result.{on_ok_weaker}
 use Rattle.checkpoints.proofs.trail.Trail.follow.Goals as goal

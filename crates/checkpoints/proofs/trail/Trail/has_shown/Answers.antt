@@ -1,10 +1,10 @@
-use Rattle.std.proofs.Common.{◌≡◌, ℕ, Option, ◌*◌, ◌/◌, ◌<◌, ◌≤◌, nat_lt, refl, ap, sym, ◌∙◌, arith, length, subst, Bool}
+use Rattle.std.proofs.Common.{ℕ, Option, ◌*◌, ◌/◌, nat_lt, refl, ap, sym, ◌∙◌, arith, subst, Bool}
 use Rattle.std.specs.Prelude.{is_some}
 use Rattle.checkpoints.specs.Trails.{machines_of, table_of, loaded_of, last_held, first_use}
 use Rattle.checkpoints.specs.Entries.{entry_of}
 use Rattle.checkpoints.specs.Effects.{Tells, WritesWithin}
 use Rattle.checkpoints.specs.declared.effect.Effect.{Effect}
-use Rattle.checkpoints.specs.FirstEffects.{MarkShows, InputShows, HeapShows, PatchShows}
+use Rattle.checkpoints.specs.FirstEffects.{InputShows, PatchShows}
 use Rattle.checkpoints.proofs.HeldSteps.{held-at}
 use Rattle.checkpoints.proofs.EffectSteps.{told-after, told-input, told-end, told-heap, told-word}
 use Rattle.checkpoints.proofs.trail.Trail.has_shown.Goals as goal

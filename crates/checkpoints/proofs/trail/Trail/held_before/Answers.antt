@@ -1,6 +1,5 @@
-use Rattle.std.proofs.Common.{◌≡◌, ℕ, ◌-◌, ◌*◌, ◌<◌, ◌≤◌, true, false, arith, ap, subst, sym, inl, inr, Bool, length}
+use Rattle.std.proofs.Common.{◌≡◌, ◌-◌, ◌*◌, true, arith, subst, inl, inr, Bool}
 use Rattle.std.proofs.lemmas.Bool.{cases_lt}
-use Rattle.checkpoints.specs.Trails.{machines_of}
 use Rattle.checkpoints.specs.Edits.{TellsShown}
 use Rattle.checkpoints.proofs.EffectSteps.{hidden-at-start}
 use Rattle.checkpoints.proofs.trail.Trail.held_before.Goals as goal
