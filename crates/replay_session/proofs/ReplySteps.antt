@@ -1,9 +1,9 @@
 -- The text that is written for a line is its reply.
-use Rattle.std.proofs.Common.{◌≡◌, ℕ, List, [], Bool, false, refl, ap, sym, ◌∙◌, subst, Result, Ok, Err, inl, inr}
+use Rattle.std.proofs.Common.{◌≡◌, ℕ, List, [], Bool, refl, ap, sym, ◌∙◌, subst, Result, Ok, Err, inl, inr}
 use Rattle.std.specs.Prelude.{IsOkAnd}
 use Rattle.checkpoints.specs.Trails.{is_short, meter_of}
 use Rattle.checkpoints.specs.Work.{Work}
-use Rattle.replay_session.specs.Replies.{Replies, Says, Moves, IsReplyTo, refused_line, text_of}
+use Rattle.replay_session.specs.Replies.{Replies, Says, Moves, IsReplyTo, text_of}
 use Rattle.replay_session.specs.Scenario.{Scenario, IsReportOf, accepted, applied, counted, after}
 use Rattle.replay_session.specs.Session.{HasScenario, Meets, AppendsFor, TakesMemory, replied, trail_of, work_of}
 use Rattle.replay_session.specs.Stages.{Stage, HasStage}
@@ -11,7 +11,6 @@ use Rattle.replay_session.specs.Work.{LineMoves, MayShorten, WorksLine, StaysWho
 use Rattle.replay_session.specs.declared.command.Command.{Command}
 use Rattle.replay_session.specs.declared.command.Command.TheVariants.{Report, Worked}
 use Rattle.replay_session.specs.declared.fault.Fault.{Fault}
-use Rattle.replay_session.specs.declared.fault.Fault.TheVariants.{Memory}
 use Rattle.replay_session.specs.declared.session.Session.{Session}
 use Rattle.replay_session.specs.declared.reply.Reply.{Reply}
 

@@ -12,7 +12,7 @@ use Rattle.replay_session.proofs.Known.{consumes-then}
 use Rattle.replay_session.proofs.LineSteps.{lines-is, closed_lines-is}
 use Rattle.replay_session.proofs.ServeSteps.{goes-whole, fed-then, over-then, ended-then, broken-then}
 use Rattle.replay_session.specs.declared.serving.ServeFault.{ServeFault}
-use Rattle.replay_session.specs.declared.serving.ServeFault.TheVariants.{ReadFailed, WriteFailed, NoMemory, Endless}
+use Rattle.replay_session.specs.declared.serving.ServeFault.TheVariants.{ReadFailed, WriteFailed, Endless}
 
 -- a count from 0 on
 from-zero : (a b n : ℕ) → a ≡ 0 → b < 2 ^ 64 → standing b ≡ standing (a + n) → b ≡ standing n

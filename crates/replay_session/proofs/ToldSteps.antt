@@ -1,13 +1,12 @@
 -- What `worked` tells in a served session.
-use Rattle.std.proofs.Common.{◌≡◌, ℕ, List, [], ◌∷◌, Bool, true, false, Result, Ok, Err, inl, inr, refl, ap, sym, ◌∙◌, subst, arith, length, min, slice_index}
+use Rattle.std.proofs.Common.{◌≡◌, ℕ, List, [], ◌∷◌, Bool, true, false, Result, Ok, Err, inl, inr, refl, ap, sym, ◌∙◌, subst, arith, length, slice_index}
 use Rattle.std.proofs.lemmas.List.Elements.{All-head, All-tail}
 use Rattle.std.specs.Bool.{MatchBool}
 use Rattle.std.specs.Prelude.{IsOkAnd}
 use Rattle.std.specs.List.{All}
-use Rattle.checkpoints.specs.Work.{Work}
 use Rattle.replay_session.proofs.LawSteps.{made_by_lines}
-use Rattle.replay_session.specs.LinesWork.{AddUp, AnswersLead, Leads, LinesMove, TellsWork, given_from}
-use Rattle.replay_session.specs.Replies.{Answers, HadMemory, IsReplyTo, Replies, Says, refused_line, worked_line, is_over}
+use Rattle.replay_session.specs.LinesWork.{AnswersLead, Leads, LinesMove, TellsWork}
+use Rattle.replay_session.specs.Replies.{Answers, HadMemory, IsReplyTo, Replies, Says, worked_line, is_over}
 use Rattle.replay_session.specs.Scenario.{Scenario, accepted, applied}
 use Rattle.replay_session.specs.Session.{TakesMemory}
 use Rattle.replay_session.specs.Stages.{Stage, fresh}
@@ -15,7 +14,6 @@ use Rattle.replay_session.specs.Work.{LineMoves, MayShorten}
 use Rattle.replay_session.specs.declared.command.Command.{Command}
 use Rattle.replay_session.specs.declared.command.Command.TheVariants.{Patch, Worked}
 use Rattle.replay_session.specs.declared.fault.Fault.{Fault}
-use Rattle.replay_session.specs.declared.fault.Fault.TheVariants.{Memory}
 
 -- none is left where one list is as long as another that is empty
 none-left : (lines replies : List (List ℕ)) → replies ≡ [] → length replies ≡ length lines → lines ≡ []

@@ -1,5 +1,5 @@
 -- What the lines so far have left of a session: its scenario, and the work on its run.
-use Rattle.std.specs.Prelude.{◌≡◌, ℕ, Bool, false}
+use Rattle.std.specs.Prelude.{◌≡◌, Bool, false}
 use Rattle.checkpoints.specs.Trails.{is_short}
 use Rattle.checkpoints.specs.Work.{Work}
 use Rattle.replay_session.specs.Scenario.{Scenario}
