@@ -48,8 +48,7 @@ impl Guest {
         self.groups.add(Event { kind, trace, note })
     }
 
-    /// Records that a word with undefined bits is carried out. Out of line, as all that makes a note is: its room on the stack is no
-    /// step's.
+    /// Records that a word with undefined bits is carried out. Out of line, as it has no place in the code of a step.
     #[cold]
     #[inline(never)]
     #[tactic(auto, unfolding(crate::specs::Errors::event_unless, error_events::specs::Adding::add_events))]
