@@ -59,10 +59,14 @@ KeepsBelowEffectOrIsShort effect old new =
     → (KeepsJust (IsBelowFirst (EffectShows effect start setup marks)) old new × (is_short new ≡ is_short old))
     ⊎ (KeepsOnly (IsBelowFirst (EffectShows effect start setup marks)) old new × (is_short new ≡ true))
 
--- none but a written word makes a trail short; one that is short stays so
+-- none but a written word makes a trail short, and one that is short stays so: said of whether it is short before and after
+abbrev pub MayShorten : Effect → Bool → Bool → Type 0
+MayShorten (Word addr word) old new = old ≡ true → new ≡ true
+MayShorten _ old new = new ≡ old
+
+-- and of the trails
 abbrev pub StaysWhole : Effect → Trail → Trail → Type 0
-StaysWhole (Word addr word) old new = is_short old ≡ true → is_short new ≡ true
-StaysWhole _ old new = is_short new ≡ is_short old
+StaysWhole effect old new = MayShorten effect (is_short old) (is_short new)
 
 -- where the machines are kept below a step, the last step at which one is held follows from it
 abbrev pub KeepsLower : Type 0

@@ -1,7 +1,7 @@
 -- The first bytes of a file, of which one more than a limit is read.
 use Rattle.std.proofs.Common.{◌≡◌, ◌∙◌, ℕ, ◌+◌, ◌<◌, ◌≤◌, List, [], Option, Some, length, take, ap, sym, arith, refl, subst}
 use Rattle.std.proofs.lemmas.List.{length-take, take_all}
-use Rattle.replay_session.specs.Setups.{longest_input}
+use Rattle.scenario.specs.Limits.{longest_input}
 use Rattle.driver.specs.Carried.{Giving, IsFront, HasInput, HasRules, NoInput, NoRules, longest_text}
 use Rattle.driver.specs.declared.ends.End.TheVariants.{InputTooLarge, Suppressions, SuppressionsTooLong}
 use Rattle.suppressions.specs.Rules.{Rule}

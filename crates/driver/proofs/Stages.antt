@@ -8,11 +8,11 @@ use Rattle.guest_elf.specs.File.{IsImageOf, early_refusal, refusal}
 use Rattle.guest_elf.specs.declared.fault.ElfFault.{ElfFault}
 use Rattle.guest_elf.specs.declared.fault.ElfFault.TheVariants.{Memory}
 use Rattle.guest_elf.specs.declared.image.Image.{Image as ProgramImage}
-use Rattle.replay_session.specs.Scenario.{begun}
 use Rattle.replay_session.specs.Lines.{closed_lines}
 use Rattle.replay_session.specs.Replies.{Answers, joined}
 use Rattle.replay_session.specs.Served.{StoppedBy}
 use Rattle.replay_session.specs.Stages.{Stage, fresh}
+use Rattle.replay_session.specs.Turns.{opening}
 use Rattle.replay_session.specs.declared.serving.ServeFault.{ServeFault}
 use Rattle.replay_session.specs.declared.serving.ServeFault.TheVariants.{ReadFailed, WriteFailed, Endless, NoMemory as ServedNoMemory}
 use Rattle.driver.specs.Carried.{Carried, CarriedWithImage, Does, Giving, HasInput, HasRules, IsFront, NoImage, Reports, Serves, Streams, Untouched}
@@ -62,7 +62,7 @@ does-report chosen step image list input left held-old held-new end is reports =
     subst (λ (option : Option ℕ). Does option image list input (streams left held-old) (streams left held-new) end) (sym is) (Consumes-nil left, reports)
 
 pub does-session : (chosen : Option ℕ) (image : ProgramImage) (list : List Rule) (input : List ℕ) (old new : Streams) (end : End) → chosen ≡ None
-    → Serves (fresh (begun image input list)) old new end → Does chosen image list input old new end
+    → Serves (fresh (opening image input list)) old new end → Does chosen image list input old new end
 does-session chosen image list input old new end is serves = subst (λ (option : Option ℕ). Does option image list input old new end) (sym is) serves
 
 -- what holds of the error that was passed on

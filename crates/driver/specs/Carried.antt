@@ -8,10 +8,10 @@ use Rattle.guest_elf.specs.File.{IsImageOf, refusal, early_refusal}
 use Rattle.guest_elf.specs.declared.fault.ElfFault.{ElfFault}
 use Rattle.guest_elf.specs.declared.fault.ElfFault.TheVariants as Elf
 use Rattle.guest_elf.specs.declared.image.Image.{Image as ProgramImage}
-use Rattle.replay_session.specs.Scenario.{begun}
 use Rattle.replay_session.specs.Served.{ServedAll, ServedRead, StoppedBy}
-use Rattle.replay_session.specs.Setups.{longest_input}
+use Rattle.scenario.specs.Limits.{longest_input}
 use Rattle.replay_session.specs.Stages.{Stage, fresh}
+use Rattle.replay_session.specs.Turns.{opening}
 use Rattle.replay_session.specs.declared.serving.ServeFault.TheVariants.{ReadFailed, WriteFailed}
 use Rattle.driver.specs.Once.{IsReportOnce, WritesReport, StopsBy}
 use Rattle.driver.specs.declared.ends.End.{End}
@@ -106,7 +106,7 @@ Serves stage old new end = ⊥
 -- what is asked for was done with a program, its suppressions and its input: the report of a step, or a session
 abbrev pub Does : Option ℕ → ProgramImage → List Rule → List ℕ → Streams → Streams → End → Type 0
 Does (Some step) image list input old new end = Consumes old.left new.left [] × Reports (IsReportOnce image input list step) old.held new.held end
-Does None image list input old new end = Serves (fresh (begun image input list)) old new end
+Does None image list input old new end = Serves (fresh (opening image input list)) old new end
 
 -- with the program and its suppressions: the input is read, and what is asked for done, or the input ends the program
 abbrev pub CarriedWithRules : Giving → Order → ProgramImage → List Rule → Streams → Streams → End → Type 0

@@ -2,7 +2,7 @@
 use Rattle.std.specs.Prelude.{ℕ, ◌≤◌, List, [], Option, length, take}
 use Rattle.std.specs.Io.KnownBytes.{Appends}
 use Rattle.guest_elf.specs.declared.image.Image.{Image}
-use Rattle.replay_session.specs.Scenario.{begun, at_step, IsReportOf}
+use Rattle.scenario.specs.Scenario.{begun, at_step, IsReportOf}
 use Rattle.driver.specs.declared.reporting.RunFault.{RunFault}
 use Rattle.driver.specs.declared.reporting.RunFault.TheVariants.{InputTooLarge, NoMemory, WriteFailed}
 use Rattle.suppressions.specs.Rules.{Rule}

@@ -1,11 +1,11 @@
 //! A command on a program is carried out: its files are read, and a report printed or a session served.
 ghost use Rattle.std.specs.Prelude.{◌≡◌, ◌≤◌, ◌<◌, ◌^◌, IfOk, IfErr, length, option_map};
-ghost use Rattle.replay_session.specs.Scenario.{begun};
-ghost use Rattle.replay_session.specs.Setups.{longest_input};
 ghost use Rattle.replay_session.specs.Stages.{fresh};
+ghost use Rattle.replay_session.specs.Turns.{opening};
 ghost use Rattle.driver.specs.Carried.{Carried, HasInput, HasRules, IsFront, NoBytes, NoInput, NoRules, Reports, Serves, streams};
 ghost use Rattle.driver.specs.Ends.{end_of};
 ghost use Rattle.driver.specs.Once.{IsReportOnce};
+ghost use Rattle.scenario.specs.Limits.{longest_input};
 
 use crate::ends::End;
 use crate::files::{Files, ReadFault};
@@ -103,7 +103,7 @@ fn serve_session<'a, R: Read, W: Write>(
     writer: &mut W,
 ) -> Result<(), End<'a>>
     requires { length input.items ≤ longest_input }
-    ensures { Serves (fresh (begun image.entry input.items suppressions.items))
+    ensures { Serves (fresh (opening image.entry input.items suppressions.items))
         (streams (R.remaining reader.old) (W.contents writer.old)) (streams (R.remaining reader.new) (W.contents writer.new)) (end_of result) }
 {
     let session = Session::begin(alloc, image, input, suppressions)?;

@@ -1,13 +1,13 @@
 //! One program, one report.
 ghost use Rattle.std.specs.Prelude.{◌≡◌, ◌<◌, ◌↔◌, Err, IfOk, OnOk, IfErr, length};
-ghost use Rattle.replay_session.specs.Setups.{longest_input};
 ghost use Rattle.driver.specs.Once.{IsReportOnce, WritesReport, StopsBy};
+ghost use Rattle.scenario.specs.Limits.{longest_input};
 
-use checkpoints::run_to;
 use guest_elf::Image;
-use guest_machine::{Machine, Meter};
-use replay_report::{Options, render};
-use replay_session::{LONGEST_INPUT, Sent, send, setup_with};
+use guest_machine::Meter;
+use replay_report::Options;
+use replay_session::{Sent, send};
+use scenario::{LONGEST_INPUT, ScenarioRef, setup_with};
 use std::alloc::{AllocError, Global};
 use std::io::Write;
 use suppressions::Suppression;
@@ -37,22 +37,19 @@ fn report_once(
 ) -> Result<Vec<u8>, AllocError>
     ensures { IfOk result (λ text. IsReportOnce image.now input.items suppressions.now step text.items) }
 {
-    let start = Machine::start(alloc, image)?;
     let setup = setup_with(alloc, image, input)?;
-    let mut meter = Meter::new();
-    let machine = run_to(start, &setup, &[], step, &mut meter)?;
-    let input_len = setup.input.len() as u64;
+    let options = Options::default();
     let mut text = Vec::new(alloc);
-    render(
-        alloc,
-        &machine,
+    let scenario = ScenarioRef {
         image,
+        words: &[],
+        setup: &setup,
+        marks: &[],
         suppressions,
-        &Options::default(),
+        options: &options,
         step,
-        input_len,
-        &mut text,
-    )?;
+    };
+    scenario.report(alloc, &mut Meter::new(), &mut text)?;
     Ok(text)
 }
 

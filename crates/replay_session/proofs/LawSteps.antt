@@ -1,21 +1,26 @@
 -- The laws of the steps that lines make.
-use Rattle.std.proofs.Common.{◌≡◌, ℕ, zero, suc, ◌+◌, ◌-◌, length, ◌%◌, ◌≤◌, ◌==◌, nat_lt, Bool, true, false, List, [], ◌∷◌, ◌++◌, Option, Some, None, Result, Ok, Err}
+use Rattle.std.proofs.Common.{◌≡◌, ℕ, zero, suc, ◌+◌, ◌%◌, ◌≤◌, ◌==◌, nat_lt, Bool, true, false, List, [], ◌∷◌, ◌++◌, Some, Result, Ok, Err}
 use Rattle.std.proofs.Common.{refl, ap, sym, ◌∙◌, subst, arith, min, inl, inr, append_assoc, append-nil}
-use Rattle.std.specs.Prelude.{◌⊎◌, ◌↔◌, slice_get}
+use Rattle.std.specs.Prelude.{◌⊎◌, ◌↔◌}
 use Rattle.std.proofs.lemmas.Bool.{cases_lt, false≢true}
 use Rattle.std.proofs.lemmas.Bool.Decides.{Decides-ltb, Decides-eqb}
 use Rattle.std.proofs.lemmas.List.Elements.{All-nil, All-push, All-pop}
-use Rattle.guest_machine.specs.Run.{pre, start_state}
-use Rattle.guest_machine.specs.declared.setup.Mark.{Mark as MarkAt}
-use Rattle.checkpoints.specs.FirstEffects.{IsBelowFirst, MarkShows}
+use Rattle.guest_machine.specs.Run.{pre}
+use Rattle.checkpoints.specs.Effects.{EffectShows, Run}
+use Rattle.checkpoints.specs.FirstEffects.{IsBelowFirst}
 use Rattle.checkpoints.specs.FirstUses.{uses_word}
 use Rattle.checkpoints.specs.Work.{Work, floor, reached, steps_made, ReportMoves, EditMoves}
-use Rattle.replay_session.specs.Scenario.{Scenario, first_state, accepted, applied}
+use Rattle.checkpoints.specs.declared.effect.Effect.{Effect}
+use Rattle.checkpoints.specs.declared.effect.Effect.TheVariants.{Nowhere, After, Input, End, Heap, Word}
+use Rattle.scenario.specs.Edits.{row}
+use Rattle.scenario.specs.Scenario.{Scenario, run_of}
+use Rattle.scenario.proofs.FrontSteps.{nothing_read, nothing_ended, nothing_called}
+use Rattle.replay_session.specs.Turns.{Turn, accepted, applied}
 use Rattle.replay_session.specs.Work.{ShowsAt, MovesWork, LineMoves, no_work}
 use Rattle.replay_session.specs.LinesWork.{Given, outcome_of, given_from, Reaches, Spares, IsKept, IsHeldAfter, IsLastHeld, Adds, AddUp, LinesMove, HeldByLines, MadeByLines, WorkIsOne}
 use Rattle.replay_session.specs.declared.fault.Fault.{Fault}
 use Rattle.replay_session.specs.declared.command.Command.{Command}
-use Rattle.replay_session.specs.declared.command.Command.TheVariants.{Report, Input, Append, Cut, Patch, Mark, Unmark, Redzone, Queue}
+use Rattle.replay_session.specs.declared.command.Command.TheVariants.{Report, Edit}
 use Rattle.replay_session.proofs.LeastSteps.{DecidesEach, kept-by}
 
 nowhere : DecidesEach (λ k. false) (λ k. ⊥)
@@ -31,70 +36,44 @@ unfolding patch_test
 patch-decided uses zero = (λ e. absurd (false≢true e), λ x. absurd (let e = x.1 in omega arith))
 patch-decided uses (suc j) = (λ e. (j, omega arith, e), λ x. let e = x.1 in let same : j ≡ x.0 = omega arith in ap uses same ∙ x.2)
 
--- where a mark that is taken out showed
-unmark_test : Option MarkAt → ℕ → Bool
-unmark_test None k = false
-unmark_test (Some mark) k = k == mark.step + 1
-
-unmark-decided : (found : Option MarkAt) → DecidesEach (unmark_test found) (λ k. (mark : MarkAt) × (found ≡ Some mark) × MarkShows mark.step k)
-unfolding unmark_test
-unmark-decided None k = (λ e. absurd (false≢true e), λ x. absurd (let e : ◌≡◌ {A = Option MarkAt} None (Some x.0) = x.1 in cc))
-unmark-decided (Some mark) k = (
-  λ e. (mark, refl, (Decides-eqb k (mark.step + 1)).0 e),
-  λ x.
-      let e : ◌≡◌ {A = Option MarkAt} (Some mark) (Some x.0) = x.1 in
-      let same : mark ≡ x.0 = cc in
-      (Decides-eqb k (mark.step + 1)).1 (x.2 ∙ ap (λ (m : MarkAt). m.step + 1) (sym same)),
-)
-
--- where a command shows is decided step by step, and it never shows at step 0
-record Tested (sc : Scenario) (command : Command) : Type 0 where
+-- where something shows is decided step by step, and it never shows at step 0
+record Tested (P : ℕ → Type 0) : Type 0 where
   test : ℕ → Bool
-  decides : DecidesEach test (ShowsAt sc command)
-  later : ShowsAt sc command 0 → ⊥
+  decides : DecidesEach test P
+  later : P 0 → ⊥
 
-tested : (sc : Scenario) (command : Command) → Tested sc command
-unfolding first_state pre start_state
-tested sc (Input offset value) = record {
-  test = λ k. nat_lt offset (pre (first_state sc) sc.setup sc.marks k).position;
+tested-by : (effect : Effect) (run : Run) → (run.start.position ≡ 0) × (run.start.end_seen ≡ false) × (run.start.heap_calls ≡ 0)
+    → Tested (EffectShows effect run.start run.setup run.marks)
+unfolding pre
+tested-by Nowhere run fresh = record { test = λ k. false; decides = nowhere; later = λ x. absurd x }
+tested-by (After step) run fresh = record {
+  test = λ k. k == step + 1;
+  decides = λ k. Decides-eqb k (step + 1);
+  later = λ x. absurd (omega arith);
+}
+tested-by (Input offset) run fresh = record {
+  test = λ k. nat_lt offset (pre run.start run.setup run.marks k).position;
   decides = λ k. Decides-ltb offset _;
-  later = λ x. absurd (omega arith);
+  later = λ x. absurd (let none = fresh.0 in omega arith);
 }
-tested sc (Append value) = record {
-  test = λ k. (pre (first_state sc) sc.setup sc.marks k).end_seen;
+tested-by End run fresh = record {
+  test = λ k. (pre run.start run.setup run.marks k).end_seen;
   decides = λ k. ((λ e. e), λ e. e);
-  later = λ x. absurd (false≢true x);
+  later = λ x. absurd (false≢true (sym fresh.1 ∙ x));
 }
-tested sc Cut = record {
-  test = λ k. nat_lt (length sc.setup.input - 1) (pre (first_state sc) sc.setup sc.marks k).position;
-  decides = λ k. Decides-ltb (length sc.setup.input - 1) _;
-  later = λ x. absurd (omega arith);
+tested-by Heap run fresh = record {
+  test = λ k. nat_lt 0 (pre run.start run.setup run.marks k).heap_calls;
+  decides = λ k. Decides-ltb 0 _;
+  later = λ x. absurd (let none = fresh.2 in omega arith);
 }
-tested sc (Patch addr word) = record {
-  test = patch_test (uses_word (first_state sc) sc.setup sc.marks addr);
+tested-by (Word addr word) run fresh = record {
+  test = patch_test (uses_word run.start run.setup run.marks addr);
   decides = patch-decided _;
   later = λ x. absurd (let e = x.1 in omega arith);
 }
-tested sc (Mark mark) = record {
-  test = λ k. k == mark.step + 1;
-  decides = λ k. Decides-eqb k (mark.step + 1);
-  later = λ x. absurd (omega arith);
-}
-tested sc (Unmark i) = record {
-  test = unmark_test (slice_get sc.marks i);
-  decides = unmark-decided (slice_get sc.marks i);
-  later = λ x. absurd (let e = x.2 in omega arith);
-}
-tested sc (Redzone n) = record {
-  test = λ k. nat_lt 0 (pre (first_state sc) sc.setup sc.marks k).heap_calls;
-  decides = λ k. Decides-ltb 0 _;
-  later = λ x. absurd (omega arith);
-}
-tested sc (Queue n) = record {
-  test = λ k. nat_lt 0 (pre (first_state sc) sc.setup sc.marks k).heap_calls;
-  decides = λ k. Decides-ltb 0 _;
-  later = λ x. absurd (omega arith);
-}
+
+tested : (sc : Scenario) (command : Command) → Tested (ShowsAt sc command)
+tested sc (Edit edit) = tested-by (row sc edit).effect (run_of sc) (nothing_read sc, nothing_ended sc, nothing_called sc)
 tested sc _ = record { test = λ k. false; decides = nowhere; later = λ x. absurd x }
 
 -- a report moves the work as a report does, all else by where it shows
@@ -104,10 +83,10 @@ by-kind : (sc : Scenario) (command : Command) (old new : Work) → MovesWork sc 
 by-kind sc Report old new h = inl (refl, h)
 by-kind sc _ old new h = inr (λ e. absurd cc, h)
 
-adds-none : (past : List Given) (sc : Scenario) (outcome : Result Command Fault) → (outcome ≡ Ok Report → ⊥) → Adds past sc outcome 0
-adds-none past sc (Ok Report) other = absurd (other refl)
-adds-none past sc (Ok _) other = refl
-adds-none past sc (Err fault) other = refl
+adds-none : (past : List Given) (turn : Turn) (outcome : Result Command Fault) → (outcome ≡ Ok Report → ⊥) → Adds past turn outcome 0
+adds-none past turn (Ok Report) other = absurd (other refl)
+adds-none past turn (Ok _) other = refl
+adds-none past turn (Err fault) other = refl
 
 -- what one line more keeps
 kept-from : (lines : List Given) (g : Given) (h : ℕ) → IsKept (lines ++ g ∷ []) h → Reaches h g ⊎ (IsKept lines h × Spares h g)
@@ -166,12 +145,12 @@ spares-refused g fault h e command told = absurd (let x : ◌≡◌ {A = Result 
 same-command : (a b : Command) (r : Result Command Fault) → r ≡ Ok a → r ≡ Ok b → b ≡ a
 same-command a b r p q = let x : ◌≡◌ {A = Result Command Fault} (Ok a) (Ok b) = sym p ∙ q in cc
 
-spares-where : (g : Given) (command : Command) (h : ℕ) → outcome_of g ≡ Ok command → IsBelowFirst (ShowsAt g.scenario command) h → Spares h g
+spares-where : (g : Given) (command : Command) (h : ℕ) → outcome_of g ≡ Ok command → IsBelowFirst (ShowsAt g.turn.scenario command) h → Spares h g
 spares-where g command h e below other told =
-    let P : Command → Type 0 = λ c. IsBelowFirst (ShowsAt g.scenario c) h in subst P (sym (same-command command other (outcome_of g) e told)) below
+    let P : Command → Type 0 = λ c. IsBelowFirst (ShowsAt g.turn.scenario c) h in subst P (sym (same-command command other (outcome_of g) e told)) below
 
 -- what one line does to where machines are held
-line-holds : (lines : List Given) (g : Given) (old new : Work) → UpTo lines old.last → LineMoves g.scenario (outcome_of g) old new → UpTo (lines ++ g ∷ []) new.last
+line-holds : (lines : List Given) (g : Given) (old new : Work) → UpTo lines old.last → LineMoves g.turn.scenario (outcome_of g) old new → UpTo (lines ++ g ∷ []) new.last
 line-holds lines g old new up moves = go (outcome_of g) refl moves
   where
     stays : (fault : Fault) → outcome_of g ≡ Err fault → new.last ≡ old.last → UpTo (lines ++ g ∷ []) new.last
@@ -183,7 +162,7 @@ line-holds lines g old new up moves = go (outcome_of g) refl moves
       ]),
     ))
 
-    reports : outcome_of g ≡ Ok Report → new.last ≡ reached old.last g.scenario.step → UpTo (lines ++ g ∷ []) new.last
+    reports : outcome_of g ≡ Ok Report → new.last ≡ reached old.last g.turn.scenario.step → UpTo (lines ++ g ∷ []) new.last
     reports e is = more lines g old.last new.last up (let r = up.0 in omega arith) (λ h at. (
       (λ l. (elim (cases_lt old.last h) [
         | inl above ↦ inl (e, omega arith)
@@ -195,10 +174,10 @@ line-holds lines g old new up moves = go (outcome_of g) refl moves
       ]),
     ))
 
-    edits : (command : Command) → outcome_of g ≡ Ok command → (command ≡ Report → ⊥) → EditMoves (ShowsAt g.scenario command) old new → UpTo (lines ++ g ∷ []) new.last
+    edits : (command : Command) → outcome_of g ≡ Ok command → (command ≡ Report → ⊥) → EditMoves (ShowsAt g.turn.scenario command) old new → UpTo (lines ++ g ∷ []) new.last
     edits command e other m =
-        let t = tested g.scenario command in
-        let kept = kept-by (ShowsAt g.scenario command) t.test old.last new.last t.decides t.later up.0 m.0 in
+        let t = tested g.turn.scenario command in
+        let kept = kept-by (ShowsAt g.turn.scenario command) t.test old.last new.last t.decides t.later up.0 m.0 in
         more lines g old.last new.last up kept.0 (λ h at. (
           (λ l. let both = (kept.1 h at).0 l in inr (both.0, spares-where g command h e both.1)),
           λ k. (elim k [
@@ -207,20 +186,20 @@ line-holds lines g old new up moves = go (outcome_of g) refl moves
           ]),
         ))
 
-    go : (outcome : Result Command Fault) → outcome_of g ≡ outcome → LineMoves g.scenario outcome old new → UpTo (lines ++ g ∷ []) new.last
+    go : (outcome : Result Command Fault) → outcome_of g ≡ outcome → LineMoves g.turn.scenario outcome old new → UpTo (lines ++ g ∷ []) new.last
     go (Err fault) e m = stays fault e m.0
-    go (Ok command) e m = (elim (by-kind g.scenario command old new m) [
+    go (Ok command) e m = (elim (by-kind g.turn.scenario command old new m) [
       | inl report ↦ reports (e ∙ ap Ok report.0) report.1.0
       | inr edit ↦ edits command e edit.0 edit.1
     ])
 
 -- and how many steps it adds
-line-adds : (lines : List Given) (sc : Scenario) (outcome : Result Command Fault) (old new : Work) → UpTo lines old.last → LineMoves sc outcome old new → old.made ≤ 18446744073709551615
-    → (steps : ℕ) × Adds lines sc outcome steps × (new.made ≡ min (old.made + steps) 18446744073709551615)
-line-adds lines sc (Err fault) old new up moves low = (0, refl, (let e = moves.1 in omega arith))
-line-adds lines sc (Ok command) old new up moves low = (elim (by-kind sc command old new moves) [
+line-adds : (lines : List Given) (turn : Turn) (outcome : Result Command Fault) (old new : Work) → UpTo lines old.last → LineMoves turn.scenario outcome old new → old.made ≤ 18446744073709551615
+    → (steps : ℕ) × Adds lines turn outcome steps × (new.made ≡ min (old.made + steps) 18446744073709551615)
+line-adds lines turn (Err fault) old new up moves low = (0, refl, (let e = moves.1 in omega arith))
+line-adds lines turn (Ok command) old new up moves low = (elim (by-kind turn.scenario command old new moves) [
   | inl report ↦ reports report.0 report.1.1
-  | inr edit ↦ (0, adds-none lines sc (Ok command) (λ e. edit.0 cc), (let e = edit.1.1 in omega arith))
+  | inr edit ↦ (0, adds-none lines turn (Ok command) (λ e. edit.0 cc), (let e = edit.1.1 in omega arith))
 ])
   where
     last-held : (n : ℕ) → IsLastHeld lines n (min old.last (floor n))
@@ -229,11 +208,11 @@ line-adds lines sc (Ok command) old new up moves low = (elim (by-kind sc command
         let at : min old.last (floor n) % 1024 ≡ 0 = omega arith in
         ((up.1 _ at).0 (omega arith), omega arith, λ k held l. let low = (up.1 k held.0).1 held in let at = held.0 in omega arith)
 
-    reports : command ≡ Report → new.made ≡ min (old.made + steps_made old.last sc.step) 18446744073709551615
-        → (steps : ℕ) × Adds lines sc (Ok command) steps × (new.made ≡ min (old.made + steps) 18446744073709551615)
+    reports : command ≡ Report → new.made ≡ min (old.made + steps_made old.last turn.scenario.step) 18446744073709551615
+        → (steps : ℕ) × Adds lines turn (Ok command) steps × (new.made ≡ min (old.made + steps) 18446744073709551615)
     reports e is =
-        let P : Command → Type 0 = λ c. Adds lines sc (Ok c) (steps_made old.last sc.step) in
-        (steps_made old.last sc.step, subst P (sym e) (min old.last (floor sc.step), last-held sc.step, refl), is)
+        let P : Command → Type 0 = λ c. Adds lines turn (Ok c) (steps_made old.last turn.scenario.step) in
+        (steps_made old.last turn.scenario.step, subst P (sym e) (min old.last (floor turn.scenario.step), last-held turn.scenario.step, refl), is)
 
 -- what lines do to both, one after another
 abbrev Comes : List Given → List Given → Work → Work → Type 0
@@ -245,49 +224,49 @@ comes-none past old new up low e =
     let P : List Given → Type 0 = λ gs. UpTo gs new.last in
     (subst P (sym (append-nil past)) (let Q : ℕ → Type 0 = λ l. UpTo past l in subst Q (sym (ap (λ (w : Work). w.last) e)) up), (0, refl, omega arith))
 
-comes : (sc : Scenario) (lines : List (List ℕ)) (past : List Given) (old new : Work) → UpTo past old.last → old.made ≤ 18446744073709551615 → LinesMove sc lines old new
-    → Comes past (given_from sc lines) old new
-comes sc [] past old new up low e = comes-none past old new up low e
-comes sc (line ∷ lines) past old new up low h =
-    let g : Given = record { scenario = sc; line = line } in
+comes : (turn : Turn) (lines : List (List ℕ)) (past : List Given) (old new : Work) → UpTo past old.last → old.made ≤ 18446744073709551615 → LinesMove turn lines old new
+    → Comes past (given_from turn lines) old new
+comes turn [] past old new up low e = comes-none past old new up low e
+comes turn (line ∷ lines) past old new up low h =
+    let g : Given = record { turn = turn; line = line } in
     let next = h.0 in
-    let first = line-adds past sc (accepted sc line) old next up h.1 low in
+    let first = line-adds past turn (accepted turn line) old next up h.1 low in
     let made = first.2 in
     let under : next.made ≤ 18446744073709551615 = omega arith in
-    let rest = comes (applied sc line) lines (past ++ g ∷ []) next new (line-holds past g old next up h.1) under h.2 in
+    let rest = comes (applied turn line) lines (past ++ g ∷ []) next new (line-holds past g old next up h.1) under h.2 in
     let P : List Given → Type 0 = λ gs. UpTo gs new.last in
     let last = rest.1.2 in (
-      subst P (append_assoc past (g ∷ []) (given_from (applied sc line) lines)) rest.0,
+      subst P (append_assoc past (g ∷ []) (given_from (applied turn line) lines)) rest.0,
       (first.0 + rest.1.0, (first.0, rest.1.0, first.1, rest.1.1, refl), omega arith),
     )
 
-from-none : (sc : Scenario) (lines : List (List ℕ)) (work : Work) → LinesMove sc lines no_work work → Comes [] (given_from sc lines) no_work work
-from-none sc lines work h = comes sc lines [] no_work work up-to-none (omega arith) h
+from-none : (turn : Turn) (lines : List (List ℕ)) (work : Work) → LinesMove turn lines no_work work → Comes [] (given_from turn lines) no_work work
+from-none turn lines work h = comes turn lines [] no_work work up-to-none (omega arith) h
 
 pub held_by_lines : HeldByLines
-held_by_lines sc lines work h = (from-none sc lines work h).0.1
+held_by_lines turn lines work h = (from-none turn lines work h).0.1
 
 pub made_by_lines : MadeByLines
-made_by_lines sc lines work h =
-    let made = (from-none sc lines work h).1 in
+made_by_lines turn lines work h =
+    let made = (from-none turn lines work h).1 in
     let same = made.2 in
     (made.0, made.1, omega arith)
 
 -- a line adds one number of steps
-adds-one : (past : List Given) (sc : Scenario) (outcome : Result Command Fault) (m n : ℕ) → Adds past sc outcome m → Adds past sc outcome n → m ≡ n
-adds-one past sc (Ok Report) m n g h =
+adds-one : (past : List Given) (turn : Turn) (outcome : Result Command Fault) (m n : ℕ) → Adds past turn outcome m → Adds past turn outcome n → m ≡ n
+adds-one past turn (Ok Report) m n g h =
     let up = h.1.2 g.0 g.1.0 g.1.1 in
     let down = g.1.2 h.0 h.1.0 h.1.1 in
     let a = g.2 in
     let b = h.2 in
     omega arith
-adds-one past sc (Ok _) m n g h = g ∙ sym h
-adds-one past sc (Err fault) m n g h = g ∙ sym h
+adds-one past turn (Ok _) m n g h = g ∙ sym h
+adds-one past turn (Err fault) m n g h = g ∙ sym h
 
 pub work_is_one : WorkIsOne
 work_is_one past [] m n g h = g ∙ sym h
 work_is_one past (line ∷ lines) m n g h =
-    let first = adds-one past line.scenario (outcome_of line) g.0 h.0 g.2 h.2 in
+    let first = adds-one past line.turn (outcome_of line) g.0 h.0 g.2 h.2 in
     let rest = work_is_one (past ++ line ∷ []) lines g.1 h.1 g.3 h.3 in
     let a = g.4 in
     let b = h.4 in

@@ -1,12 +1,10 @@
 pub mod NumberSteps
-pub mod AcceptSteps
 pub mod SessionSteps
 pub mod Known
 pub mod LineSteps
 pub mod ReplySteps
 pub mod ServeSteps
 pub mod ServedSteps
-pub mod EditSteps
 pub mod WorkSteps
 pub mod LeastSteps
 pub mod LawSteps

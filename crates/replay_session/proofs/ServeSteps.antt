@@ -8,7 +8,7 @@ use Rattle.std.specs.Io.KnownBytes.{Appends}
 use Rattle.std.specs.Str.Lines.{strip_carriage_return}
 use Rattle.replay_session.specs.Lines.{lines_by, KeepsByte}
 use Rattle.replay_session.specs.Replies.{Answers, Replies, is_over, joined}
-use Rattle.replay_session.specs.Scenario.{Scenario, accepted, accepted_in, longest_line}
+use Rattle.replay_session.specs.Turns.{Turn, accepted, longest_line}
 use Rattle.replay_session.specs.Served.{standing}
 use Rattle.replay_session.specs.Serving.{Answered, Cut, Fed, Over, Broken, Ended}
 use Rattle.replay_session.specs.Stages.{Stage, HasStage}
@@ -23,16 +23,16 @@ abbrev is_long : List ℕ → Bool
 is_long line = nat_lt longest_line (length line)
 
 -- two lines that are too long are answered alike
-long-alike : (sc : Scenario) (a b : List ℕ) → is_long a ≡ true → is_long b ≡ true → accepted sc a ≡ accepted sc b
-unfolding accepted_in
-long-alike sc a b f g = rw (f, g) refl
+long-alike : (turn : Turn) (a b : List ℕ) → is_long a ≡ true → is_long b ≡ true → accepted turn a ≡ accepted turn b
+unfolding accepted
+long-alike turn a b f g = rw (f, g) refl
 
 -- of the first lines, the first may be another that is too long
 first-alike : (n : ℕ) (s : Stage) (a b : List ℕ) (lines replies : List (List ℕ)) → is_long a ≡ true → is_long b ≡ true
     → Answers s (take n (a ∷ lines)) replies → Answers s (take n (b ∷ lines)) replies
 first-alike zero s a b lines replies f g h = h
 first-alike (suc n) s a b lines [] f g h = h
-first-alike (suc n) s a b lines (r ∷ rs) f g h = (h.0, replies-alike s h.0 a b r (long-alike s.scenario a b f g) h.1, h.2)
+first-alike (suc n) s a b lines (r ∷ rs) f g h = (h.0, replies-alike s h.0 a b r (long-alike s.turn a b f g) h.1, h.2)
 
 is_long-of : (a : List ℕ) → 4097 ≤ length a → is_long a ≡ true
 is_long-of a h = lt-ltb 4096 (length a) (omega arith)
@@ -115,7 +115,7 @@ under-both false P Q p q = q
 
 -- a line was answered, and more may come
 pub answer-fed : (stage : Stage) (old new : Server) (held held' : Option (List ℕ)) (line : List ℕ)
-    → Answered stage new.session old.written new.written held held' line → line ≡ strip_carriage_return old.kept.items → is_over stage.scenario ≡ false → new.kept.items ≡ []
+    → Answered stage new.session old.written new.written held held' line → line ≡ strip_carriage_return old.kept.items → is_over stage.turn ≡ false → new.kept.items ≡ []
     → Fed stage old new held held' (10 ∷ [])
 answer-fed stage old new held held' line a whole going empty = record {
   done = a.reply ∷ [];
@@ -130,13 +130,13 @@ answer-fed stage old new held held' line a whole going empty = record {
       subst (λ (k : ℕ). Answers stage (take k (strip_carriage_return old.kept.items ∷ lines_by last [] more)) (a.reply ∷ rs)) one-more (
         a.after,
         subst (λ (l : List ℕ). Replies stage l a.reply a.after) whole a.replies_to,
-        under-false (is_over stage.scenario) _ _ going (subst (λ (ks : List ℕ). Answers a.after (take n (lines_by last ks more)) rs) empty h),
+        under-false (is_over stage.turn) _ _ going (subst (λ (ks : List ℕ). Answers a.after (take n (lines_by last ks more)) rs) empty h),
       );
 }
 
 -- a line was answered that tells that the session is over
 pub answer-over : (stage : Stage) (session : Session) (old new : Server) (counts : Written) (held held' : Option (List ℕ)) (line : List ℕ)
-    → Answered stage session old.written counts held held' line → line ≡ strip_carriage_return old.kept.items → is_over stage.scenario ≡ true
+    → Answered stage session old.written counts held held' line → line ≡ strip_carriage_return old.kept.items → is_over stage.turn ≡ true
     → Over stage old new held held' (10 ∷ [])
 answer-over stage session old new counts held held' line a whole over = record {
   done = a.reply ∷ [];
@@ -144,7 +144,7 @@ answer-over stage session old new counts held held' line a whole over = record {
   answers = λ last more. (
     a.after,
     subst (λ (l : List ℕ). Replies stage l a.reply a.after) whole a.replies_to,
-    under-true (is_over stage.scenario) _ _ over refl,
+    under-true (is_over stage.turn) _ _ over refl,
   );
 }
 
@@ -159,19 +159,19 @@ answer-broken stage old new held held' line a lines = record {
   appended = a.appended;
   replies = let e = a.replies in rw (a.replies, add-zero) (omega arith);
   written = let e = a.bytes in rw (a.bytes, add-zero) (omega arith);
-  answers = (a.after, a.replies_to, under-both (is_over stage.scenario) _ _ refl refl);
+  answers = (a.after, a.replies_to, under-both (is_over stage.turn) _ _ refl refl);
 }
 
 ok_is : (E : Type 0) (x y : Bool) → ◌≡◌ {A = Result Bool E} (Ok x) (Ok y) → x ≡ y
 ok_is E x y e = cc
 
 module _ (E : Type 0) (stage : Stage) (old new : Server) (held held' : Option (List ℕ)) (line : List ℕ) (byte : ℕ) (newline : byte ≡ 10) (whole : line ≡ strip_carriage_return old.kept.items) where
-  pub taken-fed : (over : Bool) → over ≡ is_over stage.scenario → Answered stage new.session old.written new.written held held' line → new.kept.items ≡ []
+  pub taken-fed : (over : Bool) → over ≡ is_over stage.turn → Answered stage new.session old.written new.written held held' line → new.kept.items ≡ []
       → ◌≡◌ {A = Result Bool E} (Ok over) (Ok false) → Fed stage old new held held' (byte ∷ [])
   taken-fed over says a empty e =
       subst (λ (b : ℕ). Fed stage old new held held' (b ∷ [])) (sym newline) (answer-fed stage old new held held' line a whole (sym says ∙ ok_is E over false e) empty)
 
-  pub taken-over : (over : Bool) → over ≡ is_over stage.scenario → Answered stage new.session old.written new.written held held' line
+  pub taken-over : (over : Bool) → over ≡ is_over stage.turn → Answered stage new.session old.written new.written held held' line
       → ◌≡◌ {A = Result Bool E} (Ok over) (Ok true) → Over stage old new held held' (byte ∷ [])
   taken-over over says a e =
       subst (λ (b : ℕ). Over stage old new held held' (b ∷ [])) (sym newline) (answer-over stage new.session old new new.written held held' line a whole (sym says ∙ ok_is E over true e))
@@ -286,7 +286,7 @@ answer-ended stage old session new held held' line a whole some = record {
   answers = subst (λ t. Answers stage (cond (not t) (old.kept.items ∷ []) []) (a.reply ∷ [])) (sym some) (
     a.after,
     subst (λ (l : List ℕ). Replies stage l a.reply a.after) whole a.replies_to,
-    under-both (is_over stage.scenario) _ _ refl refl,
+    under-both (is_over stage.turn) _ _ refl refl,
   );
 }
 

@@ -1,117 +1,95 @@
--- What each part of a line does to the scenario that a session has.
-use Rattle.std.proofs.Common.{◌≡◌, ℕ, zero, suc, ◌+◌, ◌<◌, Bool, List, [], ◌∷◌, get_or, refl, ap, sym, ◌∙◌, cond, nat_le, arith, rules, length, vec_len, subst, Result, Ok, Err, inl, inr}
-use Rattle.std.proofs.Math.ListN.{set}
+-- What each part of a line does to what was said to a session.
+use Rattle.std.proofs.Common.{◌≡◌, ℕ, ◌+◌, ◌<◌, Bool, true, false, List, ap, sym, ◌∙◌, arith, Result, Ok, Err}
 use Rattle.std.proofs.Math.Path.{transport}
-use Rattle.std.specs.Prelude.{IsOkAnd}
+use Rattle.std.proofs.lemmas.Bool.{false≢true}
+use Rattle.std.specs.Prelude.{OnOk, is_err, ◌^◌, ◌%◌, ◌==◌, ◌&&◌, zero, suc, is_some}
 use Rattle.std.proofs.lemmas.Bool.Decides.{nat_tests}
+use Rattle.error_events.proofs.SameKeys.{left-true, right-true}
+use Rattle.guest_elf.specs.Images.{loaded_at}
+use Rattle.guest_elf.specs.declared.image.Image.{Image}
+use Rattle.guest_machine.specs.Run.{post}
+use Rattle.guest_machine.specs.Shows.{Shows}
 use Rattle.guest_machine.specs.State.{State}
-use Rattle.guest_machine.specs.Run.{post, poked}
-use Rattle.checkpoints.specs.Trails.{IsRightFor}
-use Rattle.checkpoints.specs.declared.trail.Trail.{Trail}
+use Rattle.guest_machine.specs.declared.machine.Machine.{Machine}
+use Rattle.guest_machine.specs.declared.setup.Setup.{Setup}
 use Rattle.guest_machine.specs.declared.setup.Mark.{Mark}
-use Rattle.replay_report.specs.Report.{IsReport}
-use Rattle.suppressions.specs.Rules.{Rule}
-use Rattle.replay_session.specs.Commands.{Reads, IsAdd}
-use Rattle.replay_session.specs.Scenario.{Scenario, IsReportOf, first_state, chosen_state, most_lines, counted, changed, room_of, accepted, accepted_in, after, applied, switched}
-use Rattle.replay_session.specs.Session.{HasScenario, Carried, Meets, TakesMemory, AppendsFor, room_in, replied, work_of}
-use Rattle.replay_session.specs.declared.command.Command.{Command}
-use Rattle.replay_session.specs.declared.command.Command.TheVariants.{Report, Add}
-use Rattle.replay_session.specs.declared.fault.Fault.{Fault}
-use Rattle.replay_session.specs.declared.fault.Fault.TheVariants.{Memory}
-use Rattle.replay_session.specs.declared.reply.Reply.{Reply}
-use Rattle.replay_session.specs.declared.session.Session.{Session}
+use Rattle.checkpoints.specs.Edits.{IsRightForLed, IsRightForRun}
+use Rattle.checkpoints.specs.Effects.{LeadsTo, WritesWithin}
+use Rattle.checkpoints.specs.Trails.{IsRightFor, LoadsAs, loaded_of}
+use Rattle.checkpoints.specs.Words.{IsWordIn, is_among}
+use Rattle.checkpoints.specs.declared.effect.Effect.{Effect}
+use Rattle.checkpoints.specs.declared.effect.Effect.TheVariants.{Word as WordAt}
+use Rattle.checkpoints.specs.declared.trail.Trail.{Trail}
+use Rattle.scenario.specs.Edits.{Follows, IsTaken, row, is_word, is_loaded, WritesLoaded}
+use Rattle.scenario.specs.Scenario.{Scenario, chosen_state, first_state, run_of}
+use Rattle.scenario.specs.declared.edit.Edit.{Edit as AnEdit}
+use Rattle.scenario.proofs.EditLaws.{image_kept}
+use Rattle.replay_session.specs.Turns.{after}
 
--- a line is counted below the greatest number of lines
-pub lines-counted : (now n : ℕ) → now ≡ n → now < most_lines → now + 1 ≡ cond (nat_le most_lines n) n (n + 1)
-lines-counted now n e h = grind (arith, nat_tests)
+-- ---- edits
 
--- one of the suppressions is switched
-pub switched-at : (rules : List Rule) (i : ℕ) (d old new : Rule) (on : Bool) → i < length rules → old ≡ get_or rules i d → new ≡ record old { on = on } → set rules i new ≡ switched rules i on
-switched-at [] i d old new on h here made = absurd (omega arith)
-switched-at (rule ∷ rules) zero d old new on h here made = ap (λ r. r ∷ rules) (made ∙ ap (λ (r : Rule). record r { on = on }) here)
-switched-at (rule ∷ rules) (suc i) d old new on h here made = ap (λ rs. rule ∷ rs) (switched-at rules i d old new on (omega arith) here made)
+-- a loaded word of an image is one of the ranges of its trail
+word-in : (trail : Trail) (image : Image) (addr : ℕ) → LoadsAs trail image → addr < 2 ^ 32 → is_word image addr ≡ true → IsWordIn (loaded_of trail) addr
+unfolding is_word
+word-in trail image addr loads small is =
+    let aligned : addr % 4 ≡ 0 = grind (arith, nat_tests) in record {
+      aligned = aligned;
+      small = small;
+      loaded = λ i h. loads (addr + i) ∙ each i h aligned;
+    }
+  where
+    tests : Bool
+    tests = is_loaded image addr 0 && (is_loaded image addr 1 && (is_loaded image addr 2 && is_loaded image addr 3))
 
--- the report of what the session keeps is that of its scenario
-pub report-has : (session : Session) (sc : Scenario) (marks : List Mark) (rules : List Rule) (len : ℕ) → HasScenario session sc → marks ≡ session.marks.items
-    → rules ≡ session.suppressions.items → len ≡ length session.setup.input
-    → (text : List ℕ) → IsReport (post (first_state sc) session.setup marks session.step) session.image rules session.options session.step len text → IsReportOf sc text
-unfolding IsReportOf chosen_state
-report-has session sc marks rules len h same kept e text told =
-    transport (λ i. IsReport (post (first_state sc) (h.setup i) (h.marks i) (h.step i)) (h.image i) (h.rules i) (h.options i) (h.step i) (length (h.setup i).input) text)
-    (transport (λ i. IsReport (post (first_state sc) session.setup (same i) session.step) session.image (kept i) session.options session.step (e i) text) told)
+    all : tests ≡ true
+    all = right-true (addr % 4 == 0) tests is
+
+    at : (i : ℕ) → is_loaded image addr i ≡ true → (addr + i) % 2 ^ 32 ≡ addr + i → is_some (loaded_at image (addr + i)) ≡ true
+    at i h e = ap (λ a. is_some (loaded_at image a)) (sym e) ∙ h
+
+    plain : (i : ℕ) → i < 4 → addr % 4 ≡ 0 → (addr + i) % 2 ^ 32 ≡ addr + i
+    plain i h m = omega arith
+
+    each : (i : ℕ) → i < 4 → addr % 4 ≡ 0 → is_some (loaded_at image (addr + i)) ≡ true
+    each zero h m = at 0 (left-true (is_loaded image addr 0) _ all) (plain 0 h m)
+    each (suc zero) h m = at 1 (left-true (is_loaded image addr 1) _ (right-true (is_loaded image addr 0) _ all)) (plain 1 h m)
+    each (suc (suc zero)) h m = at 2 (left-true (is_loaded image addr 2) _ (right-true (is_loaded image addr 1) _ (right-true (is_loaded image addr 0) _ all))) (plain 2 h m)
+    each (suc (suc (suc zero))) h m = at 3 (right-true (is_loaded image addr 2) _ (right-true (is_loaded image addr 1) _ (right-true (is_loaded image addr 0) _ all))) (plain 3 h m)
+    each (suc (suc (suc (suc i)))) h m = absurd (omega arith)
+
+pub within : (trail : Trail) (image : Image) (effect : Effect) → LoadsAs trail image → WritesLoaded image effect → WritesWithin (loaded_of trail) effect
+within trail image (WordAt addr word) loads h = word-in trail image addr loads h.0 h.1
+within trail image _ loads h = tt
+
+-- the trail goes over to the run of the edited scenario
+pub followed : Follows → (sc after : Scenario) (edit : AnEdit) (effect : Effect) (old new : Trail) → IsTaken sc edit → effect ≡ (row sc edit).effect → after ≡ (row sc edit).after
+    → IsRightForLed effect old new → IsRightForRun old (run_of sc) → IsRightForRun new (run_of after)
+followed law sc after edit effect old new taken is left led right =
+    let leads : LeadsTo effect (run_of sc) (run_of after) = transport (λ i. LeadsTo (sym is i) (run_of sc) (run_of (sym left i))) (law sc edit taken) in
+    led (run_of sc) (run_of after) leads right
+
+pub loads-followed : (sc after : Scenario) (edit : AnEdit) (old new : Trail) → after ≡ (row sc edit).after → loaded_of new ≡ loaded_of old → LoadsAs old sc.image → LoadsAs new after.image
+loads-followed sc after edit old new left same loads a =
+    ap (λ ranges. is_among ranges a) same ∙ loads a ∙ ap (λ (image : Image). is_some (loaded_at image a)) (sym (ap (λ (s : Scenario). s.image) left ∙ image_kept sc edit))
+
+-- what holds of a result that is no error
+pub no-error : {T E P : Type 0} (r : Result T E) → is_err r ≡ false → OnOk r P → P
+no-error (Ok x) h p = p
+no-error (Err e) h p = absurd (false≢true (sym h))
+
+-- ---- the report
 
 -- a trail that a report moved on is right for the same run
-pub moved : (session : Session) (sc : Scenario) (marks : List Mark) → marks ≡ session.marks.items → (new : Trail) → HasScenario session sc
-    → ((start : State) → IsRightFor session.trail start session.setup marks → IsRightFor new start session.setup marks)
-    → IsRightFor new (first_state sc) session.setup session.marks.items
-moved session sc marks same new h right =
-    let before = subst (IsRightFor session.trail (first_state sc) session.setup) (sym same) h.trail in
-    subst (IsRightFor new (first_state sc) session.setup) same (right (first_state sc) before)
+pub moved : (sc : Scenario) (setup : Setup) (marks : List Mark) (old new : Trail) → setup ≡ sc.setup → marks ≡ sc.marks
+    → ((start : State) → IsRightFor old start setup marks → IsRightFor new start setup marks) → IsRightForRun old (run_of sc) → IsRightForRun new (run_of sc)
+moved sc setup marks old new given marked right h =
+    transport (λ i. IsRightFor new (first_state sc) (given i) (marked i))
+    (right (first_state sc) (transport (λ i. IsRightFor old (first_state sc) (sym given i) (sym marked i)) h))
 
--- what a refusal looks at is that of the scenario
-room-has : (session : Session) (sc : Scenario) → HasScenario session sc → room_of sc ≡ room_in session
-room-has session sc h =
-    let marks : vec_len session.marks ≡ length session.marks.items = search rules in
-    let kept : vec_len session.suppressions ≡ length session.suppressions.items = search rules in
-    let all = marks ∙ ap length h.marks in
-    let each = kept ∙ ap length h.rules in
-    sym (λ i. record { image = h.image i; input = length (h.setup i).input; marks = all i; rules = each i; lines = h.lines i })
-
--- what a session accepts is what its scenario does
-pub accepted-has : (session : Session) (sc : Scenario) (line : List ℕ) → HasScenario session sc → accepted sc line ≡ accepted_in (room_in session) line
-accepted-has session sc line h = ap (λ room. accepted_in room line) (room-has session sc h)
-
--- a command that was read is the one that the definition says
-pub read-ok : (says result : Result Command Fault) (command : Command) → Reads says result → result ≡ Ok command → says ≡ Ok command
-read-ok says result command (inl e) is = sym e ∙ is
-read-ok says result command (inr w) is = absurd (let e : ◌≡◌ {A = Result Command Fault} (Err Memory) (Ok command) = sym w.0 ∙ is in cc)
-
--- what a command does commutes with counting its line
-changed-counted : (sc : Scenario) (command : Command) → changed (counted sc) command ≡ counted (changed sc command)
-unfolding counted first_state poked
-changed-counted sc Report = refl
-changed-counted sc _ = refl
-
-appends-counted : (sc : Scenario) (command : Command) (old new : List ℕ) → AppendsFor (counted sc) (Ok command) old new → AppendsFor sc (Ok command) old new
-unfolding counted IsReportOf chosen_state first_state
-appends-counted sc Report old new h = h
-appends-counted sc _ old new h = h
-
--- a line that is an accepted command
-pub meets-carried : (new : Session) (sc : Scenario) (line : List ℕ) (command : Command) (result : Result Reply Fault) (out-old out-new : List ℕ) → accepted sc line ≡ Ok command
-    → Carried new (counted sc) command result out-old out-new → Meets new sc line result out-old out-new
-unfolding applied
-meets-carried new sc line command result out-old out-new is (inl d) = inl (record {
-  replies = d.replies ∙ ap (replied (work_of new)) (sym is);
-  appends = subst (λ (r : Result Command Fault). AppendsFor sc r out-old out-new) (sym is) (appends-counted sc command out-old out-new d.appends);
-  has = let P : Scenario → Type 0 = HasScenario new in subst P (changed-counted sc command ∙ ap (λ r. counted (after sc r)) (sym is)) d.has;
-})
-meets-carried new sc line command result out-old out-new is (inr f) = inr (record {
-  replies = f.replies;
-  may = let P : Result Command Fault → Type 0 = λ r. IsOkAnd r TakesMemory in subst P (sym is) f.may;
-  keeps = f.keeps;
-  has = f.has;
-})
-
-add-takes : (says : Result Command Fault) → IsOkAnd says IsAdd → IsOkAnd says TakesMemory
-add-takes (Ok (Add rule)) h = tt
-add-takes (Ok _) h = absurd h
-add-takes (Err fault) h = absurd h
-
--- a line that is refused
-pub meets-refused : (new : Session) (sc : Scenario) (line : List ℕ) (fault : Fault) (out : List ℕ) (says read : Result Command Fault) → accepted sc line ≡ says → Reads says read → read ≡ Err fault
-    → HasScenario new (counted sc) → Meets new sc line (Err fault) out out
-unfolding applied
-meets-refused new sc line fault out says read is (inl e) told h =
-    let refused : accepted sc line ≡ Err fault = is ∙ sym e ∙ told in
-    inl (record {
-      replies = ap (replied (work_of new)) (sym refused);
-      appends = subst (λ (r : Result Command Fault). AppendsFor sc r out out) (sym refused) refl;
-      has = let P : Scenario → Type 0 = HasScenario new in subst P (ap (λ r. counted (after sc r)) (sym refused)) h;
-    })
-meets-refused new sc line fault out says read is (inr w) told h = inr (record {
-  replies = let e : ◌≡◌ {A = Result Command Fault} (Err fault) (Err Memory) = sym told ∙ w.0 in cc;
-  may = let P : Result Command Fault → Type 0 = λ r. IsOkAnd r TakesMemory in subst P (sym is) (add-takes says w.1);
-  keeps = refl;
-  has = h;
-})
+-- the machine that a trail has at the chosen step
+pub shown : (sc : Scenario) (setup : Setup) (marks : List Mark) (step : ℕ) (old : Trail) (machine : Machine) → setup ≡ sc.setup → marks ≡ sc.marks → step ≡ sc.step
+    → ((start : State) → IsRightFor old start setup marks → Shows machine (post start setup marks step)) → IsRightForRun old (run_of sc) → Shows machine (chosen_state sc)
+unfolding chosen_state
+shown sc setup marks step old machine given marked chosen shows h =
+    transport (λ i. Shows machine (post (first_state sc) (given i) (marked i) (chosen i)))
+    (shows (first_state sc) (transport (λ i. IsRightFor old (first_state sc) (sym given i) (sym marked i)) h))

@@ -7,12 +7,17 @@ use Rattle.std.specs.List.{All}
 use Rattle.replay_session.proofs.LawSteps.{made_by_lines}
 use Rattle.replay_session.specs.LinesWork.{AnswersLead, Leads, LinesMove, TellsWork}
 use Rattle.replay_session.specs.Replies.{Answers, HadMemory, IsReplyTo, Replies, Says, worked_line, is_over}
-use Rattle.replay_session.specs.Scenario.{Scenario, accepted, applied}
+use Rattle.checkpoints.specs.Edits.{MayShorten as ShortenedBy}
+use Rattle.checkpoints.specs.declared.effect.Effect.{Effect}
+use Rattle.checkpoints.specs.declared.effect.Effect.TheVariants.{Word}
+use Rattle.scenario.specs.Edits.{row}
+use Rattle.scenario.specs.Scenario.{Scenario}
+use Rattle.replay_session.specs.Turns.{Turn, accepted, applied}
 use Rattle.replay_session.specs.Session.{TakesMemory}
 use Rattle.replay_session.specs.Stages.{Stage, fresh}
 use Rattle.replay_session.specs.Work.{LineMoves, MayShorten}
 use Rattle.replay_session.specs.declared.command.Command.{Command}
-use Rattle.replay_session.specs.declared.command.Command.TheVariants.{Patch, Worked}
+use Rattle.replay_session.specs.declared.command.Command.TheVariants.{Edit, Worked}
 use Rattle.replay_session.specs.declared.fault.Fault.{Fault}
 
 -- none is left where one list is as long as another that is empty
@@ -33,30 +38,34 @@ answers_lead old [] replies answers same = (old, (answers, refl))
 answers_lead old (line ∷ lines) [] answers same = absurd answers
 answers_lead old (line ∷ lines) (reply ∷ replies) (next, here, rest) same =
     let fewer : length replies ≡ length lines = omega arith in
-    let more = goes-on next lines replies (is_over old.scenario) fewer (λ answers. answers_lead next lines replies answers fewer) rest in
+    let more = goes-on next lines replies (is_over old.turn) fewer (λ answers. answers_lead next lines replies answers fewer) rest in
     (more.0, (next, here, more.1))
 
 -- a trail that isn't short wasn't before
-was-whole : (outcome : Result Command Fault) (old new : Bool) → MayShorten outcome old new → new ≡ false → old ≡ false
-was-whole (Ok (Patch addr word)) true new may whole = absurd (let e : true ≡ false = sym (may refl) ∙ whole in cc)
-was-whole (Ok (Patch addr word)) false new may whole = refl
-was-whole (Ok _) old new may whole = sym may ∙ whole
-was-whole (Err fault) old new may whole = sym may ∙ whole
+whole-before : (effect : Effect) (old new : Bool) → ShortenedBy effect old new → new ≡ false → old ≡ false
+whole-before (Word addr word) true new may whole = absurd (let e : true ≡ false = sym (may refl) ∙ whole in cc)
+whole-before (Word addr word) false new may whole = refl
+whole-before _ old new may whole = sym may ∙ whole
 
-next-is : (sc : Scenario) (made : ℕ) (line text : List ℕ) (next : Scenario) → Says sc made line text next → HadMemory text → next ≡ applied sc line
-next-is sc made line text next (inl says) wanted = says.1
-next-is sc made line text next (inr wants) wanted = absurd (wanted wants.1)
+was-whole : (sc : Scenario) (outcome : Result Command Fault) (old new : Bool) → MayShorten sc outcome old new → new ≡ false → old ≡ false
+was-whole sc (Ok (Edit edit)) old new may whole = whole-before (row sc edit).effect old new may whole
+was-whole sc (Ok _) old new may whole = sym may ∙ whole
+was-whole sc (Err fault) old new may whole = sym may ∙ whole
+
+next-is : (turn : Turn) (made : ℕ) (line text : List ℕ) (next : Turn) → Says turn made line text next → HadMemory text → next ≡ applied turn line
+next-is turn made line text next (inl says) wanted = says.1
+next-is turn made line text next (inr wants) wanted = absurd (wanted wants.1)
 
 -- the lines moved the work, one after another
 lines-moved : (old new : Stage) (lines replies : List (List ℕ)) → Leads old lines replies new → All HadMemory replies → new.short ≡ false
-    → (old.short ≡ false) × LinesMove old.scenario lines old.work new.work
+    → (old.short ≡ false) × LinesMove old.turn lines old.work new.work
 lines-moved old new [] replies (none, same) wanted whole = (ap (λ (s : Stage). s.short) (sym same) ∙ whole, ap (λ (s : Stage). s.work) same)
 lines-moved old new (line ∷ lines) [] leads wanted whole = absurd leads
 lines-moved old new (line ∷ lines) (reply ∷ replies) (next, (says, moves, shortens), leads) wanted whole =
     let later = lines-moved next new lines replies leads (All-tail HadMemory reply replies wanted) whole in
     let here = All-head HadMemory reply replies wanted in
-    let rest = subst (λ (sc : Scenario). LinesMove sc lines next.work new.work) (next-is old.scenario next.work.made line reply next.scenario says here) later.1 in
-    (was-whole (accepted old.scenario line) old.short next.short shortens later.0, (next.work, moves here later.0, rest))
+    let rest = subst (λ (turn : Turn). LinesMove turn lines next.work new.work) (next-is old.turn next.work.made line reply next.turn says here) later.1 in
+    (was-whole old.turn.scenario (accepted old.turn line) old.short next.short shortens later.0, (next.work, moves here later.0, rest))
 
 -- a line that tells a number is no `refused 1`
 no-refusal : (n : ℕ) (text : List ℕ) → text ≡ worked_line n → HadMemory text
@@ -65,17 +74,17 @@ no-refusal n text told refused =
     omega (arith, e)
 
 -- what is told where a line asks for the work
-told : (stage next : Stage) (line text : List ℕ) → accepted stage.scenario line ≡ Ok Worked → Replies stage line text next → text ≡ worked_line next.work.made
+told : (stage next : Stage) (line text : List ℕ) → accepted stage.turn line ≡ Ok Worked → Replies stage line text next → text ≡ worked_line next.work.made
 told stage next line text asks (inl says, moves, shortens) =
-    let P : Result Command Fault → Type 0 = λ r. IsReplyTo stage.scenario next.work.made r text in subst P asks says.0
+    let P : Result Command Fault → Type 0 = λ r. IsReplyTo stage.turn.scenario next.work.made r text in subst P asks says.0
 told stage next line text asks (inr wants, moves, shortens) =
-    let P : Result Command Fault → Type 0 = λ r. IsOkAnd r TakesMemory in absurd (subst P asks wants.0)
+    let P : Result Command Fault → Type 0 = λ r. IsOkAnd r (TakesMemory stage.turn.scenario) in absurd (subst P asks wants.0)
 
 pub tells_work : TellsWork
-tells_work sc lines replies stage next line text leads wanted whole asks answered =
+tells_work turn lines replies stage next line text leads wanted whole asks answered =
     let is = told stage next line text asks answered in
-    let short : next.short ≡ stage.short = subst (λ (r : Result Command Fault). MayShorten r stage.short next.short) asks answered.2 in
-    let moved = subst (λ (r : Result Command Fault). LineMoves stage.scenario r stage.work next.work) asks
+    let short : next.short ≡ stage.short = subst (λ (r : Result Command Fault). MayShorten stage.turn.scenario r stage.short next.short) asks answered.2 in
+    let moved = subst (λ (r : Result Command Fault). LineMoves stage.turn.scenario r stage.work next.work) asks
     (answered.1 (no-refusal next.work.made text is) (short ∙ whole)) in
-    let made = made_by_lines sc lines stage.work (lines-moved (fresh sc) stage lines replies leads wanted whole).1 in
+    let made = made_by_lines turn lines stage.work (lines-moved (fresh turn) stage lines replies leads wanted whole).1 in
     (made.0, made.1, is ∙ ap worked_line (moved.1 ∙ made.2))

@@ -11,8 +11,10 @@ use Rattle.suppressions.specs.Parts.{parts}
 use Rattle.suppressions.specs.Rules.{Rule}
 use Rattle.suppressions.specs.Words.{leak_kinds}
 use Rattle.suppressions.specs.declared.leak_kinds.LeakKinds.{LeakKinds}
+use Rattle.scenario.specs.declared.edit.Edit.TheVariants.{Input, Append, Cut, Patch, Mark, Unmark, Switch, Add, Callers, Redzone, Queue, Show}
+use Rattle.scenario.specs.declared.edit.Edit.{Edit as AnEdit}
 use Rattle.replay_session.specs.declared.command.Command.{Command}
-use Rattle.replay_session.specs.declared.command.Command.TheVariants.{Goto, Report, Input, Append, Cut, Patch, Mark, Unmark, Switch, Add, Callers, Redzone, Queue, Show, Worked}
+use Rattle.replay_session.specs.declared.command.Command.TheVariants.{Goto, Report, Worked, Edit}
 use Rattle.replay_session.specs.declared.fault.Fault.{Fault}
 use Rattle.replay_session.specs.declared.fault.Fault.TheVariants.{Memory, BadCommand, BadOption, BadSuppression}
 
@@ -73,11 +75,11 @@ goto_with (Some n) = Some (Goto n)
 -- `unmark I`
 abbrev pub unmark_with : Option ℕ → Option Command
 unmark_with None = None
-unmark_with (Some i) = Some (Unmark i)
+unmark_with (Some i) = Some (Edit (Unmark i))
 
 -- `input OFFSET BYTE`
 abbrev pub input_with : Option ℕ → Option ℕ → Option Command
-input_with (Some offset) (Some value) = Some (Input offset value)
+input_with (Some offset) (Some value) = Some (Edit (Input offset value))
 input_with (Some offset) None = None
 input_with None value = None
 
@@ -88,7 +90,7 @@ replace_of offset _ = None
 -- `input append BYTE`
 abbrev pub append_with : Option ℕ → Option Command
 append_with None = None
-append_with (Some value) = Some (Append value)
+append_with (Some value) = Some (Edit (Append value))
 
 unfoldable pub append_of : List (List ℕ) → Option Command
 append_of (value ∷ []) = append_with (small (number value))
@@ -96,7 +98,7 @@ append_of _ = None
 
 -- `input cut`
 unfoldable pub cut_of : List (List ℕ) → Option Command
-cut_of [] = Some Cut
+cut_of [] = Some (Edit Cut)
 cut_of (field ∷ more) = None
 
 -- what is done to the input
@@ -109,7 +111,7 @@ input_of (word ∷ more) =
 
 -- `patch ADDR WORD`
 abbrev pub patch_with : Option ℕ → Option ℕ → Option Command
-patch_with (Some addr) (Some word) = Some (Patch addr word)
+patch_with (Some addr) (Some word) = Some (Edit (Patch addr word))
 patch_with (Some addr) None = None
 patch_with None word = None
 
@@ -119,7 +121,7 @@ patch_of _ = None
 
 -- `mark STEP ADDR LEN KIND`
 abbrev pub mark_with : Option ℕ → Option ℕ → Option ℕ → Option RangeKind → Option Command
-mark_with (Some step) (Some addr) (Some len) (Some kind) = Some (Mark (record { step = step; addr = addr; len = len; kind = kind }))
+mark_with (Some step) (Some addr) (Some len) (Some kind) = Some (Edit (Mark (record { step = step; addr = addr; len = len; kind = kind })))
 mark_with (Some step) (Some addr) (Some len) None = None
 mark_with (Some step) (Some addr) None kind = None
 mark_with (Some step) None len kind = None
@@ -132,7 +134,7 @@ mark_of _ = None
 -- `supp on I`, `supp off I`
 abbrev pub switch_with : Bool → Option ℕ → Option Command
 switch_with on None = None
-switch_with on (Some i) = Some (Switch i on)
+switch_with on (Some i) = Some (Edit (Switch i on))
 
 unfoldable pub switch_of : List (List ℕ) → Option Command
 switch_of [] = None
@@ -144,17 +146,17 @@ switch_of (word ∷ more) =
 -- `supp add KIND WORDS..`: a suppression by the words of a suppression file
 abbrev pub add_with : Option Rule → Result Command Fault
 add_with None = Err BadSuppression
-add_with (Some rule) = Ok (Add rule)
+add_with (Some rule) = Ok (Edit (Add rule))
 
 -- `option callers N`, `option redzone N`, `option queue N`
-abbrev pub option_with : (ℕ → Command) → Option ℕ → Result Command Fault
+abbrev pub option_with : (ℕ → AnEdit) → Option ℕ → Result Command Fault
 option_with make None = Err BadCommand
-option_with make (Some n) = Ok (make n)
+option_with make (Some n) = Ok (Edit (make n))
 
 -- `option show LIST`: a list of leak kinds as in a suppression file
 abbrev pub show_with : Option LeakKinds → Result Command Fault
 show_with None = Err BadOption
-show_with (Some kinds) = Ok (Show kinds)
+show_with (Some kinds) = Ok (Edit (Show kinds))
 
 -- an option by its name
 unfoldable pub option_named : List ℕ → List ℕ → Result Command Fault
@@ -196,7 +198,7 @@ parsed line =
 
 -- is a command a suppression to be added?
 abbrev pub IsAdd : Command → Type 0
-IsAdd (Add rule) = Unit {0}
+IsAdd (Edit (Add rule)) = Unit {0}
 IsAdd _ = ⊥
 
 -- a line is read as the definition says, unless memory is wanting for its suppression

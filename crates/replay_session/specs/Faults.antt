@@ -1,5 +1,7 @@
--- The numbers of the refusals of a line.
+-- The refusals of a line: their numbers, and those of an edit.
 use Rattle.std.specs.Prelude.{ℕ}
+use Rattle.scenario.specs.declared.refusal.Refusal.{Refusal}
+use Rattle.scenario.specs.declared.refusal.Refusal.TheVariants as Edit
 use Rattle.replay_session.specs.declared.fault.Fault.{Fault}
 use Rattle.replay_session.specs.declared.fault.Fault.TheVariants.{Memory, BadCommand, OutsideInput, NotPatchable, StepLimit, BadRange, NoSuchMark, NoSuchSuppression, BadOption, TooManyMarks, LineTooLong, TooManyCommands, BadSuppression, InputTooLarge}
 
@@ -18,3 +20,15 @@ number_of LineTooLong = 11
 number_of TooManyCommands = 12
 number_of BadSuppression = 13
 number_of InputTooLarge = 14
+
+-- the refusal of a line that asks for a refused edit
+abbrev pub fault_of : Refusal → Fault
+fault_of Edit.OutsideInput = OutsideInput
+fault_of Edit.InputTooLarge = InputTooLarge
+fault_of Edit.NotPatchable = NotPatchable
+fault_of Edit.StepLimit = StepLimit
+fault_of Edit.BadRange = BadRange
+fault_of Edit.TooManyMarks = TooManyMarks
+fault_of Edit.NoSuchMark = NoSuchMark
+fault_of Edit.NoSuchSuppression = NoSuchSuppression
+fault_of Edit.BadOption = BadOption

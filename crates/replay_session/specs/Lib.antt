@@ -1,7 +1,6 @@
 pub mod Commands
 pub mod Faults
-pub mod Setups
-pub mod Scenario
+pub mod Turns
 pub mod Session
 pub mod Lines
 pub mod Stages

@@ -2,7 +2,7 @@
 use Rattle.std.specs.Prelude.{ℕ, ◌≡◌, ◌⊎◌, ◌≤◌, ◌+◌, ◌==◌, ◌&&◌, List, [], ◌∷◌, ◌++◌, Bool, not, length, map, if◌then◌else◌}
 use Rattle.std.specs.List.{slice_split}
 use Rattle.std.specs.Str.Lines.{strip_carriage_return}
-use Rattle.replay_session.specs.Scenario.{longest_line}
+use Rattle.replay_session.specs.Turns.{longest_line}
 
 abbrev pub all_but_last : {A : Type 0} → List A → List A
 all_but_last [] = []

@@ -3,7 +3,7 @@
 use Rattle.std.specs.Prelude.{◌≡◌, ℕ, ◌+◌, ◌-◌, ◌%◌, ◌≤◌, ◌⊎◌, ◌↔◌, false, List, [], ◌∷◌, ◌++◌, Result, Ok, length, min}
 use Rattle.std.specs.List.{All}
 use Rattle.checkpoints.specs.FirstEffects.{IsBelowFirst}
-use Rattle.replay_session.specs.Scenario.{Scenario, accepted, applied}
+use Rattle.replay_session.specs.Turns.{Turn, accepted, applied}
 use Rattle.checkpoints.specs.Work.{Work}
 use Rattle.replay_session.specs.Replies.{Answers, HadMemory, Replies, worked_line}
 use Rattle.replay_session.specs.Stages.{Stage, fresh}
@@ -12,26 +12,26 @@ use Rattle.replay_session.specs.declared.fault.Fault.{Fault}
 use Rattle.replay_session.specs.declared.command.Command.{Command}
 use Rattle.replay_session.specs.declared.command.Command.TheVariants.{Report, Worked}
 
--- a line that was given, and the scenario that it met
+-- a line that was given, and what it met
 pub record Given : Type 0 where
-  pub scenario : Scenario
+  pub turn : Turn
   pub line : List ℕ
 
 abbrev pub outcome_of : Given → Result Command Fault
-outcome_of given = accepted given.scenario given.line
+outcome_of given = accepted given.turn given.line
 
--- lines from a scenario on, each with the scenario that those before it leave
-abbrev pub given_from : Scenario → List (List ℕ) → List Given
-given_from sc [] = []
-given_from sc (line ∷ lines) = record { scenario = sc; line = line } ∷ given_from (applied sc line) lines
+-- lines from a turn on, each with what those before it leave
+abbrev pub given_from : Turn → List (List ℕ) → List Given
+given_from turn [] = []
+given_from turn (line ∷ lines) = record { turn = turn; line = line } ∷ given_from (applied turn line) lines
 
 -- a line is a report at step h or later
 abbrev pub Reaches : ℕ → Given → Type 0
-Reaches h given = (outcome_of given ≡ Ok Report) × (h ≤ given.scenario.step)
+Reaches h given = (outcome_of given ≡ Ok Report) × (h ≤ given.turn.scenario.step)
 
 -- a line is no edit with a first effect at or below h
 abbrev pub Spares : ℕ → Given → Type 0
-Spares h given = (command : Command) → outcome_of given ≡ Ok command → IsBelowFirst (ShowsAt given.scenario command) h
+Spares h given = (command : Command) → outcome_of given ≡ Ok command → IsBelowFirst (ShowsAt given.turn.scenario command) h
 
 -- some report was at step h or later, and no edit since has a first effect at or below h
 abbrev pub IsKept : List Given → ℕ → Type 0
@@ -47,31 +47,31 @@ abbrev pub IsLastHeld : List Given → ℕ → ℕ → Type 0
 IsLastHeld lines n h = IsHeldAfter lines h × (h ≤ n) × ((k : ℕ) → IsHeldAfter lines k → k ≤ n → k ≤ h)
 
 -- how many steps an outcome adds after some lines: a report at step n those from the last held step that isn't above n, all else none
-abbrev pub Adds : List Given → Scenario → Result Command Fault → ℕ → Type 0
-Adds past sc (Ok Report) steps = (h : ℕ) × IsLastHeld past sc.step h × (steps ≡ sc.step - h)
-Adds past sc outcome steps = steps ≡ 0
+abbrev pub Adds : List Given → Turn → Result Command Fault → ℕ → Type 0
+Adds past turn (Ok Report) steps = (h : ℕ) × IsLastHeld past turn.scenario.step h × (steps ≡ turn.scenario.step - h)
+Adds past turn outcome steps = steps ≡ 0
 
 -- how many steps lines add, one after another, after those before them
 abbrev pub AddUp : List Given → List Given → ℕ → Type 0
 AddUp past [] steps = steps ≡ 0
 AddUp past (given ∷ later) steps =
-    (first rest : ℕ) × Adds past given.scenario (outcome_of given) first × AddUp (past ++ given ∷ []) later rest × (steps ≡ first + rest)
+    (first rest : ℕ) × Adds past given.turn (outcome_of given) first × AddUp (past ++ given ∷ []) later rest × (steps ≡ first + rest)
 
 -- lines move the work, one after another
-abbrev pub LinesMove : Scenario → List (List ℕ) → Work → Work → Type 0
-LinesMove sc [] old new = new ≡ old
-LinesMove sc (line ∷ lines) old new = (next : Work) × LineMoves sc (accepted sc line) old next × LinesMove (applied sc line) lines next new
+abbrev pub LinesMove : Turn → List (List ℕ) → Work → Work → Type 0
+LinesMove turn [] old new = new ≡ old
+LinesMove turn (line ∷ lines) old new = (next : Work) × LineMoves turn.scenario (accepted turn line) old next × LinesMove (applied turn line) lines next new
 
 -- the law of held machines: after any lines, they are held up to the last step that the work tells, at each step that the list of lines says and
 -- at no other
 abbrev pub HeldByLines : Type 0
-HeldByLines = (sc : Scenario) (lines : List (List ℕ)) (work : Work) → LinesMove sc lines no_work work
-    → (h : ℕ) → h % 1024 ≡ 0 → (h ≤ work.last) ↔ IsHeldAfter (given_from sc lines) h
+HeldByLines = (turn : Turn) (lines : List (List ℕ)) (work : Work) → LinesMove turn lines no_work work
+    → (h : ℕ) → h % 1024 ≡ 0 → (h ≤ work.last) ↔ IsHeldAfter (given_from turn lines) h
 
 -- the law of work: the steps made are those that the list of lines says, and it says one number
 abbrev pub MadeByLines : Type 0
-MadeByLines = (sc : Scenario) (lines : List (List ℕ)) (work : Work) → LinesMove sc lines no_work work
-    → (steps : ℕ) × AddUp [] (given_from sc lines) steps × (work.made ≡ min steps 18446744073709551615)
+MadeByLines = (turn : Turn) (lines : List (List ℕ)) (work : Work) → LinesMove turn lines no_work work
+    → (steps : ℕ) × AddUp [] (given_from turn lines) steps × (work.made ≡ min steps 18446744073709551615)
 
 abbrev pub WorkIsOne : Type 0
 WorkIsOne = (past lines : List Given) (m n : ℕ) → AddUp past lines m → AddUp past lines n → m ≡ n
@@ -89,7 +89,7 @@ AnswersLead = (old : Stage) (lines replies : List (List ℕ)) → Answers old li
 -- the law of `worked`: after lines of which none was answered `refused 1`, and where the trail isn't short, it tells the steps that the list of
 -- lines says
 abbrev pub TellsWork : Type 0
-TellsWork = (sc : Scenario) (lines replies : List (List ℕ)) (stage next : Stage) (line text : List ℕ)
-    → Leads (fresh sc) lines replies stage → All HadMemory replies → stage.short ≡ false
-    → accepted stage.scenario line ≡ Ok Worked → Replies stage line text next
-    → (steps : ℕ) × AddUp [] (given_from sc lines) steps × (text ≡ worked_line (min steps 18446744073709551615))
+TellsWork = (turn : Turn) (lines replies : List (List ℕ)) (stage next : Stage) (line text : List ℕ)
+    → Leads (fresh turn) lines replies stage → All HadMemory replies → stage.short ≡ false
+    → accepted stage.turn line ≡ Ok Worked → Replies stage line text next
+    → (steps : ℕ) × AddUp [] (given_from turn lines) steps × (text ≡ worked_line (min steps 18446744073709551615))

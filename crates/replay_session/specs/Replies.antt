@@ -2,7 +2,8 @@
 use Rattle.std.specs.Prelude.{ℕ, ◌≡◌, ◌⊎◌, ◌++◌, List, [], ◌∷◌, Bool, false, Result, Ok, Err, IsOkAnd, MatchBool, codes, decimal, nat_le}
 use Rattle.std.specs.List.{flat_map}
 use Rattle.replay_session.specs.Faults.{number_of}
-use Rattle.replay_session.specs.Scenario.{Scenario, IsReportOf, accepted, applied, counted, most_lines}
+use Rattle.scenario.specs.Scenario.{Scenario, IsReportOf}
+use Rattle.replay_session.specs.Turns.{Turn, accepted, applied, passed, most_lines}
 use Rattle.replay_session.specs.Session.{TakesMemory}
 use Rattle.replay_session.specs.Stages.{Stage}
 use Rattle.replay_session.specs.Work.{LineMoves, MayShorten}
@@ -38,10 +39,10 @@ IsReplyTo sc made (Err fault) text = text ≡ refused_line fault
 
 -- one line, its reply, and what is left after it, where so many steps were made: as the scenario says, or memory was wanting where it may be, and the
 -- line only counts
-abbrev pub Says : Scenario → ℕ → List ℕ → List ℕ → Scenario → Type 0
-Says sc made line text after =
-    (IsReplyTo sc made (accepted sc line) text × (after ≡ applied sc line))
-    ⊎ (IsOkAnd (accepted sc line) TakesMemory × (text ≡ refused_line Memory) × (after ≡ counted sc))
+abbrev pub Says : Turn → ℕ → List ℕ → List ℕ → Turn → Type 0
+Says turn made line text after =
+    (IsReplyTo turn.scenario made (accepted turn line) text × (after ≡ applied turn line))
+    ⊎ (IsOkAnd (accepted turn line) (TakesMemory turn.scenario) × (text ≡ refused_line Memory) × (after ≡ passed turn turn.scenario))
 
 -- a reply isn't `refused 1`
 abbrev pub HadMemory : List ℕ → Type 0
@@ -50,25 +51,25 @@ HadMemory text = text ≡ refused_line Memory → ⊥
 -- the line moves the work as it asks, unless it was answered `refused 1` or the trail is short after it
 abbrev pub Moves : Stage → List ℕ → List ℕ → Stage → Type 0
 Moves old line text new =
-    HadMemory text → new.short ≡ false → LineMoves old.scenario (accepted old.scenario line) old.work new.work
+    HadMemory text → new.short ≡ false → LineMoves old.turn.scenario (accepted old.turn line) old.work new.work
 
 -- one line, its reply and the stage after it, whose work is the number that `worked` tells
 abbrev pub Replies : Stage → List ℕ → List ℕ → Stage → Type 0
 Replies old line text new =
-    Says old.scenario new.work.made line text new.scenario
+    Says old.turn new.work.made line text new.turn
     × Moves old line text new
-    × MayShorten (accepted old.scenario line) old.short new.short
+    × MayShorten old.turn.scenario (accepted old.turn line) old.short new.short
 
 -- were all lines given that are answered?
-abbrev pub is_over : Scenario → Bool
-is_over sc = nat_le most_lines sc.lines
+abbrev pub is_over : Turn → Bool
+is_over turn = nat_le most_lines turn.lines
 
 -- one reply for each line, up to the first that is told that there were too many; the next line meets the stage after it
 abbrev pub Answers : Stage → List (List ℕ) → List (List ℕ) → Type 0
 Answers stage [] replies = replies ≡ []
 Answers stage (line ∷ lines) [] = ⊥
 Answers stage (line ∷ lines) (reply ∷ replies) =
-    (after : Stage) × Replies stage line reply after × MatchBool (is_over stage.scenario) (replies ≡ []) (Answers after lines replies)
+    (after : Stage) × Replies stage line reply after × MatchBool (is_over stage.turn) (replies ≡ []) (Answers after lines replies)
 
 -- replies, one after another
 abbrev pub joined : List (List ℕ) → List ℕ

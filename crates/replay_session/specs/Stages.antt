@@ -1,25 +1,25 @@
--- What the lines so far have left of a session: its scenario, and the work on its run.
+-- What the lines so far have left of a session: what was said to it, and the work on its run.
 use Rattle.std.specs.Prelude.{◌≡◌, Bool, false}
 use Rattle.checkpoints.specs.Trails.{is_short}
 use Rattle.checkpoints.specs.Work.{Work}
-use Rattle.replay_session.specs.Scenario.{Scenario}
-use Rattle.replay_session.specs.Session.{HasScenario, trail_of}
+use Rattle.replay_session.specs.Turns.{Turn}
+use Rattle.replay_session.specs.Session.{turn_of, trail_of}
 use Rattle.replay_session.specs.Work.{no_work, work_on}
 use Rattle.replay_session.specs.declared.session.Session.{Session}
 
--- a scenario, how far the work on its run has come, and whether the trail is short
+-- what was said, how far the work on the run has come, and whether the trail is short
 pub record Stage : Type 0 where
-  pub scenario : Scenario
+  pub turn : Turn
   pub work : Work
   pub short : Bool
 
--- the stage of a session that was just begun with a scenario
-abbrev pub fresh : Scenario → Stage
-fresh sc = record { scenario = sc; work = no_work; short = false }
+-- the stage of a session that was just begun
+abbrev pub fresh : Turn → Stage
+fresh turn = record { turn = turn; work = no_work; short = false }
 
--- a session has a stage: it has the scenario, and its trail tells the work, and whether it is short
+-- a session has a stage: that was said to it, and its trail tells the work, and whether it is short
 pub record HasStage (session : Session) (stage : Stage) : Type 0 where
-  pub scenario : HasScenario session stage.scenario
+  pub turn : turn_of session ≡ stage.turn
   pub work : work_on (trail_of session) ≡ stage.work
   pub short : is_short (trail_of session) ≡ stage.short
 

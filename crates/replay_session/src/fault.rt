@@ -1,9 +1,10 @@
 //! Why a line is refused, and why no session begins.
 ghost use Rattle.std.specs.Prelude.{◌≡◌};
-ghost use Rattle.replay_session.specs.Faults.{number_of};
+ghost use Rattle.replay_session.specs.Faults.{number_of, fault_of};
 ghost use Rattle.replay_session.specs.declared.fault.Fault.TheVariants.{Memory};
 ghost use Rattle.replay_session.specs.declared.fault.BeginFault.TheVariants.{Memory as NoMemory};
 
+use scenario::Refusal;
 use std::alloc::{AllocError, AllocFailed};
 use thiserror::Error;
 
@@ -84,6 +85,25 @@ impl From<AllocError> for Fault {
 
     fn from(_error: AllocError) -> Self {
         Fault::Memory
+    }
+}
+
+/// The refusal of a line that asks for a refused edit.
+impl From<Refusal> for Fault {
+    ghost from_gives = { λ refusal fault. fault ≡ fault_of refusal };
+
+    fn from(refusal: Refusal) -> Self {
+        match refusal {
+            Refusal::OutsideInput => Fault::OutsideInput,
+            Refusal::InputTooLarge => Fault::InputTooLarge,
+            Refusal::NotPatchable => Fault::NotPatchable,
+            Refusal::StepLimit => Fault::StepLimit,
+            Refusal::BadRange => Fault::BadRange,
+            Refusal::TooManyMarks => Fault::TooManyMarks,
+            Refusal::NoSuchMark => Fault::NoSuchMark,
+            Refusal::NoSuchSuppression => Fault::NoSuchSuppression,
+            Refusal::BadOption => Fault::BadOption,
+        }
     }
 }
 

@@ -1,8 +1,7 @@
 //! A session over one program: lines edit its run or ask for its report, and each report is that of one run from step zero.
 //!
-//! A [`Session`] keeps what the accepted lines leave: a trail of machines of the run with the patches written, the input and the heap's
-//! settings, marks, suppressions with their switches, options of the report, and the chosen step. Each report goes on from the last
-//! machine of the trail before its step; an edit cuts the trail where it may first show, so that nothing of earlier reports is in it.
+//! A [`Session`] keeps what the accepted lines leave, a [`scenario::Scenario`], and a trail of machines of its run. Each report goes on from
+//! the last machine of the trail before its step; an edit cuts the trail where it may first show, so that nothing of earlier reports is in it.
 //!
 //! # Public items
 //!
@@ -46,14 +45,14 @@
 //!
 //! # What a caller relies on
 //!
-//! A `Scenario` is a value of `specs/` and no code: what a user has said so far. A session has a scenario (`HasScenario`), and
+//! What was said to a session is its scenario and the number of lines (`Turn`), and
 //!
-//! - [`Session::begin`]: the session has the scenario of its arguments (`begun`).
-//! - [`Session::command`]: for each scenario that the session has, the answer and the bytes appended are those of the line, and the
-//!   session then has the scenario that the line leaves (`Answered`); or memory was wanting where it may be, at a report, a patch, a mark,
-//!   a new suppression or `input append` that isn't refused, and the line only counts (`Wanting`). A refused line changes the number of lines alone.
+//! - [`Session::begin`]: that is what its arguments begin with (`opening`).
+//! - [`Session::command`]: the answer and the bytes appended are those of the line, and the session then has what the line leaves
+//!   (`Answered`); or memory was wanting where it may be, at a report, or at an edit whose row says so and that isn't refused, and the line
+//!   only counts (`Wanting`). A refused line changes the number of lines alone.
 //!   What the line costs in steps is that of its command by its first effect (`WorksLine`), as long as the trail isn't short; no line but
-//!   a patch makes it short (`StaysWholeAfter`).
+//!   a patch makes it short.
 //! - [`laws::work_of_lines`]: if each of any lines costs that, then after them machines are held at just the steps that the list of lines
 //!   says (`IsHeldAfter`), and the steps made are the one sum that it says (`AddUp`). Neither speaks of a trail.
 //! - [`serve`]: to the end, what was written is the replies to the lines of all bytes read, up to and with the first `refused 12`, and
@@ -68,8 +67,8 @@
 //! In `specs/`, in the order to read them:
 //!
 //! - `Commands`: the language, a definition for each command over the fields of a line; `Faults`: the numbers of the refusals.
-//! - `Scenario`: the scenario, which lines are refused, and what an accepted command changes; `Setups`: the heap's defaults.
-//! - `Session`: that a session has a scenario, and one line of it.
+//! - `Turns`: which lines are refused, and what an accepted command leaves, over the scenario and the table of edits of the crate `scenario`.
+//! - `Session`: what was said to a session, and one line of it.
 //! - `Work`: how a line moves the last held step and the number of steps made; `Stages`: what the lines so far have left.
 //! - `Replies`: the text of each reply, and the replies to one line after another (`Answers`).
 //! - `LinesWork`: what any lines cost in steps, said of their list alone, and that `worked` tells it.
@@ -92,6 +91,7 @@ mod session;
 
 pub use fault::{BeginFault, Fault};
 pub use reply::Reply;
+pub use scenario::{LONGEST_INPUT, MOST_STEPS, setup_with};
 pub use serving::send::{Sent, send};
 pub use serving::{READS, ServeFault, serve};
-pub use session::{LONGEST_INPUT, MOST_STEPS, Session, setup_with};
+pub use session::Session;

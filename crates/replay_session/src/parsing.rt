@@ -1,12 +1,13 @@
 //! A line read as a command.
 ghost use Rattle.std.specs.Prelude.{◌≡◌, true, false};
-ghost use Rattle.replay_session.specs.Commands.{has_empty, kind_of, taken, alone, replace_of, append_of, cut_of, input_of, patch_of, mark_of, switch_of, add_with, option_named, option_of, command_of, parsed, Reads};
+ghost use Rattle.replay_session.specs.Commands.{has_empty, kind_of, taken, alone, replace_of, append_of, cut_of, input_of, patch_of, mark_of, one_number, unmark_with, switch_of, add_with, option_named, option_of, command_of, parsed, Reads};
 ghost use Rattle.suppressions.specs.Added.{added};
 
 use crate::command::Command;
 use crate::fault::Fault;
 use crate::numbers::{byte, number, one_number};
 use guest_machine::Mark;
+use scenario::Edit;
 use shadow_memory::RangeKind;
 use std::alloc::Global;
 use suppressions::{LeakKinds, Parts, SuppFault, Suppression};
@@ -110,7 +111,7 @@ fn replace_of(offset: &[u8], mut fields: Parts<'_>) -> Option<Command>
     }
     let offset = number(offset)?;
     let byte = byte(value)?;
-    Some(Command::Input { offset, byte })
+    Some(Command::Edit(Edit::Input { offset, byte }))
 }
 
 /// `input append BYTE`.
@@ -123,7 +124,7 @@ fn append_of(mut fields: Parts<'_>) -> Option<Command>
         return None;
     }
     let byte = byte(value)?;
-    Some(Command::Append(byte))
+    Some(Command::Edit(Edit::Append(byte)))
 }
 
 /// `input cut`.
@@ -132,7 +133,7 @@ fn cut_of(mut fields: Parts<'_>) -> Option<Command>
     ensures { result ≡ cut_of fields.entry }
 {
     match fields.next() {
-        None => Some(Command::Cut),
+        None => Some(Command::Edit(Edit::Cut)),
         Some(_) => None,
     }
 }
@@ -164,7 +165,7 @@ fn patch_of(mut fields: Parts<'_>) -> Option<Command>
     }
     let addr = number(addr)?;
     let word = number(word)?;
-    Some(Command::Patch { addr, word })
+    Some(Command::Edit(Edit::Patch { addr, word }))
 }
 
 /// `mark STEP ADDR LEN KIND`.
@@ -183,12 +184,20 @@ fn mark_of(mut fields: Parts<'_>) -> Option<Command>
     let addr = number(addr)?;
     let len = number(len)?;
     let kind = kind_of(kind)?;
-    Some(Command::Mark(Mark {
+    Some(Command::Edit(Edit::Mark(Mark {
         step,
         addr,
         len,
         kind,
-    }))
+    })))
+}
+
+/// `unmark I`.
+fn unmark_of(fields: Parts<'_>) -> Option<Command>
+    ensures { result ≡ unmark_with (one_number fields.entry) }
+{
+    let index = one_number(fields)?;
+    Some(Command::Edit(Edit::Unmark(index)))
 }
 
 /// `supp on I` and `supp off I`.
@@ -199,10 +208,10 @@ fn switch_of(mut fields: Parts<'_>) -> Option<Command>
     let word = fields.next()?;
     if word == ON {
         let index = one_number(fields)?;
-        Some(Command::Switch { index, on: true })
+        Some(Command::Edit(Edit::Switch { index, on: true }))
     } else if word == OFF {
         let index = one_number(fields)?;
-        Some(Command::Switch { index, on: false })
+        Some(Command::Edit(Edit::Switch { index, on: false }))
     } else {
         None
     }
@@ -213,7 +222,7 @@ fn add_of(alloc: Global, words: &[u8]) -> Result<Command, Fault>
     ensures { Reads (add_with (added words.now)) result }
 {
     match Suppression::from_words(alloc, words) {
-        Ok(suppression) => Ok(Command::Add(suppression)),
+        Ok(suppression) => Ok(Command::Edit(Edit::Add(suppression))),
         Err(SuppFault::Memory) => Err(Fault::Memory),
         Err(SuppFault::BadSuppression(_)) => Err(Fault::BadSuppression),
     }
@@ -226,7 +235,7 @@ fn option_named(name: &[u8], field: &[u8]) -> Result<Command, Fault>
 {
     if name == SHOW {
         return match LeakKinds::from_list(field) {
-            Some(kinds) => Ok(Command::Show(kinds)),
+            Some(kinds) => Ok(Command::Edit(Edit::Show(kinds))),
             None => Err(Fault::BadOption),
         };
     }
@@ -238,11 +247,11 @@ fn option_named(name: &[u8], field: &[u8]) -> Result<Command, Fault>
         return Err(Fault::BadCommand);
     };
     if name == CALLERS {
-        Ok(Command::Callers(n))
+        Ok(Command::Edit(Edit::Callers(n)))
     } else if name == REDZONE {
-        Ok(Command::Redzone(n))
+        Ok(Command::Edit(Edit::Redzone(n)))
     } else {
-        Ok(Command::Queue(n))
+        Ok(Command::Edit(Edit::Queue(n)))
     }
 }
 
@@ -279,7 +288,7 @@ fn command_of(word: &[u8], fields: Parts<'_>) -> Result<Command, Fault>
     } else if word == MARK {
         taken(mark_of(fields))
     } else if word == UNMARK {
-        taken(one_number(fields).map(Command::Unmark))
+        taken(unmark_of(fields))
     } else if word == SUPP {
         taken(switch_of(fields))
     } else if word == OPTION {

@@ -1,80 +1,61 @@
 //! A session, and one line of it.
-mod edits;
-mod refusals;
-
-ghost use Rattle.std.specs.Prelude.{◌≡◌, ◌≤◌, IfOk, length};
+ghost use Rattle.std.specs.Prelude.{◌≡◌};
+ghost use Rattle.checkpoints.specs.Edits.{IsRightForRun};
+ghost use Rattle.checkpoints.specs.OneProof.{right-prop};
 ghost use Rattle.checkpoints.specs.Trails.{LoadsAs};
-ghost use Rattle.replay_session.specs.Scenario.{most_callers};
-ghost use Rattle.replay_session.specs.Setups.{setup_with, longest_input};
+ghost use Rattle.scenario.specs.Scenario.{run_of};
 
 use crate::command::Command;
 use crate::fault::{BeginFault, Fault};
+use crate::parsing::parse;
 use crate::reply::Reply;
 use checkpoints::Trail;
+use checkpoints::laws::keeps_lower;
 use guest_elf::Image;
-use guest_machine::{Hooks, Input, Mark, Setup, USUAL_REDZONE, USUAL_VOLUME};
-pub(crate) use refusals::LONGEST_LINE;
-pub use refusals::MOST_STEPS;
-use replay_report::{Options, render};
+use scenario::laws::edits_follow;
+use scenario::{Edit, LONGEST_INPUT, MOST_STEPS, Scenario};
 use std::alloc::{AllocError, Global};
 use suppressions::Suppression;
 
-/// How many bytes an input may have.
-pub const LONGEST_INPUT: usize = 1_048_576;
 /// How many lines are answered.
 const MOST_LINES: u32 = 100_000;
+/// How many bytes a line may have.
+pub(crate) const LONGEST_LINE: usize = 4096;
 
-/// An input, the heap's settings of Memcheck, which are a red zone of 16 bytes and 20,000,000 bytes of freed blocks, and the functions of
-/// the heap that a program has by name.
-pub fn setup_with(alloc: Global, image: &Image, input: Vec<u8>) -> Result<Setup, AllocError>
-    ensures { IfOk result (λ setup. setup ≡ setup_with image.now input.items) }
-{
-    let hooks = image.hooks(alloc)?;
-    Ok(Setup {
-        input: Input::new(input),
-        redzone: USUAL_REDZONE,
-        volume: USUAL_VOLUME,
-        hooks: Hooks::new(hooks),
-    })
-}
-
-/// One program and what the accepted lines leave: the machines that are held of its run, with the patches written, the input and the
-/// heap's settings, marks, suppressions, options, the chosen step, and how many lines were given.
+/// What the accepted lines leave, the machines that are held of its run, and how many lines were given.
 #[derive(Drop)]
 pub struct Session<'a> {
     alloc: Global,
-    image: Image<'a>,
+    scenario: Scenario<'a>,
     trail: Trail,
-    ghost loads: { LoadsAs trail image },
-    setup: Setup,
-    ghost fits: { length setup.input ≤ longest_input },
-    marks: Vec<Mark>,
-    suppressions: Vec<Suppression>,
-    options: Options,
-    ghost some_callers: { 1 ≤ options.callers },
-    ghost few_callers: { options.callers ≤ most_callers },
-    step: u32,
+    ghost loads: { LoadsAs trail scenario.image },
+    ghost right: { IsRightForRun trail (run_of scenario) } by { right-prop trail (run_of scenario) },
     lines: u32,
 }
 
 impl<'a> Session<'a> {
-    ghost use Rattle.std.specs.Prelude.{◌≡◌, ◌<◌, ◌↔◌, false, IfOk, OnOk, OnErr, length};
-    ghost use Rattle.replay_session.specs.Scenario.{Scenario, IsReportOf, begun, counted};
-    ghost use Rattle.replay_report.specs.Report.{AppendsReport};
+    ghost use Rattle.std.specs.Prelude.{◌≡◌, ◌<◌, ◌↔◌, false, true, IfOk, IfErr, IfNone, OnOk, OnErr, length};
     ghost use Rattle.checkpoints.specs.Trails.{is_short};
-    ghost use Rattle.replay_session.specs.Work.{MovesTrail, WorksLine, StaysWholeAfter, work_on, no_work};
+    ghost use Rattle.replay_report.specs.Report.{AppendsReport};
+    ghost use Rattle.scenario.specs.Edits.{row, IsTaken};
+    ghost use Rattle.scenario.specs.Limits.{longest_input};
+    ghost use Rattle.scenario.specs.Scenario.{IsReportOf};
+    ghost use Rattle.replay_session.specs.Commands.{Reads};
     ghost use Rattle.replay_session.specs.Replies.{is_over};
-    ghost use Rattle.replay_session.specs.Session.{HasScenario, IsWithin, Carried, Meets, room_in, trail_of};
+    ghost use Rattle.replay_session.specs.Session.{Carried, Meets, scenario_of, turn_of, trail_of, work_of};
+    ghost use Rattle.replay_session.specs.Turns.{accepted, changed, command_refusal, counted, opening, passed};
+    ghost use Rattle.replay_session.specs.Work.{MayShorten, MovesWork, Works, WorksLine, work_on, no_work};
 
     /// The session of a program with an input and suppressions, with nothing edited and step 0 chosen. A refusal drops the arguments; an
     /// input that is too large is told before want of memory.
+    #[tactic(auto, unfolding(crate::specs::Session::turn_of, crate::specs::Session::trail_of))]
     pub fn begin(
         alloc: Global,
         image: Image<'a>,
         input: Vec<u8>,
         suppressions: Vec<Suppression>,
     ) -> Result<Self, BeginFault>
-        ensures ok { IfOk result (λ session. HasScenario session (begun image.entry input.items suppressions.items)) }
+        ensures ok { IfOk result (λ session. turn_of session ≡ opening image.entry input.items suppressions.items) }
         ensures work { IfOk result (λ session. work_on (trail_of session) ≡ no_work) }
         ensures whole { IfOk result (λ session. is_short (trail_of session) ≡ false) }
         ensures large { (result ≡ Err BeginFault.InputTooLarge) ↔ (longest_input < length input.items) }
@@ -82,17 +63,12 @@ impl<'a> Session<'a> {
         if input.len() > LONGEST_INPUT {
             return Err(BeginFault::InputTooLarge);
         }
-        let setup = setup_with(alloc, &image, input)?;
         let trail = Trail::begin(alloc, &image)?;
+        let scenario = Scenario::begin(alloc, image, input, suppressions)?;
         Ok(Session {
             alloc,
-            image,
+            scenario,
             trail,
-            setup,
-            marks: Vec::new(alloc),
-            suppressions,
-            options: Options::default(),
-            step: 0,
             lines: 0,
         })
     }
@@ -105,23 +81,69 @@ impl<'a> Session<'a> {
         &self.trail
     }
 
+    /// How many steps were made for its reports.
+    #[tactic(auto, unfolding(crate::specs::Session::work_of))]
+    fn work(&self) -> u64
+        ensures { result ≡ work_of self.now }
+    {
+        self.trail.meter().read()
+    }
+
     /// Where the session's memory comes from.
     pub(crate) fn allocator(&self) -> Global {
         self.alloc
     }
 
     /// Whether all lines were given that are answered.
+    #[tactic(auto, unfolding(crate::specs::Session::turn_of))]
     pub(crate) fn is_over(&self) -> bool
-        ensures { (sc : Scenario) → HasScenario self.now sc → result ≡ is_over sc }
+        ensures { result ≡ is_over (turn_of self.now) }
     {
         self.lines >= MOST_LINES
     }
 
+    /// Why a command is refused.
+    #[tactic(auto, unfolding(crate::specs::Session::turn_of))]
+    fn command_refusal(&self, command: &Command) -> Option<Fault>
+        ensures { result ≡ command_refusal (scenario_of self.now) command.now }
+    {
+        match command {
+            Command::Goto(step) => {
+                if *step > MOST_STEPS {
+                    Some(Fault::StepLimit)
+                } else {
+                    None
+                }
+            }
+            Command::Edit(edit) => Some(Fault::from(self.scenario.refusal(edit)?)),
+            Command::Report | Command::Worked => None,
+        }
+    }
+
+    /// The command that a line is, or why it is refused.
+    #[tactic(auto, unfolding(crate::specs::Turns::accepted, crate::specs::Session::turn_of))]
+    fn accept(&self, line: &[u8]) -> Result<Command, Fault>
+        ensures accepted { Reads (accepted (turn_of self.now) line.now) result }
+        ensures taken { IfOk result (λ command. command_refusal (scenario_of self.now) command ≡ None) }
+    {
+        if self.lines >= MOST_LINES {
+            return Err(Fault::TooManyCommands);
+        }
+        if line.len() > LONGEST_LINE {
+            return Err(Fault::LineTooLong);
+        }
+        let command = parse(self.alloc, line)?;
+        match self.command_refusal(&command) {
+            Some(fault) => Err(fault),
+            None => Ok(command),
+        }
+    }
+
     /// Counts a line.
-    #[tactic(auto, unfolding(crate::specs::Scenario::counted))]
+    #[tactic(auto, unfolding(crate::specs::Session::turn_of, crate::specs::Session::trail_of))]
     fn count(&mut self)
-        ensures counted { (sc : Scenario) → HasScenario self.old sc → HasScenario self.new (counted sc) }
-        ensures room { room_in self.new ≡ record (room_in self.old) { lines = self.new.lines } }
+        ensures counted { turn_of self.new ≡ passed (turn_of self.old) (scenario_of self.old) }
+        ensures scenario { scenario_of self.new ≡ scenario_of self.old }
         ensures trail { trail_of self.new ≡ trail_of self.old }
     {
         if self.lines < MOST_LINES {
@@ -129,43 +151,87 @@ impl<'a> Session<'a> {
         }
     }
 
+    /// Chooses a step.
+    #[tactic(auto, unfolding(crate::specs::Session::turn_of, crate::specs::Session::trail_of))]
+    fn choose(&mut self, step: u32)
+        ensures turn { turn_of self.new ≡ record (turn_of self.old) { scenario = changed (turn_of self.old).scenario (Command.Goto step) } }
+        ensures trail { trail_of self.new ≡ trail_of self.old }
+    {
+        self.scenario.choose(step);
+    }
+
+    /// Makes an edit that isn't refused: the trail goes over to the edited run, by the edit's effect. A word that finds no memory in the
+    /// machines that are held is taken off the scenario again.
+    #[tactic(auto, unfolding(crate::specs::Session::turn_of, crate::specs::Session::trail_of))]
+    fn edit(&mut self, edit: Edit) -> Result<(), Fault>
+        requires { IsTaken (scenario_of self.old) edit }
+        ensures ok { OnOk result (turn_of self.new ≡ record (turn_of self.old) { scenario = (row (scenario_of self.old) edit).after }) }
+        ensures err { IfErr result (λ fault. (fault ≡ Fault.Memory) × ((row (scenario_of self.old) edit).may_fail ≡ true) × (turn_of self.new ≡ turn_of self.old)) }
+        ensures whole { MayShorten (scenario_of self.old) (Ok (Command.Edit edit)) (is_short (trail_of self.old)) (is_short (trail_of self.new)) }
+        ensures moves { OnOk result (is_short (trail_of self.new) ≡ false
+            → MovesWork (scenario_of self.old) (Command.Edit edit) (work_on (trail_of self.old)) (work_on (trail_of self.new))) }
+    {
+        edits_follow();
+        keeps_lower();
+        let effect = self.scenario.effect(&edit);
+        self.scenario.edit(edit)?;
+        if self.trail.follow(effect).is_err() {
+            self.scenario.drop_word();
+            return Err(Fault::Memory);
+        }
+        Ok(())
+    }
+
     /// Appends the report at the chosen step.
+    #[tactic(auto, unfolding(crate::specs::Session::turn_of, crate::specs::Session::trail_of))]
     fn report(&mut self, out: &mut Vec<u8>) -> Result<(), AllocError>
-        ensures has { (sc : Scenario) → HasScenario self.old sc → HasScenario self.new sc }
-        ensures ok { OnOk result ((sc : Scenario) → HasScenario self.old sc → AppendsReport (IsReportOf sc) out.old.items out.new.items) }
+        ensures turn { turn_of self.new ≡ turn_of self.old }
+        ensures ok { OnOk result (AppendsReport (IsReportOf (scenario_of self.old)) out.old.items out.new.items) }
         ensures err { OnErr result (out.new.items ≡ out.old.items) }
-        ensures work { OnOk result ((sc : Scenario) → HasScenario self.old sc → MovesTrail sc Command.Report (trail_of self.old) (trail_of self.new)) }
+        ensures work { OnOk result (MovesWork (scenario_of self.old) Command.Report (work_on (trail_of self.old)) (work_on (trail_of self.new))) }
         ensures short { is_short (trail_of self.new) ≡ is_short (trail_of self.old) }
     {
-        let machine = self.trail.at(self.step, &self.setup, &self.marks)?;
-        let input_len = self.setup.input.len() as u64;
-        render(
-            self.alloc,
-            &machine,
-            &self.image,
-            &self.suppressions,
-            &self.options,
-            self.step,
-            input_len,
-            out,
+        let machine = self.trail.at(
+            self.scenario.step(),
+            self.scenario.setup(),
+            self.scenario.marks(),
         )?;
-        Ok(())
+        self.scenario.render(&machine, out)
+    }
+
+    /// Carries an accepted command out.
+    fn carry_out(&mut self, command: Command, out: &mut Vec<u8>) -> Result<Reply, Fault>
+        requires { command_refusal (scenario_of self.old) command ≡ None }
+        ensures carried { Carried self.new (turn_of self.old) command result out.old.items out.new.items }
+        ensures work { Works self.old self.new command result }
+    {
+        match command {
+            Command::Goto(step) => {
+                self.choose(step);
+                Ok(Reply::Done)
+            }
+            Command::Report => {
+                self.report(out)?;
+                Ok(Reply::Report)
+            }
+            Command::Edit(edit) => {
+                self.edit(edit)?;
+                Ok(Reply::Done)
+            }
+            Command::Worked => Ok(Reply::Work(self.work())),
+        }
     }
 
     /// Answers one line, which has no newline, and appends the bytes of a report and nothing else. A refused line changes nothing but
     /// the number of lines.
     pub fn command(&mut self, line: &[u8], out: &mut Vec<u8>) -> Result<Reply, Fault>
-        ensures meets { (sc : Scenario) → HasScenario self.old sc → Meets self.new sc line.now result out.old.items out.new.items }
-        // Unless memory was wanting or the trail is short: the steps made are those that the line asks for, by its first effect.
+        ensures meets { Meets self.new (turn_of self.old) line.now result out.old.items out.new.items }
+        // Unless memory was wanting or the trail is short: the steps made are those that the line asks for, by its first effect. No line but
+        // a patch makes the trail short.
         ensures work { WorksLine self.old self.new line.now result }
-        // No line but a patch makes the trail short.
-        ensures whole { StaysWholeAfter self.old self.new line.now }
     {
         let accepted = self.accept(line);
         self.count();
-        match accepted {
-            Ok(command) => self.carry_out(command, out),
-            Err(fault) => Err(fault),
-        }
+        self.carry_out(accepted?, out)
     }
 }

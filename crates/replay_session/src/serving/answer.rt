@@ -37,7 +37,7 @@ pub(crate) fn answer<W: Write>(
     writer: &mut W,
     line: &[u8],
 ) -> Result<bool, ServeFault>
-    ensures ok { IfOk result (λ over. (stage : Stage) → HasStage session.old stage → over ≡ is_over stage.scenario) }
+    ensures ok { IfOk result (λ over. (stage : Stage) → HasStage session.old stage → over ≡ is_over stage.turn) }
     ensures answered { OnOk result ((stage : Stage) → HasStage session.old stage →
         Answered stage session.new written.old written.new (W.contents writer.old) (W.contents writer.new) line.now) }
     ensures err { OnErr result ((stage : Stage) → HasStage session.old stage →

@@ -7,7 +7,7 @@ pub returns-then-whole-clause-answered : goal.returns-then-whole-clause-answered
 returns-then-whole-clause-answered g c stage h =
     let next = replied-to c.args.session.now c.command-outcome.new.self stage c.args.line.now c.command-outcome.result c.clear.new.self.items c.command-outcome.new.out.items
     c.put.new.self.report.items c.text-reply.result.now
-    h (c.command-outcome.ensures.meets stage.scenario h.scenario) c.command-outcome.ensures.work c.command-outcome.ensures.whole c.clear.ensures.items (λ i. (c.put.ensures.report i).items) c.text-reply.ensures in
+    h c.command-outcome.ensures.meets c.command-outcome.ensures.work c.clear.ensures.items (λ i. (c.put.ensures.report i).items) c.text-reply.ensures in
     let all : c.send-taken.result.taken ≡ length c.text-reply.result.now = c.send-taken.ensures.all c.if-whole.true in
     record {
       reply = c.text-reply.result.now;
@@ -23,7 +23,7 @@ pub returns-else-whole-clause-err : goal.returns-else-whole-clause-err
 returns-else-whole-clause-err g c stage h =
     let next = replied-to c.args.session.now c.command-outcome.new.self stage c.args.line.now c.command-outcome.result c.clear.new.self.items c.command-outcome.new.out.items
     c.put.new.self.report.items c.text-reply.result.now
-    h (c.command-outcome.ensures.meets stage.scenario h.scenario) c.command-outcome.ensures.work c.command-outcome.ensures.whole c.clear.ensures.items (λ i. (c.put.ensures.report i).items) c.text-reply.ensures in
+    h c.command-outcome.ensures.meets c.command-outcome.ensures.work c.clear.ensures.items (λ i. (c.put.ensures.report i).items) c.text-reply.ensures in
     record {
       reply = c.text-reply.result.now;
       sent = c.send-taken.result.taken;

@@ -1,26 +1,12 @@
-use Rattle.std.proofs.Common.{refl}
-use Rattle.replay_session.specs.Scenario.{begun, first_state}
-use Rattle.replay_session.specs.Session.{trail_of}
+use Rattle.std.proofs.Common.{sym, subst}
+use Rattle.checkpoints.specs.Edits.{IsRightForRun}
+use Rattle.checkpoints.specs.Trails.{LoadsAs}
+use Rattle.scenario.specs.Scenario.{Scenario, first_state, run_of}
 use Rattle.replay_session.proofs.session.Session.begin.Goals as goal
 
-pub returns-clause-ok : goal.returns-clause-ok
-unfolding begun first_state
-returns-clause-ok c =
-    record {
-      image = refl;
-      trail = c.in_ok-trail.ensures.right _ _;
-      setup = c.in_ok-setup.ensures;
-      marks = c.new.ensures.items;
-      rules = refl;
-      options = λ i. record { callers = c.default.ensures.callers i; show = c.default.ensures.show i };
-      step = refl;
-      lines = refl;
-    }
-
-pub returns-clause-work : goal.returns-clause-work
-unfolding trail_of
-returns-clause-work c = λ i. record { last = c.in_ok-trail.ensures.first i; made = c.in_ok-trail.ensures.meter i }
-
-pub returns-clause-whole : goal.returns-clause-whole
-unfolding trail_of
-returns-clause-whole c = c.in_ok-trail.ensures.whole
+pub invariant_of-result : goal.invariant_of-result
+unfolding first_state
+invariant_of-result c = record {
+  loads = subst (λ (sc : Scenario). LoadsAs c.in_ok-trail.trail sc.image) (sym c.in_ok-scenario.ensures) c.in_ok-trail.ensures.loaded;
+  right = subst (λ (sc : Scenario). IsRightForRun c.in_ok-trail.trail (run_of sc)) (sym c.in_ok-scenario.ensures) (c.in_ok-trail.ensures.right _ _);
+}

@@ -1,4 +1,6 @@
-use Rattle.std.proofs.Common.{arith, ap, Ok}
+use Rattle.std.proofs.Common.{ℕ, List, ◌≤◌, arith, ap, Ok, length, subst}
+use Rattle.std.proofs.lemmas.List.{take_all}
+use Rattle.replay_session.specs.Serving.{Fed}
 use Rattle.replay_session.proofs.Known.{at_refusal}
 use Rattle.replay_session.proofs.ServeSteps.{fed-none, fed-in, over-in, broken-in}
 use Rattle.replay_session.proofs.serving.server.Server.feed.Goals as goal
@@ -22,3 +24,9 @@ loop-byte-preserved g c stage h =
     let fed = c.loop-byte.invariant stage h in
     fed-in stage _ c.loop-byte.self _ _ (g.W.Write.contents c.loop-byte.writer) _ c.args.bytes.now c.loop-byte.byte-index (omega arith) fed
     (c.in_ok-over.ensures.fed (ap Ok c.if-over.false) fed.after fed.has)
+
+pub returns-clause-fed : goal.returns-clause-fed
+returns-clause-fed g c = λ e stage h.
+    let P : List ℕ → Type 0 = Fed stage c.args.self.now c.loop-byte.self (g.W.Write.contents c.args.writer.now) (g.W.Write.contents c.loop-byte.writer) in
+    let all : length c.args.bytes.now ≤ c.loop-byte.byte-index = omega arith in
+    subst P (take_all c.loop-byte.byte-index c.args.bytes.now all) (c.loop-byte.invariant stage h)

@@ -1,0 +1,30 @@
+use Rattle.std.proofs.Common.{sym, subst, ◌∙◌}
+use Rattle.checkpoints.specs.Effects.{EffectShows}
+use Rattle.checkpoints.specs.Work.{EditMoves}
+use Rattle.checkpoints.specs.declared.effect.Effect.{Effect}
+use Rattle.scenario.specs.Scenario.{first_state}
+use Rattle.replay_session.specs.Session.{turn_of, trail_of}
+use Rattle.replay_session.specs.Work.{work_on}
+use Rattle.replay_session.proofs.SessionSteps.{within, followed, loads-followed, no-error}
+use Rattle.replay_session.proofs.WorkSteps.{moves-followed}
+use Rattle.replay_session.proofs.session.Session.edit.Goals as goal
+
+pub follow-requires : goal.follow-requires
+unfolding turn_of
+follow-requires c = record { within = within c.args.self.now.trail c.args.self.now.scenario.image _ c.args.self.now.loads (c.effect-effect.ensures.loaded c.requires) }
+
+pub invariant_of-self-else-is_err : goal.invariant_of-self-else-is_err
+unfolding turn_of
+invariant_of-self-else-is_err c = record {
+  loads = loads-followed c.args.self.now.scenario _ c.args.edit _ _ c.in_ok-edit.ensures.ok c.follow.ensures.loaded c.args.self.now.loads;
+  right = followed c.edits_follow.ensures c.args.self.now.scenario _ c.args.edit _ _ _ c.requires c.effect-effect.ensures.effect c.in_ok-edit.ensures.ok
+      (no-error c.follow.result (sym c.is_err.ensures.value ∙ c.if-is_err.false) c.follow.ensures.right) c.args.self.now.right;
+}
+
+pub returns-clause-moves : goal.returns-clause-moves
+unfolding turn_of trail_of
+returns-clause-moves c = λ whole.
+    let sc = c.args.self.now.scenario in
+    let P : Effect → Type 0 = λ effect. EditMoves (EffectShows effect (first_state sc) sc.setup sc.marks) (work_on c.args.self.now.trail) (work_on c.follow.new.self) in
+    subst P c.effect-effect.ensures.effect
+    (moves-followed c.keeps_lower.ensures _ sc _ _ c.args.self.now.right (no-error c.follow.result (sym c.is_err.ensures.value ∙ c.if-is_err.false) c.follow.ensures.kept) c.follow.ensures.meter whole)

@@ -1,0 +1,76 @@
+-- Whose turn it is: the scenario that a line meets, and how many lines were given before it. Which command a line is, and what it leaves.
+use Rattle.std.specs.Prelude.{ℕ, ◌+◌, nat_le, nat_lt, if◌then◌else◌, List, length, Option, Some, None, option_map, Result, Ok, Err}
+use Rattle.guest_elf.specs.declared.image.Image.{Image}
+use Rattle.suppressions.specs.Rules.{Rule}
+use Rattle.scenario.specs.Edits.{row}
+use Rattle.scenario.specs.Limits.{most_steps}
+use Rattle.scenario.specs.Scenario.{Scenario, begun, at_step}
+use Rattle.replay_session.specs.Commands.{parsed}
+use Rattle.replay_session.specs.Faults.{fault_of}
+use Rattle.replay_session.specs.declared.command.Command.{Command}
+use Rattle.replay_session.specs.declared.command.Command.TheVariants.{Goto, Report, Worked, Edit}
+use Rattle.replay_session.specs.declared.fault.Fault.{Fault}
+use Rattle.replay_session.specs.declared.fault.Fault.TheVariants.{StepLimit, LineTooLong, TooManyCommands}
+
+-- a scenario, and how many lines were given
+pub record Turn : Type 0 where
+  pub scenario : Scenario
+  pub lines : ℕ
+
+-- how many lines are answered
+abbrev pub most_lines : ℕ
+most_lines = 100000
+
+-- how many bytes a line may have
+abbrev pub longest_line : ℕ
+longest_line = 4096
+
+-- why a command is refused, if it is: a step above the limit, and an edit as its row says
+abbrev pub command_refusal : Scenario → Command → Option Fault
+command_refusal sc (Goto n) = if nat_lt most_steps n then Some StepLimit else None
+command_refusal sc (Edit edit) = option_map fault_of (row sc edit).refusal
+command_refusal sc Report = None
+command_refusal sc Worked = None
+
+-- a command, or its refusal
+abbrev pub accepted_by : Option Fault → Command → Result Command Fault
+accepted_by None command = Ok command
+accepted_by (Some fault) command = Err fault
+
+abbrev pub if_command : Scenario → Result Command Fault → Result Command Fault
+if_command sc (Err fault) = Err fault
+if_command sc (Ok command) = accepted_by (command_refusal sc command) command
+
+-- the command that a line is, or why it is refused: too many lines, a line that is too long, no command, and then the command's own
+unfoldable pub accepted : Turn → List ℕ → Result Command Fault
+accepted turn line =
+    if nat_le most_lines turn.lines then Err TooManyCommands
+    else if nat_lt longest_line (length line) then Err LineTooLong
+    else if_command turn.scenario (parsed line)
+
+-- one more line; the number stands still at the greatest
+abbrev pub counted : ℕ → ℕ
+counted lines = if nat_le most_lines lines then lines else lines + 1
+
+-- what a command changes
+abbrev pub changed : Scenario → Command → Scenario
+changed sc (Goto n) = at_step sc n
+changed sc (Edit edit) = (row sc edit).after
+changed sc Report = sc
+changed sc Worked = sc
+
+abbrev pub after : Scenario → Result Command Fault → Scenario
+after sc (Ok command) = changed sc command
+after sc (Err fault) = sc
+
+-- a scenario, where one more line was given
+abbrev pub passed : Turn → Scenario → Turn
+passed turn sc = record { scenario = sc; lines = counted turn.lines }
+
+-- what is left after a line: a refused one changes the number of lines alone
+abbrev pub applied : Turn → List ℕ → Turn
+applied turn line = passed turn (after turn.scenario (accepted turn line))
+
+-- what a session of a program, an input and suppressions begins with
+abbrev pub opening : Image → List ℕ → List Rule → Turn
+opening image input rules = record { scenario = begun image input rules; lines = 0 }

@@ -1,0 +1,3 @@
+pub mod FrontSteps
+pub mod EditLaws
+pub mod EditSteps

@@ -1,0 +1,174 @@
+-- The one table of edits, and its two laws.
+use Rattle.std.specs.Prelude.{◌≡◌, ℕ, zero, suc, ◌+◌, ◌-◌, ◌^◌, ◌%◌, ◌<◌, ◌==◌, ◌||◌, ◌&&◌, nat_le, nat_lt, Bool, true, false, not, if◌then◌else◌, List, [], ◌∷◌, ◌++◌, length, take, remove, slice_set, slice_index_or, map, Option, Some, None, is_some}
+use Rattle.guest_elf.specs.Images.{loaded_at}
+use Rattle.guest_elf.specs.declared.image.Image.{Image}
+use Rattle.guest_machine.specs.declared.setup.Mark.{Mark as MarkAt}
+use Rattle.suppressions.specs.Rules.{Rule}
+use Rattle.suppressions.specs.declared.leak_kinds.LeakKinds.{LeakKinds}
+use Rattle.checkpoints.specs.Effects.{LeadsTo}
+use Rattle.checkpoints.specs.declared.effect.Effect.{Effect}
+use Rattle.checkpoints.specs.declared.effect.Effect.TheVariants.{Nowhere, After, Input as InputFrom, End, Heap, Word as WordAt}
+use Rattle.scenario.specs.Limits.{longest_input, most_steps, most_marks, longest_mark, most_callers, largest_redzone, largest_queue}
+use Rattle.scenario.specs.Scenario.{Scenario, run_of}
+use Rattle.scenario.specs.declared.edit.Edit.{Edit}
+use Rattle.scenario.specs.declared.edit.Edit.TheVariants.{Input, Append, Cut, Patch, Mark, Unmark, Switch, Add, Callers, Redzone, Queue, Show}
+use Rattle.scenario.specs.declared.refusal.Refusal.{Refusal}
+use Rattle.scenario.specs.declared.refusal.Refusal.TheVariants.{OutsideInput, InputTooLarge, NotPatchable, StepLimit, BadRange, TooManyMarks, NoSuchMark, NoSuchSuppression, BadOption}
+
+-- a refusal where a test holds
+abbrev pub refused_if : Bool → Refusal → Option Refusal
+refused_if true refusal = Some refusal
+refused_if false refusal = None
+
+-- is the byte so far after an address loaded?
+abbrev pub is_loaded : Image → ℕ → ℕ → Bool
+is_loaded image addr i = is_some (loaded_at image ((addr + i) % 2 ^ 32))
+
+-- is an address that of a loaded word: a multiple of 4, each of whose four bytes is loaded?
+unfoldable pub is_word : Image → ℕ → Bool
+is_word image addr =
+    (addr % 4 == 0) && (is_loaded image addr 0 && (is_loaded image addr 1 && (is_loaded image addr 2 && is_loaded image addr 3)))
+
+-- why a mark is refused where there are so many, in order: its step, its range, too many marks
+unfoldable pub mark_refusal : ℕ → MarkAt → Option Refusal
+mark_refusal marks mark =
+    if nat_lt most_steps mark.step then Some StepLimit
+    else if nat_lt mark.len 1 || (nat_lt longest_mark mark.len || nat_lt (2 ^ 32) (mark.addr + mark.len)) then Some BadRange
+    else if nat_le most_marks marks then Some TooManyMarks
+    else None
+
+-- with another input
+abbrev pub with_input : Scenario → List ℕ → Scenario
+with_input sc input = record sc { setup = record sc.setup { input = input } }
+
+-- the step of the mark at an index
+abbrev pub mark_step : List MarkAt → ℕ → ℕ
+mark_step marks i = slice_index_or (map (λ (mark : MarkAt). mark.step) marks) i 0
+
+-- the suppressions with one of them switched, and whether one is on
+abbrev pub switched : List Rule → ℕ → Bool → List Rule
+switched [] i on = []
+switched (rule ∷ rules) zero on = (record rule { on = on }) ∷ rules
+switched (rule ∷ rules) (suc i) on = rule ∷ switched rules i on
+
+abbrev pub is_on : List Rule → ℕ → Bool
+is_on [] i = false
+is_on (rule ∷ rules) zero = rule.on
+is_on (rule ∷ rules) (suc i) = is_on rules i
+
+-- which kinds of leak are shown: definitely lost, indirectly lost, possibly lost, still reachable
+abbrev pub shown : LeakKinds → List Bool
+shown kinds = kinds.definite ∷ kinds.indirect ∷ kinds.possible ∷ kinds.reachable ∷ []
+
+-- what is said of an edit of a scenario: why it is refused, what it leaves, where it shows, whether memory may be wanting, and the
+-- edit that takes it back, if one does
+pub record Row : Type 0 where
+  pub refusal : Option Refusal
+  pub after : Scenario
+  pub effect : Effect
+  pub may_fail : Bool
+  pub back : Option Edit
+
+-- the table, a row an edit
+abbrev pub row : Scenario → Edit → Row
+row sc (Input offset byte) = record {
+  refusal = refused_if (nat_le (length sc.setup.input) offset) OutsideInput;
+  after = with_input sc (slice_set sc.setup.input offset byte);
+  effect = InputFrom offset;
+  may_fail = false;
+  back = Some (Input offset (slice_index_or sc.setup.input offset 0));
+}
+row sc (Append byte) = record {
+  refusal = refused_if (nat_le longest_input (length sc.setup.input)) InputTooLarge;
+  after = with_input sc (sc.setup.input ++ byte ∷ []);
+  effect = End;
+  may_fail = true;
+  back = Some Cut;
+}
+row sc Cut = record {
+  refusal = refused_if (nat_lt (length sc.setup.input) 1) OutsideInput;
+  after = with_input sc (take (length sc.setup.input - 1) sc.setup.input);
+  effect = InputFrom (length sc.setup.input - 1);
+  may_fail = false;
+  back = Some (Append (slice_index_or sc.setup.input (length sc.setup.input - 1) 0));
+}
+row sc (Patch addr word) = record {
+  refusal = refused_if (not (is_word sc.image addr)) NotPatchable;
+  after = record sc { words = sc.words ++ record { addr = addr; word = word } ∷ [] };
+  effect = WordAt addr word;
+  may_fail = true;
+  back = None;
+}
+row sc (Mark mark) = record {
+  refusal = mark_refusal (length sc.marks) mark;
+  after = record sc { marks = sc.marks ++ mark ∷ [] };
+  effect = After mark.step;
+  may_fail = true;
+  back = Some (Unmark (length sc.marks));
+}
+row sc (Unmark i) = record {
+  refusal = refused_if (nat_le (length sc.marks) i) NoSuchMark;
+  after = record sc { marks = remove sc.marks i };
+  effect = After (mark_step sc.marks i);
+  may_fail = false;
+  back = None;
+}
+row sc (Switch i on) = record {
+  refusal = refused_if (nat_le (length sc.rules) i) NoSuchSuppression;
+  after = record sc { rules = switched sc.rules i on };
+  effect = Nowhere;
+  may_fail = false;
+  back = Some (Switch i (is_on sc.rules i));
+}
+row sc (Add rule) = record {
+  refusal = None;
+  after = record sc { rules = sc.rules ++ rule ∷ [] };
+  effect = Nowhere;
+  may_fail = true;
+  back = None;
+}
+row sc (Callers n) = record {
+  refusal = refused_if (nat_lt n 1 || nat_lt most_callers n) BadOption;
+  after = record sc { options = record sc.options { callers = n } };
+  effect = Nowhere;
+  may_fail = false;
+  back = Some (Callers sc.options.callers);
+}
+row sc (Redzone n) = record {
+  refusal = refused_if (nat_lt largest_redzone n) BadOption;
+  after = record sc { setup = record sc.setup { redzone = n } };
+  effect = Heap;
+  may_fail = false;
+  back = Some (Redzone sc.setup.redzone);
+}
+row sc (Queue n) = record {
+  refusal = refused_if (nat_lt largest_queue n) BadOption;
+  after = record sc { setup = record sc.setup { volume = n } };
+  effect = Heap;
+  may_fail = false;
+  back = Some (Queue sc.setup.volume);
+}
+row sc (Show kinds) = record {
+  refusal = None;
+  after = record sc { options = record sc.options { show = shown kinds } };
+  effect = Nowhere;
+  may_fail = false;
+  back = None;
+}
+
+-- the edit isn't refused
+abbrev pub IsTaken : Scenario → Edit → Type 0
+IsTaken sc edit = (row sc edit).refusal ≡ None
+
+-- an edit that isn't refused leads from the run of the scenario to that of the edited one, by its effect
+abbrev pub Follows : Type 0
+Follows = (sc : Scenario) (edit : Edit) → IsTaken sc edit → LeadsTo (row sc edit).effect (run_of sc) (run_of (row sc edit).after)
+
+-- what takes an edit back leaves the scenario as it was
+abbrev pub TakesBack : Type 0
+TakesBack = (sc : Scenario) (edit back : Edit) → IsTaken sc edit → (row sc edit).back ≡ Some back → (row (row sc edit).after back).after ≡ sc
+
+-- the word that an effect writes is a loaded one
+abbrev pub WritesLoaded : Image → Effect → Type 0
+WritesLoaded image (WordAt addr word) = (addr < 2 ^ 32) × (is_word image addr ≡ true)
+WritesLoaded image _ = Unit {0}

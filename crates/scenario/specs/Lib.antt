@@ -1,0 +1,5 @@
+pub mod Limits
+pub mod Setups
+pub mod Scenario
+pub mod Edits
+pub mod Lent

@@ -1,0 +1,30 @@
+-- The limits of what a user may say. They are this project's own; the longest trace is that of Valgrind's `--num-callers`, cut.
+use Rattle.std.specs.Prelude.{ℕ}
+use Rattle.call_stacks.specs.Frames.{longest_trace}
+
+-- the most bytes that an input may have
+abbrev pub longest_input : ℕ
+longest_input = 1048576
+
+-- the greatest step that may be chosen or marked
+abbrev pub most_steps : ℕ
+most_steps = 4194304
+
+-- the most marks at one time, and the most bytes of one
+abbrev pub most_marks : ℕ
+most_marks = 4096
+
+abbrev pub longest_mark : ℕ
+longest_mark = 1048576
+
+-- the most addresses of a trace that are shown
+abbrev pub most_callers : ℕ
+most_callers = longest_trace
+
+-- the most inaccessible bytes beside a block
+abbrev pub largest_redzone : ℕ
+largest_redzone = 4096
+
+-- the most bytes of freed blocks that are kept
+abbrev pub largest_queue : ℕ
+largest_queue = 1000000000

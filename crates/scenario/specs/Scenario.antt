@@ -1,0 +1,61 @@
+-- What a user has said of a run, and the report that is asked for. Nothing of earlier reports is in it.
+use Rattle.std.specs.Prelude.{ℕ, true, false, List, [], ◌∷◌, fold, length}
+use Rattle.guest_elf.specs.declared.image.Image.{Image}
+use Rattle.guest_machine.specs.State.{State}
+use Rattle.guest_machine.specs.Run.{start_state, poked, post}
+use Rattle.guest_machine.specs.declared.setup.Setup.{Setup}
+use Rattle.guest_machine.specs.declared.setup.Mark.{Mark}
+use Rattle.replay_report.specs.Report.{IsReport}
+use Rattle.replay_report.specs.declared.options.Options.{Options}
+use Rattle.suppressions.specs.Rules.{Rule}
+use Rattle.checkpoints.specs.Effects.{Run}
+use Rattle.scenario.specs.Setups.{setup_with}
+use Rattle.scenario.specs.declared.word.Word.{Word}
+
+-- a program with the words that were written into it, its input and heap settings, the marks, the suppressions with their switches, the
+-- options of the report and the chosen step
+pub record Scenario : Type 0 where
+  pub image : Image
+  pub words : List Word
+  pub setup : Setup
+  pub marks : List Mark
+  pub rules : List Rule
+  pub options : Options
+  pub step : ℕ
+
+-- a state with words written into it, one after another
+abbrev pub with_words : State → List Word → State
+with_words s words = fold (λ s (w : Word). poked s w.addr w.word) s words
+
+-- the state before step 0: the start of the program, with its words written
+unfoldable pub first_state : Scenario → State
+first_state sc = with_words (start_state sc.image) sc.words
+
+-- its run
+abbrev pub run_of : Scenario → Run
+run_of sc = record { start = first_state sc; setup = sc.setup; marks = sc.marks }
+
+-- the state at the chosen step of one run from step zero
+unfoldable pub chosen_state : Scenario → State
+chosen_state sc = post (first_state sc) sc.setup sc.marks sc.step
+
+-- a text is the report at the chosen step of one run from step zero
+unfoldable pub IsReportOf : Scenario → List ℕ → Type 0
+IsReportOf sc text = IsReport (chosen_state sc) sc.image sc.rules sc.options sc.step (length sc.setup.input) text
+
+-- what a program, an input and suppressions begin with: nothing written, no marks, Memcheck's options, step 0
+abbrev pub begun : Image → List ℕ → List Rule → Scenario
+begun image input rules =
+    record {
+      image = image;
+      words = [];
+      setup = setup_with image input;
+      marks = [];
+      rules = rules;
+      options = record { callers = 12; show = true ∷ false ∷ true ∷ false ∷ [] };
+      step = 0;
+    }
+
+-- a scenario with another step chosen
+abbrev pub at_step : Scenario → ℕ → Scenario
+at_step sc n = record sc { step = n }

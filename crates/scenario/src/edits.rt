@@ -1,0 +1,91 @@
+//! What each edit is to a scenario: why it is refused, where it shows, and what it leaves.
+mod input;
+mod marks;
+mod options;
+mod switches;
+mod words;
+
+ghost use Rattle.std.specs.Prelude.{◌≡◌};
+ghost use Rattle.scenario.specs.Edits.{refused_if};
+
+use crate::edit::Edit;
+use crate::refusal::Refusal;
+use crate::scenario::Scenario;
+use checkpoints::Effect;
+use std::alloc::AllocError;
+
+/// A refusal where a test holds.
+fn refused_if(test: bool, refusal: Refusal) -> Option<Refusal>
+    ensures { result ≡ refused_if test refusal }
+{
+    if test { Some(refusal) } else { None }
+}
+
+impl<'a> Scenario<'a> {
+    ghost use Rattle.std.specs.Prelude.{◌≡◌, true, OnOk, OnErr};
+    ghost use Rattle.scenario.specs.Edits.{row, IsTaken, WritesLoaded};
+
+    /// Why an edit is refused, if it is.
+    pub fn refusal(&self, edit: &Edit) -> Option<Refusal>
+        ensures { result ≡ (row self.now edit.now).refusal }
+    {
+        match edit {
+            Edit::Input { offset, .. } => self.input_refusal(*offset),
+            Edit::Append(_) => self.append_refusal(),
+            Edit::Cut => self.cut_refusal(),
+            Edit::Patch { addr, .. } => self.patch_refusal(*addr),
+            Edit::Mark(mark) => self.mark_refusal(mark),
+            Edit::Unmark(index) => self.unmark_refusal(*index),
+            Edit::Switch { index, .. } => self.switch_refusal(*index),
+            Edit::Callers(n) => self.callers_refusal(*n),
+            Edit::Redzone(n) => self.redzone_refusal(*n),
+            Edit::Queue(n) => self.queue_refusal(*n),
+            Edit::Add(_) | Edit::Show(_) => None,
+        }
+    }
+
+    /// Where an edit shows in the run. The word that it writes, if it isn't refused and writes one, is a loaded one.
+    pub fn effect(&self, edit: &Edit) -> Effect
+        ensures effect { result ≡ (row self.now edit.now).effect }
+        ensures loaded { IsTaken self.now edit.now → WritesLoaded self.now.image result }
+    {
+        match edit {
+            Edit::Input { offset, .. } => Effect::Input(*offset),
+            Edit::Append(_) => Effect::End,
+            Edit::Cut => self.last_byte(),
+            Edit::Patch { addr, word } => Effect::Word {
+                addr: *addr,
+                word: *word,
+            },
+            Edit::Mark(mark) => Effect::After(mark.step),
+            Edit::Unmark(index) => self.mark_at(*index),
+            Edit::Redzone(_) | Edit::Queue(_) => Effect::Heap,
+            Edit::Switch { .. } | Edit::Add(_) | Edit::Callers(_) | Edit::Show(_) => {
+                Effect::Nowhere
+            }
+        }
+    }
+
+    /// Makes an edit that isn't refused. Where memory is wanting, nothing changes.
+    pub fn edit(&mut self, edit: Edit) -> Result<(), AllocError>
+        requires { IsTaken self.old edit }
+        ensures ok { OnOk result (self.new ≡ (row self.old edit).after) }
+        ensures err { OnErr result (((row self.old edit).may_fail ≡ true) × (self.new ≡ self.old)) }
+    {
+        match edit {
+            Edit::Input { offset, byte } => self.set_byte(offset, byte),
+            Edit::Append(byte) => return self.append(byte),
+            Edit::Cut => self.cut(),
+            Edit::Patch { addr, word } => return self.write(addr, word),
+            Edit::Mark(mark) => return self.mark(mark),
+            Edit::Unmark(index) => self.unmark(index),
+            Edit::Switch { index, on } => self.switch(index, on),
+            Edit::Add(suppression) => return self.add(suppression),
+            Edit::Callers(n) => self.set_callers(n),
+            Edit::Redzone(n) => self.set_redzone(n),
+            Edit::Queue(n) => self.set_queue(n),
+            Edit::Show(kinds) => self.show(kinds),
+        }
+        Ok(())
+    }
+}

@@ -1,0 +1,64 @@
+//! Options of the heap and of the report.
+use crate::edits::refused_if;
+use crate::limits::{LARGEST_QUEUE, LARGEST_REDZONE, MOST_CALLERS};
+use crate::refusal::Refusal;
+use crate::scenario::Scenario;
+use suppressions::LeakKinds;
+
+impl<'a> Scenario<'a> {
+    ghost use Rattle.std.specs.Prelude.{◌≡◌};
+    ghost use Rattle.scenario.specs.Edits.{row, IsTaken};
+    ghost use Rattle.scenario.specs.declared.edit.Edit.TheVariants.{Callers, Redzone, Queue, Show};
+
+    pub(crate) fn callers_refusal(&self, n: u32) -> Option<Refusal>
+        ensures { result ≡ (row self.now (Callers n)).refusal }
+    {
+        refused_if(n < 1 || n > MOST_CALLERS, Refusal::BadOption)
+    }
+
+    pub(crate) fn redzone_refusal(&self, n: u32) -> Option<Refusal>
+        ensures { result ≡ (row self.now (Redzone n)).refusal }
+    {
+        refused_if(n > LARGEST_REDZONE, Refusal::BadOption)
+    }
+
+    pub(crate) fn queue_refusal(&self, n: u32) -> Option<Refusal>
+        ensures { result ≡ (row self.now (Queue n)).refusal }
+    {
+        refused_if(n > LARGEST_QUEUE, Refusal::BadOption)
+    }
+
+    /// Chooses how many addresses of a trace are shown.
+    pub(crate) fn set_callers(&mut self, n: u32)
+        requires { IsTaken self.old (Callers n) }
+        ensures { self.new ≡ (row self.old (Callers n)).after }
+    {
+        self.options.callers = n;
+    }
+
+    /// Chooses the red zone of the blocks that are allocated.
+    pub(crate) fn set_redzone(&mut self, n: u32)
+        ensures { self.new ≡ (row self.old (Redzone n)).after }
+    {
+        self.setup.redzone = n;
+    }
+
+    /// Chooses how many bytes the freed blocks may have.
+    pub(crate) fn set_queue(&mut self, n: u32)
+        ensures { self.new ≡ (row self.old (Queue n)).after }
+    {
+        self.setup.volume = n;
+    }
+
+    /// Chooses which kinds of leak are shown.
+    pub(crate) fn show(&mut self, kinds: LeakKinds)
+        ensures { self.new ≡ (row self.old (Show kinds)).after }
+    {
+        self.options.show = [
+            kinds.definite,
+            kinds.indirect,
+            kinds.possible,
+            kinds.reachable,
+        ];
+    }
+}

@@ -1,0 +1,46 @@
+//! Words written into the program.
+ghost use Rattle.std.specs.Prelude.{◌≡◌};
+ghost use Rattle.scenario.specs.Edits.{is_word};
+
+use crate::edits::refused_if;
+use crate::refusal::Refusal;
+use crate::scenario::Scenario;
+use crate::word::Word;
+use guest_elf::Image;
+use std::alloc::AllocError;
+
+/// Whether an address is that of a loaded word.
+#[tactic(auto, unfolding(crate::specs::Edits::is_word))]
+fn is_word(image: &Image, addr: u32) -> bool
+    ensures { result ≡ is_word image.now addr }
+{
+    addr % 4 == 0 && image.patchable(addr)
+}
+
+impl<'a> Scenario<'a> {
+    ghost use Rattle.std.specs.Prelude.{◌≡◌, ◌-◌, take, length, OnOk, OnErr};
+    ghost use Rattle.scenario.specs.Edits.{row};
+    ghost use Rattle.scenario.specs.declared.edit.Edit.TheVariants.{Patch};
+
+    pub(crate) fn patch_refusal(&self, addr: u32) -> Option<Refusal>
+        ensures { result ≡ (row self.now (Patch addr 0)).refusal }
+    {
+        refused_if(!is_word(&self.image, addr), Refusal::NotPatchable)
+    }
+
+    /// Writes a word.
+    pub(crate) fn write(&mut self, addr: u32, word: u32) -> Result<(), AllocError>
+        ensures ok { OnOk result (self.new ≡ (row self.old (Patch addr word)).after) }
+        ensures err { OnErr result (self.new ≡ self.old) }
+    {
+        self.words.push(Word { addr, word })?;
+        Ok(())
+    }
+
+    /// Takes the word off again that was written last, if there is one.
+    pub fn drop_word(&mut self)
+        ensures { self.new ≡ record self.old { words = take (length self.old.words - 1) self.old.words } }
+    {
+        let _last = self.words.pop();
+    }
+}

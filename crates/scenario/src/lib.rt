@@ -1,0 +1,54 @@
+//! What a user has said of a run, as one value; each edit of it, as one value; and the report of it by one run from step zero.
+//!
+//! A [`Scenario`] is a program with the words that were written into it, its input and the heap's settings, marks, suppressions with
+//! their switches, options of the report, and the chosen step. An [`Edit`] changes one of them.
+//!
+//! # Public items
+//!
+//! | Call | What it does |
+//! |---|---|
+//! | [`Scenario::begin`] | the scenario of a program with an input and suppressions: nothing edited, step 0 |
+//! | [`Scenario::choose`] | chooses a step |
+//! | [`Scenario::refusal`] | why an edit is refused, if it is |
+//! | [`Scenario::effect`] | where an edit shows in the run |
+//! | [`Scenario::edit`] | makes an edit that isn't refused |
+//! | [`Scenario::drop_word`] | takes the word off again that was written last |
+//! | [`Scenario::report`] | appends the report at the chosen step, by one run from step zero |
+//! | [`Scenario::render`] | the same of a machine that is at the chosen step already |
+//! | [`ScenarioRef::report`] | the report of a scenario whose parts are lent, by one run from step zero |
+//! | [`Scenario::setup`], [`Scenario::marks`], [`Scenario::step`] | what the run is given, the marks, the chosen step |
+//! | [`setup_with`] | an input, Memcheck's settings of the heap, and the functions of the heap that a program has by name |
+//! | [`laws::edits_follow`] | nothing: its contract says that each edit leads from run to run by its effect |
+//! | [`laws::edits_go_back`] | nothing: its contract says that what takes an edit back leaves the scenario as it was |
+//!
+//! # What a caller relies on
+//!
+//! Contracts see a scenario as a record (`Scenario` in `specs/`). All that is said of an edit stands in one row of one table (`row` in
+//! `specs/Edits`): why it is refused, what it leaves, where it shows, whether memory may be wanting, and what takes it back. The methods
+//! answer what the row says. Where memory is wanting, an edit leaves the scenario as it was.
+//!
+//! A text is the report of a scenario (`IsReportOf`) where it is that of the state at the chosen step of one run that begins at step
+//! zero, with the words written, one after another.
+//!
+//! # Where the definitions stand
+//!
+//! In `specs/`: `Scenario` (the record, its run and its report), `Edits` (the table and its laws), `Limits`, `Setups`.
+#![tactic(auto)]
+
+mod edit;
+mod edits;
+pub mod laws;
+mod lent;
+mod limits;
+mod refusal;
+mod scenario;
+mod setups;
+mod word;
+
+pub use edit::Edit;
+pub use lent::ScenarioRef;
+pub use limits::{LONGEST_INPUT, MOST_STEPS};
+pub use refusal::Refusal;
+pub use scenario::Scenario;
+pub use setups::setup_with;
+pub use word::Word;

@@ -1,0 +1,129 @@
+//! A scenario: what it keeps, and the report of it.
+ghost use Rattle.std.specs.Prelude.{◌≡◌, ◌≤◌, IfOk, OnOk, OnErr, length};
+ghost use Rattle.guest_machine.specs.Shows.{Shows};
+ghost use Rattle.replay_report.specs.Report.{AppendsReport};
+ghost use Rattle.scenario.specs.Lent.{lent};
+ghost use Rattle.scenario.specs.Limits.{longest_input, most_callers};
+ghost use Rattle.scenario.specs.Scenario.{IsReportOf, begun, at_step, chosen_state};
+
+use crate::lent::ScenarioRef;
+use crate::setups::setup_with;
+use crate::word::Word;
+use guest_elf::Image;
+use guest_machine::{Machine, Mark, Meter, Setup};
+use replay_report::Options;
+use std::alloc::{AllocError, Global};
+use std::marker::Model;
+use suppressions::Suppression;
+
+/// A program with the words that were written into it, its input and the heap's settings, marks, suppressions, options of the report and
+/// the chosen step.
+#[derive(Drop)]
+pub struct Scenario<'a> {
+    pub(crate) alloc: Global,
+    pub(crate) image: Image<'a>,
+    pub(crate) words: Vec<Word>,
+    pub(crate) setup: Setup,
+    pub(crate) marks: Vec<Mark>,
+    pub(crate) suppressions: Vec<Suppression>,
+    pub(crate) options: Options,
+    pub(crate) step: u32,
+}
+
+impl<'a> Model for Scenario<'a> {
+    ghost use Rattle.std.specs.Prelude.{◌≤◌, length};
+    ghost use Rattle.scenario.specs.Limits.{longest_input, most_callers};
+    ghost use Rattle.scenario.specs.Scenario.{Scenario as ScenarioOf};
+
+    ghost Value = { ScenarioOf };
+
+    ghost view = { λ a. record { image = a.image; words = a.words.items; setup = a.setup; marks = a.marks.items; rules = a.suppressions.items; options = a.options; step = a.step } };
+
+    ghost invariant = { λ a. (length a.setup.input ≤ longest_input) × (1 ≤ a.options.callers) × (a.options.callers ≤ most_callers) };
+}
+
+impl<'a> Scenario<'a> {
+    /// The scenario of a program with an input and suppressions, with nothing edited and step 0 chosen.
+    pub fn begin(
+        alloc: Global,
+        image: Image<'a>,
+        input: Vec<u8>,
+        suppressions: Vec<Suppression>,
+    ) -> Result<Self, AllocError>
+        requires { length input.items ≤ longest_input }
+        ensures { IfOk result (λ scenario. scenario ≡ begun image.entry input.items suppressions.items) }
+    {
+        let setup = setup_with(alloc, &image, input)?;
+        Ok(Scenario {
+            alloc,
+            image,
+            words: Vec::new(alloc),
+            setup,
+            marks: Vec::new(alloc),
+            suppressions,
+            options: Options::default(),
+            step: 0,
+        })
+    }
+
+    /// What its run is given.
+    pub fn setup(&self) -> &Setup
+        ensures { result.now ≡ self.now.setup }
+    {
+        &self.setup
+    }
+
+    /// The marks, in their order.
+    pub fn marks(&self) -> &[Mark]
+        ensures { result.now ≡ self.now.marks }
+    {
+        &self.marks
+    }
+
+    /// The chosen step.
+    pub fn step(&self) -> u32
+        ensures { result ≡ self.now.step }
+    {
+        self.step
+    }
+
+    /// Chooses a step.
+    pub fn choose(&mut self, step: u32)
+        ensures { self.new ≡ at_step self.old step }
+    {
+        self.step = step;
+    }
+
+    /// The same with its parts lent.
+    fn lent(&self) -> ScenarioRef<'_>
+        ensures parts { lent result ≡ self.now }
+        ensures some { 1 ≤ result.options.now.callers }
+        ensures few { result.options.now.callers ≤ most_callers }
+    {
+        ScenarioRef {
+            image: &self.image,
+            words: &self.words,
+            setup: &self.setup,
+            marks: &self.marks,
+            suppressions: &self.suppressions,
+            options: &self.options,
+            step: self.step,
+        }
+    }
+
+    /// Appends the report at the chosen step, by one run from step zero, whose steps are made on a meter.
+    pub fn report(&self, meter: &mut Meter, out: &mut Vec<u8>) -> Result<(), AllocError>
+        ensures ok { OnOk result (AppendsReport (IsReportOf self.now) out.old.items out.new.items) }
+        ensures err { OnErr result (out.new.items ≡ out.old.items) }
+    {
+        self.lent().report(self.alloc, meter, out)
+    }
+
+    /// Appends the report of a machine that is at the chosen step of the run.
+    pub fn render(&self, machine: &Machine, out: &mut Vec<u8>) -> Result<(), AllocError>
+        ensures ok { OnOk result (Shows machine.now (chosen_state self.now) → AppendsReport (IsReportOf self.now) out.old.items out.new.items) }
+        ensures err { OnErr result (out.new.items ≡ out.old.items) }
+    {
+        self.lent().render(self.alloc, machine, out)
+    }
+}
