@@ -1,70 +1,97 @@
-"""What the tools that hold a session have in common: their options, a line at a time with its reply, and how they end."""
-import argparse
+"""A session with the program: a line at a time, with its reply."""
 import os
 import subprocess
-import sys
 
+from replaycheck.endings import Fault, start
 from replaycheck.guest_files import TOP
+from replaycheck.refusals import with_words
 
 
-class Ended(Exception):
-    """The program ended before it replied; it says why on standard error."""
+class Ended(Fault):
+    """The program has ended before it replied. `said` is what it said of that, and `status` the one with which a tool ends."""
+
+    def __init__(self, child, keeps_status=False):
+        said = child.stderr.read().decode("utf-8", "surrogateescape") if child.stderr else ""
+        code = child.wait()
+        how = f"signal {-code}" if code < 0 else f"status {code}"
+        super().__init__(f"the program has ended before it replied, with {how}")
+        self.said = "".join(with_words(line) + "\n" for line in said.splitlines())
+        self.status = code if keeps_status and code > 0 else 2
+
+
+class Refused(Fault):
+    """The program has refused a line."""
+
+    def __init__(self, line, reply):
+        super().__init__(f"{line}: {with_words(reply)}")
+
+
+def program():
+    """The path of the program that REPLAYCHECK names, or else of this repository's, which is built first where it has to be."""
+    named = os.environ.get("REPLAYCHECK")
+    if named:
+        return named
+    built = start([str(TOP / "tools" / "lib" / "build")]).wait()
+    if built:
+        raise Fault("the program isn't built")
+    return str(TOP / "crates" / "replaycheck" / "out" / "replaycheck")
+
+
+def path_of(path):
+    """A path that the program doesn't take for an option."""
+    return "./" + path if path.startswith("-") else path
 
 
 class Session:
-    """A session of the program that REPLAYCHECK names, or else of this repository's."""
+    """A session on a program's file with its input and its suppressions."""
 
-    def __init__(self, options):
-        words = [os.environ.get("REPLAYCHECK") or str(TOP / "replaycheck"), "session", options.file]
-        for name in ("input", "supp"):
-            path = getattr(options, name)
-            words += ["--" + name, path] if path is not None else []
-        self.child = subprocess.Popen(words, stdin=subprocess.PIPE, stdout=subprocess.PIPE)
+    def __init__(self, file, given=None, supp=None, keeps_status=False, lends=()):
+        words = [program(), "session"]
+        words += ["--input", path_of(given)] if given is not None else []
+        words += ["--supp", path_of(supp)] if supp is not None else []
+        self.keeps_status = keeps_status
+        self.child = start([*words, path_of(file)], stdin=subprocess.PIPE, stdout=subprocess.PIPE, stderr=subprocess.PIPE,
+                           pass_fds=lends)
 
     def ask(self, line):
-        """The lines of the reply to one line, in bytes: one, or those of a report."""
+        """The reply to a line: one line, or those of a report."""
         try:
-            self.child.stdin.write(line + b"\n")
+            self.child.stdin.write(line.encode("utf-8", "surrogateescape") + b"\n")
             self.child.stdin.flush()
         except BrokenPipeError:
-            raise Ended("the session has ended") from None
+            raise self.ended() from None
         reply = [self.read()]
-        while reply[0].startswith(b"step ") and not reply[-1].startswith(b"ERROR SUMMARY: "):
-            reply.append(self.read())
+        if reply[0].startswith("step "):
+            while not reply[-1].startswith("ERROR SUMMARY: "):
+                reply.append(self.read())
         return reply
+
+    def accepted(self, line):
+        """The reply to a line that must not be refused."""
+        reply = self.ask(line)
+        if reply[0].startswith("refused "):
+            raise Refused(line, reply[0])
+        return reply
+
+    def report_at(self, step):
+        """The lines of the report at a step."""
+        self.accepted(f"goto {step}")
+        return self.accepted("report")
 
     def read(self):
         line = self.child.stdout.readline()
         if not line.endswith(b"\n"):
-            raise Ended("the session has ended")
-        return line[:-1]
+            raise self.ended()
+        return line[:-1].decode("utf-8", "surrogateescape")
+
+    def ended(self):
+        try:
+            self.child.stdin.close()
+        except OSError:
+            pass
+        return Ended(self.child, self.keeps_status)
 
 
-def options_of(page, *added):
-    """The options of a command line, by a tool's page: FILE, --input and --supp, and those added, each a name and what
-    argparse takes beside it. `--help` prints the page."""
-    if "--help" in sys.argv[1:]:
-        print(page.strip())
-        sys.exit(0)
-    usage = next(line for line in page.splitlines() if line.startswith("usage: "))
-    reader = argparse.ArgumentParser(usage=usage[len("usage: "):], add_help=False, allow_abbrev=False)
-    for name, how in [("file", {}), ("--input", {}), ("--supp", {}), *added]:
-        reader.add_argument(name, **how)
-    return reader.parse_args()
-
-
-def end(main):
-    """Ends a tool with what main returns, or with 2 and a line on standard error where it can't do its work."""
-    tool = os.path.basename(sys.argv[0])
-    try:
-        status = main()
-        sys.stdout.flush()
-    except BrokenPipeError:  # nobody reads on
-        os.dup2(os.open(os.devnull, os.O_WRONLY), sys.stdout.fileno())
-        status = 2
-    except KeyboardInterrupt:
-        status = 2
-    except (OSError, Ended) as fault:
-        print(f"{tool}: {fault}", file=sys.stderr)
-        status = 2
-    sys.exit(status)
+def script_of(lines):
+    """The lines of a script that ask something: without empty ones and remarks."""
+    return [line for line in lines if line and not line.startswith("#")]
