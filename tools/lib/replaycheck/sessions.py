@@ -24,6 +24,7 @@ class Refused(Fault):
 
     def __init__(self, line, reply):
         super().__init__(f"{line}: {with_words(reply)}")
+        self.number = int(reply.split(" ")[1])
 
 
 def program():
