@@ -24,20 +24,34 @@ class Interrupted(BaseException):
         self.number = number
 
 
+class Starting:
+    """Whether a child is being started, and the signal that has come meanwhile: it waits until the child is known."""
+
+    is_on = False
+    come = None
+
+
 def interrupt(number, _):
     for other in TOLD:
         signal.signal(other, signal.SIG_IGN)
-    raise Interrupted(number)
+    if Starting.is_on:
+        Starting.come = number
+    else:
+        raise Interrupted(number)
 
 
 def start(words, needs="", **pipes):
     """Starts a child. Where its program isn't there, what is needed is told."""
+    Starting.is_on = True
     try:
-        child = subprocess.Popen(words, **pipes)
+        children.append(subprocess.Popen(words, **pipes))
     except OSError as fault:
         raise Fault(f"cannot run {words[0]}: {fault.strerror}{needs and '; ' + needs}") from None
-    children.append(child)
-    return child
+    finally:
+        Starting.is_on = False
+        if Starting.come is not None:
+            raise Interrupted(Starting.come)
+    return children[-1]
 
 
 def end_children():

@@ -11,6 +11,7 @@ STOPS = {
     "illegal": "stopped: no instruction of RV32IM",
     "misaligned": "stopped: a jump to an address that is no multiple of 4",
 }
+HEAP = ("malloc", "free", "calloc", "realloc")
 RULES = {
     "Addr1": "Invalid read or write of one byte",
     "Addr2": "Invalid read or write of two bytes",
@@ -50,11 +51,13 @@ class Finding:
     note_trace: Optional[List[Call]] = None
 
     def lead(self):
-        """The innermost call that has a source line, or else the innermost one."""
-        return next((call for call in self.trace if call.place), self.trace[0])
+        """The innermost call that has a source line and isn't the heap's own, or else the innermost one."""
+        placed = [call for call in self.trace if call.place]
+        return next((call for call in placed if call.function not in HEAP), (placed or self.trace)[0])
 
     def title(self):
-        return f"{self.text} in {self.lead().function}"
+        name = self.lead().function
+        return self.text if name == "???" else f"{self.text} in {name}"
 
 
 @dataclass
@@ -91,8 +94,9 @@ class Shown:
             yield Finding("Leak", LEAK_KINDS[leak.kind] in self.leaks_that_count, text, 1, self.calls(leak.trace))
         state = self.report.state
         if state.name == "stopped":
-            self.places.learn([state.address])
-            yield Finding("Stop", True, STOPS[state.why], 1, self.calls([Frame(state.address, "???")]))
+            places = self.places.at(state.address)
+            name = places[-1].function if places else "???"
+            yield Finding("Stop", True, STOPS[state.why], 1, self.calls([Frame(state.address, name)]))
 
 
 def fails(report, leaks_that_count):

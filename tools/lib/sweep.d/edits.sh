@@ -44,7 +44,11 @@ list_code_edits() {
 
 name_of_objdump() {
   local name
-  for name in ${OBJDUMP:+"$OBJDUMP"} riscv64-unknown-elf-objdump riscv64-linux-gnu-objdump objdump; do
+  if [ -n "${OBJDUMP-}" ]; then
+    echo "$OBJDUMP"
+    return
+  fi
+  for name in riscv64-unknown-elf-objdump riscv64-linux-gnu-objdump objdump; do
     command -v "$name" && return
   done
   echo objdump
