@@ -26,9 +26,9 @@ RULES = {
 }
 
 
-@dataclass
+@dataclass(eq=False)
 class Call:
-    """A frame with its source line. An inlined call is one of its own, at the address of its caller's."""
+    """A frame with its source line. An inlined call is one of its own, at the address of its caller's. Each is made once."""
 
     address: str
     function: str
@@ -71,18 +71,21 @@ class Shown:
     leaks_that_count: frozenset
 
     def __post_init__(self):
+        self.made = {}
         traces = [it for error in self.report.errors for it in (error.trace, error.note.trace if error.note else [])]
         traces += [leak.trace for leak in self.report.leaks]
         self.places.learn([frame.address for trace in traces for frame in trace])
 
     def calls(self, trace):
         """The calls of a trace, with inlined ones."""
-        calls = []
-        for frame in trace:
-            places = self.places.known[frame.address] or [None]
-            calls += [Call(frame.address, place.function, place) for place in places[:-1]]
-            calls.append(Call(frame.address, frame.name, places[-1]))
-        return calls
+        return [call for frame in trace for call in self.calls_at(frame.address, frame.name)]
+
+    def calls_at(self, address, name):
+        if (address, name) not in self.made:
+            places = self.places.known[address] or [None]
+            inlined = [Call(address, place.function, place) for place in places[:-1]]
+            self.made[address, name] = [*inlined, Call(address, name, places[-1])]
+        return self.made[address, name]
 
     def findings(self):
         for error in self.report.errors:

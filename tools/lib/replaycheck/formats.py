@@ -1,12 +1,15 @@
 """A report in the formats that other programs read."""
+import functools
 import json
 import os
+import re
 import urllib.parse
 
 from replaycheck.findings import RULES
 from replaycheck.reports import LEAK_KINDS, SUMS
 
 JSON_VERSION = 1
+NO_XML = re.compile("[^\t\n -\ud7ff\ue000-\ufffd\U00010000-\U0010ffff]")
 XML_KINDS = {"Value4": "UninitValue", "Cond": "UninitCondition", "Param": "SyscallParam", "Free": "InvalidFree", "Jump": "InvalidJump"}
 XML_LEAKS = {"definitely lost": "Leak_DefinitelyLost", "indirectly lost": "Leak_IndirectlyLost", "possibly lost": "Leak_PossiblyLost",
              "still reachable": "Leak_StillReachable"}
@@ -62,15 +65,17 @@ def json_text(shown):
     return dumped(whole, 2) + "\n"
 
 
+@functools.lru_cache(maxsize=None)
 def uri(path):
     """A path as a URI: absolute, or relative to the root of the sources."""
     return ("file://" if path.startswith("/") else "") + urllib.parse.quote(os.fsencode(path))
 
 
-def location(shown, call, message=None, number=None):
+@functools.lru_cache(maxsize=None)
+def location(program, call, message=None, number=None):
     """A SARIF location: that of a call's source line, or else the program's file."""
     region = {"region": {"startLine": call.place.line}} if call.place else {}
-    file = call.place.file if call.place else shown.file
+    file = call.place.file if call.place else program
     made = {"physicalLocation": {"artifactLocation": {"uri": uri(file)}, **region},
             "logicalLocations": [{"name": printable(call.function), "kind": "function"}]}
     if message:
@@ -80,15 +85,19 @@ def location(shown, call, message=None, number=None):
     return made
 
 
+@functools.lru_cache(maxsize=None)
+def flow_step(program, call, word):
+    return {"location": location(program, call, printable(f"{word} {call}"))}
+
+
 def sarif_result(shown, finding, rules):
-    steps = [{"location": location(shown, call, printable(f"{'by' if index else 'at'} {call}"))}
-             for index, call in enumerate(finding.trace)]
+    steps = [flow_step(shown.file, call, "by" if index else "at") for index, call in enumerate(finding.trace)]
     text = printable(f"{finding.title()}{'. ' + finding.note if finding.note else ''}")
     made = {"ruleId": finding.rule, "ruleIndex": rules.index(finding.rule), "level": "error" if finding.counts else "note",
-            "message": {"text": text}, "locations": [location(shown, finding.lead())],
+            "message": {"text": text}, "locations": [location(shown.file, finding.lead())],
             "codeFlows": [{"threadFlows": [{"locations": steps}]}], "occurrenceCount": finding.times}
     if finding.note_trace:
-        made["relatedLocations"] = [location(shown, call, finding.note if index == 0 else f"by {printable(call.function)}", index)
+        made["relatedLocations"] = [location(shown.file, call, finding.note if index == 0 else f"by {printable(call.function)}", index)
                                     for index, call in enumerate(finding.note_trace)]
     return made
 
@@ -106,8 +115,7 @@ def sarif_text(shown):
 
 def xml(text):
     """A text as XML has it, with a mark in place of what XML can't have."""
-    shown = "".join(it if it >= " " or it in "\t\n" else "\ufffd" for it in printable(str(text)))
-    return shown.replace("&", "&amp;").replace("<", "&lt;").replace(">", "&gt;").replace('"', "&quot;")
+    return NO_XML.sub("\ufffd", printable(str(text))).replace("&", "&amp;").replace("<", "&lt;").replace(">", "&gt;").replace('"', "&quot;")
 
 
 def xml_frame(shown, call):

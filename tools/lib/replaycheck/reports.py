@@ -1,4 +1,5 @@
 """A report of the program: read into parts, and printed again as the same bytes."""
+import functools
 import re
 from dataclasses import dataclass, field
 from typing import Dict, List, Optional
@@ -34,6 +35,16 @@ class NoReport(Fault):
     """A line isn't the one that a report has there."""
 
 
+@functools.lru_cache(maxsize=None)
+def kind_of(text):
+    """What suppressions call an error with this text; None where no error has it."""
+    for pattern, name in TEXTS:
+        found = pattern.fullmatch(text)
+        if found:
+            return name + found[1] if name == "Addr" else name
+    return None
+
+
 @dataclass
 class Frame:
     address: str
@@ -63,8 +74,7 @@ class Error:
     @property
     def kind(self):
         """Its name in suppressions."""
-        match, name = next((text.fullmatch(self.text), name) for text, name in TEXTS if text.fullmatch(self.text))
-        return name + match[1] if name == "Addr" else name
+        return kind_of(self.text)
 
     @property
     def parameter(self):
@@ -201,7 +211,7 @@ def read_errors(lines):
     errors = []
     found = lines.take(ERROR)
     while found:
-        if not any(text.fullmatch(found[2]) for text, _ in TEXTS):
+        if not kind_of(found[2]):
             raise NoReport(f"no report: line {lines.number - 1} has no text of an error: {found[0]!r}")
         errors.append(Error(int(found[1]), found[2], read_trace(lines), read_note(lines)))
         found = lines.take(ERROR)
