@@ -100,6 +100,12 @@ def compare_rows():
     compare = ["compare", *PACKET]
     yield Row("compare: the same", [*compare, "input 7 1"], 0)
     yield Row("compare: another report", [*compare, "input 0 8"], 1, "*--- at step 1048576\n+++ after input 0 8\n@@ *")
+    yield Row("compare: an error more", [*compare, "input 0 8"], 1, "*+error 1: Invalid read of size 1*")
+    yield Row("compare: an error less", ["compare", "use-after-free.elf", "supp add Addr4 ..."], 1, "*-error 1: Invalid read of size 4*")
+    yield Row("compare: lines that take one another back", [*compare, "input 0 8", "input 0 3"], 0)
+    yield Row("compare: a suppression", [*compare, "--supp", "free.supp", "option redzone 32"], 0)
+    yield Row("compare: a step that is too great", [*compare, "--step", "5000000", "input 0 8"], 2, "", "*no number from 0*")
+    yield Row("compare: a missing program", ["compare", "missing", "input 0 8"], 2, "", "replaycheck: cannot read missing\n")
     yield Row("compare: options behind lines", [*compare, "input 0 8", "--step", "0x3c"], 1, "*--- at step 60\n*")
     yield Row("compare: a script after", [*compare, "--after", "edits"], 1, "*+++ after input 0 8\n*")
     yield Row("compare: a script before, and more after", [*compare, "--before", "edits", "--after", "edits", "option callers 1"], 1,
