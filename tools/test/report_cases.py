@@ -6,8 +6,10 @@ from replaycheck.reports import SUMS, Error, Frame, Leak, Note, Report, State, S
 NAMES = ["main", "???", "_start", "a.b$c", "operator?", "f(int,char*)", "x" * 300, "!", "~"]
 TEXTS = ["Invalid read of size 1", "Invalid read of size 2", "Invalid read of size 4", "Invalid write of size 1",
          "Invalid write of size 2", "Invalid write of size 4", "Use of uninitialised value of size 4",
-         "Conditional jump or move depends on uninitialised value(s)", "Syscall param exit(status) contains uninitialised byte(s)",
-         "Syscall param write(buf) points to uninitialised byte(s)", "Syscall param (syscallno) contains uninitialised byte(s)",
+         "Conditional jump or move depends on uninitialised value(s)",
+         "Syscall param exit(status) contains uninitialised byte(s)",
+         "Syscall param write(buf) points to uninitialised byte(s)",
+         "Syscall param (syscallno) contains uninitialised byte(s)",
          "Syscall param read(buf) points to unaddressable byte(s)", "Invalid free() / realloc()",
          "Jump to the invalid address stated on the next line"]
 ELSEWHERE = ["in the stack region", "not stack'd, malloc'd or (recently) free'd"]
@@ -29,19 +31,22 @@ def note(chance, kind):
         return Note(address(chance), ELSEWHERE[kind - 1])
     offset, size = chance.randrange(5000), chance.getrandbits(24)
     side, state = chance.choice(["inside", "before", "after"]), chance.choice(["alloc'd", "free'd"])
-    return Note(address(chance), f"{offset} bytes {side} a block of size {size} {state}", offset, side, size, state, trace(chance))
+    return Note(address(chance), f"{offset} bytes {side} a block of size {size} {state}", offset, side, size, state,
+                trace(chance))
 
 
 def state(chance):
     return chance.choice([State("running", address=address(chance)), State("exited", status=chance.randrange(256)),
-                          State("stopped", why=chance.choice(["jump", "break", "illegal", "misaligned"]), address=address(chance))])
+                          State("stopped", why=chance.choice(["jump", "break", "illegal", "misaligned"]),
+                                address=address(chance))])
 
 
 def random_report(chance, errors, leaks):
     numbers = [chance.getrandbits(chance.choice([1, 8, 22, 40])) for _ in range(8)]
     found = [Error(chance.randrange(1, 9999), chance.choice(TEXTS), trace(chance), note(chance, chance.randrange(4)))
              for _ in range(errors)]
-    lost = [Leak(chance.getrandbits(20), chance.randrange(1, 99), chance.choice(SUMS[:4]), trace(chance)) for _ in range(leaks)]
+    lost = [Leak(chance.getrandbits(20), chance.randrange(1, 99), chance.choice(SUMS[:4]), trace(chance))
+            for _ in range(leaks)]
     sums = {name: Sum(chance.getrandbits(24), chance.getrandbits(10)) for name in SUMS}
     return Report(numbers[0], state(chance), numbers[1], numbers[2], numbers[3], found, lost, sums, *numbers[4:])
 
@@ -56,7 +61,8 @@ def each_shape():
     """A report of each state, in which each text has each sort of note, and each kind of leak stands."""
     chance = random.Random(0)
     for made in (State("running", address="0x00010000"), State("exited", status=255),
-                 *(State("stopped", why=why, address="0x00000000") for why in ("jump", "break", "illegal", "misaligned"))):
+                 *(State("stopped", why=why, address="0x00000000")
+                   for why in ("jump", "break", "illegal", "misaligned"))):
         report = random_report(chance, 0, 0)
         report.state = made
         report.errors = [Error(1, text, trace(chance), note(chance, kind)) for text in TEXTS for kind in range(4)]

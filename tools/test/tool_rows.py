@@ -67,13 +67,19 @@ CODED = "+ Invalid read of size 1 at 0x00010044: total (packet.s:29), by main\n"
 
 def talk_rows():
     yield Row("talk: a script", ["talk", "three-words.elf", "script"], 0, TALKED)
-    yield Row("talk: from standard input", ["talk", "three-words.elf", "-"], 1, f"> hello\n{NO_LINE}\n> goto 1\nok\n", given=b"hello\ngoto 1\n")
+    yield Row("talk: from standard input", ["talk", "three-words.elf", "-"], 1, f"> hello\n{NO_LINE}\n> goto 1\nok\n",
+              given=b"hello\ngoto 1\n")
     yield Row("talk: a line with a return", ["talk", "three-words.elf", "-"], 0, "> goto 1\nok\n", given=b"goto 1\r\n")
-    yield Row("talk: an input", ["talk", "packet.elf", "--input=packet.input", "--", "-"], 0, "> input 7 1\nok\n", given=b"input 7 1")
-    yield Row("talk: bytes that are no UTF-8", ["talk", "three-words.elf", "-"], 1, f"> \udcff\n{NO_LINE}\n", given=b"\xff\n")
-    yield Row("talk: a name in two lines", ["talk", "a name\nin two lines.elf", "-"], 0, "> goto 1\nok\n", given=b"goto 1\n")
-    yield Row("talk: a refused file", ["talk", "script", "-"], 2, "", "replaycheck: image refused 20: no ELF file\n", given=b"goto 1\n")
-    yield Row("talk: no script", ["talk", "three-words.elf", "missing"], 2, "", "replaycheck talk: missing: No such file or directory\n")
+    yield Row("talk: an input", ["talk", "packet.elf", "--input=packet.input", "--", "-"], 0, "> input 7 1\nok\n",
+              given=b"input 7 1")
+    yield Row("talk: bytes that are no UTF-8", ["talk", "three-words.elf", "-"], 1, f"> \udcff\n{NO_LINE}\n",
+              given=b"\xff\n")
+    yield Row("talk: a name in two lines", ["talk", "a name\nin two lines.elf", "-"], 0, "> goto 1\nok\n",
+              given=b"goto 1\n")
+    yield Row("talk: a refused file", ["talk", "script", "-"], 2, "", "replaycheck: image refused 20: no ELF file\n",
+              given=b"goto 1\n")
+    yield Row("talk: no script", ["talk", "three-words.elf", "missing"], 2, "",
+              "replaycheck talk: missing: No such file or directory\n")
     yield Row("talk: an option twice", ["talk", *PACKET, "--input=a", "-"], 2, "", "*--input is given twice*")
     yield Row("talk: no program", ["talk", "three-words.elf", "script"], 2, None, "*cannot run ./missing*",
               environment={"REPLAYCHECK": "./missing"})
@@ -83,16 +89,20 @@ def when_rows():
     when = ["when", "three-words.elf"]
     yield Row("when: after an edit", ["when", *PACKET, "--line", "input 0 8", "Invalid read"], 0, "58\n")
     yield Row("when: not in the unedited run", ["when", *PACKET, "Invalid read"], 1)
-    yield Row("when: a suppressed error", ["when", "undefined-branches.elf", "--supp", "undefined-branches.supp", "error 1"], 1)
+    yield Row("when: a suppressed error",
+              ["when", "undefined-branches.elf", "--supp", "undefined-branches.supp", "error 1"], 1)
     yield Row("when: the last step", [*when, "--last", "3", "state exited"], 0, "3\n")
     yield Row("when: a hexadecimal step", [*when, "--last=0x3", "state exited"], 0, "3\n")
     yield Row("when: from the start", [*when, "--last", "2", "state running"], 0, "0\n")
     yield Row("when: before the last step", [*when, "--last", "2", "state exited"], 1)
-    yield Row("when: a refused line", ["when", "packet.elf", "--line", "input 0 8", "x"], 2, "", f"replaycheck when: input 0 8: {NO_BYTE}\n")
-    yield Row("when: two lines in one word", ["when", *PACKET, "--line", "input 0 8\nreport", "Invalid"], 2, "", "*two lines in one word*")
+    yield Row("when: a refused line", ["when", "packet.elf", "--line", "input 0 8", "x"], 2, "",
+              f"replaycheck when: input 0 8: {NO_BYTE}\n")
+    yield Row("when: two lines in one word", ["when", *PACKET, "--line", "input 0 8\nreport", "Invalid"], 2, "",
+              "*two lines in one word*")
     yield Row("when: a text of two lines", [*when, "state\nexited"], 2, "", "*two lines in one word*")
     yield Row("when: no edit", ["when", *PACKET, "--line", "goto 8", "Invalid"], 2, "", "*no edit: 'goto 8'*")
-    yield Row("when: a step that is too great", [*when, "--last", "4194305", "x"], 2, "", "*no number from 0 to 4194304*")
+    yield Row("when: a step that is too great", [*when, "--last", "4194305", "x"], 2, "",
+              "*no number from 0 to 4194304*")
     yield Row("when: a refused file", ["when", "script", "x"], 2, "", "replaycheck: image refused 20: no ELF file\n")
 
 
@@ -101,14 +111,18 @@ def compare_rows():
     yield Row("compare: the same", [*compare, "input 7 1"], 0)
     yield Row("compare: another report", [*compare, "input 0 8"], 1, "*--- at step 1048576\n+++ after input 0 8\n@@ *")
     yield Row("compare: an error more", [*compare, "input 0 8"], 1, "*+error 1: Invalid read of size 1*")
-    yield Row("compare: an error less", ["compare", "use-after-free.elf", "supp add Addr4 ..."], 1, "*-error 1: Invalid read of size 4*")
+    yield Row("compare: an error less", ["compare", "use-after-free.elf", "supp add Addr4 ..."], 1,
+              "*-error 1: Invalid read of size 4*")
     yield Row("compare: lines that take one another back", [*compare, "input 0 8", "input 0 3"], 0)
     yield Row("compare: a suppression", [*compare, "--supp", "free.supp", "option redzone 32"], 0)
-    yield Row("compare: a step that is too great", [*compare, "--step", "5000000", "input 0 8"], 2, "", "*no number from 0*")
-    yield Row("compare: a missing program", ["compare", "missing", "input 0 8"], 2, "", "replaycheck: cannot read missing\n")
+    yield Row("compare: a step that is too great", [*compare, "--step", "5000000", "input 0 8"], 2, "",
+              "*no number from 0*")
+    yield Row("compare: a missing program", ["compare", "missing", "input 0 8"], 2, "",
+              "replaycheck: cannot read missing\n")
     yield Row("compare: options behind lines", [*compare, "input 0 8", "--step", "0x3c"], 1, "*--- at step 60\n*")
     yield Row("compare: a script after", [*compare, "--after", "edits"], 1, "*+++ after input 0 8\n*")
-    yield Row("compare: a script before, and more after", [*compare, "--before", "edits", "--after", "edits", "option callers 1"], 1,
+    yield Row("compare: a script before, and more after",
+              [*compare, "--before", "edits", "--after", "edits", "option callers 1"], 1,
               "*--- after input 0 8\n+++ after input 0 8; option callers 1\n*")
     yield Row("compare: scripts on both sides that differ", [*compare, "--before", "edits", "input 7 1"], 1,
               "*--- after input 0 8\n+++ after input 7 1\n*")
@@ -118,22 +132,29 @@ def compare_rows():
               "replaycheck compare: option color 1: refused 9: no such option, or its value is out of range\n")
     yield Row("compare: two lines in one word", [*compare, "input 0 8\ninput 0 3"], 2, "", "*two lines in one word*")
     yield Row("compare: no edit", [*compare, "report"], 2, "", "*no edit: 'report'*")
-    yield Row("compare: a script with another line", [*compare, "--after", "not edits"], 2, "", "*not edits: no edit: 'goto 8'*")
-    yield Row("compare: a missing script", [*compare, "--before", "none"], 2, "", "replaycheck compare: none: No such file or directory\n")
-    yield Row("compare: no diff", [*compare, "input 0 8"], 2, "", "*cannot run diff*diffutils*", environment={"PATH": "few"})
+    yield Row("compare: a script with another line", [*compare, "--after", "not edits"], 2, "",
+              "*not edits: no edit: 'goto 8'*")
+    yield Row("compare: a missing script", [*compare, "--before", "none"], 2, "",
+              "replaycheck compare: none: No such file or directory\n")
+    yield Row("compare: no diff", [*compare, "input 0 8"], 2, "", "*cannot run diff*diffutils*",
+              environment={"PATH": "few"})
 
 
 def suppress_rows():
     yield Row("suppress: blocks", ["suppress", "error.report"], 0, FREED)
     yield Row("suppress: a report twice", ["suppress", "error.report", "error.report"], 0, FREED)
     yield Row("suppress: no report", ["suppress"], 2, "", "replaycheck suppress: no report\n", given=b"ok\n")
-    yield Row("suppress: no whole report", ["suppress"], 2, "", "*line 2 must be `state ..`, and is the end*", given=b"step 1")
-    yield Row("suppress: a part of a report", ["suppress"], 2, "", "*outside a report*", given=b"error 1: Invalid read of size 4\n")
-    yield Row("suppress: a missing report", ["suppress", "missing"], 2, "", "replaycheck suppress: missing: No such file or directory\n")
+    yield Row("suppress: no whole report", ["suppress"], 2, "", "*line 2 must be `state ..`, and is the end*",
+              given=b"step 1")
+    yield Row("suppress: a part of a report", ["suppress"], 2, "", "*outside a report*",
+              given=b"error 1: Invalid read of size 4\n")
+    yield Row("suppress: a missing report", ["suppress", "missing"], 2, "",
+              "replaycheck suppress: missing: No such file or directory\n")
 
 
 def word_rows():
-    for word, instruction in (("0x00a50533", "add a0,a0,a0"), ("0xfe010113", "addi sp,sp,-32"), ("0x04f5f663", "bgeu a1,a5,.+76"),
+    for word, instruction in (("0x00a50533", "add a0,a0,a0"), ("0xfe010113", "addi sp,sp,-32"),
+                              ("0x04f5f663", "bgeu a1,a5,.+76"),
                               ("0xff1ff06f", "j .-16"), ("0x00812e03", "lw t3,8(sp)"), ("0x02d7f7b3", "remu a5,a5,a3"),
                               ("0x00000073", "ecall")):
         yield Row(f"word: {instruction}", ["word", instruction], 0, f"{word}\n", needs=BINUTILS)
@@ -142,42 +163,57 @@ def word_rows():
     yield Row("word: no instruction", ["word", "hello a0"], 1, "", "*Error*", needs=BINUTILS)
     yield Row("word: not of RV32IM", ["word", "c.nop"], 1, "", "*Error*", needs=BINUTILS)
     yield Row("word: two lines", ["word", "nop\nnop"], 2, "", "*two lines in one word*", needs=BINUTILS)
-    yield Row("word: no assembler", ["word", "nop"], 2, "", "*cannot run missing-as*binutils*", environment={"AS": "missing-as"})
-    yield Row("word: no disassembler", ["word", "nop"], 2, "", "*cannot run no-objdump*", needs=BINUTILS, environment={"OBJDUMP": "no-objdump"})
+    yield Row("word: no assembler", ["word", "nop"], 2, "", "*cannot run missing-as*binutils*",
+              environment={"AS": "missing-as"})
+    yield Row("word: no disassembler", ["word", "nop"], 2, "", "*cannot run no-objdump*", needs=BINUTILS,
+              environment={"OBJDUMP": "no-objdump"})
     yield Row("sweep: no disassembler", ["sweep", "packet.elf", "--code", "main"], 2, "", "*no-objdump*",
               environment={"OBJDUMP": "no-objdump"})
 
 
 def lines_rows():
-    report = b"error 1: at 0x00010044: no frame\n   at 0x00010044: total\n   by 0x00010028: main\n   at 0x40000000: ???\n 0x\xff"
-    placed = f"error 1: at 0x00010044: no frame\n{HELD}   by 0x00010028: main (packet.s:17)\n   at 0x40000000: ???\n 0x\udcff"
+    report = b"error 1: at 0x00010044: no frame\n   at 0x00010044: total\n   by 0x00010028: main\n 0x\xff"
+    placed = f"error 1: at 0x00010044: no frame\n{HELD}   by 0x00010028: main (packet.s:17)\n 0x\udcff"
     yield Row("lines: a report", ["lines", "packet.elf"], 0, placed, given=report, needs=ADDR2LINE)
     for sign in "-", "+", " ", "< ", "> ":
-        yield Row(f"lines: a diff, {sign!r}", ["lines", "packet.elf"], 0, sign + HELD, given=sign.encode() + b"   at 0x00010044: total\n",
+        yield Row(f"lines: a diff, {sign!r}", ["lines", "packet.elf"], 0, sign + HELD,
+                  given=sign.encode() + b"   at 0x00010044: total\n",
                   needs=ADDR2LINE)
     inlined = "   at 0x00010160: call_environment (environment.h:23)\n   by 0x00010160: write (system.c:14)\n"
-    yield Row("lines: an inlined call", ["lines", "station.elf"], 0, inlined, given=b"   at 0x00010160: write\n", needs=ADDR2LINE)
+    yield Row("lines: an inlined call", ["lines", "station.elf"], 0, inlined, given=b"   at 0x00010160: write\n",
+              needs=ADDR2LINE)
     yield Row("lines: an inlined call in a diff", ["lines", "station.elf"], 0,
-              "+   at 0x00010160: write (environment.h:23 in system.c:14)\n", given=b"+   at 0x00010160: write\n", needs=ADDR2LINE)
-    yield Row("lines: one of several places of a line", ["lines", "station.elf"], 0, "   by 0x000102e0: drop (station.c:122)\n",
+              "+   at 0x00010160: write (environment.h:23 in system.c:14)\n", given=b"+   at 0x00010160: write\n",
+              needs=ADDR2LINE)
+    yield Row("lines: one of several places of a line", ["lines", "station.elf"], 0,
+              "   by 0x000102e0: drop (station.c:122)\n",
               given=b"   by 0x000102e0: drop\n", needs=ADDR2LINE)
-    yield Row("lines: whole paths", ["lines", "station.elf", "--full-paths"], 0, "   by 0x000102e0: drop (../firmware/station.c:122)\n",
+    yield Row("lines: whole paths", ["lines", "station.elf", "--full-paths"], 0,
+              "   by 0x000102e0: drop (../firmware/station.c:122)\n",
               given=b"   by 0x000102e0: drop\n", needs=ADDR2LINE)
     yield Row("lines: paths from below a folder", ["lines", "--strip-prefix=../firmware/", "station.elf"], 0,
               "   by 0x000102e0: drop (station.c:122)\n", given=b"   by 0x000102e0: drop\n", needs=ADDR2LINE)
     yield Row("lines: a summary of a sweep", ["lines", "packet.elf"], 0, CODED, needs=ADDR2LINE,
               given=b"+ Invalid read of size 1 at 0x00010044: total, by main\n")
-    yield Row("lines: a table of a sweep", ["lines", "packet.elf"], 0, f"x\t{CODED[2:-1]}\tdefinitely lost at 0x00010028: main (packet.s:17)\n",
-              needs=ADDR2LINE, given=b"x\tInvalid read of size 1 at 0x00010044: total, by main\tdefinitely lost at 0x00010028: main\n")
+    yield Row("lines: a table of a sweep", ["lines", "packet.elf"], 0,
+              f"x\t{CODED[2:-1]}\tdefinitely lost at 0x00010028: main (packet.s:17)\n",
+              needs=ADDR2LINE,
+              given=b"x\tInvalid read of size 1 at 0x00010044: total, by main\tdefinitely lost at 0x00010028: main\n")
     yield Row("lines: no frames", ["lines", "packet.elf"], 0, "ok\n", given=b"ok\n", needs=ADDR2LINE)
     bare = b"   at 0x00010000: main\nok\n"
-    yield Row("lines: no debug information", ["lines", "two-callers.elf"], 1, bare.decode(), given=bare, needs=ADDR2LINE)
-    yield Row("lines: no program", ["lines", "script"], 2, bare.decode(), "*addr2line has ended*", given=bare, needs=ADDR2LINE)
-    yield Row("lines: no such file", ["lines", "missing"], 2, bare.decode(), "replaycheck lines: missing: no such file\n", given=bare)
-    yield Row("lines: no addr2line", ["lines", "packet.elf"], 2, bare.decode(), "*cannot run no-addr2line*binutils*", given=bare,
+    yield Row("lines: no debug information", ["lines", "two-callers.elf"], 1, bare.decode(), given=bare,
+              needs=ADDR2LINE)
+    yield Row("lines: no program", ["lines", "script"], 2, bare.decode(), "*addr2line has ended*", given=bare,
+              needs=ADDR2LINE)
+    yield Row("lines: no such file", ["lines", "missing"], 2, bare.decode(),
+              "replaycheck lines: missing: no such file\n", given=bare)
+    yield Row("lines: no addr2line", ["lines", "packet.elf"], 2, bare.decode(), "*cannot run no-addr2line*binutils*",
+              given=bare,
               environment={"ADDR2LINE": "no-addr2line"})
-    yield Row("lines: a bad option", ["lines", "--colour", "packet.elf"], 2, "", "*unrecognized arguments: --colour*", given=bare)
-    yield Row("lines: two ways of paths", ["lines", "packet.elf", "--full-paths", "--strip-prefix=x"], 2, "", "*at once*")
+    yield Row("lines: a bad option", ["lines", "--colour", "packet.elf"], 2, "", "*unrecognized arguments: --colour*",
+              given=bare)
+    yield Row("lines: two ways of paths", ["lines", "packet.elf", "--full-paths", "--strip-prefix=x"], 2, "",
+              "*at once*")
 
 
 def run_rows():
@@ -186,36 +222,48 @@ def run_rows():
     yield Row("run: an error", [*freed, "--error-exitcode=7"], 7, None)
     yield Row("run: an error, and no status", [*freed, "--error-exitcode", "0"], 0, None)
     yield Row("run: no error", ["run", "three-words.elf", "--error-exitcode=7"], 0, None)
-    yield Row("run: errors that are suppressed", [*run, "--suppressions=undefined-branches.supp", "--error-exitcode=7"], 0,
+    yield Row("run: errors that are suppressed", [*run, "--suppressions=undefined-branches.supp", "--error-exitcode=7"],
+              0,
               "*ERROR SUMMARY: 0 errors from 0 contexts (suppressed: 2 from 2)*")
-    yield Row("run: two files of suppressions", [*run, "--supp=free.supp", "--suppressions=undefined-branches.supp", "--error-exitcode=7"], 0,
+    yield Row("run: two files of suppressions",
+              [*run, "--supp=free.supp", "--suppressions=undefined-branches.supp", "--error-exitcode=7"], 0,
               "*(suppressed: 2 from 2)*")
-    yield Row("run: the second file of suppressions is at fault", [*run, "--supp=free.supp", "--suppressions", "half.supp"], 3, "",
+    yield Row("run: the second file of suppressions is at fault",
+              [*run, "--supp=free.supp", "--suppressions", "half.supp"], 3, "",
               "replaycheck: suppressions refused 13 at line 1: a suppression that can't be read\n")
-    yield Row("run: shorter traces", [*freed, "--num-callers=1"], 0, "*error 1: Invalid read of size 4\n   at 0x00010050: first_item\n Address*")
-    yield Row("run: no room for freed blocks", [*freed, "--freelist-vol=0"], 0, "*is not stack'd, malloc'd or (recently) free'd*")
+    yield Row("run: shorter traces", [*freed, "--num-callers=1"], 0,
+              "*error 1: Invalid read of size 4\n   at 0x00010050: first_item\n Address*")
+    yield Row("run: no room for freed blocks", [*freed, "--freelist-vol=0"], 0,
+              "*is not stack'd, malloc'd or (recently) free'd*")
     yield Row("run: a step", [*freed, "--redzone-size=0x20", "--step=3"], 0, "*step 3\nstate running*")
     yield Row("run: more callers than there are", [*freed, "--num-callers=25"], 2, "", "*no number from 1 to 24*")
     yield Row("run: no kind of leak", [*freed, "--show-leak-kinds=lost"], 2, "", "*no kind of leak: 'lost'*")
     yield Row("run: no format", [*freed, "--format=yaml"], 2, "", "*invalid choice: 'yaml'*")
     yield Row("run: an option twice", [*freed, "--format=gcc", "--format=gcc"], 2, "", "*--format is given twice*")
-    yield Row("run: paths of a text", [*freed, "--full-paths"], 2, "", "*text has no paths*")
-    yield Row("run: an option of Valgrind", [*freed, "--leak-check=full"], 2, "", "*--leak-check is no option here: leaks are searched for*")
-    yield Row("run: another option of Valgrind", [*freed, "--xml=yes"], 2, "", "*--xml is no option here: --format valgrind-xml*")
-    yield Row("run: the output", [*freed, "--output=x"], 2, "", "*only how many bytes were written*")
+    yield Row("run: paths of a text", [*freed, "--full-paths"], 2, "", "*go with a --format that*")
+    yield Row("run: an option of Valgrind", [*freed, "--leak-check=full"], 2, "",
+              "*--leak-check is no option here: leaks are searched for*")
+    yield Row("run: another option of Valgrind", [*freed, "--xml=yes"], 2, "",
+              "*--xml is no option here: --format valgrind-xml*")
+    yield Row("run: the output", [*freed, "--output=x"], 2, "", "*how many bytes were written and not which*")
     yield Row("run: an option that nobody has", [*freed, "--depth=3"], 2, "", "*unexpected argument '--depth' found*")
-    yield Row("run: no program", ["run", "script", "--error-exitcode=7"], 3, "", "replaycheck: image refused 20: no ELF file\n")
-    yield Row("run: a missing program", ["run", "missing", "--error-exitcode=7"], 1, "", "replaycheck: cannot read missing\n")
+    yield Row("run: no program", ["run", "script", "--error-exitcode=7"], 3, "",
+              "replaycheck: image refused 20: no ELF file\n")
+    yield Row("run: a missing program", ["run", "missing", "--error-exitcode=7"], 1, "",
+              "replaycheck: cannot read missing\n")
     yield Row("run: a name in two lines", ["run", "a name\nin two lines.elf", "--error-exitcode=7"], 7, None)
-    yield Row("run: no addr2line", [*freed, "--format=gcc"], 2, "", "*cannot run no-addr2line*", environment={"ADDR2LINE": "no-addr2line"})
+    yield Row("run: no addr2line", [*freed, "--format=gcc"], 2, "", "*cannot run no-addr2line*",
+              environment={"ADDR2LINE": "no-addr2line"})
 
 
 def launcher_rows():
     yield Row("the program's own fault", ["walk"], 2, "", "*unrecognized subcommand 'walk'*")
     yield Row("the program's own help of run", ["run", "--help"], 0, "*Usage: replaycheck run [OPTIONS] <FILE>*")
-    yield Row("help of the options for CI", ["run", "--error-exitcode=1", "--help"], 0, "*--errors-for-leak-kinds LIST  these kinds*")
+    yield Row("help of the options for CI", ["run", "--error-exitcode=1", "--help"], 0,
+              "*--errors-for-leak-kinds LIST  these kinds*")
     yield Row("a path is no tool", ["../bin/ls"], 2, "", "*unrecognized subcommand*")
 
 
-ROWS = [row for rows in (talk_rows, when_rows, compare_rows, suppress_rows, word_rows, lines_rows, run_rows, launcher_rows)
+ROWS = [row
+        for rows in (talk_rows, when_rows, compare_rows, suppress_rows, word_rows, lines_rows, run_rows, launcher_rows)
         for row in rows()]

@@ -4,16 +4,20 @@ import re
 from replaycheck.guest_files import ENTRY
 
 EBREAK, ECALL, FENCE = 0x00100073, 0x00000073, 0x0FF0000F
-NAMES = ["zero", "ra", "sp", "gp", "tp", "t0", "t1", "t2", "s0", "s1", *(f"a{i}" for i in range(8)), *(f"s{i}" for i in range(2, 12)),
+NAMES = ["zero", "ra", "sp", "gp", "tp", "t0", "t1", "t2", "s0", "s1", *(f"a{i}" for i in range(8)),
+         *(f"s{i}" for i in range(2, 12)),
          *(f"t{i}" for i in range(3, 7))]
 REGISTERS = {name: number for number in range(32) for name in (f"x{number}", NAMES[number])}
 # The fields funct7 and funct3 of instructions of two registers, and funct3 of the others.
-OF_REGISTERS = {"add": (0, 0), "sub": (32, 0), "sll": (0, 1), "slt": (0, 2), "sltu": (0, 3), "xor": (0, 4), "srl": (0, 5), "sra": (32, 5),
-                "or": (0, 6), "and": (0, 7), "mul": (1, 0), "mulh": (1, 1), "mulhsu": (1, 2), "mulhu": (1, 3), "div": (1, 4),
+OF_REGISTERS = {"add": (0, 0), "sub": (32, 0), "sll": (0, 1), "slt": (0, 2), "sltu": (0, 3), "xor": (0, 4),
+                "srl": (0, 5), "sra": (32, 5),
+                "or": (0, 6), "and": (0, 7), "mul": (1, 0), "mulh": (1, 1), "mulhsu": (1, 2), "mulhu": (1, 3),
+                "div": (1, 4),
                 "divu": (1, 5), "rem": (1, 6), "remu": (1, 7)}
 OF_IMMEDIATES = {"addi": 0, "slli": 1, "slti": 2, "sltiu": 3, "xori": 4, "srli": 5, "ori": 6, "andi": 7}
 LOADS = {"lb": 0, "lh": 1, "lw": 2, "lbu": 4, "lhu": 5}
 STORES = {"sb": 0, "sh": 1, "sw": 2}
+PLAIN = {"nop": 0x13, "ecall": ECALL, "ebreak": EBREAK, "fence": FENCE}
 BRANCHES = {"beq": 0, "bne": 1, "blt": 4, "bge": 5, "bltu": 6, "bgeu": 7}
 
 
@@ -51,7 +55,8 @@ def branch(funct3, left, right, offset):
 
 
 def jump(to, offset):
-    return (offset >> 20 & 1) << 31 | (offset >> 1 & 0x3FF) << 21 | (offset >> 11 & 1) << 20 | (offset >> 12 & 0xFF) << 12 | to << 7 | 0x6F
+    high = (offset >> 20 & 1) << 31 | (offset >> 1 & 0x3FF) << 21 | (offset >> 11 & 1) << 20
+    return high | (offset >> 12 & 0xFF) << 12 | to << 7 | 0x6F
 
 
 # ---- text
@@ -64,48 +69,41 @@ def number_of(text):
 def words_of(name, fields, away):
     """The words of one instruction. away(field) is how far a target is."""
     register = [REGISTERS.get(field) for field in fields]
-    match name:
-        case _ if name in OF_REGISTERS:
-            return [of_registers(*OF_REGISTERS[name], *register)]
-        case "srai":
-            return [of_immediate(5, register[0], register[1], number_of(fields[2]) | 0x400)]
-        case _ if name in OF_IMMEDIATES:
-            return [of_immediate(OF_IMMEDIATES[name], register[0], register[1], number_of(fields[2]))]
-        case _ if name in LOADS:
-            return [load(LOADS[name], register[0], register[2], number_of(fields[1]))]
-        case _ if name in STORES:
-            return [store(STORES[name], register[0], register[2], number_of(fields[1]))]
-        case _ if name in BRANCHES:
-            return [branch(BRANCHES[name], register[0], register[1], away(fields[2]))]
-        case "lui" | "auipc":
-            return [number_of(fields[1]) << 12 | register[0] << 7 | (0x37 if name == "lui" else 0x17)]
-        case "jal":
-            return [jump(register[0], away(fields[1]))]
-        case "jalr":
-            return [load(0, register[0], register[2], number_of(fields[1])) | 0x64]
-        case ".word":
-            return [number_of(field) for field in fields]
+    if name in OF_REGISTERS:
+        return [of_registers(*OF_REGISTERS[name], *register)]
+    if name == "srai":
+        return [of_immediate(5, register[0], register[1], number_of(fields[2]) | 0x400)]
+    if name in OF_IMMEDIATES:
+        return [of_immediate(OF_IMMEDIATES[name], register[0], register[1], number_of(fields[2]))]
+    if name in LOADS:
+        return [load(LOADS[name], register[0], register[2], number_of(fields[1]))]
+    if name in STORES:
+        return [store(STORES[name], register[0], register[2], number_of(fields[1]))]
+    if name in BRANCHES:
+        return [branch(BRANCHES[name], register[0], register[1], away(fields[2]))]
+    if name in ("lui", "auipc"):
+        return [number_of(fields[1]) << 12 | register[0] << 7 | (0x37 if name == "lui" else 0x17)]
+    if name == "jal":
+        return [jump(register[0], away(fields[1]))]
+    if name == "jalr":
+        return [load(0, register[0], register[2], number_of(fields[1])) | 0x64]
+    if name == ".word":
+        return [number_of(field) for field in fields]
     return short_form(name, fields, register, away)
 
 
 def short_form(name, fields, register, away):
     """The words of an instruction that has no fields, or is short for others."""
-    match name:
-        case "li":
-            number = number_of(fields[1])
-            return [addi(register[0], 0, number)] if -2048 <= number < 2048 else load_number(register[0], number & 0xFFFFFFFF)
-        case "mv":
-            return [addi(register[0], register[1], 0)]
-        case "j":
-            return [jump(0, away(fields[0]))]
-        case "nop":
-            return [addi(0, 0, 0)]
-        case "ecall":
-            return [ECALL]
-        case "ebreak":
-            return [EBREAK]
-        case "fence":
-            return [FENCE]
+    if name == "li":
+        number = number_of(fields[1])
+        return [addi(register[0], 0, number)] if -2048 <= number < 2048 else load_number(register[0],
+                                                                                         number & 0xFFFFFFFF)
+    if name == "mv":
+        return [addi(register[0], register[1], 0)]
+    if name == "j":
+        return [jump(0, away(fields[0]))]
+    if name in PLAIN:
+        return [PLAIN[name]]
     raise ValueError(f"no instruction {name}")
 
 

@@ -1,5 +1,6 @@
-"""How a tool ends: with a status, with a line on standard error where it can't do its work, or of the signal that interrupted
-it. It leaves no process behind. Its children read from pipes that end with it, so that they end where it is killed outright."""
+"""How a tool ends: with a status, with a line on standard error where it can't do its work, or of the signal that
+interrupted it. It leaves no process behind. Its children read from pipes that end with it, so that they end where it is
+killed outright."""
 import os
 import signal
 import subprocess
@@ -84,7 +85,8 @@ def flush():
 
 
 def put(action):
-    """Does something to standard output. Later writes go nowhere where it fails, so that Python's own end says nothing."""
+    """Does something to standard output. Later writes go nowhere where it fails, so that Python's own end says
+    nothing."""
     try:
         action()
     except BrokenPipeError:  # nobody reads on
@@ -100,7 +102,8 @@ def silence():
 
 
 def open_streams():
-    """Opens streams that the caller has closed, so that no file takes their place: what reads or writes there is refused."""
+    """Opens streams that the caller has closed, so that no file takes their place: what reads or writes there is
+    refused."""
     for number, mode in ((0, os.O_WRONLY), (1, os.O_RDONLY), (2, os.O_RDONLY)):
         if not is_open(number):
             os.open(os.devnull, mode)  # the lowest number that is free

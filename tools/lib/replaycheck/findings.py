@@ -28,7 +28,8 @@ RULES = {
 
 @dataclass(eq=False)
 class Call:
-    """A frame with its source line. An inlined call is one of its own, at the address of its caller's. Each is made once."""
+    """A frame with its source line. An inlined call is one of its own, at the address of its caller's. Each is made
+    once."""
 
     address: str
     function: str
@@ -40,7 +41,8 @@ class Call:
 
 @dataclass
 class Finding:
-    """One of the rules, whether it counts as an error, its text and trace, and what is said of an address or a block."""
+    """One of the rules, whether it counts as an error, its text and trace, and what is said of an address or
+    a block."""
 
     rule: str
     counts: bool
@@ -62,7 +64,8 @@ class Finding:
 
 @dataclass
 class Shown:
-    """A report, the files of its run, and how it is shown: where instructions stand, and which leaks count as errors."""
+    """A report, the files of its run, and how it is shown: where instructions stand, and which leaks count as
+    errors."""
 
     report: Report
     file: str

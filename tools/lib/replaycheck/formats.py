@@ -10,8 +10,10 @@ from replaycheck.reports import LEAK_KINDS, SUMS
 
 JSON_VERSION = 1
 NO_XML = re.compile("[^\t\n -\ud7ff\ue000-\ufffd\U00010000-\U0010ffff]")
-XML_KINDS = {"Value4": "UninitValue", "Cond": "UninitCondition", "Param": "SyscallParam", "Free": "InvalidFree", "Jump": "InvalidJump"}
-XML_LEAKS = {"definitely lost": "Leak_DefinitelyLost", "indirectly lost": "Leak_IndirectlyLost", "possibly lost": "Leak_PossiblyLost",
+XML_KINDS = {"Value4": "UninitValue", "Cond": "UninitCondition", "Param": "SyscallParam", "Free": "InvalidFree",
+             "Jump": "InvalidJump"}
+XML_LEAKS = {"definitely lost": "Leak_DefinitelyLost", "indirectly lost": "Leak_IndirectlyLost",
+             "possibly lost": "Leak_PossiblyLost",
              "still reachable": "Leak_StillReachable"}
 
 
@@ -23,9 +25,15 @@ def printable(text):
 # ---- JSON, and what is made of it
 
 
+class Encoded(str):
+    """A text that is JSON already. What is in many results is encoded once."""
+
+
 def dumped(value, depth, indent=""):
     """A value as JSON, with each part on a line of its own down to a depth."""
     inner = indent + " "
+    if isinstance(value, Encoded):
+        return value
     if depth and isinstance(value, dict) and value:
         parts = (f"{inner}{json.dumps(name)}: {dumped(it, depth - 1, inner)}" for name, it in value.items())
         return "{\n" + ",\n".join(parts) + f"\n{indent}}}"
@@ -42,7 +50,8 @@ def call_object(call):
 def note_object(note, trace):
     if note is None:
         return None
-    block = note.block and {"offset": note.offset, "side": note.side, "size": note.size, "state": note.block, "trace": trace}
+    block = note.block and {"offset": note.offset, "side": note.side, "size": note.size, "state": note.block,
+                            "trace": trace}
     return {"address": note.address, "text": note.place, "block": block}
 
 
@@ -52,13 +61,15 @@ def json_text(shown):
     whole = {
         "format": "replaycheck report", "version": JSON_VERSION,
         "program": printable(shown.file), "input": shown.given and printable(shown.given), "step": report.step,
-        "state": {"name": report.state.name, "why": report.state.why, "address": report.state.address, "status": report.state.status},
+        "state": {"name": report.state.name, "why": report.state.why, "address": report.state.address,
+                  "status": report.state.status},
         "read": report.position, "length": report.length, "written": report.written,
         "errors": [{"kind": it.kind, "text": it.text, "count": it.count, "trace": trace(it.trace),
                     "note": note_object(it.note, trace(it.note.trace) if it.note else [])} for it in report.errors],
         "leaks": [{"kind": LEAK_KINDS[it.kind], "bytes": it.size, "blocks": it.blocks, "trace": trace(it.trace)}
                   for it in report.leaks],
-        "sums": {LEAK_KINDS.get(name, name): {"bytes": report.sums[name].size, "blocks": report.sums[name].blocks} for name in SUMS},
+        "sums": {LEAK_KINDS.get(name, name): {"bytes": report.sums[name].size, "blocks": report.sums[name].blocks}
+                 for name in SUMS},
         "summary": {"errors": report.happened, "contexts": report.contexts, "suppressed": report.suppressed,
                     "suppressed_contexts": report.suppressed_contexts},
     }
@@ -73,41 +84,48 @@ def uri(path):
 
 @functools.lru_cache(maxsize=None)
 def location(program, call, message=None, number=None):
-    """A SARIF location: that of a call's source line, or else the program's file."""
+    """A SARIF location, encoded: that of a call's source line, or else the program's file."""
     region = {"region": {"startLine": call.place.line}} if call.place else {}
     file = call.place.file if call.place else program
     made = {"physicalLocation": {"artifactLocation": {"uri": uri(file)}, **region},
             "logicalLocations": [{"name": printable(call.function), "kind": "function"}]}
     if message:
-        made["message"] = {"text": message}
+        made["message"] = {"text": printable(message)}
     if number is not None:
         made["id"] = number
-    return made
+    return json.dumps(made)
 
 
 @functools.lru_cache(maxsize=None)
 def flow_step(program, call, word):
-    return {"location": location(program, call, printable(f"{word} {call}"))}
+    return f'{{"location": {location(program, call, f"{word} {call}")}}}'
 
 
 def sarif_result(shown, finding, rules):
-    steps = [flow_step(shown.file, call, "by" if index else "at") for index, call in enumerate(finding.trace)]
+    """A result, encoded."""
     text = printable(f"{finding.title()}{'. ' + finding.note if finding.note else ''}")
-    made = {"ruleId": finding.rule, "ruleIndex": rules.index(finding.rule), "level": "error" if finding.counts else "note",
-            "message": {"text": text}, "locations": [location(shown.file, finding.lead())],
-            "codeFlows": [{"threadFlows": [{"locations": steps}]}], "occurrenceCount": finding.times}
+    made = {"ruleId": finding.rule, "ruleIndex": rules.index(finding.rule), "level": "error"
+            if finding.counts else "note",
+            "message": {"text": text}, "occurrenceCount": finding.times}
+    steps = [flow_step(shown.file, call, "by" if index else "at") for index, call in enumerate(finding.trace)]
+    parts = [json.dumps(made)[:-1], f'"locations": [{location(shown.file, finding.lead())}]',
+             f'"codeFlows": [{{"threadFlows": [{{"locations": [{", ".join(steps)}]}}]}}]']
     if finding.note_trace:
-        made["relatedLocations"] = [location(shown.file, call, finding.note if index == 0 else f"by {printable(call.function)}", index)
-                                    for index, call in enumerate(finding.note_trace)]
-    return made
+        words = [finding.note] + [f"by {call.function}" for call in finding.note_trace[1:]]
+        related = [location(shown.file, call, word, index) for index,
+                   (call, word) in enumerate(zip(finding.note_trace, words))]
+        parts.append(f'"relatedLocations": [{", ".join(related)}]')
+    return Encoded(", ".join(parts) + "}")
 
 
 def sarif_text(shown):
     rules = list(RULES)
-    driver = {"name": "replaycheck", "rules": [{"id": rule, "shortDescription": {"text": RULES[rule]}} for rule in rules]}
+    driver = {"name": "replaycheck",
+              "rules": [{"id": rule, "shortDescription": {"text": RULES[rule]}} for rule in rules]}
     run = {"tool": {"driver": driver}, "invocations": [{"executionSuccessful": True}],
            "results": [sarif_result(shown, finding, rules) for finding in shown.findings()]}
-    return dumped({"$schema": "https://json.schemastore.org/sarif-2.1.0.json", "version": "2.1.0", "runs": [run]}, 4) + "\n"
+    return dumped({"$schema": "https://json.schemastore.org/sarif-2.1.0.json", "version": "2.1.0", "runs": [run]},
+                  4) + "\n"
 
 
 # ---- XML
@@ -115,7 +133,8 @@ def sarif_text(shown):
 
 def xml(text):
     """A text as XML has it, with a mark in place of what XML can't have."""
-    return NO_XML.sub("\ufffd", printable(str(text))).replace("&", "&amp;").replace("<", "&lt;").replace(">", "&gt;").replace('"', "&quot;")
+    escapes = {"&": "&amp;", "<": "&lt;", ">": "&gt;", '"': "&quot;"}
+    return NO_XML.sub("\ufffd", printable(str(text))).translate(str.maketrans(escapes))
 
 
 def xml_frame(shown, call):
@@ -136,9 +155,13 @@ def xml_stack(shown, trace):
     yield "  </stack>\n"
 
 
+def xml_head(number, kind):
+    return f"\n<error>\n  <unique>{number:#x}</unique>\n  <tid>1</tid>\n  <kind>{kind}</kind>\n"
+
+
 def xml_error(shown, number, error):
     kind = XML_KINDS.get(error.kind) or ("InvalidRead" if " read " in error.text else "InvalidWrite")
-    yield f"\n<error>\n  <unique>{number:#x}</unique>\n  <tid>1</tid>\n  <kind>{kind}</kind>\n  <what>{xml(error.text)}</what>\n"
+    yield xml_head(number, kind) + f"  <what>{xml(error.text)}</what>\n"
     yield from xml_stack(shown, shown.calls(error.trace))
     if error.note:
         yield f"  <auxwhat>{xml(f'Address {error.note.address} is {error.note.place}')}</auxwhat>\n"
@@ -148,8 +171,9 @@ def xml_error(shown, number, error):
 
 
 def xml_leak(shown, number, leak, record, records):
-    yield f"\n<error>\n  <unique>{number:#x}</unique>\n  <tid>1</tid>\n  <kind>{XML_LEAKS[leak.kind]}</kind>\n"
-    yield f"  <xwhat>\n    <text>{leak.size} bytes in {leak.blocks} blocks are {leak.kind} in loss record {record} of {records}</text>\n"
+    text = f"{leak.size} bytes in {leak.blocks} blocks are {leak.kind} in loss record {record} of {records}"
+    yield xml_head(number, XML_LEAKS[leak.kind])
+    yield f"  <xwhat>\n    <text>{text}</text>\n"
     yield f"    <leakedbytes>{leak.size}</leakedbytes>\n    <leakedblocks>{leak.blocks}</leakedblocks>\n  </xwhat>\n"
     yield from xml_stack(shown, shown.calls(leak.trace))
     yield "</error>\n"
@@ -162,10 +186,12 @@ def xml_status(state, step):
 def valgrind_parts(shown):
     """Protocol 4 of Valgrind's XML. A run is no process: it has the number 1, below 0, and steps for a time."""
     report = shown.report
-    yield '<?xml version="1.0"?>\n\n<valgrindoutput>\n\n<protocolversion>4</protocolversion>\n<protocoltool>memcheck</protocoltool>\n'
+    yield '<?xml version="1.0"?>\n\n<valgrindoutput>\n\n'
+    yield "<protocolversion>4</protocolversion>\n<protocoltool>memcheck</protocoltool>\n"
     yield "\n<preamble>\n  <line>replaycheck, Memcheck for static RV32IM programs</line>\n</preamble>\n"
     yield "\n<pid>1</pid>\n<ppid>0</ppid>\n<tool>memcheck</tool>\n"
-    yield f"\n<args>\n  <vargv>\n    <exe>replaycheck</exe>\n  </vargv>\n  <argv>\n    <exe>{xml(shown.file)}</exe>\n  </argv>\n</args>\n"
+    yield "\n<args>\n  <vargv>\n    <exe>replaycheck</exe>\n  </vargv>\n"
+    yield f"  <argv>\n    <exe>{xml(shown.file)}</exe>\n  </argv>\n</args>\n"
     yield xml_status("RUNNING", 0)
     for number, error in enumerate(report.errors):
         yield from xml_error(shown, number, error)
@@ -186,7 +212,8 @@ def told(finding):
     """A finding as lines of text."""
     lines = [finding.text] + [f"   {'by' if index else 'at'} {call}" for index, call in enumerate(finding.trace)]
     if finding.note:
-        lines += [finding.note] + [f"   {'by' if index else 'at'} {call}" for index, call in enumerate(finding.note_trace)]
+        lines += [finding.note] + [f"   {'by' if index else 'at'} {call}" for index,
+                                   call in enumerate(finding.note_trace)]
     return "\n".join(lines)
 
 
@@ -207,7 +234,8 @@ def junit_text(shown):
     cases = cases or [f'  <testcase classname="{suite}" name="no error and no leak"/>\n']
     failures = sum(finding.counts for finding in findings)
     counts = f'tests="{len(findings) or 1}" failures="{failures}" errors="0" skipped="0"'
-    return "".join(['<?xml version="1.0" encoding="UTF-8"?>\n', f'<testsuite name="{suite}" {counts}>\n', *cases, "</testsuite>\n"])
+    return "".join(['<?xml version="1.0" encoding="UTF-8"?>\n', f'<testsuite name="{suite}" {counts}>\n', *cases,
+                    "</testsuite>\n"])
 
 
 # ---- lines
@@ -228,7 +256,8 @@ def gcc_parts(shown):
         for index, call in enumerate(finding.trace):
             yield gcc_line(shown, call, "note", f"{'by' if index else 'at'} {call.address}: {call.function}")
         for index, call in enumerate(finding.note_trace or []):
-            yield gcc_line(shown, call, "note", f"by {call.address}: {call.function}" if index else f"{finding.note}, in {call.function}")
+            yield gcc_line(shown, call, "note", f"by {call.address}: {call.function}"
+                           if index else f"{finding.note}, in {call.function}")
         if finding.note and not finding.note_trace:
             yield gcc_line(shown, finding.lead(), "note", finding.note)
 

@@ -30,7 +30,8 @@ class Version(argparse.Action):
 
 
 class Reader(argparse.ArgumentParser):
-    """Reads the command line of a tool. Its page is the tool's own text, with a line `usage: ..`; `--help` prints it."""
+    """Reads the command line of a tool. Its page is the tool's own text, with a line `usage: ..`; `--help` prints
+    it."""
 
     def __init__(self, page):
         usage = re.search(r"^usage: (.*(?:\n {7}.*)*)", page, re.M)[1]

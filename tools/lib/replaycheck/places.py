@@ -15,7 +15,8 @@ AT_ONCE = 1000  # so many questions fit into a pipe
 
 @dataclass
 class Place:
-    """A function, its file as it is asked for, and a line of it. `path` is what the debug information has for the file."""
+    """A function, its file as it is asked for, and a line of it. `path` is what the debug information has for
+    the file."""
 
     function: str
     path: str
@@ -48,7 +49,8 @@ class Places:
         self.paths, self.known = paths, {}
         if not os.path.isfile(file):
             raise Fault(f"{file}: no such file")
-        self.child = start([command, "-a", "-f", "-i", "-e", file], NEEDS, stdin=subprocess.PIPE, stdout=subprocess.PIPE,
+        self.child = start([command, "-a", "-f", "-i", "-e", file], NEEDS, stdin=subprocess.PIPE,
+                           stdout=subprocess.PIPE,
                            stderr=subprocess.PIPE)
 
     def read(self):
@@ -88,6 +90,7 @@ class Places:
         return Place(function, path, self.paths.name(path), int(line))
 
     def at(self, address):
-        """The places of an address: that of its instruction, and where that is part of an inlined call, those of the callers."""
+        """The places of an address: that of its instruction, and where that is part of an inlined call, those of the
+        callers."""
         self.learn([address])
         return self.known[address]

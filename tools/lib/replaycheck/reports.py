@@ -8,9 +8,11 @@ from replaycheck.endings import Fault
 
 SUMS = ("definitely lost", "indirectly lost", "possibly lost", "still reachable", "suppressed")
 # What options and suppressions call the leaks of a kind.
-LEAK_KINDS = {"definitely lost": "definite", "indirectly lost": "indirect", "possibly lost": "possible", "still reachable": "reachable"}
+LEAK_KINDS = {"definitely lost": "definite", "indirectly lost": "indirect", "possibly lost": "possible",
+              "still reachable": "reachable"}
 STEP = re.compile(r"step (\d+)")
-STATE = re.compile(r"state (?:(running) (0x[0-9a-f]{8})|(exited) (\d+)|(stopped) (jump|break|illegal|misaligned) (0x[0-9a-f]{8}))")
+STATE = re.compile(r"state (?:(running) (0x[0-9a-f]{8})|(exited) (\d+)|"
+                   r"(stopped) (jump|break|illegal|misaligned) (0x[0-9a-f]{8}))")
 READ = re.compile(r"input (\d+) of (\d+)")
 WRITTEN = re.compile(r"output (\d+)")
 ERROR = re.compile(r"error (\d+): (.+)")
@@ -254,7 +256,8 @@ def read_report(lines):
     given, written = lines.must(READ, "`input P of L`"), lines.must(WRITTEN, "`output W`")
     errors, leaks, sums = read_errors(lines), read_leaks(lines), read_sums(lines)
     last = lines.must(SUMMARY, "the summary of errors")
-    return Report(step, state, int(given[1]), int(given[2]), int(written[1]), errors, leaks, sums, *map(int, last.groups()))
+    return Report(step, state, int(given[1]), int(given[2]), int(written[1]), errors, leaks, sums,
+                  *map(int, last.groups()))
 
 
 def reports_in(texts):

@@ -8,7 +8,8 @@ from replaycheck.refusals import with_words
 
 
 class Ended(Fault):
-    """The program has ended before it replied. `said` is what it said of that, and `status` the one with which a tool ends."""
+    """The program has ended before it replied. `said` is what it said of that, and `status` the one with which a
+    tool ends."""
 
     def __init__(self, child, keeps_status=False):
         said = child.stderr.read().decode("utf-8", "surrogateescape") if child.stderr else ""
@@ -28,7 +29,8 @@ class Refused(Fault):
 
 
 def program():
-    """The path of the program that REPLAYCHECK names, or else of this repository's, which is built first where it has to be."""
+    """The path of the program that REPLAYCHECK names, or else of this repository's, which is built first where it has
+    to be."""
     named = os.environ.get("REPLAYCHECK")
     if named:
         return named
@@ -51,7 +53,8 @@ class Session:
         words += ["--input", path_of(given)] if given is not None else []
         words += ["--supp", path_of(supp)] if supp is not None else []
         self.keeps_status = keeps_status
-        self.child = start([*words, path_of(file)], stdin=subprocess.PIPE, stdout=subprocess.PIPE, stderr=subprocess.PIPE,
+        self.child = start([*words, path_of(file)], stdin=subprocess.PIPE, stdout=subprocess.PIPE,
+                           stderr=subprocess.PIPE,
                            pass_fds=lends)
 
     def ask(self, line):

@@ -31,7 +31,7 @@ HERE = {
     "--partial-loads-ok": "a load that goes past a block is an error; suppressions hide those of known functions",
     "--keep-stacktraces": "a freed block has the trace of the call that freed it, any other one that of its allocation",
     "--freelist-big-blocks": "--freelist-vol=N",
-    "--malloc-fill": "`mark STEP ADDR LEN undefined`, a line for `replaycheck talk`, and `input` and `patch` set values",
+    "--malloc-fill": "`input`, `patch` and `mark`, lines for `replaycheck talk`, set what memory has",
     "--free-fill": "",
     "--alignment": "blocks begin at multiples of 8",
     "--show-mismatched-frees": "",
