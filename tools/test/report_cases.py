@@ -71,7 +71,8 @@ def each_shape():
 
 
 def wrong_texts(report):
-    """Texts of which each is a report with one line taken out, made another one, or put in."""
+    """Texts of which each is a report with one line taken out, made another one, put in, or
+    changed over with the one before."""
     lines = str(report).splitlines()
     for index, line in enumerate(lines):
         starts_note = line.startswith((" Address", "error ", "leak "))
@@ -81,3 +82,5 @@ def wrong_texts(report):
         yield lines[:index] + ["hello", *lines[index:]]
         if index:
             yield lines[:index]
+            if not line.startswith("   by") or not lines[index - 1].startswith("   by"):
+                yield lines[:index - 1] + [line, lines[index - 1]] + lines[index + 1:]

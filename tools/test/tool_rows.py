@@ -18,6 +18,15 @@ SLOW = [
 ]
 
 
+# A case of kinds.elf with a leak or a stop, the kinds that count, and the status.
+LEAKS = [
+    ("a definite leak", 18, "definite,possible", 7), ("a definite leak that doesn't count", 18, "possible", 0),
+    ("an indirect leak", 18, "indirect", 7), ("no leak counts", 18, "none", 0), ("a possible leak", 19, "possible", 7),
+    ("reachable blocks", 20, "all", 7), ("reachable blocks that don't count", 20, "definite,possible", 0),
+    ("a stop", 21, "none", 7),
+]
+
+
 @dataclass
 class Row:
     """A command line of the launcher, its status, its output, and what standard error is. `*TEXT*TEXT*` has these texts
@@ -222,6 +231,12 @@ def run_rows():
     yield Row("run: an error", [*freed, "--error-exitcode=7"], 7, None)
     yield Row("run: an error, and no status", [*freed, "--error-exitcode", "0"], 0, None)
     yield Row("run: no error", ["run", "three-words.elf", "--error-exitcode=7"], 0, None)
+    for label, case, kinds, status in LEAKS:
+        yield Row(f"run: {label}", ["run", "kinds.elf", f"--input=case-{case}", f"--errors-for-leak-kinds={kinds}",
+                                    "--error-exitcode=7"], status, None)
+    yield Row("run: reachable blocks are listed",
+              ["run", "kinds.elf", "--input=case-20", "--show-leak-kinds=reachable"], 0,
+              "*leak 8 bytes in 1 blocks are still reachable*")
     yield Row("run: errors that are suppressed", [*run, "--suppressions=undefined-branches.supp", "--error-exitcode=7"],
               0,
               "*ERROR SUMMARY: 0 errors from 0 contexts (suppressed: 2 from 2)*")

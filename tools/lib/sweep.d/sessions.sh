@@ -73,9 +73,9 @@ run_list() {
   [ "$(wc -l <"$room/rows")" -eq "$1" ] || die 'a session failed'
 }
 
-# Tells once a second how many edits are made.
+# Tells once a second how many edits are made, as long as the sweep is there.
 tell_progress() {
-  while sleep 1; do
+  while sleep 1 && kill -0 $$ 2>/dev/null; do
     printf '\rsweep: %d of %d edits ' "$(cat "$room/done" "$room"/part.*.rows 2>/dev/null | wc -l)" "$1" >&2
   done
 }
