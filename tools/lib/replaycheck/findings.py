@@ -35,8 +35,11 @@ class Call:
     function: str
     place: Optional[Place]
 
+    def __post_init__(self):
+        self.text = f"{self.function} ({self.place or self.address})"
+
     def __str__(self):
-        return f"{self.function} ({self.place})" if self.place else f"{self.function} ({self.address})"
+        return self.text
 
 
 @dataclass

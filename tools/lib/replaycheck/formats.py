@@ -137,22 +137,20 @@ def xml(text):
     return NO_XML.sub("\ufffd", printable(str(text))).translate(str.maketrans(escapes))
 
 
-def xml_frame(shown, call):
-    yield f"    <frame>\n      <ip>{int(call.address, 16):#x}</ip>\n      <obj>{xml(shown.file)}</obj>\n"
+@functools.lru_cache(maxsize=None)
+def xml_frame(program, call):
+    parts = [f"    <frame>\n      <ip>{int(call.address, 16):#x}</ip>\n      <obj>{xml(program)}</obj>\n"]
     if call.function != "???":
-        yield f"      <fn>{xml(call.function)}</fn>\n"
+        parts.append(f"      <fn>{xml(call.function)}</fn>\n")
     if call.place:
         folder, name = os.path.split(call.place.file)
-        yield f"      <dir>{xml(folder)}</dir>\n" if folder else ""
-        yield f"      <file>{xml(name)}</file>\n      <line>{call.place.line}</line>\n"
-    yield "    </frame>\n"
+        parts.append(f"      <dir>{xml(folder)}</dir>\n" if folder else "")
+        parts.append(f"      <file>{xml(name)}</file>\n      <line>{call.place.line}</line>\n")
+    return "".join([*parts, "    </frame>\n"])
 
 
 def xml_stack(shown, trace):
-    yield "  <stack>\n"
-    for call in trace:
-        yield from xml_frame(shown, call)
-    yield "  </stack>\n"
+    return "  <stack>\n" + "".join(xml_frame(shown.file, call) for call in trace) + "  </stack>\n"
 
 
 def xml_head(number, kind):
@@ -162,11 +160,11 @@ def xml_head(number, kind):
 def xml_error(shown, number, error):
     kind = XML_KINDS.get(error.kind) or ("InvalidRead" if " read " in error.text else "InvalidWrite")
     yield xml_head(number, kind) + f"  <what>{xml(error.text)}</what>\n"
-    yield from xml_stack(shown, shown.calls(error.trace))
+    yield xml_stack(shown, shown.calls(error.trace))
     if error.note:
         yield f"  <auxwhat>{xml(f'Address {error.note.address} is {error.note.place}')}</auxwhat>\n"
         if error.note.trace:
-            yield from xml_stack(shown, shown.calls(error.note.trace))
+            yield xml_stack(shown, shown.calls(error.note.trace))
     yield "</error>\n"
 
 
@@ -175,7 +173,7 @@ def xml_leak(shown, number, leak, record, records):
     yield xml_head(number, XML_LEAKS[leak.kind])
     yield f"  <xwhat>\n    <text>{text}</text>\n"
     yield f"    <leakedbytes>{leak.size}</leakedbytes>\n    <leakedblocks>{leak.blocks}</leakedblocks>\n  </xwhat>\n"
-    yield from xml_stack(shown, shown.calls(leak.trace))
+    yield xml_stack(shown, shown.calls(leak.trace))
     yield "</error>\n"
 
 
