@@ -1,9 +1,10 @@
-"""What the scripts that measure have in common. Importing it makes the modules of tools/ known."""
+"""What the scripts that measure have in common. Importing it makes the modules of tools/lib and tools/test known."""
 import os
 import subprocess
 import sys
 
-sys.path.insert(0, os.path.join(os.path.dirname(os.path.realpath(__file__)), "..", "tools"))
+for folder in ("lib", "test"):
+    sys.path.insert(0, os.path.realpath(f"{__file__}/../../tools/{folder}"))
 
 
 def spent(program, folder, file, words, lines=(), supp=b"", may_refuse=False):

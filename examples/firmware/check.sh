@@ -15,7 +15,7 @@ REPLAYCHECK=$(readlink -f "${1:-$(dirname "$0")/../../replaycheck}")
 [ -x "$REPLAYCHECK" ] || { echo "check.sh: no program $REPLAYCHECK" >&2; exit 2; }
 export REPLAYCHECK
 cd "$(dirname "$(readlink -f "$0")")" || exit 2
-source ../../tools/counting.sh
+source ../../tools/test/counting.sh
 room=$(mktemp -d) || exit 2
 trap 'rm -rf "$room"' EXIT
 
@@ -31,7 +31,7 @@ without_heap_places() {
 
 same_by_number() {
   diff <(without_heap_places <expected/station) \
-    <(../../tools/talk station-by-number.elf --input station.input station.session | without_heap_places)
+    <(../../tools/bin/replaycheck-talk station-by-number.elf --input station.input station.session | without_heap_places)
 }
 
 # The remarks of kinds.session are those of the cases in kinds.c.
@@ -39,10 +39,10 @@ same_cases() {
   diff <(sed -nE 's|^    case ([0-9]+): .* /\* (.*) \*/$|\1: \2|p' kinds.c) <(sed -nE 's/^# ([0-9]+: .*)$/\1/p' kinds.session)
 }
 
-check 'a session on station.elf' same station ../../tools/talk station.elf --input station.input station.session
-check 'each kind of error' same kinds ../../tools/talk kinds.elf --input kinds.input kinds.session
+check 'a session on station.elf' same station ../../tools/bin/replaycheck-talk station.elf --input station.input station.session
+check 'each kind of error' same kinds ../../tools/bin/replaycheck-talk kinds.elf --input kinds.input kinds.session
 check 'the cases of kinds.c' same_cases
-check 'each byte of station.input' same sweep ../../tools/sweep station.elf --input station.input --svg "$room/station.svg"
+check 'each byte of station.input' same sweep ../../tools/bin/replaycheck-sweep station.elf --input station.input --svg "$room/station.svg"
 check 'its picture' cmp station.svg "$room/station.svg"
 check 'heap calls by number' same_by_number
 

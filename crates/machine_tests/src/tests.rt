@@ -1,5 +1,5 @@
 //! The public calls of the machine, once each with ample memory, and a few short programs. What else becomes of programs is seen from
-//! outside (`tools/test-guests`).
+//! outside (`tools/test/test-guests`).
 use definedness::Bits;
 use guest_elf::{Hook, read};
 use guest_machine::laws::{

@@ -1,4 +1,4 @@
-//! Files by hand, and what becomes of them. By which number a cut or changed file is refused, `tools/test-files` compares.
+//! Files by hand, and what becomes of them. By which number a cut or changed file is refused, `tools/test/test-files` compares.
 use byteorder::{ByteOrder, LittleEndian};
 use guest_elf::{Hook, read};
 use std::alloc::{AllocError, Global};

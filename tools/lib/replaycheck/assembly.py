@@ -1,0 +1,142 @@
+"""Instructions of RV32IM: their words, and a small assembler for the programs of tests and measurements."""
+import re
+
+from replaycheck.guest_files import ENTRY
+
+EBREAK, ECALL, FENCE = 0x00100073, 0x00000073, 0x0FF0000F
+NAMES = ["zero", "ra", "sp", "gp", "tp", "t0", "t1", "t2", "s0", "s1", *(f"a{i}" for i in range(8)),
+         *(f"s{i}" for i in range(2, 12)),
+         *(f"t{i}" for i in range(3, 7))]
+REGISTERS = {name: number for number in range(32) for name in (f"x{number}", NAMES[number])}
+# The fields funct7 and funct3 of instructions of two registers, and funct3 of the others.
+OF_REGISTERS = {"add": (0, 0), "sub": (32, 0), "sll": (0, 1), "slt": (0, 2), "sltu": (0, 3), "xor": (0, 4),
+                "srl": (0, 5), "sra": (32, 5),
+                "or": (0, 6), "and": (0, 7), "mul": (1, 0), "mulh": (1, 1), "mulhsu": (1, 2), "mulhu": (1, 3),
+                "div": (1, 4),
+                "divu": (1, 5), "rem": (1, 6), "remu": (1, 7)}
+OF_IMMEDIATES = {"addi": 0, "slli": 1, "slti": 2, "sltiu": 3, "xori": 4, "srli": 5, "ori": 6, "andi": 7}
+LOADS = {"lb": 0, "lh": 1, "lw": 2, "lbu": 4, "lhu": 5}
+STORES = {"sb": 0, "sh": 1, "sw": 2}
+PLAIN = {"nop": 0x13, "ecall": ECALL, "ebreak": EBREAK, "fence": FENCE}
+BRANCHES = {"beq": 0, "bne": 1, "blt": 4, "bge": 5, "bltu": 6, "bgeu": 7}
+
+
+# ---- words
+
+
+def addi(to, source, number):
+    return (number & 0xFFF) << 20 | source << 15 | to << 7 | 0x13
+
+
+def load_number(register, number):
+    """lui and addi."""
+    return [(number + 0x800 & 0xFFFFF000) | register << 7 | 0x37, addi(register, register, number)]
+
+
+def of_registers(funct7, funct3, to, left, right):
+    return funct7 << 25 | right << 20 | left << 15 | funct3 << 12 | to << 7 | 0x33
+
+
+def of_immediate(funct3, to, source, number):
+    return addi(to, source, number) | funct3 << 12
+
+
+def load(funct3, to, base, offset):
+    return (offset & 0xFFF) << 20 | base << 15 | funct3 << 12 | to << 7 | 0x03
+
+
+def store(funct3, source, base, offset):
+    return (offset >> 5 & 0x7F) << 25 | source << 20 | base << 15 | funct3 << 12 | (offset & 0x1F) << 7 | 0x23
+
+
+def branch(funct3, left, right, offset):
+    high = (offset >> 12 & 1) << 31 | (offset >> 5 & 0x3F) << 25
+    return high | right << 20 | left << 15 | funct3 << 12 | (offset >> 1 & 0xF) << 8 | (offset >> 11 & 1) << 7 | 0x63
+
+
+def jump(to, offset):
+    high = (offset >> 20 & 1) << 31 | (offset >> 1 & 0x3FF) << 21 | (offset >> 11 & 1) << 20
+    return high | (offset >> 12 & 0xFF) << 12 | to << 7 | 0x6F
+
+
+# ---- text
+
+
+def number_of(text):
+    return int(text, 0)
+
+
+def words_of(name, fields, away):
+    """The words of one instruction. away(field) is how far a target is."""
+    register = [REGISTERS.get(field) for field in fields]
+    if name in OF_REGISTERS:
+        return [of_registers(*OF_REGISTERS[name], *register)]
+    if name == "srai":
+        return [of_immediate(5, register[0], register[1], number_of(fields[2]) | 0x400)]
+    if name in OF_IMMEDIATES:
+        return [of_immediate(OF_IMMEDIATES[name], register[0], register[1], number_of(fields[2]))]
+    if name in LOADS:
+        return [load(LOADS[name], register[0], register[2], number_of(fields[1]))]
+    if name in STORES:
+        return [store(STORES[name], register[0], register[2], number_of(fields[1]))]
+    if name in BRANCHES:
+        return [branch(BRANCHES[name], register[0], register[1], away(fields[2]))]
+    if name in ("lui", "auipc"):
+        return [number_of(fields[1]) << 12 | register[0] << 7 | (0x37 if name == "lui" else 0x17)]
+    if name == "jal":
+        return [jump(register[0], away(fields[1]))]
+    if name == "jalr":
+        return [load(0, register[0], register[2], number_of(fields[1])) | 0x64]
+    if name == ".word":
+        return [number_of(field) for field in fields]
+    return short_form(name, fields, register, away)
+
+
+def short_form(name, fields, register, away):
+    """The words of an instruction that has no fields, or is short for others."""
+    if name == "li":
+        number = number_of(fields[1])
+        return [addi(register[0], 0, number)] if -2048 <= number < 2048 else load_number(register[0],
+                                                                                         number & 0xFFFFFFFF)
+    if name == "mv":
+        return [addi(register[0], register[1], 0)]
+    if name == "j":
+        return [jump(0, away(fields[0]))]
+    if name in PLAIN:
+        return [PLAIN[name]]
+    raise ValueError(f"no instruction {name}")
+
+
+class Unknown(dict):
+    """Labels, of which those that aren't known yet stand anywhere."""
+
+    def __missing__(self, name):
+        return ENTRY
+
+
+def pass_over(pieces, labels):
+    """The words of all pieces. Labels are entered on the way."""
+    words = []
+    for piece in pieces:
+        times, label, name, rest = re.fullmatch(r"(?:(\d+) \* )?(?:(\w+):\s*)?(\S+)?(.*)", piece).groups()
+        if label:
+            labels[label] = ENTRY + 4 * len(words)
+        for _ in range(int(times or 1) if name else 0):
+            here = ENTRY + 4 * len(words)
+
+            def away(target):
+                if target.startswith("."):
+                    return number_of(target[1:])
+                return (number_of(target) if target[0].isdigit() else labels[target]) - here
+
+            words += words_of(name, re.findall(r"[^\s,()]+", rest), away)
+    return words
+
+
+def assemble(text, labels=()):
+    """The words of instructions, which stand at ENTRY: between newlines or semicolons, each with a label before it (`again:`) or
+    a number of times (`3 * nop`). A target is a label, a distance (`.+8`) or an address."""
+    pieces = [piece.strip() for piece in re.split(r"[;\n]", text) if piece.strip()]
+    places = Unknown(labels)
+    pass_over(pieces, places)
+    return pass_over(pieces, dict(places))

@@ -1,0 +1,163 @@
+"""How a tool ends: with a status, with a line on standard error where it can't do its work, or of the signal that
+interrupted it. It leaves no process behind. Its children read from pipes that end with it, so that they end where it is
+killed outright."""
+import os
+import signal
+import subprocess
+import sys
+
+TOLD = {signal.SIGHUP, signal.SIGINT, signal.SIGTERM}
+children = []
+
+
+class Fault(Exception):
+    """What keeps a tool from its work, in words. `said` comes in place of the tool's own line, where there is one."""
+
+    said = ""
+    status = 2
+
+
+class Interrupted(BaseException):
+    """A signal has come."""
+
+    def __init__(self, number):
+        super().__init__(number)
+        self.number = number
+
+
+class Starting:
+    """Whether a child is being started, and the signal that has come meanwhile: it waits until the child is known."""
+
+    is_on = False
+    come = None
+
+
+def interrupt(number, _):
+    for other in TOLD:
+        signal.signal(other, signal.SIG_IGN)
+    if Starting.is_on:
+        Starting.come = number
+    else:
+        raise Interrupted(number)
+
+
+def start(words, needs="", **pipes):
+    """Starts a child. Where its program isn't there, what is needed is told."""
+    Starting.is_on = True
+    try:
+        children.append(subprocess.Popen(words, **pipes))
+    except OSError as fault:
+        raise Fault(f"cannot run {words[0]}: {fault.strerror}{needs and '; ' + needs}") from None
+    finally:
+        Starting.is_on = False
+        if Starting.come is not None:
+            raise Interrupted(Starting.come)
+    return children[-1]
+
+
+def end_children():
+    """Ends the children that still run: most end with their input."""
+    for child in children:
+        for pipe in (child.stdin, child.stdout, child.stderr):
+            try:
+                if pipe:
+                    pipe.close()
+            except OSError:
+                pass
+        child.terminate()
+        child.wait()
+
+
+def die_of(number):
+    """Ends this process as the signal does it."""
+    end_children()
+    signal.signal(number, signal.SIG_DFL)
+    os.kill(os.getpid(), number)
+
+
+def write(text):
+    """Writes a text, of any bytes, to standard output."""
+    put(lambda: sys.stdout.buffer.write(text.encode("utf-8", "surrogateescape")))
+
+
+def flush():
+    put(sys.stdout.flush)
+
+
+def put(action):
+    """Does something to standard output. Later writes go nowhere where it fails, so that Python's own end says
+    nothing."""
+    try:
+        action()
+    except BrokenPipeError:  # nobody reads on
+        silence()
+        die_of(signal.SIGPIPE)
+    except OSError as fault:
+        silence()
+        raise Fault(f"cannot write: {fault.strerror}") from None
+
+
+def silence():
+    os.dup2(os.open(os.devnull, os.O_WRONLY), sys.stdout.fileno())
+
+
+def open_streams():
+    """Opens streams that the caller has closed, so that no file takes their place: what reads or writes there is
+    refused."""
+    for number, mode in ((0, os.O_WRONLY), (1, os.O_RDONLY), (2, os.O_RDONLY)):
+        if not is_open(number):
+            os.open(os.devnull, mode)  # the lowest number that is free
+    sys.stdin, sys.stdout, sys.stderr = sys.stdin or open(0), sys.stdout or open(1, "w"), sys.stderr or open(2, "w")
+
+
+def is_open(number):
+    try:
+        os.fstat(number)
+    except OSError:
+        return False
+    return True
+
+
+def status_of(main):
+    """The status with which a tool's work ends."""
+    try:
+        status = main()
+    except SystemExit as ended:  # argparse has shown its page
+        status = ended.code
+    except OSError as fault:
+        raise Fault(f"{os.fspath(fault.filename)}: {fault.strerror}" if fault.filename else str(fault)) from None
+    flush()
+    return status
+
+
+def end(name, main):
+    """Ends a tool of this name with the status that its work gives, 2 where it can't be done."""
+    open_streams()
+    for number in TOLD:
+        if signal.getsignal(number) != signal.SIG_IGN:
+            signal.signal(number, interrupt)
+    try:
+        try:
+            status = status_of(main)
+        except Fault as fault:
+            status = tell(name, fault)
+    except Interrupted as signalled:
+        silence()
+        die_of(signalled.number)
+    end_children()
+    sys.exit(status)
+
+
+def tell(name, fault):
+    """Says on standard error what keeps a tool from its work, after what it has written already. Gives the status."""
+    said = fault.said or f"replaycheck {name}: {fault}\n"
+    try:
+        flush()
+    except Fault:
+        pass  # the first fault is told
+    try:
+        sys.stderr.buffer.write(said.encode("utf-8", "surrogateescape"))
+        sys.stderr.flush()
+    except OSError:
+        os.dup2(os.open(os.devnull, os.O_WRONLY), 2)
+    return fault.status

@@ -1,0 +1,287 @@
+"""A report in the formats that other programs read."""
+import functools
+import json
+import os
+import re
+import urllib.parse
+
+from replaycheck.findings import RULES
+from replaycheck.reports import LEAK_KINDS, SUMS
+
+JSON_VERSION = 1
+NO_XML = re.compile("[^\t\n -\ud7ff\ue000-\ufffd\U00010000-\U0010ffff]")
+XML_KINDS = {"Value4": "UninitValue", "Cond": "UninitCondition", "Param": "SyscallParam", "Free": "InvalidFree",
+             "Jump": "InvalidJump"}
+XML_LEAKS = {"definitely lost": "Leak_DefinitelyLost", "indirectly lost": "Leak_IndirectlyLost",
+             "possibly lost": "Leak_PossiblyLost",
+             "still reachable": "Leak_StillReachable"}
+
+
+def printable(text):
+    """A text whose bytes are UTF-8: others, as names of files may have them, are replaced."""
+    return text.encode("utf-8", "surrogateescape").decode("utf-8", "replace")
+
+
+# ---- JSON, and what is made of it
+
+
+class Encoded(str):
+    """A text that is JSON already. What is in many results is encoded once."""
+
+
+def dumped(value, depth, indent=""):
+    """A value as JSON, with each part on a line of its own down to a depth."""
+    inner = indent + " "
+    if isinstance(value, Encoded):
+        return value
+    if depth and isinstance(value, dict) and value:
+        parts = (f"{inner}{json.dumps(name)}: {dumped(it, depth - 1, inner)}" for name, it in value.items())
+        return "{\n" + ",\n".join(parts) + f"\n{indent}}}"
+    if depth and isinstance(value, list) and value:
+        return "[\n" + ",\n".join(inner + dumped(it, depth - 1, inner) for it in value) + f"\n{indent}]"
+    return json.dumps(value)
+
+
+def call_object(call):
+    place = call.place and {"file": printable(call.place.file), "line": call.place.line}
+    return {"address": call.address, "function": printable(call.function), "place": place}
+
+
+def note_object(note, trace):
+    if note is None:
+        return None
+    block = note.block and {"offset": note.offset, "side": note.side, "size": note.size, "state": note.block,
+                            "trace": trace}
+    return {"address": note.address, "text": note.place, "block": block}
+
+
+def json_text(shown):
+    report = shown.report
+    trace = lambda frames: [call_object(call) for call in shown.calls(frames)]  # noqa: E731
+    whole = {
+        "format": "replaycheck report", "version": JSON_VERSION,
+        "program": printable(shown.file), "input": shown.given and printable(shown.given), "step": report.step,
+        "state": {"name": report.state.name, "why": report.state.why, "address": report.state.address,
+                  "status": report.state.status},
+        "read": report.position, "length": report.length, "written": report.written,
+        "errors": [{"kind": it.kind, "text": it.text, "count": it.count, "trace": trace(it.trace),
+                    "note": note_object(it.note, trace(it.note.trace) if it.note else [])} for it in report.errors],
+        "leaks": [{"kind": LEAK_KINDS[it.kind], "bytes": it.size, "blocks": it.blocks, "trace": trace(it.trace)}
+                  for it in report.leaks],
+        "sums": {LEAK_KINDS.get(name, name): {"bytes": report.sums[name].size, "blocks": report.sums[name].blocks}
+                 for name in SUMS},
+        "summary": {"errors": report.happened, "contexts": report.contexts, "suppressed": report.suppressed,
+                    "suppressed_contexts": report.suppressed_contexts},
+    }
+    return dumped(whole, 2) + "\n"
+
+
+@functools.lru_cache(maxsize=None)
+def uri(path):
+    """A path as a URI: absolute, or relative to the root of the sources."""
+    return ("file://" if path.startswith("/") else "") + urllib.parse.quote(os.fsencode(path))
+
+
+@functools.lru_cache(maxsize=None)
+def location(program, call, message=None, number=None):
+    """A SARIF location, encoded: that of a call's source line, or else the program's file."""
+    region = {"region": {"startLine": call.place.line}} if call.place else {}
+    file = call.place.file if call.place else program
+    made = {"physicalLocation": {"artifactLocation": {"uri": uri(file)}, **region},
+            "logicalLocations": [{"name": printable(call.function), "kind": "function"}]}
+    if message:
+        made["message"] = {"text": printable(message)}
+    if number is not None:
+        made["id"] = number
+    return json.dumps(made)
+
+
+@functools.lru_cache(maxsize=None)
+def flow_step(program, call, word):
+    return f'{{"location": {location(program, call, f"{word} {call}")}}}'
+
+
+def sarif_result(shown, finding, rules):
+    """A result, encoded."""
+    text = printable(f"{finding.title()}{'. ' + finding.note if finding.note else ''}")
+    made = {"ruleId": finding.rule, "ruleIndex": rules.index(finding.rule), "level": "error"
+            if finding.counts else "note",
+            "message": {"text": text}, "occurrenceCount": finding.times}
+    steps = [flow_step(shown.file, call, "by" if index else "at") for index, call in enumerate(finding.trace)]
+    parts = [json.dumps(made)[:-1], f'"locations": [{location(shown.file, finding.lead())}]',
+             f'"codeFlows": [{{"threadFlows": [{{"locations": [{", ".join(steps)}]}}]}}]']
+    if finding.note_trace:
+        words = [finding.note] + [f"by {call.function}" for call in finding.note_trace[1:]]
+        related = [location(shown.file, call, word, index) for index,
+                   (call, word) in enumerate(zip(finding.note_trace, words))]
+        parts.append(f'"relatedLocations": [{", ".join(related)}]')
+    return Encoded(", ".join(parts) + "}")
+
+
+def sarif_text(shown):
+    rules = list(RULES)
+    driver = {"name": "replaycheck",
+              "rules": [{"id": rule, "shortDescription": {"text": RULES[rule]}} for rule in rules]}
+    run = {"tool": {"driver": driver}, "invocations": [{"executionSuccessful": True}],
+           "results": [sarif_result(shown, finding, rules) for finding in shown.findings()]}
+    return dumped({"$schema": "https://json.schemastore.org/sarif-2.1.0.json", "version": "2.1.0", "runs": [run]},
+                  4) + "\n"
+
+
+# ---- XML
+
+
+def xml(text):
+    """A text as XML has it, with a mark in place of what XML can't have."""
+    escapes = {"&": "&amp;", "<": "&lt;", ">": "&gt;", '"': "&quot;"}
+    return NO_XML.sub("\ufffd", printable(str(text))).translate(str.maketrans(escapes))
+
+
+@functools.lru_cache(maxsize=None)
+def xml_frame(program, call):
+    parts = [f"    <frame>\n      <ip>{int(call.address, 16):#x}</ip>\n      <obj>{xml(program)}</obj>\n"]
+    if call.function != "???":
+        parts.append(f"      <fn>{xml(call.function)}</fn>\n")
+    if call.place:
+        folder, name = os.path.split(call.place.file)
+        parts.append(f"      <dir>{xml(folder)}</dir>\n" if folder else "")
+        parts.append(f"      <file>{xml(name)}</file>\n      <line>{call.place.line}</line>\n")
+    return "".join([*parts, "    </frame>\n"])
+
+
+def xml_stack(shown, trace):
+    return "  <stack>\n" + "".join(xml_frame(shown.file, call) for call in trace) + "  </stack>\n"
+
+
+def xml_head(number, kind):
+    return f"\n<error>\n  <unique>{number:#x}</unique>\n  <tid>1</tid>\n  <kind>{kind}</kind>\n"
+
+
+def xml_error(shown, number, error):
+    kind = XML_KINDS.get(error.kind) or ("InvalidRead" if " read " in error.text else "InvalidWrite")
+    yield xml_head(number, kind) + f"  <what>{xml(error.text)}</what>\n"
+    yield xml_stack(shown, shown.calls(error.trace))
+    if error.note:
+        yield f"  <auxwhat>{xml(f'Address {error.note.address} is {error.note.place}')}</auxwhat>\n"
+        if error.note.trace:
+            yield xml_stack(shown, shown.calls(error.note.trace))
+    yield "</error>\n"
+
+
+def xml_leak(shown, number, leak, record, records):
+    text = f"{leak.size} bytes in {leak.blocks} blocks are {leak.kind} in loss record {record} of {records}"
+    yield xml_head(number, XML_LEAKS[leak.kind])
+    yield f"  <xwhat>\n    <text>{text}</text>\n"
+    yield f"    <leakedbytes>{leak.size}</leakedbytes>\n    <leakedblocks>{leak.blocks}</leakedblocks>\n  </xwhat>\n"
+    yield xml_stack(shown, shown.calls(leak.trace))
+    yield "</error>\n"
+
+
+def xml_status(state, step):
+    return f"\n<status>\n  <state>{state}</state>\n  <time>step {step}</time>\n</status>\n"
+
+
+def valgrind_parts(shown):
+    """Protocol 4 of Valgrind's XML. A run is no process: it has the number 1, below 0, and steps for a time."""
+    report = shown.report
+    yield '<?xml version="1.0"?>\n\n<valgrindoutput>\n\n'
+    yield "<protocolversion>4</protocolversion>\n<protocoltool>memcheck</protocoltool>\n"
+    yield "\n<preamble>\n  <line>replaycheck, Memcheck for static RV32IM programs</line>\n</preamble>\n"
+    yield "\n<pid>1</pid>\n<ppid>0</ppid>\n<tool>memcheck</tool>\n"
+    yield "\n<args>\n  <vargv>\n    <exe>replaycheck</exe>\n  </vargv>\n"
+    yield f"  <argv>\n    <exe>{xml(shown.file)}</exe>\n  </argv>\n</args>\n"
+    yield xml_status("RUNNING", 0)
+    for number, error in enumerate(report.errors):
+        yield from xml_error(shown, number, error)
+    yield xml_status("FINISHED", report.step)
+    for record, leak in enumerate(report.leaks, 1):
+        yield from xml_leak(shown, len(report.errors) + record - 1, leak, record, len(report.leaks))
+    yield "\n<errorcounts>\n"
+    for number, error in enumerate(report.errors):
+        yield f"  <pair>\n    <count>{error.count}</count>\n    <unique>{number:#x}</unique>\n  </pair>\n"
+    yield "</errorcounts>\n\n<suppcounts>\n</suppcounts>\n\n</valgrindoutput>\n"
+
+
+def valgrind_text(shown):
+    return "".join(valgrind_parts(shown))
+
+
+def told(finding):
+    """A finding as lines of text."""
+    lines = [finding.text] + [f"   {'by' if index else 'at'} {call}" for index, call in enumerate(finding.trace)]
+    if finding.note:
+        lines += [finding.note] + [f"   {'by' if index else 'at'} {call}" for index,
+                                   call in enumerate(finding.note_trace)]
+    return "\n".join(lines)
+
+
+def junit_case(suite, number, finding):
+    place = finding.lead().place
+    where = f' file="{xml(place.file)}" line="{place.line}"' if place else ""
+    yield f'  <testcase classname="{suite}" name="{number}: {xml(finding.title())}"{where}>\n'
+    if finding.counts:
+        yield f'    <failure type="{finding.rule}" message="{xml(finding.title())}">{xml(told(finding))}</failure>\n'
+    else:
+        yield f"    <system-out>{xml(told(finding))}</system-out>\n"
+    yield "  </testcase>\n"
+
+
+def junit_text(shown):
+    suite, findings = xml(os.path.basename(shown.file)), list(shown.findings())
+    cases = [part for number, finding in enumerate(findings, 1) for part in junit_case(suite, number, finding)]
+    cases = cases or [f'  <testcase classname="{suite}" name="no error and no leak"/>\n']
+    failures = sum(finding.counts for finding in findings)
+    counts = f'tests="{len(findings) or 1}" failures="{failures}" errors="0" skipped="0"'
+    return "".join(['<?xml version="1.0" encoding="UTF-8"?>\n', f'<testsuite name="{suite}" {counts}>\n', *cases,
+                    "</testsuite>\n"])
+
+
+# ---- lines
+
+
+def one_line(text):
+    return printable(text).replace("\r", " ").replace("\n", " ")
+
+
+def gcc_line(shown, call, level, text):
+    where = f"{call.place.file}:{call.place.line}" if call.place else shown.file
+    return one_line(f"{where}: {level}: {text}") + "\n"
+
+
+def gcc_parts(shown):
+    for finding in shown.findings():
+        yield gcc_line(shown, finding.lead(), "warning", f"{finding.title()} [{finding.rule}]")
+        for index, call in enumerate(finding.trace):
+            yield gcc_line(shown, call, "note", f"{'by' if index else 'at'} {call.address}: {call.function}")
+        for index, call in enumerate(finding.note_trace or []):
+            yield gcc_line(shown, call, "note", f"by {call.address}: {call.function}"
+                           if index else f"{finding.note}, in {call.function}")
+        if finding.note and not finding.note_trace:
+            yield gcc_line(shown, finding.lead(), "note", finding.note)
+
+
+def gcc_text(shown):
+    return "".join(gcc_parts(shown))
+
+
+def escaped(text, also=""):
+    """A text as a command of GitHub's runner takes it; a property can't have what is in `also` either."""
+    for it in "%\r\n" + also:
+        text = text.replace(it, f"%{ord(it):02X}")
+    return printable(text)
+
+
+def github_parts(shown):
+    for finding in shown.findings():
+        place = finding.lead().place
+        where = f"file={escaped(place.file, ':,')},line={place.line}," if place else ""
+        level = "error" if finding.counts else "notice"
+        yield f"::{level} {where}title={escaped(finding.title(), ':,')}::{escaped(told(finding))}\n"
+
+
+def github_text(shown):
+    return "".join(github_parts(shown))
+
+
+FORMATS = {"json": json_text, "sarif": sarif_text, "valgrind-xml": valgrind_text, "junit": junit_text, "gcc": gcc_text,
+           "github": github_text}

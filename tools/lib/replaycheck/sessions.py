@@ -1,0 +1,101 @@
+"""A session with the program: a line at a time, with its reply."""
+import os
+import subprocess
+
+from replaycheck.endings import Fault, start
+from replaycheck.guest_files import TOP
+from replaycheck.refusals import with_words
+
+
+class Ended(Fault):
+    """The program has ended before it replied. `said` is what it said of that, and `status` the one with which a
+    tool ends."""
+
+    def __init__(self, child, keeps_status=False):
+        said = child.stderr.read().decode("utf-8", "surrogateescape") if child.stderr else ""
+        code = child.wait()
+        how = f"signal {-code}" if code < 0 else f"status {code}"
+        super().__init__(f"the program has ended before it replied, with {how}")
+        self.said = "".join(with_words(line) + "\n" for line in said.splitlines())
+        self.status = code if keeps_status and code > 0 else 2
+
+
+class Refused(Fault):
+    """The program has refused a line."""
+
+    def __init__(self, line, reply):
+        super().__init__(f"{line}: {with_words(reply)}")
+        self.number = int(reply.split(" ")[1])
+
+
+def program():
+    """The path of the program that REPLAYCHECK names, or else of this repository's, which is built first where it has
+    to be."""
+    named = os.environ.get("REPLAYCHECK")
+    if named:
+        return named
+    built = start([str(TOP / "tools" / "lib" / "build")]).wait()
+    if built:
+        raise Fault("the program isn't built")
+    return str(TOP / "crates" / "replaycheck" / "out" / "replaycheck")
+
+
+def path_of(path):
+    """A path that the program doesn't take for an option."""
+    return "./" + path if path.startswith("-") else path
+
+
+class Session:
+    """A session on a program's file with its input and its suppressions."""
+
+    def __init__(self, file, given=None, supp=None, keeps_status=False, lends=()):
+        words = [program(), "session"]
+        words += ["--input", path_of(given)] if given is not None else []
+        words += ["--supp", path_of(supp)] if supp is not None else []
+        self.keeps_status = keeps_status
+        self.child = start([*words, path_of(file)], stdin=subprocess.PIPE, stdout=subprocess.PIPE,
+                           stderr=subprocess.PIPE,
+                           pass_fds=lends)
+
+    def ask(self, line):
+        """The reply to a line: one line, or those of a report."""
+        try:
+            self.child.stdin.write(line.encode("utf-8", "surrogateescape") + b"\n")
+            self.child.stdin.flush()
+        except BrokenPipeError:
+            raise self.ended() from None
+        reply = [self.read()]
+        if reply[0].startswith("step "):
+            while not reply[-1].startswith("ERROR SUMMARY: "):
+                reply.append(self.read())
+        return reply
+
+    def accepted(self, line):
+        """The reply to a line that must not be refused."""
+        reply = self.ask(line)
+        if reply[0].startswith("refused "):
+            raise Refused(line, reply[0])
+        return reply
+
+    def report_at(self, step):
+        """The lines of the report at a step."""
+        self.accepted(f"goto {step}")
+        return self.accepted("report")
+
+    def read(self):
+        line = self.child.stdout.readline()
+        if not line.endswith(b"\n"):
+            raise self.ended()
+        return line[:-1].decode("utf-8", "surrogateescape")
+
+    def ended(self):
+        try:
+            self.child.stdin.close()
+        except OSError:
+            pass
+        return Ended(self.child, self.keeps_status)
+
+
+def script_of(lines):
+    """The lines of a script that ask something: without empty ones and remarks."""
+    return [line for line in lines if line and not line.startswith("#")]

@@ -1,0 +1,284 @@
+"""The rows of tools/test/test-tools: command lines of the launcher, with what each ends with and tells."""
+from dataclasses import dataclass, field
+from typing import Dict, List, Optional
+
+FORMATS = ("json", "sarif", "valgrind-xml", "junit", "gcc", "github")
+EXPECTED = (4, 17, 18)  # the cases of kinds.elf whose outputs stand in examples/firmware/expected
+ADDR2LINE = ["riscv64-unknown-elf-addr2line"]
+BINUTILS = ["riscv64-unknown-elf-as", "riscv64-unknown-elf-objdump"]
+PACKET = ["packet.elf", "--input", "packet.input"]
+KINDS = ["kinds.elf", "--input", "kinds.input"]
+# Tools that wait for a child, and the variables that name the child.
+SLOW = [
+    ("talk", ["talk", "three-words.elf", "asks"], ["REPLAYCHECK"]),
+    ("when", ["when", "three-words.elf", "exited"], ["REPLAYCHECK"]),
+    ("compare", ["compare", "three-words.elf", "input 0 1"], ["REPLAYCHECK"]),
+    ("run", ["run", "three-words.elf", "--error-exitcode=1"], ["REPLAYCHECK"]),
+    ("word", ["word", "nop"], ["AS", "OBJDUMP"]),
+]
+
+
+# A case of kinds.elf with a leak or a stop, the kinds that count, and the status.
+LEAKS = [
+    ("a definite leak", 18, "definite,possible", 7), ("a definite leak that doesn't count", 18, "possible", 0),
+    ("an indirect leak", 18, "indirect", 7), ("no leak counts", 18, "none", 0), ("a possible leak", 19, "possible", 7),
+    ("reachable blocks", 20, "all", 7), ("reachable blocks that don't count", 20, "definite,possible", 0),
+    ("a stop", 21, "none", 7),
+]
+
+
+@dataclass
+class Row:
+    """A command line of the launcher, its status, its output, and what standard error is. `*TEXT*TEXT*` has these texts
+    in turn; no `out` is any output."""
+
+    label: str
+    words: List[str]
+    status: int = 0
+    out: Optional[str] = ""
+    err: str = ""
+    given: bytes = b""
+    needs: List[str] = field(default_factory=list)
+    environment: Dict[str, str] = field(default_factory=dict)
+
+
+TALKED = """# A remark, and an empty line
+
+> goto 3
+ok
+> report
+step 3
+state exited 0
+input 0 of 0
+output 0
+definitely lost: 0 bytes in 0 blocks
+indirectly lost: 0 bytes in 0 blocks
+possibly lost: 0 bytes in 0 blocks
+still reachable: 0 bytes in 0 blocks
+suppressed: 0 bytes in 0 blocks
+ERROR SUMMARY: 0 errors from 0 contexts (suppressed: 0 from 0)
+> worked
+worked 3
+"""
+FREED = """{
+   Invalid read of size 4
+   Memcheck:Addr4
+   fun:first_item
+   fun:total
+   fun:main
+}
+"""
+NO_LINE = "refused 2: no such line, or a field that is missing, too many, empty or of the wrong form"
+NO_BYTE = "refused 3: no such byte of the input"
+HELD = "   at 0x00010044: total (packet.s:29)\n"
+CODED = "+ Invalid read of size 1 at 0x00010044: total (packet.s:29), by main\n"
+
+
+def talk_rows():
+    yield Row("talk: a script", ["talk", "three-words.elf", "script"], 0, TALKED)
+    yield Row("talk: from standard input", ["talk", "three-words.elf", "-"], 1, f"> hello\n{NO_LINE}\n> goto 1\nok\n",
+              given=b"hello\ngoto 1\n")
+    yield Row("talk: a line with a return", ["talk", "three-words.elf", "-"], 0, "> goto 1\nok\n", given=b"goto 1\r\n")
+    yield Row("talk: an input", ["talk", "packet.elf", "--input=packet.input", "--", "-"], 0, "> input 7 1\nok\n",
+              given=b"input 7 1")
+    yield Row("talk: bytes that are no UTF-8", ["talk", "three-words.elf", "-"], 1, f"> \udcff\n{NO_LINE}\n",
+              given=b"\xff\n")
+    yield Row("talk: a name in two lines", ["talk", "a name\nin two lines.elf", "-"], 0, "> goto 1\nok\n",
+              given=b"goto 1\n")
+    yield Row("talk: a refused file", ["talk", "script", "-"], 2, "", "replaycheck: image refused 20: no ELF file\n",
+              given=b"goto 1\n")
+    yield Row("talk: no script", ["talk", "three-words.elf", "missing"], 2, "",
+              "replaycheck talk: missing: No such file or directory\n")
+    yield Row("talk: an option twice", ["talk", *PACKET, "--input=a", "-"], 2, "", "*--input is given twice*")
+    yield Row("talk: no program", ["talk", "three-words.elf", "script"], 2, None, "*cannot run ./missing*",
+              environment={"REPLAYCHECK": "./missing"})
+
+
+def when_rows():
+    when = ["when", "three-words.elf"]
+    yield Row("when: after an edit", ["when", *PACKET, "--line", "input 0 8", "Invalid read"], 0, "58\n")
+    yield Row("when: not in the unedited run", ["when", *PACKET, "Invalid read"], 1)
+    yield Row("when: a suppressed error",
+              ["when", "undefined-branches.elf", "--supp", "undefined-branches.supp", "error 1"], 1)
+    yield Row("when: the last step", [*when, "--last", "3", "state exited"], 0, "3\n")
+    yield Row("when: a hexadecimal step", [*when, "--last=0x3", "state exited"], 0, "3\n")
+    yield Row("when: from the start", [*when, "--last", "2", "state running"], 0, "0\n")
+    yield Row("when: before the last step", [*when, "--last", "2", "state exited"], 1)
+    yield Row("when: a refused line", ["when", "packet.elf", "--line", "input 0 8", "x"], 2, "",
+              f"replaycheck when: input 0 8: {NO_BYTE}\n")
+    yield Row("when: two lines in one word", ["when", *PACKET, "--line", "input 0 8\nreport", "Invalid"], 2, "",
+              "*two lines in one word*")
+    yield Row("when: a text of two lines", [*when, "state\nexited"], 2, "", "*two lines in one word*")
+    yield Row("when: no edit", ["when", *PACKET, "--line", "goto 8", "Invalid"], 2, "", "*no edit: 'goto 8'*")
+    yield Row("when: a step that is too great", [*when, "--last", "4194305", "x"], 2, "",
+              "*no number from 0 to 4194304*")
+    yield Row("when: a refused file", ["when", "script", "x"], 2, "", "replaycheck: image refused 20: no ELF file\n")
+
+
+def compare_rows():
+    compare = ["compare", *PACKET]
+    yield Row("compare: the same", [*compare, "input 7 1"], 0)
+    yield Row("compare: another report", [*compare, "input 0 8"], 1, "*--- at step 1048576\n+++ after input 0 8\n@@ *")
+    yield Row("compare: an error more", [*compare, "input 0 8"], 1, "*+error 1: Invalid read of size 1*")
+    yield Row("compare: an error less", ["compare", "use-after-free.elf", "supp add Addr4 ..."], 1,
+              "*-error 1: Invalid read of size 4*")
+    yield Row("compare: lines that take one another back", [*compare, "input 0 8", "input 0 3"], 0)
+    yield Row("compare: a suppression", [*compare, "--supp", "free.supp", "option redzone 32"], 0)
+    yield Row("compare: a step that is too great", [*compare, "--step", "5000000", "input 0 8"], 2, "",
+              "*no number from 0*")
+    yield Row("compare: a missing program", ["compare", "missing", "input 0 8"], 2, "",
+              "replaycheck: cannot read missing\n")
+    yield Row("compare: options behind lines", [*compare, "input 0 8", "--step", "0x3c"], 1, "*--- at step 60\n*")
+    yield Row("compare: a script after", [*compare, "--after", "edits"], 1, "*+++ after input 0 8\n*")
+    yield Row("compare: a script before, and more after",
+              [*compare, "--before", "edits", "--after", "edits", "option callers 1"], 1,
+              "*--- after input 0 8\n+++ after input 0 8; option callers 1\n*")
+    yield Row("compare: scripts on both sides that differ", [*compare, "--before", "edits", "input 7 1"], 1,
+              "*--- after input 0 8\n+++ after input 7 1\n*")
+    yield Row("compare: the same script on both sides", [*compare, "--before", "edits", "--after", "edits"], 0)
+    yield Row("compare: no line", compare, 2, "", "*no line, no --before and no --after*")
+    yield Row("compare: a refused line", [*compare, "option color 1"], 2, "",
+              "replaycheck compare: option color 1: refused 9: no such option, or its value is out of range\n")
+    yield Row("compare: two lines in one word", [*compare, "input 0 8\ninput 0 3"], 2, "", "*two lines in one word*")
+    yield Row("compare: no edit", [*compare, "report"], 2, "", "*no edit: 'report'*")
+    yield Row("compare: a script with another line", [*compare, "--after", "not edits"], 2, "",
+              "*not edits: no edit: 'goto 8'*")
+    yield Row("compare: a missing script", [*compare, "--before", "none"], 2, "",
+              "replaycheck compare: none: No such file or directory\n")
+    yield Row("compare: no diff", [*compare, "input 0 8"], 2, "", "*cannot run diff*diffutils*",
+              environment={"PATH": "few"})
+
+
+def suppress_rows():
+    yield Row("suppress: blocks", ["suppress", "error.report"], 0, FREED)
+    yield Row("suppress: a report twice", ["suppress", "error.report", "error.report"], 0, FREED)
+    yield Row("suppress: no report", ["suppress"], 2, "", "replaycheck suppress: no report\n", given=b"ok\n")
+    yield Row("suppress: no whole report", ["suppress"], 2, "", "*line 2 must be `state ..`, and is the end*",
+              given=b"step 1")
+    yield Row("suppress: a part of a report", ["suppress"], 2, "", "*outside a report*",
+              given=b"error 1: Invalid read of size 4\n")
+    yield Row("suppress: a missing report", ["suppress", "missing"], 2, "",
+              "replaycheck suppress: missing: No such file or directory\n")
+
+
+def word_rows():
+    for word, instruction in (("0x00a50533", "add a0,a0,a0"), ("0xfe010113", "addi sp,sp,-32"),
+                              ("0x04f5f663", "bgeu a1,a5,.+76"),
+                              ("0xff1ff06f", "j .-16"), ("0x00812e03", "lw t3,8(sp)"), ("0x02d7f7b3", "remu a5,a5,a3"),
+                              ("0x00000073", "ecall")):
+        yield Row(f"word: {instruction}", ["word", instruction], 0, f"{word}\n", needs=BINUTILS)
+    yield Row("word: two words", ["word", "li a0,70000"], 1, "", "*2 words, not one*", needs=BINUTILS)
+    yield Row("word: no word", ["word", ""], 1, "", "*0 words, not one*", needs=BINUTILS)
+    yield Row("word: no instruction", ["word", "hello a0"], 1, "", "*Error*", needs=BINUTILS)
+    yield Row("word: not of RV32IM", ["word", "c.nop"], 1, "", "*Error*", needs=BINUTILS)
+    yield Row("word: two lines", ["word", "nop\nnop"], 2, "", "*two lines in one word*", needs=BINUTILS)
+    yield Row("word: no assembler", ["word", "nop"], 2, "", "*cannot run missing-as*binutils*",
+              environment={"AS": "missing-as"})
+    yield Row("word: no disassembler", ["word", "nop"], 2, "", "*cannot run no-objdump*", needs=BINUTILS,
+              environment={"OBJDUMP": "no-objdump"})
+    yield Row("sweep: no disassembler", ["sweep", "packet.elf", "--code", "main"], 2, "", "*no-objdump*",
+              environment={"OBJDUMP": "no-objdump"})
+
+
+def lines_rows():
+    report = b"error 1: at 0x00010044: no frame\n   at 0x00010044: total\n   by 0x00010028: main\n 0x\xff"
+    placed = f"error 1: at 0x00010044: no frame\n{HELD}   by 0x00010028: main (packet.s:17)\n 0x\udcff"
+    yield Row("lines: a report", ["lines", "packet.elf"], 0, placed, given=report, needs=ADDR2LINE)
+    for sign in "-", "+", " ", "< ", "> ":
+        yield Row(f"lines: a diff, {sign!r}", ["lines", "packet.elf"], 0, sign + HELD,
+                  given=sign.encode() + b"   at 0x00010044: total\n",
+                  needs=ADDR2LINE)
+    inlined = "   at 0x00010160: call_environment (environment.h:23)\n   by 0x00010160: write (system.c:14)\n"
+    yield Row("lines: an inlined call", ["lines", "station.elf"], 0, inlined, given=b"   at 0x00010160: write\n",
+              needs=ADDR2LINE)
+    yield Row("lines: an inlined call in a diff", ["lines", "station.elf"], 0,
+              "+   at 0x00010160: write (environment.h:23 in system.c:14)\n", given=b"+   at 0x00010160: write\n",
+              needs=ADDR2LINE)
+    yield Row("lines: one of several places of a line", ["lines", "station.elf"], 0,
+              "   by 0x000102e0: drop (station.c:122)\n",
+              given=b"   by 0x000102e0: drop\n", needs=ADDR2LINE)
+    yield Row("lines: whole paths", ["lines", "station.elf", "--full-paths"], 0,
+              "   by 0x000102e0: drop (../firmware/station.c:122)\n",
+              given=b"   by 0x000102e0: drop\n", needs=ADDR2LINE)
+    yield Row("lines: paths from below a folder", ["lines", "--strip-prefix=../firmware/", "station.elf"], 0,
+              "   by 0x000102e0: drop (station.c:122)\n", given=b"   by 0x000102e0: drop\n", needs=ADDR2LINE)
+    yield Row("lines: a summary of a sweep", ["lines", "packet.elf"], 0, CODED, needs=ADDR2LINE,
+              given=b"+ Invalid read of size 1 at 0x00010044: total, by main\n")
+    yield Row("lines: a table of a sweep", ["lines", "packet.elf"], 0,
+              f"x\t{CODED[2:-1]}\tdefinitely lost at 0x00010028: main (packet.s:17)\n",
+              needs=ADDR2LINE,
+              given=b"x\tInvalid read of size 1 at 0x00010044: total, by main\tdefinitely lost at 0x00010028: main\n")
+    yield Row("lines: no frames", ["lines", "packet.elf"], 0, "ok\n", given=b"ok\n", needs=ADDR2LINE)
+    bare = b"   at 0x00010000: main\nok\n"
+    yield Row("lines: no debug information", ["lines", "two-callers.elf"], 1, bare.decode(), given=bare,
+              needs=ADDR2LINE)
+    yield Row("lines: no program", ["lines", "script"], 2, bare.decode(), "*addr2line has ended*", given=bare,
+              needs=ADDR2LINE)
+    yield Row("lines: no such file", ["lines", "missing"], 2, bare.decode(),
+              "replaycheck lines: missing: no such file\n", given=bare)
+    yield Row("lines: no addr2line", ["lines", "packet.elf"], 2, bare.decode(), "*cannot run no-addr2line*binutils*",
+              given=bare,
+              environment={"ADDR2LINE": "no-addr2line"})
+    yield Row("lines: a bad option", ["lines", "--colour", "packet.elf"], 2, "", "*unrecognized arguments: --colour*",
+              given=bare)
+    yield Row("lines: two ways of paths", ["lines", "packet.elf", "--full-paths", "--strip-prefix=x"], 2, "",
+              "*at once*")
+
+
+def run_rows():
+    run = ["run", "undefined-branches.elf"]
+    freed = ["run", "use-after-free.elf"]
+    yield Row("run: an error", [*freed, "--error-exitcode=7"], 7, None)
+    yield Row("run: an error, and no status", [*freed, "--error-exitcode", "0"], 0, None)
+    yield Row("run: no error", ["run", "three-words.elf", "--error-exitcode=7"], 0, None)
+    for label, case, kinds, status in LEAKS:
+        yield Row(f"run: {label}", ["run", "kinds.elf", f"--input=case-{case}", f"--errors-for-leak-kinds={kinds}",
+                                    "--error-exitcode=7"], status, None)
+    yield Row("run: reachable blocks are listed",
+              ["run", "kinds.elf", "--input=case-20", "--show-leak-kinds=reachable"], 0,
+              "*leak 8 bytes in 1 blocks are still reachable*")
+    yield Row("run: errors that are suppressed", [*run, "--suppressions=undefined-branches.supp", "--error-exitcode=7"],
+              0,
+              "*ERROR SUMMARY: 0 errors from 0 contexts (suppressed: 2 from 2)*")
+    yield Row("run: two files of suppressions",
+              [*run, "--supp=free.supp", "--suppressions=undefined-branches.supp", "--error-exitcode=7"], 0,
+              "*(suppressed: 2 from 2)*")
+    yield Row("run: the second file of suppressions is at fault",
+              [*run, "--supp=free.supp", "--suppressions", "half.supp"], 3, "",
+              "replaycheck: suppressions refused 13 at line 1: a suppression that can't be read\n")
+    yield Row("run: shorter traces", [*freed, "--num-callers=1"], 0,
+              "*error 1: Invalid read of size 4\n   at 0x00010050: first_item\n Address*")
+    yield Row("run: no room for freed blocks", [*freed, "--freelist-vol=0"], 0,
+              "*is not stack'd, malloc'd or (recently) free'd*")
+    yield Row("run: a step", [*freed, "--redzone-size=0x20", "--step=3"], 0, "*step 3\nstate running*")
+    yield Row("run: more callers than there are", [*freed, "--num-callers=25"], 2, "", "*no number from 1 to 24*")
+    yield Row("run: no kind of leak", [*freed, "--show-leak-kinds=lost"], 2, "", "*no kind of leak: 'lost'*")
+    yield Row("run: no format", [*freed, "--format=yaml"], 2, "", "*invalid choice: 'yaml'*")
+    yield Row("run: an option twice", [*freed, "--format=gcc", "--format=gcc"], 2, "", "*--format is given twice*")
+    yield Row("run: paths of a text", [*freed, "--full-paths"], 2, "", "*go with a --format that*")
+    yield Row("run: an option of Valgrind", [*freed, "--leak-check=full"], 2, "",
+              "*--leak-check is no option here: leaks are searched for*")
+    yield Row("run: another option of Valgrind", [*freed, "--xml=yes"], 2, "",
+              "*--xml is no option here: --format valgrind-xml*")
+    yield Row("run: the output", [*freed, "--output=x"], 2, "", "*how many bytes were written and not which*")
+    yield Row("run: an option that nobody has", [*freed, "--depth=3"], 2, "", "*unexpected argument '--depth' found*")
+    yield Row("run: no program", ["run", "script", "--error-exitcode=7"], 3, "",
+              "replaycheck: image refused 20: no ELF file\n")
+    yield Row("run: a missing program", ["run", "missing", "--error-exitcode=7"], 1, "",
+              "replaycheck: cannot read missing\n")
+    yield Row("run: a name in two lines", ["run", "a name\nin two lines.elf", "--error-exitcode=7"], 7, None)
+    yield Row("run: no addr2line", [*freed, "--format=gcc"], 2, "", "*cannot run no-addr2line*",
+              environment={"ADDR2LINE": "no-addr2line"})
+
+
+def launcher_rows():
+    yield Row("the program's own fault", ["walk"], 2, "", "*unrecognized subcommand 'walk'*")
+    yield Row("the program's own help of run", ["run", "--help"], 0, "*Usage: replaycheck run [OPTIONS] <FILE>*")
+    yield Row("help of the options for CI", ["run", "--error-exitcode=1", "--help"], 0,
+              "*--errors-for-leak-kinds LIST  these kinds*")
+    yield Row("a path is no tool", ["../bin/ls"], 2, "", "*unrecognized subcommand*")
+
+
+ROWS = [row
+        for rows in (talk_rows, when_rows, compare_rows, suppress_rows, word_rows, lines_rows, run_rows, launcher_rows)
+        for row in rows()]
