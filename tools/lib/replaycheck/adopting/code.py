@@ -1,0 +1,172 @@
+"""Which words of a file are code, as its symbols and its jumps tell, and what of it a run can't do."""
+import bisect
+import collections
+
+from . import instructions as isa
+from .elf import HAS_CODE
+
+Found = collections.namedtuple("Found", "address word")
+# What a first walk from the entry keeps of the start file.
+FURTHEST = 256
+
+
+def joined(ranges):
+    """Ranges in order, with those that meet made one."""
+    together = []
+    for start, end in sorted(it for it in ranges if it[0] < it[1]):
+        if together and start <= together[-1][1]:
+            together[-1][1] = max(together[-1][1], end)
+        else:
+            together.append([start, end])
+    return together
+
+
+def holds(ranges, address):
+    """Whether joined ranges have an address."""
+    index = bisect.bisect_right(ranges, [address, 1 << 32]) - 1
+    return index >= 0 and address < ranges[index][1]
+
+
+def without(ranges, others):
+    """What of joined ranges is in none of the others, which are joined too."""
+    left = []
+    for start, end in ranges:
+        index = max(bisect.bisect_right(others, [start, 1 << 32]) - 1, 0)
+        while index < len(others) and others[index][0] < end:
+            if others[index][0] > start:
+                left.append([start, others[index][0]])
+            start = max(start, others[index][1])
+            index += 1
+        if start < end:
+            left.append([start, end])
+    return left
+
+
+class Code:
+    """The words that are code: all of a function whose size is known, but for what a mapping symbol `$d` calls data; and what is
+    reached from the entry, from functions without a size and from mapping symbols `$x`, by each next word, branch and jump. What
+    follows a function of known size isn't reached from it. Closed ranges are never run."""
+
+    def __init__(self, elf, closed=()):
+        self.elf = elf
+        sections = [(it.addr, it.addr + it.size) for it in elf.sections if it.flags & HAS_CODE]
+        loads = joined((it.vaddr, it.vaddr + it.filesz) for it in elf.loads)
+        outside = without([[0, 1 << 32]], joined(sections) if sections else loads)
+        self.open = without(without(loads, outside), joined(closed))
+        self.sized = [(it.value, it.value + it.size) for it in elf.functions if it.size]
+        self.ends = {end for _, end in self.sized}
+        self.seen = {it.vaddr: bytearray(it.filesz // 4 + 1) for it in elf.contents}
+        self.control, self.atomic, self.floating, self.compressed, self.unknown = [], [], [], [], []
+
+    def data(self):
+        """What mapping symbols call data: from each up to the next one or the next function."""
+        marks = {it.value: True for it in self.elf.functions}
+        for symbol in self.elf.symbols:
+            name = self.elf.strings[symbol.name:symbol.name + 2]
+            if name in (b"$d", b"$x"):
+                marks[symbol.value] = name == b"$x"
+        places = sorted(marks)
+        return joined((start, end) for start, end in zip(places, [*places[1:], 1 << 32]) if not marks[start])
+
+    def seeds(self):
+        """Addresses from which code is followed."""
+        yield self.elf.entry
+        closed = without([[0, 1 << 32]], self.open)
+        for start, end in without(without(joined(self.sized), self.data()), closed):
+            yield from range(start + -start % 4, end, 4)
+        yield from (it.value for it in self.elf.functions if not it.size)
+        yield from (it.value for it in self.elf.symbols if self.elf.strings[it.name:it.name + 2] == b"$x")
+
+    def word(self, address):
+        """The word of an address that is code, or None."""
+        place = self.elf.place(address) if address % 4 == 0 and holds(self.open, address) else None
+        return None if place is None else int.from_bytes(self.elf.data[place:place + 4], "little")
+
+    def enters(self, address):
+        """Whether there are bytes at a multiple of 4, and it comes for the first time."""
+        segment = self.elf.content_at(address)
+        if segment is None or address % 4:
+            return False
+        seen, index = self.seen[segment.vaddr], (address - segment.vaddr) // 4
+        first = not seen[index]
+        seen[index] = 1
+        return first
+
+    def follow(self):
+        """Looks at each word of code once."""
+        for seed in self.seeds():
+            waiting = [seed]
+            while waiting:
+                waiting += self.line(waiting.pop())
+        for found in (self.control, self.atomic, self.floating, self.compressed, self.unknown):
+            found.sort()
+
+    def line(self, address):
+        """Follows code from an address as long as it goes on to the next word, and returns where else it goes."""
+        elsewhere, before = [], 0
+        while self.enters(address):
+            word = self.word(address)
+            if word is None or not self.look(address, word):
+                break
+            elsewhere += targets(address, before, word)
+            address, before = address + 4, word
+            if isa.opcode(word) in (isa.JAL, isa.JALR) and isa.rd(word) == isa.ZERO or address in self.ends:
+                break
+        return elsewhere
+
+    def look(self, address, word):
+        """Notes a word that isn't RV32IM's. Is it an instruction at all?"""
+        found = Found(address, word)
+        if isa.is_of_rv32im(word):
+            return True
+        if word in (0, isa.UNIMP):
+            return False
+        if isa.control(word):
+            self.control.append(found)
+        elif isa.opcode(word) == isa.ATOMIC:
+            self.atomic.append(found)
+        elif isa.opcode(word) in isa.FLOAT:
+            self.floating.append(found)
+        else:
+            (self.compressed if isa.is_compressed(word) else self.unknown).append(found)
+            return False
+        return True
+
+
+def targets(address, before, word):
+    """Where an instruction goes beside the next word, as far as it and the one before it tell."""
+    code = isa.opcode(word)
+    if code in (isa.JAL, isa.BRANCH):
+        return [address + isa.distance(word) & 0xFFFFFFFF]
+    if code == isa.JALR and isa.opcode(before) in (isa.AUIPC, isa.LUI) and isa.rd(before) == isa.rs1(word):
+        base = isa.upper(before) + (address - 4 if isa.opcode(before) == isa.AUIPC else 0)
+        return [base + isa.immediate(word) & 0xFFFFFFFE]
+    return []
+
+
+def stack_words(code, entry):
+    """The words of the start file that give the stack pointer another place, up to the first call: a run has a stack, so each
+    can be left out. What moves the pointer from where it is, `addi sp,sp,-16` or `andi sp,sp,-16`, stays."""
+    found, address, walked = [], entry, set()
+    before = 0
+    while address not in walked and len(walked) < FURTHEST:
+        walked.add(address)
+        word = code.word(address)
+        if word is None or isa.opcode(word) == isa.JALR or isa.opcode(word) == isa.JAL and isa.rd(word) != isa.ZERO:
+            break
+        if places_stack(word, before, bool(found)):
+            found.append(Found(address, word))
+        before = word
+        address += isa.distance(word) if isa.opcode(word) == isa.JAL else 4
+    return found
+
+
+def places_stack(word, before, has_placed):
+    """Whether a word gives the stack pointer a place, after the word before it and after others that have."""
+    code = isa.opcode(word)
+    if code in isa.WRITES_NO_REGISTER or isa.rd(word) != isa.SP or not isa.is_of_rv32im(word):
+        return False
+    if code == isa.IMMEDIATE and isa.rs1(word) == isa.SP:
+        return isa.rd(before) == isa.SP and isa.opcode(before) in (isa.AUIPC, isa.LUI)
+    of_itself = code == isa.REGISTERS and isa.SP in (isa.rs1(word), word >> 20 & 31)
+    return has_placed or not of_itself
