@@ -29,6 +29,14 @@ class Once(argparse.Action):
         setattr(options, self.dest, value)
 
 
+class Help(argparse.Action):
+    """Prints the page. argparse's own action doesn't tell of an output that takes none of it."""
+
+    def __call__(self, parser, options, value, name=None):
+        print(parser.format_help(), end="")
+        parser.exit()
+
+
 def heap(text):
     try:
         return heap_of(text)
@@ -37,7 +45,8 @@ def heap(text):
 
 
 def options_of(page, words):
-    reader = argparse.ArgumentParser(prog=TOOL, description=page, formatter_class=FORM, allow_abbrev=False)
+    reader = argparse.ArgumentParser(prog=TOOL, description=page, formatter_class=FORM, allow_abbrev=False, add_help=False)
+    reader.add_argument("-h", "--help", action=Help, nargs=0, help="print this page")
     reader.add_argument("file", metavar="FILE", help="the file that the linker wrote")
     reader.add_argument("-o", "--output", metavar="OUT", action=Once, help="write the cured file here; FILE stays as it is")
     reader.add_argument("--heap", metavar="NAME=FUNCTION(PLACES)", type=heap, action="append", default=[],
@@ -87,6 +96,15 @@ def mode_of(path):
     return stat.S_IMODE(os.stat(path).st_mode) & ~mask & 0o777
 
 
+def healed(findings, heaps, kept):
+    """The file with what can be cured, as bytes, and the changes. It is looked at as the file was: nothing is left to cure."""
+    content, changes = cured(findings)
+    again = Findings(content, heaps, kept)
+    if again.hopeless() or again.cures():
+        raise Refused("its code lies over its own tables: it is damaged, or no linker's")
+    return content, changes
+
+
 def adopt(options):
     """Looks at a file, writes another one if asked to, tells both, and returns the exit status."""
     data = read(options.file)
@@ -101,7 +119,7 @@ def adopt(options):
     if out is not None and not findings.hopeless():
         if same_file(options.file, out):
             raise Refused(f"{out} is the file itself: write to another one")
-        content, changes = cured(findings)
+        content, changes = healed(findings, options.heap, set(options.keep))
         write(out, content, mode_of(options.file))
     written = out if out is not None and not findings.hopeless() else None
     for line in report.lines(findings, written, changes):

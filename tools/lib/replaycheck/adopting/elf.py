@@ -100,32 +100,50 @@ class Elf:
         return segment.offset + address - segment.vaddr
 
     @functools.cached_property
-    def nearest(self):
-        """Functions by address, the first of the table among those at one, and labels where there is no function."""
-        first = {}
-        for symbol in self.functions + self.labels:
-            first.setdefault(symbol.value, symbol)
-        return [first[value] for value in sorted(first)]
+    def function_places(self):
+        return Places(self.functions)
 
     @functools.cached_property
-    def starts(self):
-        return [symbol.value for symbol in self.nearest]
+    def label_places(self):
+        return Places(self.labels)
 
     def function_at(self, address):
-        """The name of what an address belongs to, or None."""
-        index = bisect.bisect_right(self.starts, address) - 1
-        if index < 0:
-            return None
-        symbol = self.nearest[index]
-        return self.name(symbol) if not symbol.size or address < symbol.value + symbol.size else None
+        """The name of the function that an address belongs to, or else of the label before it, or None."""
+        for places in (self.function_places, self.label_places):
+            symbol = places.before(address)
+            if symbol and (not symbol.size or address < symbol.value + symbol.size):
+                return self.name(symbol)
+        return None
 
-    def next_start(self, address):
-        """Where the next function or label begins, or the loaded bytes end."""
-        segment = self.content_at(address)
+    def extent(self, symbol):
+        """How many bytes of the file a function has, up to the next one at most; where its size isn't known, up to a label."""
+        segment = self.content_at(symbol.value)
         if segment is None:
-            return address
+            return 0
+        ends = [segment.vaddr + segment.filesz, self.function_places.after(symbol.value)]
+        ends.append(symbol.value + symbol.size if symbol.size else self.label_places.after(symbol.value))
+        return min(ends) - symbol.value
+
+
+class Places:
+    """Symbols by address, the first of the table among those at one."""
+
+    def __init__(self, symbols):
+        first = {}
+        for symbol in symbols:
+            first.setdefault(symbol.value, symbol)
+        self.starts = sorted(first)
+        self.symbols = [first[value] for value in self.starts]
+
+    def before(self, address):
+        """The last symbol at an address or before it, or None."""
         index = bisect.bisect_right(self.starts, address)
-        return min([segment.vaddr + segment.filesz, *self.starts[index:index + 1]])
+        return self.symbols[index - 1] if index else None
+
+    def after(self, address):
+        """Where the next symbol stands."""
+        index = bisect.bisect_right(self.starts, address)
+        return self.starts[index] if index < len(self.starts) else 1 << 32
 
 
 def beginning(data):

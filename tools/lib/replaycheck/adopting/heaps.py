@@ -89,12 +89,6 @@ def hooks(elf):
     return found
 
 
-def extent(elf, symbol):
-    """How many bytes a function has, up to the next one at most."""
-    room = elf.next_start(symbol.value) - symbol.value
-    return min(symbol.size, room) if symbol.size else room
-
-
 class Plan:
     """What is taken over in a file: by its names already (`hooked`), by a cure (`taken`), and what can't be, each with the reason
     (`left`) or with the bytes that it would need (`small`)."""
@@ -106,7 +100,7 @@ class Plan:
         self.taken, self.left, self.small, self.found = {}, [], [], set()
         wanted = {name: (function, places) for name, function, places in map(heap_of, KNOWN)}
         wanted.update((name, (function, places)) for name, function, places in heaps)
-        for symbol in elf.functions + elf.labels:
+        for symbol in sorted(elf.functions + elf.labels, key=lambda it: it.value):
             name = elf.name(symbol)
             self.found.add(name)
             if name not in kept:
@@ -128,26 +122,27 @@ class Plan:
         """Takes a function over: its words move the parameters and jump to the heap's function, or, where none is in the file or
         in reach, the address behind the moves gets its name, too."""
         pairs = moves(places)
-        behind = symbol.value + 4 * len(pairs)
-        size = extent(self.elf, symbol)
-        if behind % 4 or size < 4 * len(pairs) + 4 or self.elf.place(symbol.value, 4 * len(pairs) + 4) is None:
-            self.small.append((name, symbol.value, 4 * len(pairs) + 4))
+        behind, needed = symbol.value + 4 * len(pairs), 4 * len(pairs) + 4
+        if self.hooked.get(behind) == function and self.has(symbol.value, pairs):
+            self.hooked[symbol.value] = function
+            return
+        if symbol.value % 4 or self.elf.extent(symbol) < needed:
+            self.small.append((name, symbol.value, needed))
             return
         named, away = behind, self.targets.get(function, behind) - behind
-        has_name = self.hooked.get(behind) == function and self.has(symbol.value, pairs)
-        if pairs and away and -isa.JUMP_REACH <= away < isa.JUMP_REACH and not has_name:
+        if pairs and away and -isa.JUMP_REACH <= away < isa.JUMP_REACH:
             pairs.append((isa.jump(away), f"j {function}"))
             named = None
-        if has_name or named is None and self.has(symbol.value, pairs):
+        if named is None and self.has(symbol.value, pairs):
             self.hooked[symbol.value] = function
-        else:
-            words, texts = [word for word, _ in pairs], [text for _, text in pairs]
-            self.taken[symbol.value] = Taken(name, symbol, size, function, words, texts, named)
+            return
+        words, texts = [word for word, _ in pairs], [text for _, text in pairs]
+        self.taken[symbol.value] = Taken(name, symbol, self.elf.extent(symbol), function, words, texts, named)
 
     def has(self, address, pairs):
         """Whether these words stand at an address already."""
         place = self.elf.place(address, 4 * len(pairs))
-        return all(word_at(self.elf.data, place + 4 * i) == word for i, (word, _) in enumerate(pairs))
+        return place is not None and all(word_at(self.elf.data, place + 4 * i) == word for i, (word, _) in enumerate(pairs))
 
     def closed(self):
         """Ranges that a run never reaches: functions that are taken over."""

@@ -1,6 +1,5 @@
 """The words of what was found in a file, of what was changed in it, and of how far it will run."""
 from . import instructions as isa
-from .code import Found
 from .heaps import PARAMETERS
 
 HEAP = "functions of a heap by other names, whose blocks are unknown: free of one would be a false error"
@@ -36,7 +35,7 @@ def cure_lines(findings):
     groups = [
         (HEAP, [taken_line(it) for it in plan.taken.values()]),
         (CONTROL, [control_line(elf, it) for it in findings.control]),
-        (STACK, [f"{in_function(elf, Found(it.address, it.word))}: 0x{it.word:08x}, which sets sp, becomes nop" for it in findings.stack]),
+        (STACK, [f"{in_function(elf, it)}: 0x{it.word:08x}, which sets sp, becomes nop" for it in findings.stack]),
         (COPIED, [copied_line(it) for it in findings.copied]),
     ]
     for heading, lines in groups:
