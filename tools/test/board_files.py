@@ -1,4 +1,5 @@
-"""ELF files of a board's kind, made by hand: segments at physical addresses of their own, sections, and symbols of each type."""
+"""ELF files of a board's kind, made by hand: segments at physical addresses of their own, sections, and symbols of each
+type."""
 import itertools
 import struct
 
@@ -21,7 +22,8 @@ def function(name, address, size, kind=FUNCTION, section=1):
 
 
 def board(segments, symbols=(), entry=0x10000, flags=0, kind=2, machine=243, more_headers=()):
-    """A file with these segments, each with a section of the same bytes; symbols, if there are any; and more program headers."""
+    """A file with these segments, each with a section of the same bytes; symbols, if there are any; and more program
+    headers."""
     headers = [(1, it[0], it[3], len(it[1]), it[2], it[4]) for it in segments]
     place = HEADER + PROGRAM_HEADER * (len(headers) + len(more_headers))
     offsets = list(itertools.accumulate((len(it[1]) + -len(it[1]) % 4 for it in segments), initial=place))
@@ -33,14 +35,15 @@ def board(segments, symbols=(), entry=0x10000, flags=0, kind=2, machine=243, mor
     starts = itertools.accumulate((len(it[0].encode()) + 1 for it in symbols), initial=1)
     entries = bytes(16) + b"".join(struct.pack("<IIIBBH", at, value, size, 16 | type_, 0, section)
                                    for at, (_, value, size, type_, section) in zip(starts, symbols))
-    sections = [(0,) * 10] + [(0, 1, 6 if it[4] & 1 else 3, it[0], at, len(it[1]), 0, 0, 4, 0) for at, it in zip(offsets, segments)]
+    sections = [(0,) * 10] + [(0, 1, 6 if it[4] & 1 else 3, it[0], at, len(it[1]), 0, 0, 4, 0)
+                              for at, it in zip(offsets, segments)]
     if symbols:
         sections.append((0, 2, 0, 0, offsets[-1], len(entries), len(sections) + 1, 1, 4, 16))
         sections.append((0, 3, 0, 0, offsets[-1] + len(entries), len(names), 0, 0, 1, 0))
         content += entries + names
     header = b"\x7fELF\x01\x01\x01" + bytes(9)
-    header += struct.pack("<HHIIIIIHHHHHH", kind, machine, 1, entry, HEADER, place + len(content), flags, HEADER, PROGRAM_HEADER,
-                          len(headers) + len(more_headers), SECTION_HEADER, len(sections), 0)
+    header += struct.pack("<HHIIIIIHHHHHH", kind, machine, 1, entry, HEADER, place + len(content), flags, HEADER,
+                          PROGRAM_HEADER, len(headers) + len(more_headers), SECTION_HEADER, len(sections), 0)
     return header + table + content + b"".join(struct.pack("<10I", *it) for it in sections)
 
 

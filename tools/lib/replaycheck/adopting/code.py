@@ -43,9 +43,9 @@ def without(ranges, others):
 
 
 class Code:
-    """The words that are code: all of a function whose size is known, but for what a mapping symbol `$d` calls data; and what is
-    reached from the entry, from functions without a size and from mapping symbols `$x`, by each next word, branch and jump. What
-    follows a function of known size isn't reached from it. Closed ranges are never run."""
+    """The words that are code: all of a function whose size is known, but for what a mapping symbol `$d` calls data;
+    and what is reached from the entry, from functions without a size and from mapping symbols `$x`, by each next word,
+    branch and jump. What follows a function of known size isn't reached from it. Closed ranges are never run."""
 
     def __init__(self, elf, closed=()):
         self.elf = elf
@@ -145,8 +145,8 @@ def targets(address, before, word):
 
 
 def stack_words(code, entry):
-    """The words of the start file that give the stack pointer another place, up to the first call: a run has a stack, so each
-    can be left out. What moves the pointer from where it is, `addi sp,sp,-16` or `andi sp,sp,-16`, stays."""
+    """The words of the start file that give the stack pointer another place, up to the first call: a run has a stack,
+    so each can be left out. What moves the pointer from where it is, `addi sp,sp,-16` or `andi sp,sp,-16`, stays."""
     found, address, walked = [], entry, set()
     before = 0
     while address not in walked and len(walked) < FURTHEST:

@@ -45,13 +45,16 @@ def heap(text):
 
 
 def options_of(page, words):
-    reader = argparse.ArgumentParser(prog=TOOL, description=page, formatter_class=FORM, allow_abbrev=False, add_help=False)
+    reader = argparse.ArgumentParser(prog=TOOL, description=page, formatter_class=FORM, allow_abbrev=False,
+                                     add_help=False)
     reader.add_argument("-h", "--help", action=Help, nargs=0, help="print this page")
     reader.add_argument("file", metavar="FILE", help="the file that the linker wrote")
-    reader.add_argument("-o", "--output", metavar="OUT", action=Once, help="write the cured file here; FILE stays as it is")
+    reader.add_argument("-o", "--output", metavar="OUT", action=Once,
+                        help="write the cured file here; FILE stays as it is")
     reader.add_argument("--heap", metavar="NAME=FUNCTION(PLACES)", type=heap, action="append", default=[],
-                        help="NAME is a function of a heap, too: malloc(SIZE), free(BLOCK), calloc(COUNT,SIZE) or realloc(BLOCK,SIZE), "
-                        "with the register of each parameter, a0 to a7, or a number in its place; as often as there are such functions")
+                        help="NAME is a function of a heap, too: malloc(SIZE), free(BLOCK), calloc(COUNT,SIZE) or "
+                        "realloc(BLOCK,SIZE), with the register of each parameter, a0 to a7, or a number in its place; "
+                        "as often as there are such functions")
     reader.add_argument("--keep", metavar="NAME", action="append", default=[],
                         help="change nothing in the function NAME; as often as there are such functions")
     options = reader.parse_args(words)
@@ -97,7 +100,8 @@ def mode_of(path):
 
 
 def healed(findings, heaps, kept):
-    """The file with what can be cured, as bytes, and the changes. It is looked at as the file was: nothing is left to cure."""
+    """The file with what can be cured, as bytes, and the changes. It is looked at as the file was: nothing is left to
+    cure."""
     content, changes = cured(findings)
     again = Findings(content, heaps, kept)
     if again.hopeless() or again.cures():
@@ -110,9 +114,11 @@ def adopt(options):
     data = read(options.file)
     findings = Findings(data, options.heap, set(options.keep))
     if findings.damaged:
-        raise Refused(f"{options.file}: {findings.damaged.what} (image refused {findings.damaged.number}): {findings.damaged.cure}")
+        fault = findings.damaged
+        raise Refused(f"{options.file}: {fault.what} (image refused {fault.number}): {fault.cure}")
     if findings.plan:
-        missing = [name for name in [name for name, _, _ in options.heap] + options.keep if name not in findings.plan.found]
+        given = [name for name, _, _ in options.heap] + options.keep
+        missing = [name for name in given if name not in findings.plan.found]
         if missing:
             raise Refused(f"{options.file} has no function {missing[0]}")
     out, changes = options.output, []
@@ -129,8 +135,8 @@ def adopt(options):
 
 
 def end(page):
-    """Ends the process: with what adopt returns, with 2 and a line on standard error where it can't be done, or by the signal that
-    interrupts it."""
+    """Ends the process: with what adopt returns, with 2 and a line on standard error where it can't be done, or by the
+    signal that interrupts it."""
     status = 2
     try:
         try:

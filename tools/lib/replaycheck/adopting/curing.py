@@ -30,7 +30,8 @@ class Cured:
         self.put(self.elf.place(address), struct.pack("<I", word), f"0x{address:08x}: {what}")
 
     def name_addresses(self, named):
-        """Adds symbols: each a name, an address, a size and a section. The tables move to the end, as they are longer."""
+        """Adds symbols: each a name, an address, a size and a section. The tables move to the end, as they are
+        longer."""
         index = self.elf.symbol_table
         table = self.elf.sections[index]
         strings, symbols = bytearray(self.elf.strings), bytearray(self.data[table.offset:table.offset + table.size])
@@ -41,7 +42,8 @@ class Cured:
                 strings += name.encode() + b"\0"
             symbols += struct.pack("<IIIBBH", places[name], address, size, WEAK_FUNCTION, 0, section)
         added = ", ".join(f"{name} at 0x{address:08x}" for name, address, _, _ in named)
-        self.move_section(table.link, self.add(strings, "the names of symbols, moved here"), len(strings), "names of symbols")
+        self.move_section(table.link, self.add(strings, "the names of symbols, moved here"), len(strings),
+                          "names of symbols")
         self.move_section(index, self.add(symbols, f"the symbols, moved here, with {added}"), len(symbols), "symbols")
 
     def move_section(self, index, offset, size, what):
@@ -53,7 +55,8 @@ class Cured:
         at, count = form.word_at(self.data, form.PROGRAM_TABLE), len(self.elf.segments)
         table = bytes(self.data[at:at + count * form.PROGRAM_HEADER])
         for it in segments:
-            table += struct.pack("<8I", form.LOAD, it.offset, it.paddr, it.paddr, it.filesz, it.filesz, it.flags, it.align)
+            table += struct.pack("<8I", form.LOAD, it.offset, it.paddr, it.paddr, it.filesz, it.filesz, it.flags,
+                                 it.align)
         added = ", ".join(f"one for 0x{it.paddr:08x}" for it in segments)
         place = self.add(table, f"the program headers, moved here, with {added}")
         self.put(form.PROGRAM_TABLE, struct.pack("<I", place), "where the program headers stand")

@@ -1,4 +1,5 @@
-"""An ELF file's header, program headers, sections and symbols. Each field is held against the file's length before it is used."""
+"""An ELF file's header, program headers, sections and symbols. Each field is held against the file's length before it
+is used."""
 import bisect
 import collections
 import functools
@@ -15,7 +16,8 @@ LONGEST_NAME = 200
 Segment = collections.namedtuple("Segment", "kind offset vaddr paddr filesz memsz flags align")
 Section = collections.namedtuple("Section", "name kind flags addr offset size link info align entsize")
 Symbol = collections.namedtuple("Symbol", "name value size info other section")
-# What makes the program refuse a file: its number, what it is, the cure, and whether more of the file can be read all the same.
+# What makes the program refuse a file: its number, what it is, the cure, and whether more of the file can be read all
+# the same.
 Refusal = collections.namedtuple("Refusal", "number what cure readable")
 
 
@@ -72,9 +74,11 @@ class Elf:
 
     @functools.cached_property
     def labels(self):
-        """Symbols in code that are neither functions nor objects: what an assembler's file has where it names no type."""
+        """Symbols in code that are neither functions nor objects: what an assembler's file has where it names no
+        type."""
         code = {i for i, it in enumerate(self.sections) if it.flags & HAS_CODE}
-        return [it for it in self.symbols if it.info & 15 == NO_TYPE and it.section in code and self.name(it)[:1] not in ("$", ".", "")]
+        return [it for it in self.symbols if it.info & 15 == NO_TYPE and it.section in code
+                and self.name(it)[:1] not in ("$", ".", "")]
 
     @functools.cached_property
     def contents(self):
@@ -116,7 +120,8 @@ class Elf:
         return None
 
     def extent(self, symbol):
-        """How many bytes of the file a function has, up to the next one at most; where its size isn't known, up to a label."""
+        """How many bytes of the file a function has, up to the next one at most; where its size isn't known, up to a
+        label."""
         segment = self.content_at(symbol.value)
         if segment is None:
             return 0
@@ -153,7 +158,8 @@ def beginning(data):
     if data[4] != 1:
         return Refusal(21, "a file of 64 bits", "compile and link with -march=rv32im -mabi=ilp32", False)
     if data[5] != 1:
-        return Refusal(22, "the bytes of a word in another order", "compile for little-endian RISC-V: -mlittle-endian", False)
+        return Refusal(22, "the bytes of a word in another order", "compile for little-endian RISC-V: -mlittle-endian",
+                       False)
     if data[6] != 1 or word_at(data, 20) != 1:
         return Refusal(23, "a version of ELF other than 1", "the file is damaged: link it again", False)
     return None
@@ -164,9 +170,12 @@ def tables(data):
     count, sections, at = half_at(data, PROGRAM_COUNT), half_at(data, 48), word_at(data, SECTION_TABLE)
     if count == 0xFFFF or count and (half_at(data, 42) != PROGRAM_HEADER
                                      or not ends_within(data, word_at(data, PROGRAM_TABLE), count * PROGRAM_HEADER)):
-        return Refusal(26, "program headers that aren't within the file", "the file is cut or damaged: link it again", False)
-    if at and sections and (half_at(data, 46) != SECTION_HEADER or not ends_within(data, at, sections * SECTION_HEADER)):
-        return Refusal(26, "section headers that aren't within the file", "the file is cut or damaged: link it again", False)
+        return Refusal(26, "program headers that aren't within the file", "the file is cut or damaged: link it again",
+                       False)
+    if at and sections and (half_at(data, 46) != SECTION_HEADER
+                            or not ends_within(data, at, sections * SECTION_HEADER)):
+        return Refusal(26, "section headers that aren't within the file", "the file is cut or damaged: link it again",
+                       False)
     return None
 
 
@@ -180,7 +189,8 @@ def bad_symbols(elf):
     if elf.symbol_table is None:
         return None
     table = elf.sections[elf.symbol_table]
-    fault = Refusal(31, "a symbol table that can't be read", "the file is damaged: link it again, or leave the symbols as the linker has them",
+    fault = Refusal(31, "a symbol table that can't be read",
+                    "the file is damaged: link it again, or leave the symbols as the linker has them",
                     False)
     if table.entsize != SYMBOL or table.size % SYMBOL or not ends_within(elf.data, table.offset, table.size):
         return fault
@@ -199,7 +209,8 @@ def meeting(elf):
     for start, end in ranges:
         for name, low, high in REGIONS:
             if start < high and low < end:
-                yield Refusal(29, f"a segment at 0x{start:08x} to 0x{end - 1:08x}, in the {name}'s region, 0x{low:08x} to 0x{high - 1:08x}",
+                yield Refusal(29, f"a segment at 0x{start:08x} to 0x{end - 1:08x}, in the {name}'s region, "
+                              f"0x{low:08x} to 0x{high - 1:08x}",
                               "give that memory another ORIGIN in the linker script, such as 0x80000000", True)
     for (start, end), (after, _) in zip(ranges, ranges[1:]):
         if after < end:
@@ -214,12 +225,13 @@ def too_large(elf):
         yield Refusal(30, f"{total} bytes to load, where {ROOM} can be",
                       "a linker script that reserves all RAM does so: make its heap and stack smaller", True)
     if len(elf.data) > ROOM:
-        yield Refusal(30, f"a file of more than {ROOM} bytes", "leave its debug information out: riscv64-unknown-elf-objcopy --strip-debug", True)
+        yield Refusal(30, f"a file of more than {ROOM} bytes",
+                      "leave its debug information out: riscv64-unknown-elf-objcopy --strip-debug", True)
 
 
 def refusals(data):
-    """Why the program would refuse a file: all that can be told, in the order in which the program tests. After one that isn't
-    readable there is none."""
+    """Why the program would refuse a file: all that can be told, in the order in which the program tests. After one
+    that isn't readable there is none."""
     fault = beginning(data)
     if fault:
         return [fault]
@@ -228,7 +240,8 @@ def refusals(data):
         found.append(Refusal(24, "a file that isn't linked to fixed addresses",
                              "link it, if it is an object; else with -static -no-pie", True))
     if half_at(data, 18) != RISC_V:
-        return found + [Refusal(25, "a file for another processor", "compile with a compiler for RISC-V: -march=rv32im -mabi=ilp32", False)]
+        return found + [Refusal(25, "a file for another processor",
+                                "compile with a compiler for RISC-V: -march=rv32im -mabi=ilp32", False)]
     fault = tables(data)
     if fault:
         return found + [fault]
@@ -236,7 +249,8 @@ def refusals(data):
     if any(it.kind == INTERPRETER for it in elf.segments):
         found.append(Refusal(27, "a dynamic linker that is to load it", "link with -static -no-pie", True))
     if any(is_bad(data, it) for it in elf.loads):
-        return found + [Refusal(28, "a segment that isn't within the file", "the file is cut or damaged: link it again", False)]
+        return found + [Refusal(28, "a segment that isn't within the file", "the file is cut or damaged: link it again",
+                                False)]
     found += [*meeting(elf), *too_large(elf)]
     fault = bad_symbols(elf)
     return found + [fault] if fault else found

@@ -1,4 +1,5 @@
-"""What stands between a board's file and a checked run: what can be cured in the file, and what only a rebuild cures."""
+"""What stands between a board's file and a checked run: what can be cured in the file, and what only a rebuild
+cures."""
 import collections
 
 from .code import Code, joined, stack_words, without
@@ -38,21 +39,24 @@ class Findings:
                                            "link without -s, and don't strip the file", False))
         self.plan = Plan(self.elf, heaps, kept)
         for name, address, size in self.plan.small:
-            self.obstacles.append(Obstacle(f"{name} at 0x{address:08x} is too small for the {size} bytes that take it over",
-                                           "compile it with -O0, or call malloc and its like in its place", False))
+            self.obstacles.append(Obstacle(
+                f"{name} at 0x{address:08x} is too small for the {size} bytes that take it over",
+                "compile it with -O0, or call malloc and its like in its place", False))
         code = Code(self.elf, self.plan.closed())
         if code.word(self.elf.entry) is None:
             self.obstacles.append(Obstacle(f"the entry, 0x{self.elf.entry:08x}, isn't at code of the file",
-                                           "name the first function to the linker: ENTRY(_start), or -Wl,-e,_start", True))
+                                           "name the first function to the linker: ENTRY(_start), or -Wl,-e,_start",
+                                           True))
             return
         code.follow()
         self.control = [it for it in code.control if not self.kept(it.address, kept)]
         self.stack = [it for it in stack_words(code, self.elf.entry) if not self.kept(it.address, kept)]
         self.obstacles += of_code(self.elf, code)
         self.copied, self.unplaced = physical(self.elf)
-        self.obstacles += [Obstacle(f"{it.filesz} bytes for 0x{it.vaddr:08x} that the linker script puts to 0x{it.paddr:08x}, where they "
-                                    f"can't be loaded: {why}", "give them another place by AT> or ORIGIN in the linker script", False)
-                           for it, why in self.unplaced]
+        self.obstacles += [Obstacle(
+            f"{it.filesz} bytes for 0x{it.vaddr:08x} that the linker script puts to 0x{it.paddr:08x}, where they can't be "
+            f"loaded: {why}", "give them another place by AT> or ORIGIN in the linker script", False)
+            for it, why in self.unplaced]
 
     def kept(self, address, names):
         return self.elf.function_at(address) in names
@@ -67,7 +71,7 @@ def compressed(elf):
     """The obstacle of compressed instructions, with the first that is reached."""
     code = Code(elf)
     code.follow()
-    place = f", such as at 0x{code.compressed[0].address:08x}{of_function(elf, code.compressed[0].address)}" if code.compressed else ""
+    place = f", at {places(elf, code.compressed)}" if code.compressed else ""
     return Obstacle(f"compressed instructions, by bit 0 of e_flags{place}: at the first the run stops",
                     f"compile all of it, and link with libraries for it: {TARGET}", True)
 
@@ -88,17 +92,21 @@ def of_code(elf, code):
     """Obstacles of instructions that there aren't."""
     kinds = [
         (code.compressed, "compressed instructions", f"compile all of it, and link with libraries for it: {TARGET}"),
-        (code.atomic, "atomic instructions", f"compile with {TARGET}, without the letter a: then they are calls of __atomic_*, "
+        (code.atomic, "atomic instructions",
+         f"compile with {TARGET}, without the letter a: then they are calls of __atomic_*, "
          "which stubs.c of the firmware kit has"),
-        (code.floating, "instructions for floating point", f"compile with {TARGET}, without the letters f and d: then the library computes"),
-        (code.unknown, "words that are no instructions of RV32IM", f"compile with {TARGET}, without further extensions"),
+        (code.floating, "instructions for floating point",
+         f"compile with {TARGET}, without the letters f and d: then the library computes"),
+        (code.unknown, "words that are no instructions of RV32IM",
+         f"compile with {TARGET}, without further extensions"),
     ]
-    return [Obstacle(f"{what}, at {places(elf, found)}: a run that reaches one stops there", cure, False) for found, what, cure in kinds if found]
+    return [Obstacle(f"{what}, at {places(elf, found)}: a run that reaches one stops there", cure, False)
+            for found, what, cure in kinds if found]
 
 
 def physical(elf):
-    """Segments to load at their physical addresses too, and those that can't be, each with the reason. A file whose physical
-    addresses are all 0 has none."""
+    """Segments to load at their physical addresses too, and those that can't be, each with the reason. A file whose
+    physical addresses are all 0 has none."""
     copied, unplaced = [], []
     if not any(it.paddr for it in elf.contents):
         return copied, unplaced
@@ -121,17 +129,20 @@ def physical(elf):
 
 
 def unloadable(segment, taken, last):
-    """Why a segment can't be loaded at its physical address beside what is loaded, where those before it end at last; or None."""
+    """Why a segment can't be loaded at its physical address beside what is loaded, where those before it end at last;
+    or None."""
     start, end = segment.paddr, segment.paddr + segment.filesz
     if end > 1 << 32:
         return "addresses end at 0xffffffff"
     region = next((name for name, low, high in REGIONS if start < high and low < end), None)
     if region:
         return f"it is the {region}'s region"
-    return "something else is loaded there" if start < last or without([[start, end]], taken) != [[start, end]] else None
+    meets = start < last or without([[start, end]], taken) != [[start, end]]
+    return "something else is loaded there" if meets else None
 
 
 def has_bytes(elf, segment):
     """Whether a segment's bytes are loaded at its physical address already."""
     place = elf.place(segment.paddr, segment.filesz)
-    return place is not None and elf.data[place:place + segment.filesz] == elf.data[segment.offset:segment.offset + segment.filesz]
+    start, size = segment.offset, segment.filesz
+    return place is not None and elf.data[place:place + size] == elf.data[start:start + size]

@@ -3,7 +3,6 @@ import collections
 import re
 
 from . import instructions as isa
-from .elf import word_at
 
 PARAMETERS = {"malloc": 1, "free": 1, "calloc": 2, "realloc": 2}
 # Each as the option --heap takes it: a parameter's place is a register, or a number.
@@ -13,25 +12,29 @@ _malloc_r=malloc(a1) _free_r=free(a1) _calloc_r=calloc(a1,a2) _realloc_r=realloc
 pvPortMalloc=malloc(a0) vPortFree=free(a0) pvPortCalloc=calloc(a0,a1) pvPortRealloc=realloc(a0,a1)
 mem_malloc=malloc(a0) mem_free=free(a0) mem_calloc=calloc(a0,a1)
 _Znwj=malloc(a0) _Znaj=malloc(a0) _ZnwjRKSt9nothrow_t=malloc(a0) _ZnajRKSt9nothrow_t=malloc(a0)
-_ZdlPv=free(a0) _ZdaPv=free(a0) _ZdlPvj=free(a0) _ZdaPvj=free(a0) _ZdlPvRKSt9nothrow_t=free(a0) _ZdaPvRKSt9nothrow_t=free(a0)
+_ZdlPv=free(a0) _ZdaPv=free(a0) _ZdlPvj=free(a0) _ZdaPvj=free(a0)
+_ZdlPvRKSt9nothrow_t=free(a0) _ZdaPvRKSt9nothrow_t=free(a0)
 """.split()
-UNKNOWN_BLOCKS = "its blocks come from the file's own heap: what is done in them isn't checked, and free of one is a false error"
+UNKNOWN_BLOCKS = ("its blocks come from the file's own heap: what is done in them isn't checked, and free of one is a "
+                  "false error")
 LEFT = {
-    **dict.fromkeys(("memalign", "aligned_alloc", "posix_memalign", "valloc", "pvalloc", "_memalign_r", "_aligned_alloc_r", "_valloc_r",
-                     "_pvalloc_r", "_ZnwjSt11align_val_t", "_ZnajSt11align_val_t"),
+    **dict.fromkeys(("memalign", "aligned_alloc", "posix_memalign", "valloc", "pvalloc", "_memalign_r",
+                     "_aligned_alloc_r", "_valloc_r", "_pvalloc_r", "_ZnwjSt11align_val_t", "_ZnajSt11align_val_t"),
                     f"{UNKNOWN_BLOCKS}. Take a larger block of malloc and align within it"),
     **dict.fromkeys(("malloc_usable_size", "_malloc_usable_size_r"),
-                    "it reads before a block, which is an error, and answers what stands there. Take the size that was asked for"),
+                    "it reads before a block, which is an error, and answers what stands there. Take the size that was "
+                    "asked for"),
     **dict.fromkeys(("mem_trim", "malloc_trim", "_malloc_trim_r"),
-                    "it works on what the file's own heap writes before a block, which isn't there: errors, and no block becomes smaller"),
+                    "it works on what the file's own heap writes before a block, which isn't there: errors, and no "
+                    "block becomes smaller"),
     **dict.fromkeys(("reallocarray", "_reallocarray_r"),
                     "it is run as it is: right where it calls realloc, else a false error for each block"),
     **dict.fromkeys(("memp_malloc", "tx_byte_allocate", "osMemoryPoolAlloc"),
                     "a pool of its own: what is done in its blocks isn't checked, unless --heap says how it is called"),
 }
 FORM = re.compile(r"([^=]+)=(\w+)\(([^()]*)\)")
-# A function to take over: its name, its symbol, how long it is, the heap's function, the words that it becomes, their texts, and the
-# address that gets the heap's name, where no jump goes there.
+# A function to take over: its name, its symbol, how long it is, the heap's function, the words that it becomes, their
+# texts, and the address that gets the heap's name, where no jump goes there.
 Taken = collections.namedtuple("Taken", "name symbol size function words texts named")
 
 
@@ -55,7 +58,8 @@ def heap_of(text):
     """A name, the heap's function that it is, and its parameters' places."""
     match = FORM.fullmatch(text)
     if match is None or match[2] not in PARAMETERS:
-        raise BadHeap(f"'{text}' isn't of the form NAME=malloc(a0), NAME=free(a0), NAME=calloc(a0,a1) or NAME=realloc(a0,a1)")
+        raise BadHeap(f"'{text}' isn't of the form NAME=malloc(a0), NAME=free(a0), NAME=calloc(a0,a1) or "
+                      "NAME=realloc(a0,a1)")
     places = [place_of(it) for it in match[3].split(",")]
     if len(places) != PARAMETERS[match[2]]:
         raise BadHeap(f"'{text}': {match[2]} has {PARAMETERS[match[2]]} of them")
@@ -80,7 +84,8 @@ def moves(places):
 
 
 def hooks(elf):
-    """What the program takes over in a file: a function's name for each address, the first of the table among several."""
+    """What the program takes over in a file: a function's name for each address, the first of the table among
+    several."""
     found = {}
     for symbol in elf.functions:
         name = elf.name(symbol)
@@ -90,8 +95,8 @@ def hooks(elf):
 
 
 class Plan:
-    """What is taken over in a file: by its names already (`hooked`), by a cure (`taken`), and what can't be, each with the reason
-    (`left`) or with the bytes that it would need (`small`)."""
+    """What is taken over in a file: by its names already (`hooked`), by a cure (`taken`), and what can't be, each with
+    the reason (`left`) or with the bytes that it would need (`small`)."""
 
     def __init__(self, elf, heaps, kept):
         self.elf, self.hooked, self.targets = elf, hooks(elf), {}
@@ -115,12 +120,13 @@ class Plan:
         elif name in LEFT:
             self.left.append((name, symbol.value, LEFT[name]))
         elif original in wanted:
-            self.left.append((name, symbol.value, f"the compiler's own copy of a part of {original}, whose parameters aren't known: "
+            self.left.append((name, symbol.value,
+                              f"the compiler's own copy of a part of {original}, whose parameters aren't known: "
                               f"compile {original} with __attribute__((noipa))"))
 
     def take(self, symbol, name, function, places):
-        """Takes a function over: its words move the parameters and jump to the heap's function, or, where none is in the file or
-        in reach, the address behind the moves gets its name, too."""
+        """Takes a function over: its words move the parameters and jump to the heap's function, or, where none is in
+        the file or in reach, the address behind the moves gets its name, too."""
         pairs = moves(places)
         behind, needed = symbol.value + 4 * len(pairs), 4 * len(pairs) + 4
         if self.hooked.get(behind) == function and self.has(symbol.value, pairs):
@@ -142,7 +148,8 @@ class Plan:
     def has(self, address, pairs):
         """Whether these words stand at an address already."""
         place = self.elf.place(address, 4 * len(pairs))
-        return place is not None and all(word_at(self.elf.data, place + 4 * i) == word for i, (word, _) in enumerate(pairs))
+        standing = self.elf.data[place:place + 4 * len(pairs)] if place is not None else None
+        return standing == b"".join(word.to_bytes(4, "little") for word, _ in pairs)
 
     def closed(self):
         """Ranges that a run never reaches: functions that are taken over."""

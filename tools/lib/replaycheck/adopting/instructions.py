@@ -1,7 +1,7 @@
 """Words of RISC-V instructions: which of them are RV32IM's, where they go, and those that cures are made of."""
 
-NAMES = ["zero", "ra", "sp", "gp", "tp", "t0", "t1", "t2", "s0", "s1", *(f"a{i}" for i in range(8)), *(f"s{i}" for i in range(2, 12)),
-         *(f"t{i}" for i in range(3, 7))]
+NAMES = ["zero", "ra", "sp", "gp", "tp", "t0", "t1", "t2", "s0", "s1", *(f"a{i}" for i in range(8)),
+         *(f"s{i}" for i in range(2, 12)), *(f"t{i}" for i in range(3, 7))]
 NOP, UNIMP = 0x00000013, 0xC0001073
 ZERO, SP, T1, A0, A1 = 0, 2, 6, 10, 11
 JUMP_REACH = 1 << 20
@@ -20,11 +20,12 @@ PRIVILEGED = {0x10500073: "wfi", 0x30200073: "mret", 0x10200073: "sret", 0x00200
 RETURNS = {"mret", "sret", "uret", "dret"}
 CONTROLS = {1: "csrrw", 2: "csrrs", 3: "csrrc", 5: "csrrwi", 6: "csrrsi", 7: "csrrci"}
 REGISTERS_OF_CONTROL = {
-    0x001: "fflags", 0x002: "frm", 0x003: "fcsr", 0x300: "mstatus", 0x301: "misa", 0x302: "medeleg", 0x303: "mideleg", 0x304: "mie",
-    0x305: "mtvec", 0x306: "mcounteren", 0x310: "mstatush", 0x320: "mcountinhibit", 0x340: "mscratch", 0x341: "mepc", 0x342: "mcause",
-    0x343: "mtval", 0x344: "mip", 0xB00: "mcycle", 0xB02: "minstret", 0xB80: "mcycleh", 0xB82: "minstreth", 0xC00: "cycle", 0xC01: "time",
-    0xC02: "instret", 0xC80: "cycleh", 0xC81: "timeh", 0xC82: "instreth", 0xF11: "mvendorid", 0xF12: "marchid", 0xF13: "mimpid",
-    0xF14: "mhartid", **{0x3A0 + i: f"pmpcfg{i}" for i in range(4)}, **{0x3B0 + i: f"pmpaddr{i}" for i in range(16)}}
+    0x001: "fflags", 0x002: "frm", 0x003: "fcsr", 0x300: "mstatus", 0x301: "misa", 0x302: "medeleg", 0x303: "mideleg",
+    0x304: "mie", 0x305: "mtvec", 0x306: "mcounteren", 0x310: "mstatush", 0x320: "mcountinhibit", 0x340: "mscratch",
+    0x341: "mepc", 0x342: "mcause", 0x343: "mtval", 0x344: "mip", 0xB00: "mcycle", 0xB02: "minstret", 0xB80: "mcycleh",
+    0xB82: "minstreth", 0xC00: "cycle", 0xC01: "time", 0xC02: "instret", 0xC80: "cycleh", 0xC81: "timeh",
+    0xC82: "instreth", 0xF11: "mvendorid", 0xF12: "marchid", 0xF13: "mimpid", 0xF14: "mhartid",
+    **{0x3A0 + i: f"pmpcfg{i}" for i in range(4)}, **{0x3B0 + i: f"pmpaddr{i}" for i in range(16)}}
 CLOCKS = {0xB00, 0xB02, 0xB80, 0xB82, 0xC00, 0xC01, 0xC02, 0xC80, 0xC81, 0xC82}
 
 
@@ -61,8 +62,10 @@ def upper(word):
 def distance(word):
     """How far a branch or jal goes."""
     if opcode(word) == JAL:
-        return signed(word >> 31 << 20 | (word >> 12 & 0xFF) << 12 | (word >> 20 & 1) << 11 | (word >> 21 & 0x3FF) << 1, 21)
-    return signed(word >> 31 << 12 | (word >> 7 & 1) << 11 | (word >> 25 & 0x3F) << 5 | (word >> 8 & 15) << 1, 13)
+        high = word >> 31 << 20 | (word >> 12 & 0xFF) << 12
+        return signed(high | (word >> 20 & 1) << 11 | (word >> 21 & 0x3FF) << 1, 21)
+    high = word >> 31 << 12 | (word >> 7 & 1) << 11
+    return signed(high | (word >> 25 & 0x3F) << 5 | (word >> 8 & 15) << 1, 13)
 
 
 def is_compressed(word):
@@ -81,8 +84,8 @@ def is_of_rv32im(word):
 
 
 def control(word):
-    """The text of an instruction that reads or writes control registers, waits, returns from a trap or makes code that was
-    written visible; None for any other."""
+    """The text of an instruction that reads or writes control registers, waits, returns from a trap or makes code that
+    was written visible; None for any other."""
     if word == UNIMP:
         return None
     if word in PRIVILEGED:
@@ -94,7 +97,8 @@ def control(word):
     if opcode(word) != SYSTEM or funct3(word) not in CONTROLS:
         return None
     source = str(rs1(word)) if funct3(word) > 4 else NAMES[rs1(word)]
-    return f"{CONTROLS[funct3(word)]} {NAMES[rd(word)]},{REGISTERS_OF_CONTROL.get(word >> 20, hex(word >> 20))},{source}"
+    register = REGISTERS_OF_CONTROL.get(word >> 20, hex(word >> 20))
+    return f"{CONTROLS[funct3(word)]} {NAMES[rd(word)]},{register},{source}"
 
 
 def reads_clock(word):
@@ -116,4 +120,5 @@ def move(to, source):
 
 
 def jump(away):
-    return ((away >> 20 & 1) << 31 | (away >> 1 & 0x3FF) << 21 | (away >> 11 & 1) << 20 | (away >> 12 & 0xFF) << 12 | JAL)
+    high, low = (away >> 20 & 1) << 31, (away >> 1 & 0x3FF) << 21
+    return high | low | (away >> 11 & 1) << 20 | (away >> 12 & 0xFF) << 12 | JAL

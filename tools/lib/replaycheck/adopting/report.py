@@ -4,7 +4,8 @@ from .heaps import PARAMETERS
 
 HEAP = "functions of a heap by other names, whose blocks are unknown: free of one would be a false error"
 CONTROL = "instructions for control registers, waits and the like, at which the run would stop"
-STACK = "a stack of the start file's own: what nothing has set isn't found on it, and where no segment is, each push is an error"
+STACK = ("a stack of the start file's own: what nothing has set isn't found on it, and where no segment is, each push "
+         "is an error")
 COPIED = "initialised data that a start file copies from where nothing is loaded: variables would be 0"
 
 
@@ -54,7 +55,8 @@ def heap_line(plan):
 
 
 def lines(findings, written, changes):
-    """The report: what there is of a heap, cures, what is left as it is, what needs a rebuild, and the bytes that were changed."""
+    """The report: what there is of a heap, cures, what is left as it is, what needs a rebuild, and the bytes that were
+    changed."""
     if findings.plan:
         yield heap_line(findings.plan)
     if findings.cures():
