@@ -52,6 +52,7 @@ firmware() {
 firmware kinds -nostdlib kinds.o memory.o heap_by_name.o
 firmware station -nostdlib station.o memory.o heap_by_name.o
 firmware station-by-number -nostdlib station-by-number.o memory.o heap_by_number.o
+firmware polled -nostdlib polled.o
 firmware boot -nostdlib boot.o
 firmware boot-twice -nostdlib boot-twice.o
 linked "${into:-.}/board.elf" board/board.ld -nostdlib board-{start,names,heap}.o system.o memory.o
