@@ -11,7 +11,7 @@ ENTRY, PROGRAM_TABLE, SECTION_TABLE, FLAGS, PROGRAM_COUNT = 24, 28, 32, 36, 44
 IS_COMPRESSED, HAS_CODE, NO_TYPE, FUNCTION = 1, 4, 0, 2
 ROOM = 16777216
 REGIONS = [("heap", 0x40000000, 0x60000000), ("stack", 0x7F000000, 0x80000000)]
-LONGEST_NAME = 200
+LONGEST_NAME = 1000
 
 Segment = collections.namedtuple("Segment", "kind offset vaddr paddr filesz memsz flags align")
 Section = collections.namedtuple("Section", "name kind flags addr offset size link info align entsize")
@@ -69,8 +69,10 @@ class Elf:
         return [symbol for symbol in self.symbols if symbol.info & 15 == FUNCTION]
 
     def name(self, symbol):
+        """A symbol's name, with what can't be printed as `\\x1b`."""
         start = symbol.name
-        return self.strings[start:start + LONGEST_NAME].partition(b"\0")[0].decode("ascii", "backslashreplace")
+        text = self.strings[start:start + LONGEST_NAME].partition(b"\0")[0].decode("ascii", "backslashreplace")
+        return text if text.isprintable() else "".join(it if it.isprintable() else f"\\x{ord(it):02x}" for it in text)
 
     @functools.cached_property
     def labels(self):

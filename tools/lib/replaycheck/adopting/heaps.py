@@ -107,7 +107,8 @@ class Plan:
         wanted.update((name, (function, places)) for name, function, places in heaps)
         for symbol in sorted(elf.functions + elf.labels, key=lambda it: it.value):
             name = elf.name(symbol)
-            self.found.add(name)
+            if name in kept or name in wanted:
+                self.found.add(name)
             if name not in kept:
                 self.plan(symbol, name, wanted)
 

@@ -106,8 +106,9 @@ def reads_clock(word):
 
 
 def harmless(word):
-    """What takes the place of such an instruction, and its text: a register that it reads into gets 0."""
-    to = rd(word) if opcode(word) == SYSTEM and funct3(word) else ZERO
+    """What takes the place of such an instruction, and its text: a register that it reads into gets 0, but for sp, which
+    stays as it is."""
+    to = rd(word) if opcode(word) == SYSTEM and funct3(word) and rd(word) != SP else ZERO
     return load_immediate(to, 0), f"li {NAMES[to]},0" if to else "nop"
 
 
