@@ -3,7 +3,7 @@ import bisect
 import collections
 
 from . import instructions as isa
-from .elf import HAS_CODE
+from .elf import HAS_CODE, word_at
 
 Found = collections.namedtuple("Found", "address word")
 # What a first walk from the entry keeps of the start file.
@@ -13,18 +13,12 @@ FURTHEST = 256
 def joined(ranges):
     """Ranges in order, with those that meet made one."""
     together = []
-    for start, end in sorted(it for it in ranges if it[0] < it[1]):
+    for start, end in sorted([*it] for it in ranges if it[0] < it[1]):
         if together and start <= together[-1][1]:
             together[-1][1] = max(together[-1][1], end)
         else:
             together.append([start, end])
     return together
-
-
-def holds(ranges, address):
-    """Whether joined ranges have an address."""
-    index = bisect.bisect_right(ranges, [address, 1 << 32]) - 1
-    return index >= 0 and address < ranges[index][1]
 
 
 def without(ranges, others):
@@ -42,6 +36,16 @@ def without(ranges, others):
     return left
 
 
+class Stretch:
+    """Addresses that may have code, in one piece of the file: the first that is a multiple of 4, the end, where they stand,
+    and which words have been looked at."""
+
+    def __init__(self, elf, start, end):
+        self.start, self.end = start + -start % 4, end
+        self.place = elf.place(self.start, 0)
+        self.seen = bytearray(max(end - self.start, 0) // 4)
+
+
 class Code:
     """The words that are code: all of a function whose size is known, but for what a mapping symbol `$d` calls data;
     and what is reached from the entry, from functions without a size and from mapping symbols `$x`, by each next word,
@@ -49,14 +53,26 @@ class Code:
 
     def __init__(self, elf, closed=()):
         self.elf = elf
-        sections = [(it.addr, it.addr + it.size) for it in elf.sections if it.flags & HAS_CODE]
-        loads = joined((it.vaddr, it.vaddr + it.filesz) for it in elf.loads)
-        outside = without([[0, 1 << 32]], joined(sections) if sections else loads)
-        self.open = without(without(loads, outside), joined(closed))
-        self.sized = [(it.value, it.value + it.size) for it in elf.functions if it.size]
-        self.ends = {end for _, end in self.sized}
-        self.seen = {it.vaddr: bytearray(it.filesz // 4 + 1) for it in elf.contents}
+        sections = joined((it.addr, it.addr + it.size) for it in elf.sections if it.flags & HAS_CODE)
+        closed = joined([*closed, *(without([[0, 1 << 32]], sections) if sections else ())])
+        self.stretches = [Stretch(elf, start, end) for it in elf.contents
+                          for start, end in without([[it.vaddr, it.vaddr + it.filesz]], closed)]
+        self.starts = [it.start for it in self.stretches]
+        self.sized = joined((it.value, it.value + it.size) for it in elf.functions if it.size)
+        self.ends = {it.value + it.size for it in elf.functions if it.size}
         self.control, self.atomic, self.floating, self.compressed, self.unknown = [], [], [], [], []
+
+    def stretch_at(self, address):
+        """The stretch that has the word at an address, or None."""
+        index = bisect.bisect_right(self.starts, address) - 1
+        if index < 0 or address % 4 or address + 4 > self.stretches[index].end:
+            return None
+        return self.stretches[index]
+
+    def word(self, address):
+        """The word of an address that may have code, or None."""
+        stretch = self.stretch_at(address)
+        return None if stretch is None else word_at(self.elf.data, stretch.place + address - stretch.start)
 
     def data(self):
         """What mapping symbols call data: from each up to the next one or the next function."""
@@ -69,28 +85,15 @@ class Code:
         return joined((start, end) for start, end in zip(places, [*places[1:], 1 << 32]) if not marks[start])
 
     def seeds(self):
-        """Addresses from which code is followed."""
+        """Addresses from which code is followed; of a function's words those that weren't reached before."""
         yield self.elf.entry
-        closed = without([[0, 1 << 32]], self.open)
-        for start, end in without(without(joined(self.sized), self.data()), closed):
-            yield from range(start + -start % 4, end, 4)
+        for start, end in without(self.sized, self.data()):
+            index = max(bisect.bisect_right(self.starts, start) - 1, 0)
+            while index < len(self.starts) and self.starts[index] < end:
+                yield from unseen(self.stretches[index], start, end)
+                index += 1
         yield from (it.value for it in self.elf.functions if not it.size)
         yield from (it.value for it in self.elf.symbols if self.elf.strings[it.name:it.name + 2] == b"$x")
-
-    def word(self, address):
-        """The word of an address that is code, or None."""
-        place = self.elf.place(address) if address % 4 == 0 and holds(self.open, address) else None
-        return None if place is None else int.from_bytes(self.elf.data[place:place + 4], "little")
-
-    def enters(self, address):
-        """Whether there are bytes at a multiple of 4, and it comes for the first time."""
-        segment = self.elf.content_at(address)
-        if segment is None or address % 4:
-            return False
-        seen, index = self.seen[segment.vaddr], (address - segment.vaddr) // 4
-        first = not seen[index]
-        seen[index] = 1
-        return first
 
     def follow(self):
         """Looks at each word of code once."""
@@ -103,22 +106,25 @@ class Code:
 
     def line(self, address):
         """Follows code from an address as long as it goes on to the next word, and returns where else it goes."""
-        elsewhere, before = [], 0
-        while self.enters(address):
-            word = self.word(address)
-            if word is None or not self.look(address, word):
-                break
-            elsewhere += targets(address, before, word)
+        stretch, elsewhere, before = self.stretch_at(address), [], 0
+        if stretch is None:
+            return elsewhere
+        seen, data, away = stretch.seen, self.elf.data, stretch.place - stretch.start
+        while address + 4 <= stretch.end and not seen[(address - stretch.start) // 4]:
+            seen[(address - stretch.start) // 4] = 1
+            word = int.from_bytes(data[address + away:address + away + 4], "little")
+            if not isa.is_of_rv32im(word) and not self.is_instruction(address, word):
+                return elsewhere
+            if isa.may_jump(word):
+                elsewhere += targets(address, before, word)
             address, before = address + 4, word
-            if isa.opcode(word) in (isa.JAL, isa.JALR) and isa.rd(word) == isa.ZERO or address in self.ends:
-                break
+            if isa.ends(word) or address in self.ends:
+                return elsewhere
         return elsewhere
 
-    def look(self, address, word):
+    def is_instruction(self, address, word):
         """Notes a word that isn't RV32IM's. Is it an instruction at all?"""
         found = Found(address, word)
-        if isa.is_of_rv32im(word):
-            return True
         if word in (0, isa.UNIMP):
             return False
         if isa.control(word):
@@ -131,6 +137,14 @@ class Code:
             (self.compressed if isa.is_compressed(word) else self.unknown).append(found)
             return False
         return True
+
+
+def unseen(stretch, start, end):
+    """The words of a stretch from start to end that haven't been looked at when it is their turn."""
+    index, last = max(start + 3 - stretch.start, 0) // 4, (end - stretch.start) // 4
+    while 0 <= (index := stretch.seen.find(0, index, last)):
+        yield stretch.start + 4 * index
+        index += 1
 
 
 def targets(address, before, word):

@@ -1,14 +1,16 @@
 """Words of RISC-V instructions: which of them are RV32IM's, where they go, and those that cures are made of."""
+import functools
 
 NAMES = ["zero", "ra", "sp", "gp", "tp", "t0", "t1", "t2", "s0", "s1", *(f"a{i}" for i in range(8)),
          *(f"s{i}" for i in range(2, 12)), *(f"t{i}" for i in range(3, 7))]
-NOP, UNIMP = 0x00000013, 0xC0001073
+NOP, UNIMP, ECALL, EBREAK = 0x00000013, 0xC0001073, 0x00000073, 0x00100073
 ZERO, SP, T1, A0, A1 = 0, 2, 6, 10, 11
 JUMP_REACH = 1 << 20
 # The opcodes.
 LOAD, FENCE, IMMEDIATE, AUIPC, STORE, REGISTERS, LUI, BRANCH, JALR, JAL, SYSTEM = (
     0x03, 0x0F, 0x13, 0x17, 0x23, 0x33, 0x37, 0x63, 0x67, 0x6F, 0x73)
 WRITES_NO_REGISTER = {STORE, BRANCH, FENCE, SYSTEM}
+JUMPS = {BRANCH, JAL, JALR}
 FLOAT = {0x07, 0x27, 0x43, 0x47, 0x4B, 0x4F, 0x53}
 ATOMIC = 0x2F
 # Which funct3 each opcode of RV32IM has, where not all.
@@ -72,15 +74,30 @@ def is_compressed(word):
     return word & 3 != 3
 
 
-def is_of_rv32im(word):
-    code, third, seventh = opcode(word), funct3(word), word >> 25
+@functools.lru_cache(maxsize=None)
+def has_row(opcode_and_functs):
+    """Whether RV32IM has instructions with this opcode, funct3 and funct7; of those that fix the whole word it tells nothing."""
+    code, third, seventh = opcode(opcode_and_functs), funct3(opcode_and_functs), opcode_and_functs >> 25
     if code in FUNCT3:
         return third in FUNCT3[code]
     if code == IMMEDIATE:
         return third not in SHIFTS or seventh in SHIFTS[third]
     if code == REGISTERS:
         return third in ALTERNATIVES.get(seventh, ())
-    return code in (LUI, AUIPC, JAL) or word in (0x00000073, 0x00100073)
+    return code in (LUI, AUIPC, JAL)
+
+
+def is_of_rv32im(word):
+    return has_row(word & 0xFE00707F) or word in (ECALL, EBREAK)
+
+
+def may_jump(word):
+    return word & 0x7F in JUMPS
+
+
+def ends(word):
+    """Whether the next word isn't reached from this one: a jump that is no call."""
+    return word & 0x7F in (JAL, JALR) and rd(word) == ZERO
 
 
 def control(word):
