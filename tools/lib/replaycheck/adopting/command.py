@@ -62,6 +62,7 @@ def options_of(page, words):
     twice = next((name for i, name in enumerate(names) if name in names[:i]), None)
     if twice:
         reader.error(f"{twice} is named twice")
+    options.keep = frozenset(options.keep)
     return options
 
 
@@ -75,7 +76,7 @@ def same_file(one, other):
 
 
 def write(path, content, mode):
-    """Writes a file whole or not at all. What is there and is no plain file, such as /dev/stdout, is written to."""
+    """Writes a file whole or not at all. What is there and is no plain file, such as /dev/null, is written to."""
     if os.path.exists(path) and not os.path.isfile(path):
         with open(path, "wb") as file:
             file.write(content)
@@ -105,19 +106,19 @@ def healed(findings, heaps, kept):
     content, changes = cured(findings)
     again = Findings(content, heaps, kept)
     if again.hopeless() or again.cures():
-        raise Refused("its code lies over its own tables: it is damaged, or no linker's")
+        raise Refused("the file's code lies over its own tables: it is damaged, or no linker's")
     return content, changes
 
 
 def adopt(options):
     """Looks at a file, writes another one if asked to, tells both, and returns the exit status."""
     data = read(options.file)
-    findings = Findings(data, options.heap, set(options.keep))
+    findings = Findings(data, options.heap, options.keep)
     if findings.damaged:
         fault = findings.damaged
         raise Refused(f"{options.file}: {fault.what} (image refused {fault.number}): {fault.cure}")
     if findings.plan:
-        given = [name for name, _, _ in options.heap] + options.keep
+        given = [name for name, _, _ in options.heap] + sorted(options.keep)
         missing = [name for name in given if name not in findings.plan.found]
         if missing:
             raise Refused(f"{options.file} has no function {missing[0]}")
@@ -125,7 +126,7 @@ def adopt(options):
     if out is not None and not findings.hopeless():
         if same_file(options.file, out):
             raise Refused(f"{out} is the file itself: write to another one")
-        content, changes = healed(findings, options.heap, set(options.keep))
+        content, changes = healed(findings, options.heap, options.keep)
         write(out, content, mode_of(options.file))
     written = out if out is not None and not findings.hopeless() else None
     for line in report.lines(findings, written, changes):

@@ -8,6 +8,8 @@ from .heaps import Plan
 
 # What only a rebuild cures: what it is, the cure, and whether nothing of the file runs before.
 Obstacle = collections.namedtuple("Obstacle", "what cure stops_all")
+# The refusals of files that no linker has written so.
+DAMAGED = (20, 23, 26, 28, 31)
 TARGET = "-march=rv32im -mabi=ilp32"
 SHOWN = 4
 
@@ -18,9 +20,9 @@ class Findings:
     def __init__(self, data, heaps, kept):
         refused = refusals(data)
         self.obstacles = [Obstacle(f"{it.what} (image refused {it.number})", it.cure, True) for it in refused]
-        self.damaged = next((it for it in refused if it.number in (20, 23, 26, 28, 31)), None)
+        self.damaged = next((it for it in refused if it.number in DAMAGED), None)
         self.elf = Elf(data) if all(it.readable for it in refused) else None
-        self.plan, self.control, self.stack, self.copied, self.unplaced = None, [], [], [], []
+        self.plan, self.control, self.stack, self.copied = None, [], [], []
         if self.elf is None:
             return
         if self.elf.flags & IS_COMPRESSED:
@@ -49,17 +51,14 @@ class Findings:
                                            True))
             return
         code.follow()
-        self.control = [it for it in code.control if not self.kept(it.address, kept)]
-        self.stack = [it for it in stack_words(code, self.elf.entry) if not self.kept(it.address, kept)]
+        self.control = [it for it in code.control if self.elf.function_at(it.address) not in kept]
+        self.stack = [it for it in stack_words(code, self.elf.entry) if self.elf.function_at(it.address) not in kept]
         self.obstacles += of_code(self.elf, code)
-        self.copied, self.unplaced = physical(self.elf)
+        self.copied, unplaced = physical(self.elf)
         self.obstacles += [Obstacle(
-            f"{it.filesz} bytes for 0x{it.vaddr:08x} that the linker script puts to 0x{it.paddr:08x}, where they can't be "
-            f"loaded: {why}", "give them another place by AT> or ORIGIN in the linker script", False)
-            for it, why in self.unplaced]
-
-    def kept(self, address, names):
-        return self.elf.function_at(address) in names
+            f"{it.filesz} bytes for 0x{it.vaddr:08x} that the linker script puts to 0x{it.paddr:08x}, where they can't "
+            f"be loaded: {why}", "give them another place by AT> or ORIGIN in the linker script", False)
+            for it, why in unplaced]
 
     def cures(self):
         """How many things can be cured in the file."""
