@@ -6,8 +6,10 @@ from . import instructions as isa
 from .elf import HAS_CODE, word_at
 
 Found = collections.namedtuple("Found", "address word")
-# What a first walk from the entry keeps of the start file.
-FURTHEST = 256
+# How many words the walk through the start file takes, and the one back from mret.
+FURTHEST, NEAR = 256, 32
+# An instruction, the word that takes its place, and that one's text.
+Replaced = collections.namedtuple("Replaced", "address word new text")
 
 
 def joined(ranges):
@@ -37,8 +39,8 @@ def without(ranges, others):
 
 
 class Stretch:
-    """Addresses that may have code, in one piece of the file: the first that is a multiple of 4, the end, where they stand,
-    and which words have been looked at."""
+    """Addresses that may have code, in one piece of the file: the first that is a multiple of 4, the end, where they
+    stand, and which words have been looked at."""
 
     def __init__(self, elf, start, end):
         self.start, self.end = start + -start % 4, end
@@ -178,9 +180,31 @@ def stack_words(code, entry):
 def places_stack(word, before, has_placed):
     """Whether a word gives the stack pointer a place, after the word before it and after others that have."""
     code = isa.opcode(word)
-    if code in isa.WRITES_NO_REGISTER or isa.rd(word) != isa.SP or not isa.is_of_rv32im(word):
+    if isa.written(word) != isa.SP or not isa.is_of_rv32im(word):
         return False
     if code == isa.IMMEDIATE and isa.rs1(word) == isa.SP:
         return isa.rd(before) == isa.SP and isa.opcode(before) in (isa.AUIPC, isa.LUI)
     of_itself = code == isa.REGISTERS and isa.SP in (isa.rs1(word), word >> 20 & 31)
     return has_placed or not of_itself
+
+
+def replaced(code, found):
+    """What takes the place of an instruction for control registers and the like: mret jumps by the register that was
+    written for it, where that can be told; the others do nothing."""
+    source = return_register(code, found.address) if isa.control(found.word) == "mret" else None
+    if source is None:
+        return Replaced(*found, *isa.harmless(found.word))
+    return Replaced(*found, isa.jump_register(source), f"jr {isa.NAMES[source]}")
+
+
+def return_register(code, address):
+    """The register whose value mret jumps to and which still has it, if no jump or call stands before; else None."""
+    changed = set()
+    for before in range(address - 4, address - 4 * NEAR, -4):
+        word = code.word(before)
+        if word is None or isa.may_jump(word) or word in (isa.ECALL, isa.EBREAK):
+            return None
+        if isa.sets_return(word):
+            return isa.rs1(word) if isa.rs1(word) not in changed else None
+        changed.add(isa.written(word))
+    return None

@@ -69,9 +69,8 @@ def cured(findings):
     for it in findings.plan.taken.values():
         for i, (word, text) in enumerate(zip(it.words, it.texts)):
             result.put_word(it.symbol.value + 4 * i, word, f"{it.name}: {text}")
-    for found in findings.control:
-        word, text = isa.harmless(found.word)
-        result.put_word(found.address, word, f"{text} for {isa.control(found.word)}")
+    for it in findings.control:
+        result.put_word(it.address, it.new, f"{it.text} for {isa.control(it.word)}")
     for found in findings.stack:
         result.put_word(found.address, isa.NOP, f"nop for 0x{found.word:08x}, which sets sp")
     if findings.copied:

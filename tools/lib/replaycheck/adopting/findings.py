@@ -2,7 +2,7 @@
 cures."""
 import collections
 
-from .code import Code, joined, stack_words, without
+from .code import Code, joined, replaced, stack_words, without
 from .elf import IS_COMPRESSED, REGIONS, ROOM, Elf, refusals
 from .heaps import Plan
 
@@ -51,7 +51,7 @@ class Findings:
                                            True))
             return
         code.follow()
-        self.control = [it for it in code.control if self.elf.function_at(it.address) not in kept]
+        self.control = [replaced(code, it) for it in code.control if self.elf.function_at(it.address) not in kept]
         self.stack = [it for it in stack_words(code, self.elf.entry) if self.elf.function_at(it.address) not in kept]
         self.obstacles += of_code(self.elf, code)
         self.copied, unplaced = physical(self.elf)

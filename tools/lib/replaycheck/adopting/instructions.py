@@ -9,7 +9,6 @@ JUMP_REACH = 1 << 20
 # The opcodes.
 LOAD, FENCE, IMMEDIATE, AUIPC, STORE, REGISTERS, LUI, BRANCH, JALR, JAL, SYSTEM = (
     0x03, 0x0F, 0x13, 0x17, 0x23, 0x33, 0x37, 0x63, 0x67, 0x6F, 0x73)
-WRITES_NO_REGISTER = {STORE, BRANCH, FENCE, SYSTEM}
 JUMPS = {BRANCH, JAL, JALR}
 FLOAT = {0x07, 0x27, 0x43, 0x47, 0x4B, 0x4F, 0x53}
 ATOMIC = 0x2F
@@ -28,6 +27,7 @@ REGISTERS_OF_CONTROL = {
     0xB82: "minstreth", 0xC00: "cycle", 0xC01: "time", 0xC02: "instret", 0xC80: "cycleh", 0xC81: "timeh",
     0xC82: "instreth", 0xF11: "mvendorid", 0xF12: "marchid", 0xF13: "mimpid", 0xF14: "mhartid",
     **{0x3A0 + i: f"pmpcfg{i}" for i in range(4)}, **{0x3B0 + i: f"pmpaddr{i}" for i in range(16)}}
+MEPC = 0x341
 CLOCKS = {0xB00, 0xB02, 0xB80, 0xB82, 0xC00, 0xC01, 0xC02, 0xC80, 0xC81, 0xC82}
 
 
@@ -76,7 +76,8 @@ def is_compressed(word):
 
 @functools.lru_cache(maxsize=None)
 def has_row(opcode_and_functs):
-    """Whether RV32IM has instructions with this opcode, funct3 and funct7; of those that fix the whole word it tells nothing."""
+    """Whether RV32IM has instructions with this opcode, funct3 and funct7; of those that fix the whole word it tells
+    nothing."""
     code, third, seventh = opcode(opcode_and_functs), funct3(opcode_and_functs), opcode_and_functs >> 25
     if code in FUNCT3:
         return third in FUNCT3[code]
@@ -122,15 +123,29 @@ def reads_clock(word):
     return opcode(word) == SYSTEM and funct3(word) in CONTROLS and word >> 20 in CLOCKS and rd(word) != ZERO
 
 
+def sets_return(word):
+    """Whether it writes a register into that which mret jumps to."""
+    return opcode(word) == SYSTEM and funct3(word) == 1 and word >> 20 == MEPC
+
+
+def written(word):
+    """The register that an instruction writes, or zero."""
+    return ZERO if opcode(word) in (STORE, BRANCH, FENCE) else rd(word)
+
+
 def harmless(word):
-    """What takes the place of such an instruction, and its text: a register that it reads into gets 0, but for sp, which
-    stays as it is."""
+    """What takes the place of such an instruction, and its text: a register that it reads into gets 0, but for sp,
+    which stays as it is."""
     to = rd(word) if opcode(word) == SYSTEM and funct3(word) and rd(word) != SP else ZERO
     return load_immediate(to, 0), f"li {NAMES[to]},0" if to else "nop"
 
 
 def load_immediate(to, number):
     return number << 20 | to << 7 | IMMEDIATE
+
+
+def jump_register(source):
+    return source << 15 | JALR
 
 
 def move(to, source):

@@ -22,8 +22,8 @@ def taken_line(it):
 def control_line(elf, found):
     text = isa.control(found.word)
     note = "; a wait for the clock has no end" if isa.reads_clock(found.word) else ""
-    note = "; what follows it is run" if text in isa.RETURNS else note
-    return f"{in_function(elf, found)}: {text} becomes {isa.harmless(found.word)[1]}{note}"
+    note = "; what follows it is run" if text in isa.RETURNS and found.text == "nop" else note
+    return f"{in_function(elf, found)}: {text} becomes {found.text}{note}"
 
 
 def copied_line(segment):
