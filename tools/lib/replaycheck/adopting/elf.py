@@ -121,6 +121,11 @@ class Elf:
                 return self.name(symbol)
         return None
 
+    def where(self, address):
+        """An address in words, with its function if it has one."""
+        name = self.function_at(address)
+        return f"0x{address:08x}" + (f" in {name}" if name else "")
+
     def extent(self, symbol):
         """How many bytes of the file a function has, up to the next one at most; where its size isn't known, up to a
         label."""

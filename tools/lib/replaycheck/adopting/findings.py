@@ -75,16 +75,10 @@ def compressed(elf):
                     f"compile all of it, and link with libraries for it: {TARGET}", True)
 
 
-def of_function(elf, address):
-    name = elf.function_at(address)
-    return f" in {name}" if name else ""
-
-
 def places(elf, found):
     """The first addresses of words, with their functions."""
-    shown = [f"0x{it.address:08x}{of_function(elf, it.address)}" for it in found[:SHOWN]]
     more = f" and {len(found) - SHOWN} more" if len(found) > SHOWN else ""
-    return ", ".join(shown) + more
+    return ", ".join(elf.where(it.address) for it in found[:SHOWN]) + more
 
 
 def of_code(elf, code):

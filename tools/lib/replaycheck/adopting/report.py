@@ -9,21 +9,16 @@ STACK = ("a stack of the start file's own: what nothing has set isn't found on i
 COPIED = "initialised data that a start file copies from where nothing is loaded: variables would be 0"
 
 
-def in_function(elf, found):
-    name = elf.function_at(found.address)
-    return f"0x{found.address:08x}" + (f" in {name}" if name else "")
-
-
 def taken_line(it):
     called = [f"is called {it.function}, too, at 0x{it.named:08x}"] if it.named is not None else []
     return f"{it.name} at 0x{it.symbol.value:08x}: " + "; ".join(it.texts + called)
 
 
-def control_line(elf, found):
-    text = isa.control(found.word)
-    note = "; a wait for the clock has no end" if isa.reads_clock(found.word) else ""
-    note = "; what follows it is run" if text in isa.RETURNS and found.text == "nop" else note
-    return f"{in_function(elf, found)}: {text} becomes {found.text}{note}"
+def control_line(elf, it):
+    text = isa.control(it.word)
+    note = "; a wait for the clock has no end" if isa.reads_clock(it.word) else ""
+    note = "; what follows it is run" if text in isa.RETURNS and it.text == "nop" else note
+    return f"{elf.where(it.address)}: {text} becomes {it.text}{note}"
 
 
 def copied_line(segment):
@@ -36,7 +31,7 @@ def cure_lines(findings):
     groups = [
         (HEAP, [taken_line(it) for it in plan.taken.values()]),
         (CONTROL, [control_line(elf, it) for it in findings.control]),
-        (STACK, [f"{in_function(elf, it)}: 0x{it.word:08x}, which sets sp, becomes nop" for it in findings.stack]),
+        (STACK, [f"{elf.where(it.address)}: 0x{it.word:08x}, which sets sp, becomes nop" for it in findings.stack]),
         (COPIED, [copied_line(it) for it in findings.copied]),
     ]
     for heading, lines in groups:
