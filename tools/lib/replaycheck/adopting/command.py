@@ -51,10 +51,10 @@ def options_of(page, words):
     reader.add_argument("file", metavar="FILE", help="the file that the linker wrote")
     reader.add_argument("-o", "--output", metavar="OUT", action=Once,
                         help="write the cured file here; FILE stays as it is")
-    reader.add_argument("--heap", metavar="NAME=FUNCTION(PLACES)", type=heap, action="append", default=[],
-                        help="NAME is a function of a heap, too: malloc(SIZE), free(BLOCK), calloc(COUNT,SIZE) or "
-                        "realloc(BLOCK,SIZE), with the register of each parameter, a0 to a7, or a number in its place; "
-                        "as often as there are such functions")
+    reader.add_argument("--heap", metavar="NAME=CALL", type=heap, action="append", default=[],
+                        help="NAME is a function of a heap, too, and called as malloc(SIZE), free(BLOCK), "
+                        "calloc(COUNT,SIZE) or realloc(BLOCK,SIZE), with the register of each parameter, a0 to a7, or a "
+                        "number in its place; as often as there are such functions")
     reader.add_argument("--keep", metavar="NAME", action="append", default=[],
                         help="change nothing in the function NAME; as often as there are such functions")
     options = reader.parse_args(words)
