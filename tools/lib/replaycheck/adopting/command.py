@@ -82,7 +82,10 @@ def write(path, content, mode):
             file.write(content)
         return
     target = os.path.realpath(path)
-    number, beside = tempfile.mkstemp(dir=os.path.dirname(target), prefix=".adopt-")
+    try:
+        number, beside = tempfile.mkstemp(dir=os.path.dirname(target), prefix=".adopt-")
+    except OSError as fault:
+        raise OSError(fault.errno, fault.strerror, path) from None
     try:
         with open(number, "wb") as file:
             file.write(content)

@@ -5,7 +5,7 @@ import collections
 import functools
 import struct
 
-EXECUTABLE, RISC_V, LOAD, INTERPRETER, SYMBOLS, NO_BITS = 2, 243, 1, 3, 2, 8
+EXECUTABLE, RISC_V, LOAD, INTERPRETER, SYMBOLS = 2, 243, 1, 3, 2
 HEADER, PROGRAM_HEADER, SECTION_HEADER, SYMBOL = 52, 32, 40, 16
 ENTRY, PROGRAM_TABLE, SECTION_TABLE, FLAGS, PROGRAM_COUNT = 24, 28, 32, 36, 44
 IS_COMPRESSED, HAS_CODE, NO_TYPE, FUNCTION = 1, 4, 0, 2
@@ -53,7 +53,7 @@ class Elf:
     def strings(self):
         """The string table of the symbols."""
         section = self.sections[self.sections[self.symbol_table].link]
-        return b"" if section.kind == NO_BITS else self.data[section.offset:section.offset + section.size]
+        return self.data[section.offset:section.offset + section.size]
 
     @functools.cached_property
     def symbols(self):
