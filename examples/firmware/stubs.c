@@ -4,6 +4,7 @@
    And calls of atomic operations on words of 4 bytes, which gcc makes where there are no instructions for them. A single processor
    without interrupts needs no more than the plain operation; with interrupts, turn these off around it. */
 #include <errno.h>
+#include <signal.h>
 #include <stdbool.h>
 #include <stdint.h>
 #include <sys/stat.h>
@@ -103,6 +104,16 @@ ssize_t _read(int file, void *buffer, size_t count)
 ssize_t _write(int file, const void *buffer, size_t count)
 {
     return write(file, buffer, count);
+}
+
+int _kill(pid_t process, int signal)
+{
+    return kill(process, signal);
+}
+
+pid_t _getpid(void)
+{
+    return getpid();
 }
 
 /* ---- atomic operations. gcc knows these names and takes no definition of them, hence others in C. */
