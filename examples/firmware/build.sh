@@ -29,6 +29,10 @@ for source in *.S *.c ../*.s; do
 done
 $gcc "${flags[@]}" -include heap_by_number.h -c station.c -o "$objects/station-by-number.o"
 $gcc "${flags[@]}" -DTWICE -c boot.c -o "$objects/boot-twice.o"
+for name in names heap; do
+  $gcc "${flags[@]}" -c board/$name.c -o "$objects/board-$name.o"
+done
+$gcc "${flags[@]}" -march=rv32im_zicsr_zifencei -c board/start.S -o "$objects/board-start.o"
 
 # linked FILE SCRIPT WORD..: names of objects, and options for the linker.
 linked() {
@@ -48,8 +52,10 @@ firmware() {
 firmware kinds -nostdlib kinds.o memory.o heap_by_name.o
 firmware station -nostdlib station.o memory.o heap_by_name.o
 firmware station-by-number -nostdlib station-by-number.o memory.o heap_by_number.o
+firmware polled -nostdlib polled.o
 firmware boot -nostdlib boot.o
 firmware boot-twice -nostdlib boot-twice.o
+linked "${into:-.}/board.elf" board/board.ld -nostdlib board-{start,names,heap}.o system.o memory.o
 firmware average average.o console.o -DPICOLIBC_INTEGER_PRINTF_SCANF
 firmware library library.o console.o heap_by_name.o -lm
 firmware labels labels.o heap_by_name.o --picolibc-buildtype=release

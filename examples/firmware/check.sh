@@ -120,7 +120,7 @@ else
   if [ "$(compiled_by station.elf)" != "$(compiled_by "$room/station.elf")" ]; then
     left_out 'comparing the programs, and those with picolibc' "the compiler isn't that of station.elf"
   else
-    for program in ../*.elf kinds.elf station.elf station-by-number.elf boot.elf boot-twice.elf; do
+    for program in ../*.elf board.elf polled.elf kinds.elf station.elf station-by-number.elf boot.elf boot-twice.elf; do
       check "the same bytes of $program" cmp "$program" "$room/${program##*/}"
     done
     check 'picolibc without a false error' same library from_picolibc library

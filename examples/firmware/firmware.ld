@@ -40,8 +40,9 @@ SECTIONS
         *(.sdata .sdata.*)
     } :data
     .tdata : ALIGN(8) { __thread_data = .; *(.tdata .tdata.*) } :data :tls
-    .tbss (NOLOAD) : { *(.tbss .tbss.*) } :data :tls
-    .tbss_place (NOLOAD) : { . = . + SIZEOF(.tbss); } :data     /* .tbss itself takes no addresses */
+    /* .tbss is aligned as .tdata is, which may have nothing. It takes no addresses: those that it and its alignment need come next. */
+    .tbss (NOLOAD) : ALIGN(8) { *(.tbss .tbss.*) } :data :tls
+    .tbss_place (NOLOAD) : { . = . + (SIZEOF(.tbss) ? SIZEOF(.tbss) + 7 : 0); } :data
     .bss (NOLOAD) : ALIGN(16) {
         __bss_start = .;
         *(.sbss .sbss.* .bss .bss.* COMMON)

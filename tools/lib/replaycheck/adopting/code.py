@@ -1,0 +1,210 @@
+"""Which words of a file are code, as its symbols and its jumps tell, and what of it a run can't do."""
+import bisect
+import collections
+
+from . import instructions as isa
+from .elf import HAS_CODE, word_at
+
+Found = collections.namedtuple("Found", "address word")
+# How many words the walk through the start file takes, and the one back from mret.
+FURTHEST, NEAR = 256, 32
+# An instruction, the word that takes its place, and that one's text.
+Replaced = collections.namedtuple("Replaced", "address word new text")
+
+
+def joined(ranges):
+    """Ranges in order, with those that meet made one."""
+    together = []
+    for start, end in sorted([*it] for it in ranges if it[0] < it[1]):
+        if together and start <= together[-1][1]:
+            together[-1][1] = max(together[-1][1], end)
+        else:
+            together.append([start, end])
+    return together
+
+
+def without(ranges, others):
+    """What of joined ranges is in none of the others, which are joined too."""
+    left = []
+    for start, end in ranges:
+        index = max(bisect.bisect_right(others, [start, 1 << 32]) - 1, 0)
+        while index < len(others) and others[index][0] < end:
+            if others[index][0] > start:
+                left.append([start, others[index][0]])
+            start = max(start, others[index][1])
+            index += 1
+        if start < end:
+            left.append([start, end])
+    return left
+
+
+class Stretch:
+    """Addresses that may have code, in one piece of the file: the first that is a multiple of 4, the end, where they
+    stand, and which words have been looked at."""
+
+    def __init__(self, elf, start, end):
+        self.start, self.end = start + -start % 4, end
+        self.place = elf.place(self.start, 0)
+        self.seen = bytearray(max(end - self.start, 0) // 4)
+
+
+class Code:
+    """The words that are code: all of a function whose size is known, but for what a mapping symbol `$d` calls data;
+    and what is reached from the entry, from functions without a size and from mapping symbols `$x`, by each next word,
+    branch and jump. What follows a function of known size isn't reached from it. Closed ranges are never run."""
+
+    def __init__(self, elf, closed=()):
+        self.elf = elf
+        sections = joined((it.addr, it.addr + it.size) for it in elf.sections if it.flags & HAS_CODE)
+        closed = joined([*closed, *(without([[0, 1 << 32]], sections) if sections else ())])
+        self.stretches = [Stretch(elf, start, end) for it in elf.contents
+                          for start, end in without([[it.vaddr, it.vaddr + it.filesz]], closed)]
+        self.starts = [it.start for it in self.stretches]
+        self.sized = joined((it.value, it.value + it.size) for it in elf.functions if it.size)
+        self.ends = {it.value + it.size for it in elf.functions if it.size}
+        self.control, self.atomic, self.floating, self.compressed, self.unknown = [], [], [], [], []
+
+    def stretch_at(self, address):
+        """The stretch that has the word at an address, or None."""
+        index = bisect.bisect_right(self.starts, address) - 1
+        if index < 0 or address % 4 or address + 4 > self.stretches[index].end:
+            return None
+        return self.stretches[index]
+
+    def word(self, address):
+        """The word of an address that may have code, or None."""
+        stretch = self.stretch_at(address)
+        return None if stretch is None else word_at(self.elf.data, stretch.place + address - stretch.start)
+
+    def data(self):
+        """What mapping symbols call data: from each up to the next one or the next function."""
+        marks = {it.value: True for it in self.elf.functions}
+        for symbol in self.elf.symbols:
+            name = self.elf.strings[symbol.name:symbol.name + 2]
+            if name in (b"$d", b"$x"):
+                marks[symbol.value] = name == b"$x"
+        places = sorted(marks)
+        return joined((start, end) for start, end in zip(places, [*places[1:], 1 << 32]) if not marks[start])
+
+    def seeds(self):
+        """Addresses from which code is followed; of a function's words those that weren't reached before."""
+        yield self.elf.entry
+        for start, end in without(self.sized, self.data()):
+            index = max(bisect.bisect_right(self.starts, start) - 1, 0)
+            while index < len(self.starts) and self.starts[index] < end:
+                yield from unseen(self.stretches[index], start, end)
+                index += 1
+        yield from (it.value for it in self.elf.functions if not it.size)
+        yield from (it.value for it in self.elf.symbols if self.elf.strings[it.name:it.name + 2] == b"$x")
+
+    def follow(self):
+        """Looks at each word of code once."""
+        for seed in self.seeds():
+            waiting = [seed]
+            while waiting:
+                waiting += self.line(waiting.pop())
+        for found in (self.control, self.atomic, self.floating, self.compressed, self.unknown):
+            found.sort()
+
+    def line(self, address):
+        """Follows code from an address as long as it goes on to the next word, and returns where else it goes."""
+        stretch, elsewhere, before = self.stretch_at(address), [], 0
+        if stretch is None:
+            return elsewhere
+        seen, data, away = stretch.seen, self.elf.data, stretch.place - stretch.start
+        while address + 4 <= stretch.end and not seen[(address - stretch.start) // 4]:
+            seen[(address - stretch.start) // 4] = 1
+            word = int.from_bytes(data[address + away:address + away + 4], "little")
+            if not isa.is_of_rv32im(word) and not self.is_instruction(address, word):
+                return elsewhere
+            if isa.may_jump(word):
+                elsewhere += targets(address, before, word)
+            address, before = address + 4, word
+            if isa.ends(word) or address in self.ends:
+                return elsewhere
+        return elsewhere
+
+    def is_instruction(self, address, word):
+        """Notes a word that isn't RV32IM's. Is it an instruction at all?"""
+        found = Found(address, word)
+        if word in (0, isa.UNIMP):
+            return False
+        if isa.control(word):
+            self.control.append(found)
+        elif isa.opcode(word) == isa.ATOMIC:
+            self.atomic.append(found)
+        elif isa.opcode(word) in isa.FLOAT:
+            self.floating.append(found)
+        else:
+            (self.compressed if isa.is_compressed(word) else self.unknown).append(found)
+            return False
+        return True
+
+
+def unseen(stretch, start, end):
+    """The words of a stretch from start to end that haven't been looked at when it is their turn."""
+    index, last = max(start + 3 - stretch.start, 0) // 4, (end - stretch.start) // 4
+    while 0 <= (index := stretch.seen.find(0, index, last)):
+        yield stretch.start + 4 * index
+        index += 1
+
+
+def targets(address, before, word):
+    """Where an instruction goes beside the next word, as far as it and the one before it tell."""
+    code = isa.opcode(word)
+    if code in (isa.JAL, isa.BRANCH):
+        return [address + isa.distance(word) & 0xFFFFFFFF]
+    if code == isa.JALR and isa.opcode(before) in (isa.AUIPC, isa.LUI) and isa.rd(before) == isa.rs1(word):
+        base = isa.upper(before) + (address - 4 if isa.opcode(before) == isa.AUIPC else 0)
+        return [base + isa.immediate(word) & 0xFFFFFFFE]
+    return []
+
+
+def stack_words(code, entry):
+    """The words of the start file that give the stack pointer another place, up to the first call: a run has a stack,
+    so each can be left out. What moves the pointer from where it is, `addi sp,sp,-16` or `andi sp,sp,-16`, stays."""
+    found, address, walked = [], entry, set()
+    before = 0
+    while address not in walked and len(walked) < FURTHEST:
+        walked.add(address)
+        word = code.word(address)
+        if word is None or isa.opcode(word) == isa.JALR or isa.opcode(word) == isa.JAL and isa.rd(word) != isa.ZERO:
+            break
+        if places_stack(word, before, bool(found)):
+            found.append(Found(address, word))
+        before = word
+        address += isa.distance(word) if isa.opcode(word) == isa.JAL else 4
+    return found
+
+
+def places_stack(word, before, has_placed):
+    """Whether a word gives the stack pointer a place, after the word before it and after others that have."""
+    code = isa.opcode(word)
+    if isa.written(word) != isa.SP or not isa.is_of_rv32im(word):
+        return False
+    if code == isa.IMMEDIATE and isa.rs1(word) == isa.SP:
+        return isa.rd(before) == isa.SP and isa.opcode(before) in (isa.AUIPC, isa.LUI)
+    of_itself = code == isa.REGISTERS and isa.SP in (isa.rs1(word), word >> 20 & 31)
+    return has_placed or not of_itself
+
+
+def replaced(code, found):
+    """What takes the place of an instruction for control registers and the like: mret jumps by the register that was
+    written for it, where that can be told; the others do nothing."""
+    source = return_register(code, found.address) if isa.control(found.word) == "mret" else None
+    if source is None:
+        return Replaced(*found, *isa.harmless(found.word))
+    return Replaced(*found, isa.jump_register(source), f"jr {isa.NAMES[source]}")
+
+
+def return_register(code, address):
+    """The register whose value mret jumps to and which still has it, if no jump or call stands before; else None."""
+    changed = set()
+    for before in range(address - 4, address - 4 * NEAR, -4):
+        word = code.word(before)
+        if word is None or isa.may_jump(word) or word in (isa.ECALL, isa.EBREAK):
+            return None
+        if isa.sets_return(word):
+            return isa.rs1(word) if isa.rs1(word) not in changed else None
+        changed.add(isa.written(word))
+    return None

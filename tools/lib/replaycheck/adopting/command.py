@@ -1,0 +1,109 @@
+"""The command line of `replaycheck adopt`: what it takes, and what it reads and writes."""
+import argparse
+import os
+import stat
+import tempfile
+
+from replaycheck.endings import Fault
+from replaycheck.endings import write as say
+from replaycheck.options import Once, Reader
+
+from . import report
+from .curing import cured
+from .findings import Findings
+from .heaps import BadHeap, heap_of
+
+LONGEST_FILE = 1 << 26
+
+
+def heap(text):
+    try:
+        return heap_of(text)
+    except BadHeap as fault:
+        raise argparse.ArgumentTypeError(str(fault)) from None
+
+
+def options_of(page):
+    reader = Reader(page)
+    reader.add_argument("file")
+    reader.add_argument("-o", "--output", action=Once)
+    reader.repeated("--heap", type=heap)
+    reader.repeated("--keep")
+    options = reader.parse_args()
+    names = [name for name, _, _ in options.heap] + options.keep
+    twice = next((name for i, name in enumerate(names) if name in names[:i]), None)
+    if twice:
+        reader.error(f"{twice} is named twice")
+    options.keep = frozenset(options.keep)
+    return options
+
+
+def read(path):
+    with open(path, "rb") as file:
+        return file.read(LONGEST_FILE + 1)
+
+
+def same_file(one, other):
+    return os.path.exists(other) and os.path.samefile(one, other)
+
+
+def write(path, content, mode):
+    """Writes a file whole or not at all. What is there and is no plain file, such as /dev/null, is written to."""
+    if os.path.exists(path) and not os.path.isfile(path):
+        with open(path, "wb") as file:
+            file.write(content)
+        return
+    target = os.path.realpath(path)
+    try:
+        number, beside = tempfile.mkstemp(dir=os.path.dirname(target), prefix=".adopt-")
+    except OSError as fault:
+        raise OSError(fault.errno, fault.strerror, path) from None
+    try:
+        with open(number, "wb") as file:
+            file.write(content)
+        os.chmod(beside, mode)
+        os.replace(beside, target)
+    except BaseException:
+        os.unlink(beside)
+        raise
+
+
+def mode_of(path):
+    """The rights of a file, as far as this user gives them to new ones."""
+    mask = os.umask(0)
+    os.umask(mask)
+    return stat.S_IMODE(os.stat(path).st_mode) & ~mask & 0o777
+
+
+def healed(findings, heaps, kept):
+    """The file with what can be cured, as bytes, and the changes. It is looked at as the file was: nothing is left to
+    cure."""
+    content, changes = cured(findings)
+    again = Findings(content, heaps, kept)
+    if again.hopeless() or again.cures():
+        raise Fault("the file's code lies over its own tables: it is damaged, or no linker's")
+    return content, changes
+
+
+def adopt(options):
+    """Looks at a file, writes another one if asked to, tells both, and returns the exit status."""
+    data = read(options.file)
+    findings = Findings(data, options.heap, options.keep)
+    if findings.damaged:
+        fault = findings.damaged
+        raise Fault(f"{options.file}: {fault.what} (image refused {fault.number}): {fault.cure}")
+    if findings.plan:
+        given = [name for name, _, _ in options.heap] + sorted(options.keep)
+        missing = [name for name in given if name not in findings.plan.found]
+        if missing:
+            raise Fault(f"{options.file} has no function {missing[0]}")
+    out, changes = options.output, []
+    if out is not None and not findings.hopeless():
+        if same_file(options.file, out):
+            raise Fault(f"{out} is the file itself: write to another one")
+        content, changes = healed(findings, options.heap, options.keep)
+        write(out, content, mode_of(options.file))
+    written = out if out is not None and not findings.hopeless() else None
+    for line in [*report.lines(findings, written, changes), report.verdict(findings, options.file, out)]:
+        say(line + "\n")
+    return int(bool(findings.obstacles or findings.cures() and not written))

@@ -1,0 +1,141 @@
+"""What stands between a board's file and a checked run: what can be cured in the file, and what only a rebuild
+cures."""
+import collections
+
+from .code import Code, joined, replaced, stack_words, without
+from .elf import IS_COMPRESSED, REGIONS, ROOM, Elf, refusals
+from .heaps import Plan
+
+# What only a rebuild cures: what it is, the cure, and whether nothing of the file runs before.
+Obstacle = collections.namedtuple("Obstacle", "what cure stops_all")
+# The refusals of files that no linker has written so.
+DAMAGED = (20, 23, 26, 28, 31)
+TARGET = "-march=rv32im -mabi=ilp32"
+SHOWN = 4
+
+
+class Findings:
+    """All that is found in a file. `elf` is None where it can't be read so far."""
+
+    def __init__(self, data, heaps, kept):
+        refused = refusals(data)
+        self.obstacles = [Obstacle(f"{it.what} (image refused {it.number})", it.cure, True) for it in refused]
+        self.damaged = next((it for it in refused if it.number in DAMAGED), None)
+        self.elf = Elf(data) if all(it.readable for it in refused) else None
+        self.plan, self.control, self.stack, self.copied = None, [], [], []
+        if self.elf is None:
+            return
+        if self.elf.flags & IS_COMPRESSED:
+            self.obstacles.append(compressed(self.elf))
+        if not self.hopeless():
+            self.look(heaps, kept)
+
+    def hopeless(self):
+        """Whether nothing that can be done to the file makes any of it run."""
+        return any(it.stops_all for it in self.obstacles)
+
+    def look(self, heaps, kept):
+        """Looks at a file that the program takes."""
+        if not self.elf.functions:
+            self.obstacles.append(Obstacle("no symbols of functions: a heap isn't found, and traces have ??? for names",
+                                           "link without -s, and don't strip the file", False))
+        self.plan = Plan(self.elf, heaps, kept)
+        for name, address, size in self.plan.small:
+            self.obstacles.append(Obstacle(
+                f"{name} at 0x{address:08x} is too small for the {size} bytes that take it over",
+                "compile it with -O0, or call malloc and its like in its place", False))
+        code = Code(self.elf, self.plan.closed())
+        if code.word(self.elf.entry) is None:
+            self.obstacles.append(Obstacle(f"the entry, 0x{self.elf.entry:08x}, isn't at code of the file",
+                                           "name the first function to the linker: ENTRY(_start), or -Wl,-e,_start",
+                                           True))
+            return
+        code.follow()
+        self.control = [replaced(code, it) for it in code.control if self.elf.function_at(it.address) not in kept]
+        self.stack = [it for it in stack_words(code, self.elf.entry) if self.elf.function_at(it.address) not in kept]
+        self.obstacles += of_code(self.elf, code)
+        self.copied, unplaced = physical(self.elf)
+        self.obstacles += [Obstacle(
+            f"{it.filesz} bytes for 0x{it.vaddr:08x} that the linker script puts to 0x{it.paddr:08x}, where they can't "
+            f"be loaded: {why}", "give them another place by AT> or ORIGIN in the linker script", False)
+            for it, why in unplaced]
+
+    def cures(self):
+        """How many things can be cured in the file."""
+        taken = self.plan.taken if self.plan else ()
+        return len(taken) + len(self.control) + len(self.stack) + len(self.copied)
+
+
+def compressed(elf):
+    """The obstacle of compressed instructions, with the first that is reached."""
+    code = Code(elf)
+    code.follow()
+    place = f", at {places(elf, code.compressed)}" if code.compressed else ""
+    return Obstacle(f"compressed instructions, by bit 0 of e_flags{place}: at the first the run stops",
+                    f"compile all of it, and link with libraries for it: {TARGET}", True)
+
+
+def places(elf, found):
+    """The first addresses of words, with their functions."""
+    more = f" and {len(found) - SHOWN} more" if len(found) > SHOWN else ""
+    return ", ".join(elf.where(it.address) for it in found[:SHOWN]) + more
+
+
+def of_code(elf, code):
+    """Obstacles of instructions that there aren't."""
+    kinds = [
+        (code.compressed, "compressed instructions", f"compile all of it, and link with libraries for it: {TARGET}"),
+        (code.atomic, "atomic instructions",
+         f"compile with {TARGET}, without the letter a: then they are calls of __atomic_*, "
+         "which stubs.c of the firmware kit has"),
+        (code.floating, "instructions for floating point",
+         f"compile with {TARGET}, without the letters f and d: then the library computes"),
+        (code.unknown, "words that are no instructions of RV32IM",
+         f"compile with {TARGET}, without further extensions"),
+    ]
+    return [Obstacle(f"{what}, at {places(elf, found)}: a run that reaches one stops there", cure, False)
+            for found, what, cure in kinds if found]
+
+
+def physical(elf):
+    """Segments to load at their physical addresses too, and those that can't be, each with the reason. A file whose
+    physical addresses are all 0 has none."""
+    copied, unplaced = [], []
+    if not any(it.paddr for it in elf.contents):
+        return copied, unplaced
+    taken = joined((it.vaddr, it.vaddr + it.memsz) for it in elf.loads)
+    total, count, last = sum(it.memsz for it in elf.loads), len(elf.segments), 0
+    for it in sorted(elf.contents, key=lambda it: it.paddr):
+        if it.paddr == it.vaddr or has_bytes(elf, it):
+            continue
+        why = unloadable(it, taken, last)
+        if total + it.filesz > ROOM:
+            why = why or f"there would be more than {ROOM} bytes"
+        if count + 1 >= 0xFFFF:
+            why = why or "there would be too many segments"
+        if why:
+            unplaced.append((it, why))
+        else:
+            copied.append(it)
+            total, count, last = total + it.filesz, count + 1, it.paddr + it.filesz
+    return copied, unplaced
+
+
+def unloadable(segment, taken, last):
+    """Why a segment can't be loaded at its physical address beside what is loaded, where those before it end at last;
+    or None."""
+    start, end = segment.paddr, segment.paddr + segment.filesz
+    if end > 1 << 32:
+        return "addresses end at 0xffffffff"
+    region = next((name for name, low, high in REGIONS if start < high and low < end), None)
+    if region:
+        return f"it is the {region}'s region"
+    meets = start < last or without([[start, end]], taken) != [[start, end]]
+    return "something else is loaded there" if meets else None
+
+
+def has_bytes(elf, segment):
+    """Whether a segment's bytes are loaded at its physical address already."""
+    place = elf.place(segment.paddr, segment.filesz)
+    start, size = segment.offset, segment.filesz
+    return place is not None and elf.data[place:place + size] == elf.data[start:start + size]
