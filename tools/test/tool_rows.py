@@ -134,8 +134,9 @@ def compare_rows():
               [*compare, "--before", "edits", "--after", "edits", "option callers 1"], 1,
               "*--- after input 0 8\n+++ after input 0 8; option callers 1\n*")
     yield Row("compare: scripts on both sides that differ", [*compare, "--before", "edits", "input 7 1"], 1,
-              "*--- after input 0 8\n+++ after input 7 1\n*")
+              "*--- after input 0 8\n+++ after input 7 1\n*-error 1: Invalid read of size 1*")
     yield Row("compare: the same script on both sides", [*compare, "--before", "edits", "--after", "edits"], 0)
+    yield Row("compare: lines of both sides are made once", [*compare, "--before", "appends", "--after", "appends"], 0)
     yield Row("compare: no line", compare, 2, "", "*no line, no --before and no --after*")
     yield Row("compare: a refused line", [*compare, "option color 1"], 2, "",
               "replaycheck compare: option color 1: refused 9: no such option, or its value is out of range\n")

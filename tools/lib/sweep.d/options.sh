@@ -43,7 +43,8 @@ take_option() {
 read_options() {
   while [ $# -gt 0 ]; do
     case $1 in
-      --help) sed -n '2,/^set/s/^# \{0,1\}//p' "$tools/replaycheck-sweep" || exit 2; exit 0 ;;
+      -h | --help) sed -n '2,/^set/s/^# \{0,1\}//p' "$tools/replaycheck-sweep" || exit 2; exit 0 ;;
+      --version) exec -- "${REPLAYCHECK:-${tools%/*/*}/replaycheck}" --version ;;
       --exits) exits=each; shift ;;
       --from) tables=("${@:2}"); [ $# -gt 1 ] || refuse '--from wants a table'; break ;;
       --*) take_option "$1" "${2-}"; shift 2 ;;
