@@ -25,8 +25,8 @@ class Edit:
         self.in_gate = path.parent.name == "must-fail" or ("gate", "yes") in self.lines
 
     def apply(self, before=None):
-        """The texts of the files that it changes, by their path in the crate, and the functions that it changes. Other edits may have made the
-        texts before it, which are given then."""
+        """The texts of the files that it changes, by their path in the crate, and the functions that it changes. The texts that other edits
+        have made before it may be given."""
         texts, functions, source, old = dict(before or {}), [], None, None
         for word, text in self.lines:
             if word == "file":
