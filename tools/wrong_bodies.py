@@ -98,7 +98,8 @@ def owner(text):
 
 
 def functions_of(folder):
-    """The free functions and the types' own methods of a crate's sources, by their paths below the crate."""
+    """The free functions and the types' own methods of a crate's sources that don't call themselves, by their paths below the crate. The proof
+    of one that does stands elsewhere."""
     texts = {str(it.relative_to(folder)): it.read_text(encoding="utf-8") for it in sorted(folder.glob("src/**/*.rt"))}
     homes = {}
     for source, text in texts.items():
@@ -107,6 +108,10 @@ def functions_of(folder):
     for source, text in texts.items():
         lines = text.split("\n")
         for at, head in ((at, HEAD.match(line)) for at, line in enumerate(lines)):
+            end = head and next((it for it in range(at, len(lines)) if lines[it].startswith(f"{head[1]}}}")), at)
+            call = r"\b[sS]elf(\.|::)" if head and head[1] else r"(?<![.:\w])"
+            if head and re.search(rf"{call}{head[2]}\(", "\n".join(lines[at + 1 : end])):
+                continue
             if head and not head[1]:
                 found.append([module_of(source), head[2]])
             elif head:
