@@ -24,9 +24,10 @@ class Edit:
         self.named = [text.strip() for word, text in self.lines if word == "function"]
         self.in_gate = path.parent.name == "must-fail" or ("gate", "yes") in self.lines
 
-    def apply(self):
-        """The texts of the files that it changes, by their path in the crate, and the functions that it changes."""
-        texts, functions, source, old = {}, [], None, None
+    def apply(self, before=None):
+        """The texts of the files that it changes, by their path in the crate, and the functions that it changes. The texts that other edits
+        have made before it may be given."""
+        texts, functions, source, old = dict(before or {}), [], None, None
         for word, text in self.lines:
             if word == "file":
                 source = text.strip()
@@ -48,9 +49,10 @@ class Edit:
                 at = function_at(source, texts[source], texts[source].index(old) + len(old) - len(old.lstrip()))
                 functions += [at] if at not in functions else []
                 texts[source], old = texts[source].replace(old, text), None
-        if not texts:
+        if not functions:
             raise Fault("it has no lines `old:` and `new:`")
         inside = [it for it in functions if not any(module_of(source) == it for source in texts)]
+        self.is_of_bodies = inside == functions and not self.named
         functions = inside or functions
         if not self.named and "" in functions:
             raise Fault("a text of the root file stands in no function: name those whose contracts refuse it by lines `function: PATH`")
@@ -93,6 +95,31 @@ def owner(text):
     trait, word, kind = text.partition(" for ")
     last = [re.findall(r"\w+", it)[-1] for it in ([kind, trait] if word else [trait.partition(":")[0]])]
     return "".join(last)
+
+
+def functions_of(folder):
+    """The free functions and the types' own methods of a crate's sources that don't call themselves, by their paths below the crate. The proof
+    of one that does stands elsewhere."""
+    texts = {str(it.relative_to(folder)): it.read_text(encoding="utf-8") for it in sorted(folder.glob("src/**/*.rt"))}
+    homes = {}
+    for source, text in texts.items():
+        homes.update(dict.fromkeys(re.findall(r"(?m)^(?:pub(?:\(\w+\))? )?(?:struct|enum) (\w+)", text), module_of(source)))
+    found = []
+    for source, text in texts.items():
+        lines = text.split("\n")
+        for at, head in ((at, HEAD.match(line)) for at, line in enumerate(lines)):
+            end = head and next((it for it in range(at, len(lines)) if lines[it].startswith(f"{head[1]}}}")), at)
+            call = r"\b[sS]elf(\.|::)" if head and head[1] else r"(?<![.:\w])"
+            if head and re.search(rf"{call}{head[2]}\(", "\n".join(lines[at + 1 : end])):
+                continue
+            if head and not head[1]:
+                found.append([module_of(source), head[2]])
+            elif head:
+                above = next((it for it in range(at, -1, -1) if re.match(r"[a-z]", lines[it])), 0)
+                text = " ".join(lines[above : above + 4]).partition("{")[0]
+                if text.startswith("impl") and " for " not in text and owner(text) in homes:
+                    found.append([homes[owner(text)], owner(text), head[2]])
+    return ["::".join(it for it in path if it) for path in found]
 
 
 def all_edits(top, crates=()):
