@@ -134,8 +134,8 @@ def pass_over(pieces, labels):
 
 
 def assemble(text, labels=()):
-    """The words of instructions, which stand at ENTRY: between newlines or semicolons, each with a label before it (`again:`) or
-    a number of times (`3 * nop`). A target is a label, a distance (`.+8`) or an address."""
+    """The words of instructions, which stand at ENTRY: between newlines or semicolons, each with a label before it
+    (`again:`) or a number of times (`3 * nop`). A target is a label, a distance (`.+8`) or an address."""
     pieces = [piece.strip() for piece in re.split(r"[;\n]", text) if piece.strip()]
     places = Unknown(labels)
     pass_over(pieces, places)

@@ -57,7 +57,10 @@ def note_object(note, trace):
 
 def json_text(shown):
     report = shown.report
-    trace = lambda frames: [call_object(call) for call in shown.calls(frames)]  # noqa: E731
+
+    def trace(frames):
+        return [call_object(call) for call in shown.calls(frames)]
+
     whole = {
         "format": "replaycheck report", "version": JSON_VERSION,
         "program": printable(shown.file), "input": shown.given and printable(shown.given), "step": report.step,
@@ -104,16 +107,15 @@ def flow_step(program, call, word):
 def sarif_result(shown, finding, rules):
     """A result, encoded."""
     text = printable(f"{finding.title()}{'. ' + finding.note if finding.note else ''}")
-    made = {"ruleId": finding.rule, "ruleIndex": rules.index(finding.rule), "level": "error"
-            if finding.counts else "note",
-            "message": {"text": text}, "occurrenceCount": finding.times}
+    made = {"ruleId": finding.rule, "ruleIndex": rules.index(finding.rule),
+            "level": "error" if finding.counts else "note", "message": {"text": text}, "occurrenceCount": finding.times}
     steps = [flow_step(shown.file, call, "by" if index else "at") for index, call in enumerate(finding.trace)]
     parts = [json.dumps(made)[:-1], f'"locations": [{location(shown.file, finding.lead())}]',
              f'"codeFlows": [{{"threadFlows": [{{"locations": [{", ".join(steps)}]}}]}}]']
     if finding.note_trace:
         words = [finding.note] + [f"by {call.function}" for call in finding.note_trace[1:]]
-        related = [location(shown.file, call, word, index) for index,
-                   (call, word) in enumerate(zip(finding.note_trace, words))]
+        related = [location(shown.file, call, word, index)
+                   for index, (call, word) in enumerate(zip(finding.note_trace, words))]
         parts.append(f'"relatedLocations": [{", ".join(related)}]')
     return Encoded(", ".join(parts) + "}")
 
@@ -124,8 +126,8 @@ def sarif_text(shown):
               "rules": [{"id": rule, "shortDescription": {"text": RULES[rule]}} for rule in rules]}
     run = {"tool": {"driver": driver}, "invocations": [{"executionSuccessful": True}],
            "results": [sarif_result(shown, finding, rules) for finding in shown.findings()]}
-    return dumped({"$schema": "https://json.schemastore.org/sarif-2.1.0.json", "version": "2.1.0", "runs": [run]},
-                  4) + "\n"
+    schema = "https://json.schemastore.org/sarif-2.1.0.json"
+    return dumped({"$schema": schema, "version": "2.1.0", "runs": [run]}, 4) + "\n"
 
 
 # ---- XML
@@ -206,13 +208,14 @@ def valgrind_text(shown):
     return "".join(valgrind_parts(shown))
 
 
+def trace_text(calls):
+    return [f"   {'by' if index else 'at'} {call}" for index, call in enumerate(calls)]
+
+
 def told(finding):
     """A finding as lines of text."""
-    lines = [finding.text] + [f"   {'by' if index else 'at'} {call}" for index, call in enumerate(finding.trace)]
-    if finding.note:
-        lines += [finding.note] + [f"   {'by' if index else 'at'} {call}" for index,
-                                   call in enumerate(finding.note_trace)]
-    return "\n".join(lines)
+    note = [finding.note, *trace_text(finding.note_trace)] if finding.note else []
+    return "\n".join([finding.text, *trace_text(finding.trace), *note])
 
 
 def junit_case(suite, number, finding):

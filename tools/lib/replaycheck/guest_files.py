@@ -9,8 +9,8 @@ ENTRY = 0x10000
 
 
 def elf(words, memory=0, symbols=(), data=b"", entry=ENTRY):
-    """A static program for RV32: a segment of these words at ENTRY and the data after them, of so many bytes where that is
-    more, functions, each a name, an address and a size, and its entry."""
+    """A static program for RV32: a segment of these words at ENTRY and the data after them, of so many bytes where that
+    is more, functions, each a name, an address and a size, and its entry."""
     content = b"".join(struct.pack("<I", word) for word in words) + data
     names = sorted({symbol[0] for symbol in symbols})
     texts = [name.encode() + b"\0" for name in names]
