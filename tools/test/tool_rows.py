@@ -85,6 +85,9 @@ def talk_rows():
               given=b"\xff\n")
     yield Row("talk: a name in two lines", ["talk", "a name\nin two lines.elf", "-"], 0, "> goto 1\nok\n",
               given=b"goto 1\n")
+    yield Row("talk: a name that begins as options do", ["talk", "--input=packet.input", "--", "-p.elf", "-"], 0,
+              "> goto 1\nok\n", given=b"goto 1\n")
+    yield Row("talk: such a name without --", ["talk", "-p.elf", "-"], 2, "", "*the following arguments are required*")
     yield Row("talk: a refused file", ["talk", "script", "-"], 2, "", "replaycheck: image refused 20: no ELF file\n",
               given=b"goto 1\n")
     yield Row("talk: no script", ["talk", "three-words.elf", "missing"], 2, "",

@@ -2,6 +2,7 @@
 import argparse
 import re
 import subprocess
+import sys
 
 from replaycheck.endings import Fault, start, write
 from replaycheck.sessions import program
@@ -66,7 +67,19 @@ class Reader(argparse.ArgumentParser):
         self.option("--supp")
 
     def read(self, words=None):
-        return self.parse_intermixed_args(words)
+        """The options. A word behind `--` is none, whatever it begins with: argparse sees another one in its place."""
+        words = list(sys.argv[1:] if words is None else words)
+        behind = words.index("--") + 1 if "--" in words else len(words)
+        hidden = {f"\0{place}": words[place] for place in range(behind, len(words)) if words[place].startswith("-")}
+        words[behind:] = [f"\0{place}" if f"\0{place}" in hidden else words[place]
+                          for place in range(behind, len(words))]
+        options = self.parse_intermixed_args(words)
+        for name, value in vars(options).items():
+            if isinstance(value, str):
+                setattr(options, name, hidden.get(value, value))
+            elif isinstance(value, list):
+                setattr(options, name, [hidden.get(it, it) if isinstance(it, str) else it for it in value])
+        return options
 
 
 def number(least, greatest):
