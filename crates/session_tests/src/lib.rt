@@ -4,4 +4,6 @@
 #![tactic(auto)]
 
 #[cfg(test)]
+mod scenarios;
+#[cfg(test)]
 mod sessions;
