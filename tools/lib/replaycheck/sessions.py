@@ -77,6 +77,18 @@ class Session:
             raise Refused(line, reply[0])
         return reply
 
+    def accept_all(self, lines):
+        """Sends lines at once, none of which may be refused and each of which is answered by one line."""
+        try:
+            self.child.stdin.write("".join(line + "\n" for line in lines).encode("utf-8", "surrogateescape"))
+            self.child.stdin.flush()
+        except BrokenPipeError:
+            raise self.ended() from None
+        for line in lines:
+            reply = self.read()
+            if reply.startswith("refused "):
+                raise Refused(line, reply)
+
     def report_at(self, step):
         """The lines of the report at a step."""
         self.accepted(f"goto {step}")
@@ -87,6 +99,11 @@ class Session:
         if not line.endswith(b"\n"):
             raise self.ended()
         return line[:-1].decode("utf-8", "surrogateescape")
+
+    def end(self):
+        """Ends the session, as nothing more is asked."""
+        self.child.stdin.close()
+        self.child.wait()
 
     def ended(self):
         try:
