@@ -59,11 +59,17 @@ class Session:
 
     def ask(self, line):
         """The reply to a line: one line, or those of a report."""
+        self.send([line])
+        return self.reply()
+
+    def send(self, lines):
         try:
-            self.child.stdin.write(line.encode("utf-8", "surrogateescape") + b"\n")
+            self.child.stdin.write("".join(line + "\n" for line in lines).encode("utf-8", "surrogateescape"))
             self.child.stdin.flush()
         except BrokenPipeError:
             raise self.ended() from None
+
+    def reply(self):
         reply = [self.read()]
         if reply[0].startswith("step "):
             while not reply[-1].startswith("ERROR SUMMARY: "):
@@ -79,11 +85,7 @@ class Session:
 
     def accept_all(self, lines):
         """Sends lines at once, none of which may be refused and each of which is answered by one line."""
-        try:
-            self.child.stdin.write("".join(line + "\n" for line in lines).encode("utf-8", "surrogateescape"))
-            self.child.stdin.flush()
-        except BrokenPipeError:
-            raise self.ended() from None
+        self.send(lines)
         for line in lines:
             reply = self.read()
             if reply.startswith("refused "):
@@ -93,6 +95,13 @@ class Session:
         """The lines of the report at a step."""
         self.accepted(f"goto {step}")
         return self.accepted("report")
+
+    def reports_at(self, steps):
+        """The lines of the reports at some steps, asked for at once: no more than a pipe takes."""
+        self.send([line for step in steps for line in (f"goto {step}", "report")])
+        for _ in steps:
+            self.read()
+            yield self.reply()
 
     def read(self):
         line = self.child.stdout.readline()

@@ -8,6 +8,7 @@ from .telling import Teller
 from .trials import Trials, errors_of
 
 LONG_RUN = 100000  # an error that is made after so many steps is told in the short form, unless --long is there
+SHORT = 4096  # which goes so many steps back
 
 
 def options_of(page):
@@ -18,7 +19,7 @@ def options_of(page):
     reader.option("--last", type=number(1, LAST_STEP), default=1048576)
     reader.option("--short", is_flag=True)
     reader.option("--long", is_flag=True)
-    options = reader.read()
+    options = reader.parse_args()
     if options.short and options.long:
         reader.error("--short and --long don't go together")
     return options
@@ -27,12 +28,12 @@ def options_of(page):
 def origin(options):
     trials = Trials(options.file, options.input, options.supp, options.line)
     try:
-        image = Image(options.file, options.line)
         errors = errors_of(trials.report(options.last))
         if len(errors) < options.error:
             of = f"{len(errors)} errors hang" if len(errors) != 1 else "1 error hangs"
             write(f"no such error: at step {options.last} {of} on undefined bits\n")
             return 1
+        image = Image(options.file, options.line)
         search = Search(trials, image, errors[options.error - 1], options.last)
         return told(search, Teller(search, options.file, write), options)
     finally:
@@ -47,32 +48,22 @@ def told(search, teller, options):
         teller.lines("", "no certificate: no marks of memory remove it. What it hangs on has been in registers alone",
                      "for long, or lies where this doesn't look")
         return 1
-    if options.short or search.step >= LONG_RUN and not options.long:
-        return told_short(search, teller, reads)
-    return told_long(search, teller, reads)
-
-
-def told_short(search, teller, reads):
-    for group in reads:
-        teller.last_read(group)
-    return end(search, teller, reads, reads) or teller.lines("--long tells what made them undefined, and the moves") or 0
-
-
-def told_long(search, teller, reads):
+    is_short = options.short or search.step >= LONG_RUN and not options.long
+    search.floor = max(0, search.step - SHORT) if is_short else 0
     origins = search.needed(search.origins(reads))
     if len(origins) > 1:
         teller.lines(f" it hangs on {len(origins)} origins together")
     for index, group in enumerate(origins):
         teller.origin(index + 1, group, [it for it in origins if it is not group])
-    status = end(search, teller, origins, reads)
-    return 1 if any(it.made == "lost" for it in origins) else status
+    return end(search, teller, origins, reads)
 
 
-def end(search, teller, groups, reads):
-    """Prints a certificate that was checked. Gives the status."""
-    for it in (groups, reads):
+def end(search, teller, origins, reads):
+    """Prints a certificate that was checked: marks where the bytes became undefined, or else where they were last read.
+    Gives the status."""
+    for it in (origins, reads):
         if search.certified(it):
             teller.certificate(it)
-            return int(it is not groups)
+            return int(it is reads or any(group.made == "lost" for group in it))
     teller.lines("", "no certificate: no marks that were found remove it with none to spare")
     return 1

@@ -43,12 +43,18 @@ class Image:
         writes = opcode(word) in (0x13, 0x33, 0x37, 0x17, LOAD)
         return "frame" if writes and rd(word) == SP else KINDS.get(opcode(word), "other")
 
+    def creates(self, address):
+        """Whether an instruction can make bytes undefined."""
+        kind, word = self.kind(address), self.word(address)
+        is_raised = word & 0xFFFFF == SP << 15 | SP << 7 | 0x13 and not word >> 31  # addi sp,sp, and no minus
+        return kind in ("call", "malloc", "realloc") or kind == "frame" and not is_raised
+
     def name(self, address):
         return self.elf.function_at(address) or "???"
 
     def memory(self, reach):
-        """The ranges of memory that can be undefined: so much of the heap and the stack, all that is loaded, and what lines
-        have marked."""
+        """The ranges of memory that can be undefined: so much of the heap and the stack, all that is loaded, and what
+        lines have marked."""
         ranges = [(it.vaddr, it.vaddr + it.memsz) for it in self.elf.loads if it.memsz]
         ranges += [(low, high) for _, low, high, _ in self.marked]
         ranges += [(HEAP, HEAP + reach), (STACK_TOP - min(reach, STACK_TOP - STACK), STACK_TOP)]

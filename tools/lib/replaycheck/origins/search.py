@@ -5,19 +5,20 @@ from typing import List, Tuple
 
 from replaycheck.endings import Fault
 
-from .image import joined
+from .image import HEAP_FUNCTIONS, joined
 from .trials import errors_of
 
 REACHES = (0x1000, 0x10000, 0x100000, 0x1000000)  # so much of the heap and of the stack is looked at, as it is needed
 NEAR, CLOSE = 16, 64
-LOOK_BACK, LOOK_ON = 40000, 512  # so long a value may be in registers alone
+WINDOWS, LOOK_ON = (1000, 8000, 64000), 512  # so far back and on a value that was in registers alone is looked for
 MOST_GROUPS = 500
 
 
 @dataclass
 class Group:
     """Ranges of bytes that are undefined before a step. `made` is what made them so, where that is known: `frame`,
-    `heap`, `start`, a line of the user, or `lost` where it was a register."""
+    `heap`, `start`, a line of the user, `old` where the search went no further back, or `lost` where it was a
+    register."""
 
     step: int
     ranges: List[Tuple[int, int]]
@@ -48,6 +49,7 @@ class Search:
             has = error in errors_of(trials.report(middle))
             low, high = (low, middle) if has else (middle + 1, high)
         self.step = low - 1  # it is made in this step
+        self.floor = 0  # the first step that is looked at
         self.reach(0)
 
     def reach(self, index):
@@ -88,7 +90,7 @@ class Search:
         return joined((low, high) for _, low, high in found)
 
     def least_marks(self, marks, beside, may_go=False):
-        """A least part of marks that removes the error beside others: one half, and then what is needed of the other."""
+        """A least part of marks that removes the error beside others: of one half, and then of the other."""
         if may_go and self.removes(beside):
             return []
         size = sum(high - low for _, low, high in marks)
@@ -101,8 +103,8 @@ class Search:
     # ---- steps
 
     def moments(self, last, beside):
-        """The latest steps, up to one, at which all memory must be marked to remove the error beside others: the value
-        was in memory then. None where they aren't found."""
+        """The latest steps, up to one, at which all memory must be marked to remove the error beside others, as the
+        value was in memory then. None where they aren't found."""
         begun = self.reached
         for index in range(begun, len(REACHES)):
             self.reach(index)
@@ -110,10 +112,23 @@ class Search:
                 if self.removes(beside + self.all_at(*steps)):
                     return self.latest(steps, beside)
         self.reach(max(begun, 1))
-        for steps in self.far_steps(last):
+        for window in WINDOWS:
+            steps = self.creating(max(0, last - window), last)
             if self.removes(beside + self.all_at(*steps)):
                 return self.latest(steps, beside)
+            if last <= window:
+                break
         return []
+
+    def creating(self, first, last):
+        """A first step, and the latest ones up to the last before which an instruction can have made bytes
+        undefined."""
+        addresses = self.trials.addresses(first, last)
+        creates = {it for it in set(addresses) if self.image.creates(it)}
+        steps = {first + index + 1 for index, it in enumerate(addresses) if it in creates}
+        steps |= {step for step, *_ in self.image.marked if first < step <= last}
+        room = self.trials.room // 2 // len(self.memory)
+        return [first, *sorted(steps)[-room:]]
 
     def close_steps(self, last):
         yield list(range(max(0, last - NEAR + 1), last + 1))
@@ -126,13 +141,6 @@ class Search:
             steps.add(last - away)
             away += away // 4
         return sorted(steps)
-
-    def far_steps(self, last):
-        """All steps, in stretches from the last one on backwards, each beside the samples."""
-        samples = self.samples(last)
-        size = min(250, self.trials.room // 3 // len(self.memory))
-        for end in range(last - CLOSE + 1, max(0, last - LOOK_BACK), -size if size else -LOOK_BACK):
-            yield sorted({*samples, *range(max(0, end - size), end)})
 
     def latest(self, steps, beside):
         """A least part of steps, each as late as can be."""
@@ -178,9 +186,10 @@ class Search:
 
     def earliest(self, step, beside):
         """How far back from a step all memory may be marked in its place."""
+        end = min(self.floor, step) - 1
         low, high, stride = step - 1, step, 1
-        while low >= 0 and self.removes(beside + self.all_at(low)):
-            low, high, stride = max(-1, low - stride), low, stride * 2
+        while low > end and self.removes(beside + self.all_at(low)):
+            low, high, stride = max(end, low - stride), low, stride * 2
         while high - low > 1:
             middle = (low + high) // 2
             helps = self.removes(beside + self.all_at(middle))
@@ -210,10 +219,10 @@ class Search:
         """What a group comes from: earlier groups, and groups of which it is known what made them."""
         step = self.earliest(group.step, beside)
         group = Group(step, self.least(step, beside, group.ranges))
-        if step == 0:
-            return [], self.by_lines(group, "start")
+        if step <= self.floor:
+            return [], self.by_lines(group, "old" if step else "start")
         kind = self.kind(step - 1)
-        if kind == "frame" or kind == "call" or kind in self.image.heap.values() or self.by_lines(group, "")[0].made:
+        if kind in ("frame", "call", *HEAP_FUNCTIONS) or self.by_lines(group, "")[0].made:
             return self.parted(group, beside, kind)
         earlier = self.groups_at(self.moments(step - 1, beside), beside)
         if earlier and self.removes(beside + marks_of(earlier)):
@@ -267,8 +276,8 @@ class Search:
     # ---- on to the error
 
     def moves(self, origin, beside, most=24):
-        """How the bytes of an origin come to the error: steps, whether each reads or writes, and the bytes. The last one
-        is None where there are more."""
+        """How the bytes of an origin come to the error: steps, whether each reads or writes, and the bytes. The last
+        one is None where there are more."""
         self.trials.doing = "the moves"
         step, ranges, found = origin.step, origin.ranges, []
         while len(found) < 2 * most:

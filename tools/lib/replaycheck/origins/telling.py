@@ -33,11 +33,6 @@ class Teller:
     def frame(self, line):
         return line + self.place(int(FRAME.fullmatch(line)[2], 16))
 
-    def where(self, step):
-        """The instruction of a step, its function and its line."""
-        address = self.search.address(step)
-        return f"0x{address:08x}: {self.image.name(address)}{self.place(address)}"
-
     # ---- what other reports tell
 
     def calls(self, step):
@@ -61,23 +56,21 @@ class Teller:
 
     def error(self):
         text, trace = self.search.error
-        self.lines(text, *map(self.frame, trace), f" made in step {self.search.step}, by {self.where(self.search.step)}")
-
-    def note(self, told):
-        self.lines(*told[:1], *map(self.frame, told[1:]))
+        self.lines(text, *map(self.frame, trace), f" made in step {self.search.step}")
 
     def origin(self, number, group, others):
         moves = self.search.moves(group, marks_of(others))
         step = group.step - 1
-        by = {"frame": f"in step {step} by a new stack frame", "lost": f"from step {group.step} on: from a register, and it "
-              "isn't known where that had it from", "start": "from the start",
+        by = {"frame": f"in step {step} by a new stack frame", "start": "from the start",
+              "lost": f"from step {group.step} on: from a register, and it isn't known where that had it from",
+              "old": f"before step {group.step} already; --long looks further back",
               "heap": f"in step {step} by {group.heap or 'a call of the heap'}"}
         made = by.get(group.made, f"by the line `{group.made}`")
         self.lines("", f"origin {number}: {in_words(group.ranges)}, undefined {made}")
-        if group.made == "heap":
-            told = self.block(moves[0][0], group.ranges[0][0])
-            self.note(told if told and IN_BLOCK.match(told[0]) else ["", *self.calls(step)][not told:])
-        elif group.made in ("frame", "lost"):
+        told = self.block(moves[0][0], group.ranges[0][0]) if group.made in ("heap", "old") else []
+        if group.made == "old" or told and IN_BLOCK.match(told[0]):
+            self.lines(*told[:1], *map(self.frame, told[1:]))
+        elif group.made in ("heap", "frame", "lost"):
             self.lines(*map(self.frame, self.calls(step)))
         self.moves(moves)
 
@@ -100,14 +93,8 @@ class Teller:
     def row(self, rows):
         for address, verb, first, last, ranges in rows:
             steps = f"step {first}" if first == last else f"steps {first} to {last}"
-            self.lines(f" {steps}: {in_words(ranges)} {verb} by 0x{address:08x}: {self.image.name(address)}{self.place(address)}")
-
-    def last_read(self, group):
-        self.lines("", f"last read: {in_words(group.ranges)} in step {group.step}, by {self.where(group.step)}")
-        for low, _ in group.ranges[:1]:
-            told = self.block(group.step, low)
-            if told:
-                self.note(told)
+            where = f"0x{address:08x}: {self.image.name(address)}{self.place(address)}"
+            self.lines(f" {steps}: {in_words(ranges)} {verb} by {where}")
 
     def certificate(self, groups):
         marks, step = sorted(marks_of(groups)), self.search.step + 1

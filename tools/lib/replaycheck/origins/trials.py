@@ -7,6 +7,7 @@ from replaycheck.reports import kind_of
 from replaycheck.sessions import Session
 
 MOST_LINES, MOST_MARKS = 100000, 4096
+AT_ONCE = 200  # so many questions fit into a pipe
 
 
 class Progress:
@@ -48,19 +49,38 @@ class Trials:
             self.session.accepted(line)
 
     def report(self, step, marks=()):
-        """The lines of the report at a step with these marks. Those that the last report had too stay where they are."""
+        """The lines of the report at a step with these marks. Those that the last report had too stay as they are."""
         marks = sorted(marks)
         if len(marks) > self.room:
             raise Fault(f"it takes {len(marks)} marks, and there is room for {self.room}")
         lines = self.changes(marks)
         if self.asked + len(lines) + 2 > MOST_LINES:
-            self.session.end()
-            self.open()
+            self.open_again()
             lines = self.changes(marks)
         self.session.accept_all([*lines, f"goto {step}"])
         self.marks, self.asked, self.reports = marks, self.asked + len(lines) + 2, self.reports + 1
         self.progress.tell(self.reports, self.doing)
         return self.session.accepted("report")
+
+    def addresses(self, first, last):
+        """Where the program is before each of some steps, as far as it runs."""
+        found = []
+        for begin in range(first, last, AT_ONCE):
+            self.report(begin)
+            end = min(begin + AT_ONCE, last)
+            if self.asked + 2 * AT_ONCE > MOST_LINES:
+                self.open_again()
+            self.asked, self.reports = self.asked + 2 * (end - begin), self.reports + end - begin
+            for report in self.session.reports_at(range(begin, end)):
+                words = report[1].split(" ")
+                if words[1] != "running":
+                    return found
+                found.append(int(words[2], 16))
+        return found
+
+    def open_again(self):
+        self.session.end()
+        self.open()
 
     def changes(self, marks):
         """The lines that make these marks of those that there are."""
