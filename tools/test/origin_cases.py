@@ -102,7 +102,7 @@ CASES = [
     Case("far into a heap and a stack", FAR, 0, ("by a call of the heap", "of size 20000", "written", "read"),
          ["mark 7 0x40002013 1 defined"]),
     Case("a heap by name", BY_NAME, 0, ("undefined in step 3 by malloc", "of size 12 alloc'd"),
-         ["mark 4 0x40000017 1 defined"], hooks=("malloc",)),
+         ["mark 4 0x40000016 2 defined"], hooks=("malloc",)),
     Case("a value that was in a register for long", LOST, 1, ("no certificate: ",), [], ["--last=100000"]),
 ]
 

@@ -83,7 +83,7 @@ class Search:
     # ---- bytes
 
     def least(self, step, beside, tried=()):
-        """A least set of bytes that must be marked at a step beside other marks; those that are tried, where they do."""
+        """A least set of bytes that must be marked at a step beside other marks: those that are tried, if they do."""
         if tried and self.removes(beside + marked(step, tried)):
             return list(tried)
         found = self.least_marks(self.all_at(step), beside)
