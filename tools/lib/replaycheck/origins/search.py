@@ -10,6 +10,7 @@ from .trials import errors_of
 
 REACHES = (0x1000, 0x10000, 0x100000, 0x1000000)  # so much of the heap and of the stack is looked at, as it is needed
 NEAR, CLOSE = 16, 64
+MANY = 16  # of more bytes the moves of the first one are told
 WINDOWS, LOOK_ON = (1000, 8000, 64000), 512  # so far back and on a value that was in registers alone is looked for
 MOST_GROUPS = 500
 
@@ -32,6 +33,10 @@ class Group:
 
 def marked(step, ranges):
     return [(step, low, high) for low, high in ranges]
+
+
+def size_of(ranges):
+    return sum(high - low for low, high in ranges)
 
 
 def marks_of(groups):
@@ -83,22 +88,38 @@ class Search:
     # ---- bytes
 
     def least(self, step, beside, tried=()):
-        """A least set of bytes that must be marked at a step beside other marks: those that are tried, if they do."""
+        """A least set of bytes that must be marked at a step beside other marks: those that are tried, if they do, or
+        as many at another place. Of many bytes some that needn't be may be among those that must."""
         if tried and self.removes(beside + marked(step, tried)):
             return list(tried)
-        found = self.least_marks(self.all_at(step), beside)
+        size = size_of(tried)
+        if size > MANY:
+            moved = self.moved(step, beside, tried)
+            if self.removes(beside + marked(step, moved)):
+                return moved
+        found = self.least_marks(self.all_at(step), beside, max(1, size // 128))
         return joined((low, high) for _, low, high in found)
 
-    def least_marks(self, marks, beside, may_go=False):
+    def moved(self, step, beside, ranges):
+        """The same ranges as far away as the first byte that must be marked at a step is from theirs."""
+        low, high = 0, size_of(self.memory)
+        while high - low > 1:
+            middle = (low + high) // 2
+            helps = self.removes(beside + halves(self.all_at(step), middle)[1])
+            low, high = (middle, high) if helps else (low, middle)
+        away = halves(self.all_at(step), low)[1][0][1] - ranges[0][0]
+        return [(low + away, high + away) for low, high in ranges]
+
+    def least_marks(self, marks, beside, grain=1, may_go=False):
         """A least part of marks that removes the error beside others: of one half, and then of the other."""
         if may_go and self.removes(beside):
             return []
         size = sum(high - low for _, low, high in marks)
-        if size <= 1:
+        if size <= grain:
             return marks
         left, right = halves(marks, size // 2)
-        of_right = self.least_marks(right, beside + left, True)
-        return self.least_marks(left, beside + of_right, bool(of_right)) + of_right
+        of_right = self.least_marks(right, beside + left, grain, True)
+        return met(self.least_marks(left, beside + of_right, grain, bool(of_right)), of_right)
 
     # ---- steps
 
@@ -184,16 +205,22 @@ class Search:
             low, high = (middle, high) if helps else (low, middle)
         return low
 
+    def was_there(self, step, beside):
+        """Whether the value was in memory at a step, or shortly before it and then in registers."""
+        if step < 0:
+            return False
+        return self.removes(beside + self.all_at(step)) or self.removes(
+            beside + self.all_at(*range(max(0, step - NEAR + 1), step + 1)))
+
     def earliest(self, step, beside):
-        """How far back from a step all memory may be marked in its place."""
+        """How far back from a step the value was in memory, but for short moments in registers."""
         end = min(self.floor, step) - 1
         low, high, stride = step - 1, step, 1
-        while low > end and self.removes(beside + self.all_at(low)):
+        while low > end and self.was_there(low, beside):
             low, high, stride = max(end, low - stride), low, stride * 2
         while high - low > 1:
             middle = (low + high) // 2
-            helps = self.removes(beside + self.all_at(middle))
-            low, high = (low, middle) if helps else (middle, high)
+            low, high = (low, middle) if self.was_there(middle, beside) else (middle, high)
         return high
 
     # ---- back to what made them undefined
@@ -218,6 +245,9 @@ class Search:
     def before(self, group, beside):
         """What a group comes from: earlier groups, and groups of which it is known what made them."""
         step = self.earliest(group.step, beside)
+        if not self.removes(beside + self.all_at(step)):  # some of it was in a register then
+            steps = self.latest(list(range(max(0, step - NEAR + 1), step + 1)), beside)
+            return self.groups_at(steps, beside), []
         group = Group(step, self.least(step, beside, group.ranges))
         if step <= self.floor:
             return [], self.by_lines(group, "old" if step else "start")
@@ -276,10 +306,13 @@ class Search:
     # ---- on to the error
 
     def moves(self, origin, beside, most=24):
-        """How the bytes of an origin come to the error: steps, whether each reads or writes, and the bytes. The last
-        one is None where there are more."""
+        """How the bytes of an origin, or the first of many, come to the error: steps, whether each reads or writes, and
+        the bytes. The last one is None where there are more."""
         self.trials.doing = "the moves"
         step, ranges, found = origin.step, origin.ranges, []
+        if size_of(ranges) > MANY:
+            (first, end), *more = ranges
+            ranges, beside = [(first, first + 1)], beside + marked(step, [(first + 1, end)] * (end > first + 1) + more)
         while len(found) < 2 * most:
             step = self.last_with(step, ranges, beside)
             found.append((step, "read", ranges))
@@ -314,6 +347,13 @@ def halves(marks, room):
         right += [(step, cut, high)] if high > cut else []
         room -= cut - low
     return left, right
+
+
+def met(left, right):
+    """Marks, and those that stand behind them: one where two meet."""
+    if left and right and left[-1][0] == right[0][0] and left[-1][2] == right[0][1]:
+        return [*left[:-1], (*left[-1][:2], right[0][2]), *right[1:]]
+    return left + right
 
 
 def inside(marks, group):

@@ -6,7 +6,7 @@ import shutil
 from replaycheck.places import PROGRAMS, Paths, Places
 
 from .image import in_words
-from .search import marks_of
+from .search import MANY, marks_of, size_of
 from .trials import frames
 
 FRAME = re.compile(r"   (at|by) (0x[0-9a-f]{8}): ([!-~]+)")
@@ -72,6 +72,8 @@ class Teller:
             self.lines(*told[:1], *map(self.frame, told[1:]))
         elif group.made in ("heap", "frame", "lost"):
             self.lines(*map(self.frame, self.calls(step)))
+        if size_of(group.ranges) > MANY:
+            self.lines(" moves of the first byte:")
         self.moves(moves)
 
     def moves(self, moves):
