@@ -9,7 +9,7 @@ from .image import HEAP_FUNCTIONS, joined
 from .trials import errors_of
 
 REACHES = (0x1000, 0x10000, 0x100000, 0x1000000)  # so much of the heap and of the stack is looked at, as it is needed
-NEAR, CLOSE = 16, 64
+NEAR, CLOSE, FAR = 16, 64, 10000
 MANY = 16  # of more bytes the moves of the first one are told
 WINDOWS, LOOK_ON = (1000, 8000, 64000), 512  # so far back and on a value that was in registers alone is looked for
 MOST_GROUPS = 500
@@ -19,12 +19,13 @@ MOST_GROUPS = 500
 class Group:
     """Ranges of bytes that are undefined before a step. `made` is what made them so, where that is known: `frame`,
     `heap`, `start`, a line of the user, `old` where the search went no further back, or `lost` where it was a
-    register."""
+    register. A wide one has all memory, of which it isn't known yet what is needed."""
 
     step: int
     ranges: List[Tuple[int, int]]
     made: str = ""
     heap: str = ""
+    is_wide: bool = False
 
     @property
     def marks(self):
@@ -33,6 +34,14 @@ class Group:
 
 def marked(step, ranges):
     return [(step, low, high) for low, high in ranges]
+
+
+def most(low, high, helps):
+    """The greatest number below a limit that helps, where the least one does and none behind one that doesn't."""
+    while high - low > 1:
+        middle = (low + high) // 2
+        low, high = (middle, high) if helps(middle) else (low, middle)
+    return low
 
 
 def size_of(ranges):
@@ -55,6 +64,7 @@ class Search:
             low, high = (low, middle) if has else (middle + 1, high)
         self.step = low - 1  # it is made in this step
         self.floor = 0  # the first step that is looked at
+        self.shapes = []  # many bytes that were last read together: they may have been moved together
         self.reach(0)
 
     def reach(self, index):
@@ -89,26 +99,41 @@ class Search:
 
     def least(self, step, beside, tried=()):
         """A least set of bytes that must be marked at a step beside other marks: those that are tried, if they do, or
-        as many at another place. Of many bytes some that needn't be may be among those that must."""
+        many that are known, at another place. Of many others some that needn't be may stand among those that must."""
         if tried and self.removes(beside + marked(step, tried)):
             return list(tried)
-        size = size_of(tried)
-        if size > MANY:
-            moved = self.moved(step, beside, tried)
-            if self.removes(beside + marked(step, moved)):
-                return moved
-        found = self.least_marks(self.all_at(step), beside, max(1, size // 128))
-        return joined((low, high) for _, low, high in found)
+        if self.shapes:
+            first = self.first_byte(step, beside)
+            for shape in self.shapes:
+                moved = [(low + first - shape[0][0], high + first - shape[0][0]) for low, high in shape]
+                if moved[-1][1] <= 1 << 32 and self.fits(step, moved, beside):
+                    return moved
+        grain = max([1, *(size_of(shape) // 128 for shape in self.shapes)])
+        found = joined((low, high) for _, low, high in self.least_marks(self.all_at(step), beside, grain))
+        return self.trimmed(step, found, beside) if grain > 1 else found
 
-    def moved(self, step, beside, ranges):
-        """The same ranges as far away as the first byte that must be marked at a step is from theirs."""
-        low, high = 0, size_of(self.memory)
-        while high - low > 1:
-            middle = (low + high) // 2
-            helps = self.removes(beside + halves(self.all_at(step), middle)[1])
-            low, high = (middle, high) if helps else (low, middle)
-        away = halves(self.all_at(step), low)[1][0][1] - ranges[0][0]
-        return [(low + away, high + away) for low, high in ranges]
+    def fits(self, step, ranges, beside):
+        """Whether ranges must be marked at a step, as far as each range and the last byte tell."""
+        *rest, (low, high) = ranges
+        fewer = [[*rest, (low, high - 1)], *(ranges[:i] + ranges[i + 1:] for i in range(len(ranges)))]
+        return self.removes(beside + marked(step, ranges)) and not any(
+            self.removes(beside + marked(step, it)) for it in fewer)
+
+    def first_byte(self, step, beside):
+        """The first byte that must be marked at a step."""
+        low = most(0, size_of(self.memory), lambda it: self.removes(beside + halves(self.all_at(step), it)[1]))
+        return halves(self.all_at(step), low)[1][0][1]
+
+    def trimmed(self, step, ranges, beside):
+        """Ranges without what needn't be marked at their ends."""
+        found = list(ranges)
+        for index, (low, high) in enumerate(ranges):
+            def helps(first, end):
+                return self.removes(beside + marked(step, [*found[:index], (first, end), *found[index + 1:]]))
+            first = low + most(0, high - low, lambda away: helps(low + away, high))
+            end = high - most(0, high - first, lambda away: helps(first, high - away))
+            found[index] = (first, end)
+        return found
 
     def least_marks(self, marks, beside, grain=1, may_go=False):
         """A least part of marks that removes the error beside others: of one half, and then of the other."""
@@ -194,23 +219,20 @@ class Search:
         for group in groups:
             others = marks_of(it for it in groups if it is not group)
             group.step = self.last_with(group.step, group.ranges, others)
+        self.shapes = [it.ranges for it in groups if size_of(it.ranges) > MANY]
         return groups
 
     def last_with(self, step, ranges, beside):
         """The last step, from one on, at which these bytes may be marked to remove the error: it reads them."""
-        low, high = step, self.step + 1
-        while high - low > 1:
-            middle = (low + high) // 2
-            helps = self.removes(beside + marked(middle, ranges))
-            low, high = (middle, high) if helps else (low, middle)
-        return low
+        return most(step, self.step + 1, lambda it: self.removes(beside + marked(it, ranges)))
 
     def was_there(self, step, beside):
         """Whether the value was in memory at a step, or shortly before it and then in registers."""
         if step < 0:
             return False
-        return self.removes(beside + self.all_at(step)) or self.removes(
-            beside + self.all_at(*range(max(0, step - NEAR + 1), step + 1)))
+        if self.step - step < FAR and self.removes(beside + self.all_at(step)):
+            return True
+        return self.removes(beside + self.all_at(*range(max(0, step - NEAR + 1), step + 1)))
 
     def earliest(self, step, beside):
         """How far back from a step the value was in memory, but for short moments in registers."""
@@ -247,17 +269,23 @@ class Search:
         step = self.earliest(group.step, beside)
         if not self.removes(beside + self.all_at(step)):  # some of it was in a register then
             steps = self.latest(list(range(max(0, step - NEAR + 1), step + 1)), beside)
-            return self.groups_at(steps, beside), []
-        group = Group(step, self.least(step, beside, group.ranges))
+            return self.earlier(steps, beside), []
+        group = Group(step, self.least(step, beside, () if group.is_wide else group.ranges))
         if step <= self.floor:
             return [], self.by_lines(group, "old" if step else "start")
         kind = self.kind(step - 1)
         if kind in ("frame", "call", *HEAP_FUNCTIONS) or self.by_lines(group, "")[0].made:
             return self.parted(group, beside, kind)
-        earlier = self.groups_at(self.moments(step - 1, beside), beside)
+        earlier = self.earlier(self.moments(step - 1, beside), beside)
         if earlier and self.removes(beside + marks_of(earlier)):
             return earlier, []
         return [], [Group(step, group.ranges, "lost")]
+
+    def earlier(self, steps, beside):
+        """Groups at steps. Where many bytes are moved, one after another, it is left open which they are then."""
+        if self.shapes and len(steps) == 1:
+            return [Group(steps[0], list(self.memory), is_wide=True)]
+        return self.groups_at(steps, beside)
 
     def parted(self, group, beside, kind):
         """The ranges of a group that were undefined before the step that made others so, and these others."""
@@ -308,7 +336,7 @@ class Search:
     def moves(self, origin, beside, most=24):
         """How the bytes of an origin, or the first of many, come to the error: steps, whether each reads or writes, and
         the bytes. The last one is None where there are more."""
-        self.trials.doing = "the moves"
+        self.trials.doing, self.shapes = "the moves", []
         step, ranges, found = origin.step, origin.ranges, []
         if size_of(ranges) > MANY:
             (first, end), *more = ranges
