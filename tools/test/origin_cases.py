@@ -53,6 +53,11 @@ start: li a0, 12; jal ra, malloc; lh t0, 6(a0); blt t0, zero, .+8; nop; li a0, 0
 LOST = f"""addi sp, sp, -16; lw t0, 0(sp); li t1, 33000
 again: addi t1, t1, -1; bne t1, zero, again; beq t0, zero, .+8; nop; li a0, 0; {EXIT}"""
 
+# A loop copies forty bytes of a block, of which two are set.
+COPIED = f"""li a0, 40; {MALLOC}; li t0, 7; sb t0, 3(a0); sb t0, 21(a0); li a1, {DATA}; li t1, 40
+again: lbu t0, 0(a0); sb t0, 0(a1); addi a0, a0, 1; addi a1, a1, 1; addi t1, t1, -1; bne t1, zero, again
+li a0, 1; li a1, {DATA}; li a2, 40; li a7, 64; ecall; li a0, 0; {EXIT}"""
+
 CASES = [
     Case("a block", BLOCK, 0, ("Conditional", "origin 1: 4 bytes at 0x40000014, undefined in step 2 by a call",
                                "4 bytes inside a block of size 8 alloc'd", "step 3: 4 bytes", "certificate: "),
@@ -81,6 +86,9 @@ CASES = [
          ["mark 10 0x40000060 4 defined"]),
     Case("bytes that are sent, with others between", SENT, 0, ("Syscall param write(buf)", "origin 1: 1 byte at "),
          ["mark 1 0x7fffffe1 1 defined", "mark 1 0x7fffffe4 2 defined", "mark 1 0x7fffffe7 1 defined"]),
+    Case("many bytes that a loop copies", COPIED, 0, ("moves of the first byte:", "1 byte at 0x40000010 read",
+                                                      "1 byte at 0x00010400 written", "1 byte at 0x00010400 read"),
+         ["mark 3 0x40000010 3 defined", "mark 3 0x40000014 17 defined", "mark 3 0x40000026 18 defined"]),
     Case("a size", SIZE, 0, ("Syscall param malloc(size)",), ["mark 1 0x7fffffe0 4 defined"]),
     Case("no error", PLAIN, 1, ("no such error: at step 5000 0 errors",)),
     Case("a line that marks", PLAIN, 0, ("undefined by the line `mark 2 0x10400 4 undefined`",),
