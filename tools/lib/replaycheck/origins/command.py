@@ -3,7 +3,7 @@ from replaycheck.endings import Fault, write
 from replaycheck.options import LAST_STEP, Reader, edit, number
 
 from .image import Image
-from .search import Search
+from .search import Group, Search
 from .telling import Teller
 from .trials import Trials, errors_of
 
@@ -51,19 +51,14 @@ def told(search, teller, options):
     is_short = options.short or search.step >= LONG_RUN and not options.long
     search.floor = max(0, search.step - SHORT) if is_short else 0
     origins = search.needed(search.origins(reads))
+    if not search.certified(origins):
+        origins = [Group(it.step, it.ranges, "read") for it in reads]
+        if not search.certified(origins):
+            teller.lines("", "no certificate: no marks that were found remove it with none to spare")
+            return 1
     if len(origins) > 1:
         teller.lines(f" it hangs on {len(origins)} origins together")
     for index, group in enumerate(origins):
         teller.origin(index + 1, group, [it for it in origins if it is not group])
-    return end(search, teller, origins, reads)
-
-
-def end(search, teller, origins, reads):
-    """Prints a certificate that was checked: marks where the bytes became undefined, or else where they were last read.
-    Gives the status."""
-    for it in (origins, reads):
-        if search.certified(it):
-            teller.certificate(it)
-            return int(it is reads or any(group.made == "lost" for group in it))
-    teller.lines("", "no certificate: no marks that were found remove it with none to spare")
-    return 1
+    teller.certificate(origins)
+    return int(any(it.made in ("lost", "read") for it in origins))

@@ -3,23 +3,22 @@ error is still made tells whether it hangs on the marked bytes. Each answer is a
 from dataclasses import dataclass
 from typing import List, Tuple
 
-from replaycheck.endings import Fault
-
 from .image import HEAP_FUNCTIONS, joined
 from .trials import errors_of
 
 REACHES = (0x1000, 0x10000, 0x100000, 0x1000000)  # so much of the heap and of the stack is looked at, as it is needed
 NEAR, CLOSE, FAR = 16, 64, 10000
+AWAY = (*range(8), *(n << k for k in range(2, 11) for n in (2, 3)))
 MANY = 16  # of more bytes the moves of the first one are told
 WINDOWS, LOOK_ON = (1000, 8000, 64000), 512  # so far back and on a value that was in registers alone is looked for
-MOST_GROUPS = 500
+MOST_GROUPS, MOST_MOVES = 500, 24
 
 
 @dataclass
 class Group:
     """Ranges of bytes that are undefined before a step. `made` is what made them so, where that is known: `frame`,
-    `heap`, `start`, a line of the user, `old` where the search went no further back, or `lost` where it was a
-    register. A wide one has all memory, of which it isn't known yet what is needed."""
+    `heap`, `start`, a line of the user, `old` where the search went no further back, `lost` where it was a register,
+    `read` where they were only read. A wide one has all memory, of which it isn't known yet what is needed."""
 
     step: int
     ranges: List[Tuple[int, int]]
@@ -42,6 +41,12 @@ def most(low, high, helps):
         middle = (low + high) // 2
         low, high = (middle, high) if helps(middle) else (low, middle)
     return low
+
+
+def before_and_at(step):
+    """A step, those just before it, and some further back: a value that is in a register at the one is in memory at
+    another."""
+    return sorted({max(0, step - away) for away in AWAY})
 
 
 def size_of(ranges):
@@ -232,7 +237,7 @@ class Search:
             return False
         if self.step - step < FAR and self.removes(beside + self.all_at(step)):
             return True
-        return self.removes(beside + self.all_at(*range(max(0, step - NEAR + 1), step + 1)))
+        return self.removes(beside + self.all_at(*before_and_at(step)))
 
     def earliest(self, step, beside):
         """How far back from a step the value was in memory, but for short moments in registers."""
@@ -249,7 +254,8 @@ class Search:
 
     def origins(self, groups):
         """What made bytes undefined on which the error hangs, by way of those of some groups. All groups together
-        remove the error at each moment, as a group is only replaced by earlier ones that do so beside the others."""
+        remove the error at each moment, as a group is only replaced by earlier ones that do so beside the others. None
+        where it was moved too often."""
         self.trials.doing = "what made them undefined"
         waiting, found = list(groups), []
         for _ in range(MOST_GROUPS):
@@ -262,13 +268,13 @@ class Search:
                 continue
             earlier, made = self.before(group, beside)
             waiting, found = waiting + earlier, found + made
-        raise Fault(f"it was moved more than {MOST_GROUPS} times; --short tells where it was read last")
+        return []
 
     def before(self, group, beside):
         """What a group comes from: earlier groups, and groups of which it is known what made them."""
         step = self.earliest(group.step, beside)
         if not self.removes(beside + self.all_at(step)):  # some of it was in a register then
-            steps = self.latest(list(range(max(0, step - NEAR + 1), step + 1)), beside)
+            steps = self.latest(before_and_at(step), beside)
             return self.earlier(steps, beside), []
         group = Group(step, self.least(step, beside, () if group.is_wide else group.ranges))
         if step <= self.floor:
@@ -299,6 +305,7 @@ class Search:
             else:
                 heap = kind if kind not in ("frame", "call") else ""
                 made += self.by_lines(Group(group.step, [it], "frame" if kind == "frame" else "heap", heap))
+        if not earlier:
             self.reach(reached)
         return earlier, made
 
@@ -333,7 +340,7 @@ class Search:
 
     # ---- on to the error
 
-    def moves(self, origin, beside, most=24):
+    def moves(self, origin, beside):
         """How the bytes of an origin, or the first of many, come to the error: steps, whether each reads or writes, and
         the bytes. The last one is None where there are more."""
         self.trials.doing, self.shapes = "the moves", []
@@ -341,7 +348,7 @@ class Search:
         if size_of(ranges) > MANY:
             (first, end), *more = ranges
             ranges, beside = [(first, first + 1)], beside + marked(step, [(first + 1, end)] * (end > first + 1) + more)
-        while len(found) < 2 * most:
+        while len(found) < 2 * MOST_MOVES:
             step = self.last_with(step, ranges, beside)
             found.append((step, "read", ranges))
             after = self.first_after(step, beside)

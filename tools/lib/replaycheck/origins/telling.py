@@ -65,10 +65,11 @@ class Teller:
               "lost": f"from step {group.step} on: from a register, and it isn't known where that had it from",
               "old": f"before step {group.step} already; --long looks further back",
               "heap": f"in step {step} by {group.heap or 'a call of the heap'}"}
+        by["read"] = f"when step {group.step} read them; what made them so isn't known"
         made = by.get(group.made, f"by the line `{group.made}`")
         self.lines("", f"origin {number}: {in_words(group.ranges)}, undefined {made}")
-        told = self.block(moves[0][0], group.ranges[0][0]) if group.made in ("heap", "old") else []
-        if group.made == "old" or told and IN_BLOCK.match(told[0]):
+        told = self.block(moves[0][0], group.ranges[0][0]) if group.made in ("heap", "old", "read") else []
+        if group.made in ("old", "read") or told and IN_BLOCK.match(told[0]):
             self.lines(*told[:1], *map(self.frame, told[1:]))
         elif group.made in ("heap", "frame", "lost"):
             self.lines(*map(self.frame, self.calls(step)))
