@@ -334,6 +334,7 @@ class Search:
         """Whether the report, asked once more, hasn't the error with the marks of all groups, and has it with each left
         out."""
         self.trials.doing = "the certificate"
+        self.trials.make_room()
         marks = marks_of(groups)
         return bool(marks) and self.lacks(marks) and not any(
             self.lacks([it for it in marks if it != mark]) for mark in marks)

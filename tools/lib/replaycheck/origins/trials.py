@@ -82,6 +82,11 @@ class Trials:
         self.session.end()
         self.open()
 
+    def make_room(self):
+        """Sees to it that what is asked next fits into one session."""
+        if self.asked > MOST_LINES // 2:
+            self.open_again()
+
     def changes(self, marks):
         """The lines that make these marks of those that there are."""
         same = 0
