@@ -9,7 +9,6 @@ from .image import in_words
 from .search import MANY, marks_of, size_of
 from .trials import frames
 
-FRAME = re.compile(r"   (at|by) (0x[0-9a-f]{8}): ([!-~]+)")
 IN_BLOCK = re.compile(r" Address 0x[0-9a-f]{8} is \d+ bytes (inside|before|after) a block")
 
 
@@ -31,7 +30,7 @@ class Teller:
         return f" ({' in '.join(map(str, told))})" if told else ""
 
     def frame(self, line):
-        return line + self.place(int(FRAME.fullmatch(line)[2], 16))
+        return line + self.place(int(line[len("   at "):].partition(":")[0], 16))
 
     # ---- what other reports tell
 
