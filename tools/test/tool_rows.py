@@ -14,6 +14,7 @@ SLOW = [
     ("when", ["when", "three-words.elf", "exited"], ["REPLAYCHECK"]),
     ("compare", ["compare", "three-words.elf", "input 0 1"], ["REPLAYCHECK"]),
     ("run", ["run", "three-words.elf", "--error-exitcode=1"], ["REPLAYCHECK"]),
+    ("origin", ["origin", "three-words.elf"], ["REPLAYCHECK"]),
     ("word", ["word", "nop"], ["AS", "OBJDUMP"]),
 ]
 

@@ -59,11 +59,17 @@ class Session:
 
     def ask(self, line):
         """The reply to a line: one line, or those of a report."""
+        self.send([line])
+        return self.reply()
+
+    def send(self, lines):
         try:
-            self.child.stdin.write(line.encode("utf-8", "surrogateescape") + b"\n")
+            self.child.stdin.write("".join(line + "\n" for line in lines).encode("utf-8", "surrogateescape"))
             self.child.stdin.flush()
         except BrokenPipeError:
             raise self.ended() from None
+
+    def reply(self):
         reply = [self.read()]
         if reply[0].startswith("step "):
             while not reply[-1].startswith("ERROR SUMMARY: "):
@@ -77,16 +83,36 @@ class Session:
             raise Refused(line, reply[0])
         return reply
 
+    def accept_all(self, lines):
+        """Sends lines at once, none of which may be refused and each of which is answered by one line."""
+        self.send(lines)
+        for line in lines:
+            reply = self.read()
+            if reply.startswith("refused "):
+                raise Refused(line, reply)
+
     def report_at(self, step):
         """The lines of the report at a step."""
         self.accepted(f"goto {step}")
         return self.accepted("report")
+
+    def reports_at(self, steps):
+        """The lines of the reports at some steps, asked for at once: no more than a pipe takes."""
+        self.send([line for step in steps for line in (f"goto {step}", "report")])
+        for _ in steps:
+            self.read()
+            yield self.reply()
 
     def read(self):
         line = self.child.stdout.readline()
         if not line.endswith(b"\n"):
             raise self.ended()
         return line[:-1].decode("utf-8", "surrogateescape")
+
+    def end(self):
+        """Ends the session, as nothing more is asked."""
+        self.child.stdin.close()
+        self.child.wait()
 
     def ended(self):
         try:

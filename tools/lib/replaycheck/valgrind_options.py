@@ -8,7 +8,7 @@ HERE = {
     "--show-possibly-lost": KINDS,
     "--leak-resolution": "blocks are grouped by their traces, of as many frames as --num-callers says",
     "--leak-check-heuristics": "a pointer into a block makes it possibly lost",
-    "--track-origins": "`mark STEP ADDR LEN undefined`, a line for `replaycheck talk`, shows what hangs on a range",
+    "--track-origins": "`replaycheck origin` tells where the undefined bits of an error came from",
     "--undef-value-errors": "suppressions of the kinds Cond, Value4 and Param hide such errors",
     "--ignore-ranges": "`mark 0 ADDR LEN defined`, a line for `replaycheck talk`, makes a range addressable",
     "--gen-suppressions": "`replaycheck suppress` writes suppressions for a report",

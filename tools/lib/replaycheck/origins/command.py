@@ -1,0 +1,64 @@
+"""The command line of `replaycheck origin`, and its answer."""
+from replaycheck.endings import Fault, write
+from replaycheck.options import LAST_STEP, Reader, edit, number
+
+from .image import Image
+from .search import Group, Search
+from .telling import Teller
+from .trials import Trials, errors_of
+
+LONG_RUN = 100000  # an error that is made after so many steps is told in the short form, unless --long is there
+SHORT = 4096  # which goes so many steps back
+
+
+def options_of(page):
+    reader = Reader(page)
+    reader.program_options()
+    reader.repeated("--line", type=edit)
+    reader.option("--error", type=number(1, LAST_STEP), default=1)
+    reader.option("--last", type=number(1, LAST_STEP), default=1048576)
+    reader.option("--short", is_flag=True)
+    reader.option("--long", is_flag=True)
+    options = reader.parse_args()
+    if options.short and options.long:
+        reader.error("--short and --long don't go together")
+    return options
+
+
+def origin(options):
+    trials = Trials(options.file, options.input, options.supp, options.line)
+    try:
+        errors = errors_of(trials.report(options.last))
+        if len(errors) < options.error:
+            of = f"{len(errors)} errors hang" if len(errors) != 1 else "1 error hangs"
+            write(f"no such error: at step {options.last} {of} on undefined bits\n")
+            return 1
+        image = Image(options.file, options.line)
+        search = Search(trials, image, errors[options.error - 1], options.last)
+        return told(search, Teller(search, options.file, write), options)
+    finally:
+        trials.progress.end()
+
+
+def told(search, teller, options):
+    """Tells the origins, and the certificate. Gives the status."""
+    teller.error()
+    reads = search.needed(search.last_reads())
+    if not reads:
+        teller.lines("", "no certificate: no marks of memory remove it. What it hangs on has been in registers alone",
+                     "for long, or lies where this doesn't look")
+        return 1
+    is_short = options.short or search.step >= LONG_RUN and not options.long
+    search.floor = max(0, search.step - SHORT) if is_short else 0
+    origins = search.needed(search.origins(reads))
+    if not search.certified(origins):
+        origins = [Group(it.step, it.ranges, "read") for it in reads]
+        if not search.certified(origins):
+            teller.lines("", "no certificate: no marks that were found remove it with none to spare")
+            return 1
+    if len(origins) > 1:
+        teller.lines(f" it hangs on {len(origins)} origins together")
+    for index, group in enumerate(origins):
+        teller.origin(index + 1, group, [it for it in origins if it is not group])
+    teller.certificate(origins)
+    return int(any(it.made in ("lost", "read") for it in origins))

@@ -1,0 +1,77 @@
+"""What the program's file tells of a run: which memory is loaded, and what an instruction does to bytes."""
+import re
+
+from replaycheck.adopting.elf import FUNCTION, Elf, refusals, word_at
+from replaycheck.adopting.instructions import LOAD, STORE, SYSTEM, opcode, rd
+from replaycheck.endings import Fault
+
+LONGEST_FILE = 1 << 26
+MOST_MARKED = 1 << 20  # so many bytes one mark may have
+HEAP, STACK_TOP, STACK = 0x40000000, 0x80000000, 0x7F000000
+HEAP_FUNCTIONS = ("malloc", "free", "calloc", "realloc")
+SP = 2
+KINDS = {STORE: "store", LOAD: "load", SYSTEM: "call"}
+PATCH = re.compile(r"patch (\S+) (\S+)")
+MARK = re.compile(r"mark (\S+) (\S+) (\S+) undefined")
+
+
+class Image:
+    """A program's file, with the words that lines of the session patch."""
+
+    def __init__(self, path, lines):
+        with open(path, "rb") as file:
+            data = file.read(LONGEST_FILE + 1)
+        if any(not it.readable for it in refusals(data)):
+            raise Fault(f"{path}: it isn't the file that the program has read")
+        self.elf = Elf(data)
+        self.heap = {it.value: self.elf.name(it) for it in reversed(self.elf.symbols)
+                     if it.info & 15 == FUNCTION and self.elf.name(it) in HEAP_FUNCTIONS}
+        self.patched = {int(it[1], 0): int(it[2], 0) for it in filter(None, map(PATCH.fullmatch, lines))}
+        found = filter(None, map(MARK.fullmatch, lines))
+        self.marked = [(int(it[1], 0), int(it[2], 0), int(it[2], 0) + int(it[3], 0), it[0]) for it in found]
+
+    def word(self, address):
+        place = self.elf.place(address)
+        return self.patched.get(address, 0 if place is None else word_at(self.elf.data, place))
+
+    def kind(self, address):
+        """What an instruction is: the name of a function of the heap, `frame` where it moves the stack pointer,
+        `store`, `load`, `call`, or `other`."""
+        word = self.word(address)
+        if address in self.heap:
+            return self.heap[address]
+        writes = opcode(word) in (0x13, 0x33, 0x37, 0x17, LOAD)
+        return "frame" if writes and rd(word) == SP else KINDS.get(opcode(word), "other")
+
+    def creates(self, address):
+        """Whether an instruction can make bytes undefined."""
+        kind, word = self.kind(address), self.word(address)
+        is_raised = word & 0xFFFFF == SP << 15 | SP << 7 | 0x13 and not word >> 31  # addi sp,sp, and no minus
+        return kind in ("call", "malloc", "realloc") or kind == "frame" and not is_raised
+
+    def name(self, address):
+        return self.elf.function_at(address) or "???"
+
+    def memory(self, reach):
+        """The ranges of memory that can be undefined: so much of the heap and the stack, all that is loaded, and what
+        lines have marked."""
+        ranges = [(it.vaddr, it.vaddr + it.memsz) for it in self.elf.loads if it.memsz]
+        ranges += [(low, high) for _, low, high, _ in self.marked]
+        ranges += [(HEAP, HEAP + reach), (STACK_TOP - min(reach, STACK_TOP - STACK), STACK_TOP)]
+        return [(low, min(low + MOST_MARKED, end)) for begin, end in joined(ranges)
+                for low in range(begin, end, MOST_MARKED)]
+
+
+def joined(ranges):
+    """Ranges in order, where some meet as one."""
+    found = []
+    for low, high in sorted(ranges):
+        if found and low <= found[-1][1]:
+            found[-1] = (found[-1][0], max(high, found[-1][1]))
+        else:
+            found.append((low, high))
+    return found
+
+
+def in_words(ranges):
+    return ", ".join(f"{high - low} byte{'s' if high - low > 1 else ''} at 0x{low:08x}" for low, high in ranges)
