@@ -29,7 +29,7 @@ def options_of(page):
     reader.add_argument("-o", "--output", action=Once)
     reader.repeated("--heap", type=heap)
     reader.repeated("--keep")
-    options = reader.parse_args()
+    options = reader.read()
     names = [name for name, _, _ in options.heap] + options.keep
     twice = next((name for i, name in enumerate(names) if name in names[:i]), None)
     if twice:

@@ -19,7 +19,7 @@ def options_of(page):
     reader.option("--last", type=number(1, LAST_STEP), default=1048576)
     reader.option("--short", is_flag=True)
     reader.option("--long", is_flag=True)
-    options = reader.parse_args()
+    options = reader.read()
     if options.short and options.long:
         reader.error("--short and --long don't go together")
     return options
