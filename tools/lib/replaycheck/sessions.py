@@ -54,8 +54,7 @@ class Session:
         words += ["--supp", path_of(supp)] if supp is not None else []
         self.keeps_status = keeps_status
         self.child = start([*words, path_of(file)], stdin=subprocess.PIPE, stdout=subprocess.PIPE,
-                           stderr=subprocess.PIPE,
-                           pass_fds=lends)
+                           stderr=subprocess.PIPE, pass_fds=lends)
 
     def ask(self, line):
         """The reply to a line: one line, or those of a report."""
