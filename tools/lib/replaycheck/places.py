@@ -50,8 +50,7 @@ class Places:
         if not os.path.isfile(file):
             raise Fault(f"{file}: no such file")
         self.child = start([command, "-a", "-f", "-i", "-e", file], NEEDS, stdin=subprocess.PIPE,
-                           stdout=subprocess.PIPE,
-                           stderr=subprocess.PIPE)
+                           stdout=subprocess.PIPE, stderr=subprocess.PIPE)
 
     def read(self):
         line = self.child.stdout.readline().decode("utf-8", "surrogateescape")
