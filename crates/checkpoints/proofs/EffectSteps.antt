@@ -57,7 +57,7 @@ told-heap law start setup marks calls k e = tells (HeapShows start setup marks) 
     (λ told j l called. let few : calls ≤ 0 = grind (arith, nat_tests) in let none = no-calls law start setup marks k j l (omega arith) in omega arith)
 
 -- by the word's first use
-told-use : (start : State) (setup : Setup) (marks : List Mark) (addr k : ℕ) (found : Option ℕ) → IsFirstBelow (uses_word start setup marks addr) k found
+pub told-use : (start : State) (setup : Setup) (marks : List Mark) (addr k : ℕ) (found : Option ℕ) → IsFirstBelow (uses_word start setup marks addr) k found
     → Tells (PatchShows addr start setup marks) k (is_some found)
 told-use start setup marks addr k None unused = λ j l shown.
     let next = shown.1 in
@@ -173,7 +173,7 @@ led-by-word addr word old new right one other l h =
 abbrev pub WritesNothing : Effect → Type 0
 WritesNothing effect = (addr word : ℕ) → effect ≡ Word addr word → ⊥
 
-unwritten : (effect : Effect) → WritesNothing effect → (s : State) → written_by effect s ≡ s
+pub unwritten : (effect : Effect) → WritesNothing effect → (s : State) → written_by effect s ≡ s
 unwritten Nowhere none s = refl
 unwritten (After step) none s = refl
 unwritten (Input offset) none s = refl

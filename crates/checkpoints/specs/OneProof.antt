@@ -13,7 +13,7 @@ use Rattle.checkpoints.specs.FirstUses.{IsFirstBelow}
 use Rattle.checkpoints.specs.Trails.{IsRightFor}
 use Rattle.checkpoints.specs.declared.trail.Trail.{Trail}
 
-shows-prop : (machine : Machine) (s : State) → IsProp (Shows machine s)
+pub shows-prop : (machine : Machine) (s : State) → IsProp (Shows machine s)
 unfolding Shows
 shows-prop machine s = hlevel props
 

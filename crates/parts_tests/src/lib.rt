@@ -1,11 +1,13 @@
 //! Tests of the crates below the machine, by their public calls: undefined bits, instructions, program files, memory, call stacks, the
-//! heap, errors, kinds of leaks and suppressions.
+//! heap, errors, kinds of leaks, suppressions and counted texts.
 //!
 //! They stand apart from the crates that they test, since a crate with tests is proved a second time with them.
 #![tactic(auto)]
 
 #[cfg(test)]
 mod copies;
+#[cfg(test)]
+mod counted_texts;
 #[cfg(test)]
 mod decoding;
 #[cfg(test)]

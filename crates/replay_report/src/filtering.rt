@@ -88,6 +88,23 @@ fn shown_groups(
     all.regroup(callers, &shown)
 }
 
+/// The groups of the errors that are shown.
+pub(crate) fn told_groups(
+    alloc: Global,
+    machine: &Machine,
+    image: &Image,
+    suppressions: &[Suppression],
+    callers: u32,
+) -> Result<Vec<Group>, AllocError>
+    requires { 0 < callers }
+    ensures { IfOk result (λ shown. (s : State) → Shows machine.now s → shown.items ≡ shown_groups suppressions.now image.now callers s.events) }
+{
+    let groups = machine.groups();
+    let suppressed = hidden_of(alloc, groups, suppressions, image)?;
+    kept_by_test();
+    shown_groups(alloc, groups, callers, &suppressed)
+}
+
 /// The groups of the errors that are shown, and of those that are only counted.
 pub(crate) fn split_groups(
     alloc: Global,

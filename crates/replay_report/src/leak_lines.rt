@@ -15,7 +15,7 @@ use leak_search::LeakRecord;
 use std::alloc::{AllocError, Global};
 
 /// How a block was lost, or that it was not.
-fn leak_text(kind: LeakKind) -> &'static [u8]
+pub(crate) fn leak_text(kind: LeakKind) -> &'static [u8]
     ensures { result.now ≡ leak_text kind }
 {
     match kind {

@@ -1,11 +1,14 @@
-//! The report of a machine, as bytes: the layer between a machine and what a user reads.
+//! The report of a machine, as bytes: the layer between a machine and what a user reads. Of many runs, what each came to: its outline.
 //!
-//! [`render`] appends the report of a machine at a step. Where memory fails it leaves the vector as it was.
+//! [`render`] appends the report of a machine at a step. Where memory fails it leaves the vector as it was. [`outline`] makes the outline
+//! of a machine.
 //!
 //! | Call | What it does |
 //! |---|---|
 //! | [`render`] | appends a report to a vector of bytes, or refuses for want of memory |
-//! | [`laws::report_is_one`] | nothing: its contract says that a state has one report |
+//! | [`outline`] | makes an outline, or refuses for want of memory |
+//! | [`push_number`], [`push_address`] | append a number, decimal, and an address |
+//! | [`laws::report_is_one`], [`laws::outline_is_one`] | nothing: their contracts say that a state has one report and one outline |
 //! | [`Options::default`] | what a user has who chooses nothing: 12 addresses of a trace, definite and possible leaks |
 //!
 //! A report's lines, in order, each with a newline:
@@ -29,21 +32,33 @@
 //! ERROR SUMMARY: E errors from C contexts (suppressed: E2 from C2)
 //! ```
 //!
+//! An outline leaves out what differs among runs that came to the same: how far they came, counts, sizes and notes. Its lines:
+//!
+//! ```text
+//! running                     or: exited C, stopped W A, stopped jump
+//! output W                    where it is asked for
+//! TEXT                        for each group of errors that the report has, in its order; of a bad jump without the address it went to
+//!    at A: NAME
+//!    by A: NAME
+//! K                           for each group of leaked blocks that the report has, in its order: definitely lost, ..
+//!    at A: NAME
+//! ```
+//!
 //! Numbers are decimal; an address is `0x` and eight hexadecimal digits in lower case. In a name each byte outside 0x21 to 0x7E
 //! is shown as `?`, so that no name can make up a line. Errors that a suppression matches are only counted, in the summary; so are
 //! leaked blocks, in the line `suppressed` alone. A suppression sees the whole trace, a group the first `callers` addresses of it.
 //!
-//! The layer above uses one contract, that of [`render`]: for each state that the machine shows (`Shows`), a text is appended that
-//! `IsReport` of that state, the image, the suppressions, the options, the step and the length of the input. That is a relation, since
-//! the kinds of leaks are told by paths of pointers; the law [`laws::report_is_one`] says that no two texts are one state's.
+//! The layer above uses the contracts of [`render`] and [`outline`]: for each state that the machine shows (`Shows`), a text is appended that
+//! `IsReport` of that state, the image, the suppressions, the options, the step and the length of the input, or made that `IsOutline` of
+//! it. These are relations, since the kinds of leaks are told by paths of pointers; the laws say that no two texts are one state's.
 //!
 //! Where the definitions stand, in `specs/`:
 //!
-//! - `Report`: the whole report (`IsReport`, `report_text`).
+//! - `Report`: the whole report (`IsReport`, `report_text`). `Outlines`: the outline (`IsOutline`, `outline_text`).
 //! - `Filtering`: which groups of errors are shown, and which only counted.
 //! - `Leaks`: the same of leaked blocks, with their groups and sums.
 //! - `Lines` and `LeakLines`: each line, from `step_line` to `summary_line`.
-//! - `Laws`: a state has one report.
+//! - `Laws`: a state has one report and one outline.
 //! - `Text`: an address, a byte of a name, and the end of a line. Decimal numbers are std's `decimal`.
 //!
 //! Source: Memcheck manual (Valgrind 3), sections 2.5 and 4.2: how errors, traces, notes and the summary are worded.
@@ -55,8 +70,11 @@ mod leak_lines;
 mod leaks;
 mod lines;
 mod options;
+mod outlining;
 mod rendering;
 mod text;
 
 pub use options::Options;
+pub use outlining::outline;
 pub use rendering::render;
+pub use text::{push_address, push_number};

@@ -23,7 +23,7 @@ pub(crate) fn push_step(out: &mut Vec<u8>, step: u32) -> Result<(), AllocError>
 }
 
 /// Why a machine stopped, in one word.
-fn stop_word(stop: Stop) -> &'static [u8]
+pub(crate) fn stop_word(stop: Stop) -> &'static [u8]
     ensures { result.now ≡ stop_word stop }
 {
     match stop {
@@ -133,7 +133,7 @@ fn push_sized(out: &mut Vec<u8>, text: &[u8], n: u8) -> Result<(), AllocError>
 
 /// What an error is called.
 #[tactic(auto, unfolding(crate::specs::Lines::kind_text))]
-fn push_kind(out: &mut Vec<u8>, kind: Kind) -> Result<(), AllocError>
+pub(crate) fn push_kind(out: &mut Vec<u8>, kind: Kind) -> Result<(), AllocError>
     ensures { OnOk result (out.new.items ≡ out.old.items ++ kind_text kind) }
 {
     match kind {
@@ -205,7 +205,7 @@ pub(crate) fn push_trace(
 }
 
 /// So many elements, or all.
-fn front(addresses: &[u32], n: u32) -> &[u32]
+pub(crate) fn front(addresses: &[u32], n: u32) -> &[u32]
     ensures { result.now ≡ take n addresses.now }
 {
     let n = (n as usize).min(addresses.len());

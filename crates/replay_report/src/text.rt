@@ -14,8 +14,8 @@ pub(crate) fn push_text(out: &mut Vec<u8>, text: &[u8]) -> Result<(), AllocError
     Ok(())
 }
 
-/// A number, decimal.
-pub(crate) fn push_number(out: &mut Vec<u8>, n: u64) -> Result<(), AllocError>
+/// Appends a number, decimal.
+pub fn push_number(out: &mut Vec<u8>, n: u64) -> Result<(), AllocError>
     ensures { OnOk result (out.new.items ≡ out.old.items ++ decimal n) }
 {
     let mut buffer = Buffer::new();
@@ -31,9 +31,9 @@ fn hex_glyph(n: u32) -> u8
     if n < 10 { b'0' + n } else { b'a' - 10 + n }
 }
 
-/// An address: `0x` and eight hexadecimal digits.
+/// Appends an address: `0x` and eight hexadecimal digits.
 #[tactic(auto, unfolding(crate::specs::Text::address_text), using(std::proofs::Common::append_assoc))]
-pub(crate) fn push_address(out: &mut Vec<u8>, a: u32) -> Result<(), AllocError>
+pub fn push_address(out: &mut Vec<u8>, a: u32) -> Result<(), AllocError>
     ensures { OnOk result (out.new.items ≡ out.old.items ++ address_text a) }
 {
     let text = [

@@ -1,8 +1,10 @@
-//! Tests of reports and of held machines, by the public calls of their crates.
+//! Tests of reports, of outlines and of held machines, by the public calls of their crates.
 //!
 //! They stand apart from the crates that they test, since a crate with tests is proved a second time with them.
 #![tactic(auto)]
 
+#[cfg(test)]
+mod outlines;
 #[cfg(test)]
 mod reports;
 #[cfg(test)]

@@ -1,7 +1,7 @@
 //! Reports of programs by hand, against texts written down from the format of a report.
 use call_stacks::Trace;
 use error_events::LeakKind;
-use guest_elf::read;
+use guest_elf::{Image, read};
 use guest_machine::{Hooks, Input, Machine, Mark, Meter, Setup};
 use guest_programs::program;
 use leak_search::{LeakRecord, search};
@@ -13,13 +13,13 @@ use std::test::Fail;
 use suppressions::Suppression;
 
 /// `addi a7, x0, 93; addi a0, x0, 0; ecall`: the call `exit`.
-const EXIT: [u32; 3] = [0x05D0_0893, 0x0000_0513, 0x0000_0073];
+pub(crate) const EXIT: [u32; 3] = [0x05D0_0893, 0x0000_0513, 0x0000_0073];
 
 /// `lw a0, 0(sp); beq a0, x0, 8`: the branch goes past the end of the program.
-const BRANCH_PAST_THE_END: [u32; 2] = [0x0001_2503, 0x0005_0463];
+pub(crate) const BRANCH_PAST_THE_END: [u32; 2] = [0x0001_2503, 0x0005_0463];
 
 /// `lw a0, 0(sp); beq a0, x0, -4`
-const BRANCH_BACK: [u32; 2] = [0x0001_2503, 0xFE05_0EE3];
+pub(crate) const BRANCH_BACK: [u32; 2] = [0x0001_2503, 0xFE05_0EE3];
 
 /// The machine after some steps, with no input.
 fn stepped(alloc: Global, machine: Machine, steps: u32) -> Result<Machine, AllocError> {
@@ -38,18 +38,26 @@ fn stepped(alloc: Global, machine: Machine, steps: u32) -> Result<Machine, Alloc
     Ok(machine)
 }
 
-/// The report of a program after some steps, for an input of `input_len` bytes of which none is read. The four bytes at the
-/// stack pointer, which are 0, are undefined from the start.
-fn report_for(alloc: Global, words: &[u32], steps: u32, input_len: u64) -> Result<Vec<u8>, Fail> {
-    let file = program(alloc, words)?;
-    let image = read(alloc, &file)?;
-    let started = Machine::start(alloc, &image)?.mark(&Mark {
+/// The machine of a program after some steps, with no input. The four bytes at the stack pointer, which are 0, are undefined from the start.
+pub(crate) fn machine_after(
+    alloc: Global,
+    image: &Image,
+    steps: u32,
+) -> Result<Machine, AllocError> {
+    let started = Machine::start(alloc, image)?.mark(&Mark {
         step: 0,
         addr: 0x7FFF_FFF0,
         len: 4,
         kind: RangeKind::Undefined,
     })?;
-    let machine = stepped(alloc, started, steps)?;
+    stepped(alloc, started, steps)
+}
+
+/// The report of a program after some steps, for an input of `input_len` bytes of which none is read.
+fn report_for(alloc: Global, words: &[u32], steps: u32, input_len: u64) -> Result<Vec<u8>, Fail> {
+    let file = program(alloc, words)?;
+    let image = read(alloc, &file)?;
+    let machine = machine_after(alloc, &image, steps)?;
     let mut out = Vec::new(alloc);
     render(
         alloc,
@@ -232,7 +240,7 @@ fn a_report_is_appended(rt: HostRuntime) -> Result<(), Fail> {
 }
 
 /// `malloc(8)`: two blocks; the first holds the address of the second and then its own, and then no register does.
-const TWO_BLOCKS: [u32; 10] = [
+pub(crate) const TWO_BLOCKS: [u32; 10] = [
     0x7D10_0893,
     0x0080_0513,
     0x0000_0073,

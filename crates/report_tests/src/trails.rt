@@ -2,7 +2,7 @@
 //! an edit first shows: a trail that is asked for step n makes those from the last multiple of 1024 that it holds, or n has.
 ghost use Rattle.checkpoints.specs.Trails.{LoadsAs};
 
-use checkpoints::{Effect, Trail, run_to};
+use checkpoints::{Effect, Fork, Trail, run_to};
 use guest_elf::{Image, read};
 use guest_machine::{Hooks, Input, Machine, Mark, Meter, Setup, Status, Stop};
 use guest_programs::{program, sized_program};
@@ -340,6 +340,17 @@ impl<'a> Edited<'a> {
         Ok(())
     }
 
+    /// A fork at a word whose bytes are loaded.
+    fn fork_at_word(&mut self, addr: u32, last: u32) -> Result<Option<Fork>, AllocError> {
+        if last >= 1 << 31 || addr % 4 != 0 || !self.image.patchable(addr) {
+            return Ok(None);
+        }
+        let fork = self
+            .trail
+            .fork_at_word(addr, last, &self.setup, &self.marks)?;
+        Ok(Some(fork))
+    }
+
     /// Takes the first mark away, if there is one.
     fn take_mark(&mut self) {
         if !self.marks.is_empty() {
@@ -413,5 +424,56 @@ fn a_run_has_no_need_of_a_trail(rt: HostRuntime) -> Result<(), Fail> {
     let start = Machine::start(rt.alloc(), &image)?;
     let machine = run_to(start, &setup, &[], 10, &mut meter)?;
     assert!(rt; (meter.read(), machine.status()) == (10, Status::Exited(7)));
+    Ok(())
+}
+
+/// The step of a fork; and of the machine at a step of the edited run, how many steps were made for it, its status and its pc.
+type Forked = (u32, u64, Status, u32);
+
+/// What is told of a machine that goes on from a fork, with no marks.
+fn forked(
+    fork: &Fork,
+    effect: Effect,
+    setup: &Setup,
+    step: u32,
+) -> Result<Option<Forked>, AllocError> {
+    if step < fork.step {
+        return Ok(None);
+    }
+    let mut meter = Meter::new();
+    let machine = fork.follow(effect, setup, &[], step, &mut meter)?;
+    Ok(Some((fork.step, meter.read(), machine.status(), machine.pc())))
+}
+
+// The second byte is read in step 2410; of three bytes each is read by a call of its own.
+#[test]
+fn another_input_goes_on_from_a_fork(rt: HostRuntime) -> Result<(), Fail> {
+    let file = program(rt.alloc(), &Program::ReadsBytes(1).words(rt.alloc())?)?;
+    let mut trail = Trail::begin(rt.alloc(), &read(rt.alloc(), &file)?)?;
+    let fork = trail.fork_at_byte(1, 5000, &setup(rt.alloc(), b"ab")?, &[])?;
+    let other = setup(rt.alloc(), b"acd")?;
+    assert!(rt;
+        forked(&fork, Effect::Input(1), &other, 5000)?
+            == Some((2410, 2590, Status::Exited(3), 0x10030))
+    );
+    Ok(())
+}
+
+// The word is read in step 1201.
+#[test]
+fn another_word_goes_on_from_a_fork(rt: HostRuntime) -> Result<(), Fail> {
+    let file = sized_program(rt.alloc(), &READS_ON, 0x2000)?;
+    let mut edited = Edited::begin(rt.alloc(), read(rt.alloc(), &file)?)?;
+    if let Some(fork) = edited.fork_at_word(0x10654, 4000)? {
+        let effect = Effect::Word {
+            addr: 0x10654,
+            word: 1,
+        };
+        assert!(rt;
+            forked(&fork, effect, &edited.setup, 4000)? == Some((1201, 2799, ENDS, 0x10010))
+        );
+        return Ok(());
+    }
+    assert!(rt; false, "the word is loaded");
     Ok(())
 }

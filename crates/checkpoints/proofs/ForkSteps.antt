@@ -1,0 +1,72 @@
+-- The last step at which an edit doesn't show, and the edited run up to there.
+use Rattle.std.proofs.Common.{◌≡◌, ℕ, ◌+◌, ◌%◌, ◌<◌, ◌≤◌, Bool, true, false, cond, nat_lt, List, Option, Some, None, refl, ap, sym, ◌∙◌, subst, arith, inl, inr}
+use Rattle.std.specs.Prelude.{unwrap_or}
+use Rattle.std.proofs.lemmas.Bool.{cases_lt}
+use Rattle.guest_machine.specs.State.{State}
+use Rattle.guest_machine.specs.Exec.{touches}
+use Rattle.guest_machine.specs.Run.{pre, post, poked}
+use Rattle.guest_machine.specs.Laws.{KeepsPokes, TouchesNone, InWord}
+use Rattle.guest_machine.specs.declared.setup.Mark.{Mark}
+use Rattle.guest_machine.specs.declared.setup.Setup.{Setup}
+use Rattle.checkpoints.specs.Entries.{below}
+use Rattle.checkpoints.specs.FirstUses.{uses_word, IsFirstBelow}
+use Rattle.checkpoints.specs.FirstEffects.{IsBelowFirst, PatchShows}
+use Rattle.checkpoints.specs.Effects.{EffectShows, Run, LeadsTo, written_by}
+use Rattle.checkpoints.specs.Forks.{IsLastUnshown, WritesAligned}
+use Rattle.checkpoints.specs.declared.effect.Effect.{Effect}
+use Rattle.checkpoints.specs.declared.effect.Effect.TheVariants.{Word}
+use Rattle.checkpoints.proofs.RunSteps.{same-pre, pre-poked}
+use Rattle.checkpoints.proofs.WordSteps.{unmet}
+use Rattle.checkpoints.proofs.FirstSteps.{is-low}
+use Rattle.checkpoints.proofs.TrailSteps.{not-used}
+use Rattle.checkpoints.proofs.EffectSteps.{Laws, goes-alike, told-use}
+
+-- one step more at which it doesn't show
+pub hidden-more : (P : ℕ → Type 0) (k : ℕ) → IsBelowFirst P k → (P (k + 1) → ⊥) → IsBelowFirst P (k + 1)
+hidden-more P k hidden none j l shown = elim (cases_lt k j) [
+  | inl past ↦ none (let at : j ≡ k + 1 = omega arith in subst P at shown)
+  | inr low ↦ hidden j low shown
+]
+
+-- the step of a word's first use, or the last step
+pub first-within : (n e : ℕ) → unwrap_or (below n e) n ≤ n
+first-within n e = go (nat_lt e n) refl
+  where
+    go : (b : Bool) → nat_lt e n ≡ b → unwrap_or (cond b (Some e) None) n ≤ n
+    go true t = let low = is-low e n t in omega arith
+    go false t = omega arith
+
+pub first-is-last : (addr word last : ℕ) (run : Run) (found : Option ℕ) → IsFirstBelow (uses_word run.start run.setup run.marks addr) last found
+    → IsLastUnshown (Word addr word) run last (unwrap_or found last)
+first-is-last addr word last run None unused = record {
+  within = omega arith;
+  hidden = told-use run.start run.setup run.marks addr last None unused;
+  next = λ l hidden. absurd (omega arith);
+}
+first-is-last addr word last run (Some s) first = record {
+  within = let l = first.0 in omega arith;
+  hidden = told-use run.start run.setup run.marks addr s None first.2;
+  next = λ l hidden. hidden (s + 1) (omega arith) (s, refl, first.1);
+}
+
+-- a word that isn't used up to a step
+touches-none : (start : State) (setup : Setup) (marks : List Mark) (addr n : ℕ) → addr % 4 ≡ 0 → IsBelowFirst (PatchShows addr start setup marks) n
+    → (j : ℕ) → j < n → TouchesNone (InWord addr) (post start setup marks j) setup
+unfolding uses_word
+touches-none start setup marks addr n aligned hidden j l a e =
+    unmet (touches (post start setup marks j) setup) addr a
+    (not-used (uses_word start setup marks addr j) (λ used. hidden (j + 1) (omega arith) (j, refl, used))) aligned e
+
+-- the state of the edited run before a step at which the edit doesn't show
+pub pre-led : Laws → KeepsPokes → (effect : Effect) (one other : Run) (k : ℕ) → WritesAligned effect → LeadsTo effect one other
+    → IsBelowFirst (EffectShows effect one.start one.setup one.marks) k
+    → pre other.start other.setup other.marks k ≡ written_by effect (pre one.start one.setup one.marks k)
+pre-led laws law (Word addr word) one other k aligned l hidden =
+    ap (λ (s : State). pre s other.setup other.marks k) l.start
+    ∙ ap (λ (s : Setup). pre (poked one.start addr word) s other.marks k) (sym l.differ.0)
+    ∙ ap (λ (ms : List Mark). pre (poked one.start addr word) one.setup ms k) (sym l.differ.1)
+    ∙ pre-poked law one.start one.setup one.marks addr word k aligned.0 aligned.1 (touches-none one.start one.setup one.marks addr k aligned.0 hidden) k (omega arith)
+pre-led laws law effect one other k aligned l hidden =
+    ap (λ (s : State). pre s other.setup other.marks k) l.start
+    ∙ sym (same-pre one.start one.setup one.marks other.setup other.marks k
+    (goes-alike laws effect one.start one.setup other.setup one.marks other.marks k l.differ hidden) k (omega arith))

@@ -1,0 +1,25 @@
+use Rattle.std.proofs.Common.{◌-◌, ◌*◌, ◌<◌, ◌≤◌, arith}
+use Rattle.std.proofs.lemmas.Result.{IfOk-weaker}
+use Rattle.checkpoints.specs.FirstEffects.{InputShows}
+use Rattle.checkpoints.specs.Trails.{machines_of}
+use Rattle.checkpoints.proofs.HeldSteps.{held-at}
+use Rattle.checkpoints.proofs.TrailSteps.{held-count, hidden-lower}
+use Rattle.checkpoints.proofs.trail.Trail.last_unread.Goals as goal
+
+pub returns-clause-step : goal.returns-clause-step
+unfolding machines_of
+returns-clause-step c =
+    let trail = c.args.self.now in
+    let setup = c.args.setup.now in
+    let marks = c.args.marks.now in
+    let place = c.lesser-place.result in
+    let kept = c.held_before-kept.result in
+    let some = c.held_before-kept.ensures.some in
+    let low : place ≤ kept - 1 = omega arith in
+    let within : place < kept = omega arith in
+    IfOk-weaker c.unread_until.result _ _
+    (λ step last start h. last start
+    (c.in_ok-copy.ensures _ (held-at trail.held.items c.index.result.now place (place * 1024) start setup marks h.held c.index.ensures
+    (omega (arith, within, c.held_before-kept.ensures.within, held-count trail)) (omega arith)))
+    (hidden-lower (InputShows c.args.offset start setup marks) (place * 1024) (1024 * (kept - 1)) (omega arith) (c.held_before-kept.ensures.last start setup marks h)))
+    c.unread_until.ensures.last

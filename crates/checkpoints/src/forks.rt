@@ -1,0 +1,197 @@
+//! Where edited runs go on: a machine of the run that is edited, before the last step at which the edit doesn't show yet.
+ghost use Rattle.std.specs.Prelude.{◌≡◌, ◌+◌, ◌-◌, ◌<◌, ◌≤◌, ◌^◌, ℕ, List, min, IfOk, OnOk};
+ghost use Rattle.guest_machine.specs.State.{State};
+ghost use Rattle.guest_machine.specs.Run.{pre};
+ghost use Rattle.guest_machine.specs.Shows.{Shows};
+ghost use Rattle.guest_machine.specs.declared.setup.Setup.{Setup as SetupOf};
+ghost use Rattle.guest_machine.specs.declared.setup.Mark.{Mark as MarkOf};
+ghost use Rattle.checkpoints.specs.Effects.{written_by};
+ghost use Rattle.checkpoints.specs.FirstEffects.{IsBelowFirst, InputShows};
+ghost use Rattle.checkpoints.specs.Forks.{IsLastUnshown, IsForkFor, ShowsEdited, WritesAligned, IsStepOf, IsForkOf};
+ghost use Rattle.checkpoints.specs.Trails.{is_short, loaded_of, last_held, IsRightFor};
+ghost use Rattle.checkpoints.specs.Words.{IsWordIn};
+ghost use Rattle.checkpoints.specs.declared.effect.Effect.{Effect as EffectOf};
+
+use crate::cuts::poked_copy;
+use crate::effect::Effect;
+use crate::reaching::SPACING;
+use crate::running::{apply_marks, next_step, pass_marks, run_on};
+use crate::trail::Trail;
+use guest_machine::laws::{end_stays, keeps_end, keeps_heap, keeps_input, keeps_pokes, reads_on};
+use guest_machine::{Machine, Mark, Meter, Setup};
+use std::alloc::AllocError;
+
+/// A machine of a run, before a step at which an edit doesn't show yet, and that step.
+#[derive(Drop)]
+pub struct Fork {
+    /// The machine.
+    pub machine: Machine,
+    /// The step.
+    pub step: u32,
+}
+
+impl Fork {
+    /// The machine at a step of an edited run, after the step's marks, where an edit with this effect leads to that run. Each step
+    /// from the fork's on is made on the meter.
+    pub fn follow(
+        &self,
+        effect: Effect,
+        setup: &Setup,
+        marks: &[Mark],
+        step: u32,
+        meter: &mut Meter,
+    ) -> Result<Machine, AllocError>
+        requires { self.now.step ≤ step }
+        ensures shows { IfOk result (λ machine. (last : ℕ) → ShowsEdited effect self.now setup.now marks.now last step machine) }
+        ensures meter { OnOk result (meter.new ≡ min (meter.old + (step - self.now.step)) u64.MAX) }
+    {
+        keeps_input();
+        keeps_end();
+        reads_on();
+        end_stays();
+        keeps_heap();
+        keeps_pokes();
+        let _turns = meter.read();
+        let written = written_copy(&self.machine, effect)?;
+        let machine = run_on(written, setup, marks, self.step, step, meter)?;
+        let marked = apply_marks(machine, marks, step)?;
+        Ok(marked)
+    }
+}
+
+/// A copy of a machine, with the word written where an effect writes one.
+fn written_copy(machine: &Machine, effect: Effect) -> Result<Machine, AllocError>
+    ensures { IfOk result (λ copy. (s : State) → Shows machine.now s → Shows copy (written_by effect s)) }
+{
+    match effect {
+        Effect::Word { addr, word } => poked_copy(machine, addr, word),
+        _ => machine.share(),
+    }
+}
+
+impl Trail {
+    /// A fork of the run before the last step, up to another, at which the byte of the input at an offset isn't read yet: each run goes
+    /// on from it whose input is another from that offset on.
+    #[tactic(auto, unfolding(crate::specs::Trails::last_held))]
+    pub fn fork_at_byte(
+        &mut self,
+        offset: u32,
+        last: u32,
+        setup: &Setup,
+        marks: &[Mark],
+    ) -> Result<Fork, AllocError>
+        requires { last < 2 ^ 31 }
+        ensures right { (start : State) → IsRightFor self.old start setup.now marks.now → IsRightFor self.new start setup.now marks.now }
+        ensures fork { IfOk result (λ fork. (start : State) → IsRightFor self.old start setup.now marks.now
+            → IsForkFor (Effect.Input offset) (record { start = start; setup = setup.now; marks = marks.now }) last fork) }
+        ensures short { is_short self.new ≡ is_short self.old }
+        ensures loaded { loaded_of self.new ≡ loaded_of self.old }
+    {
+        self.reach((last / SPACING + 1) as usize, setup, marks)?;
+        let step = self.last_unread(offset, last, setup, marks)?;
+        self.fork_at(step, setup, marks)
+    }
+
+    /// A fork of the run before the last step, up to another, with no earlier use of the word at an address: each run goes on from it
+    /// in which another word is written there.
+    #[tactic(auto, unfolding(crate::specs::Trails::last_held))]
+    pub fn fork_at_word(
+        &mut self,
+        addr: u32,
+        last: u32,
+        setup: &Setup,
+        marks: &[Mark],
+    ) -> Result<Fork, AllocError>
+        requires small { last < 2 ^ 31 }
+        requires word { IsWordIn (loaded_of self.old) addr }
+        ensures right { (start : State) → IsRightFor self.old start setup.now marks.now → IsRightFor self.new start setup.now marks.now }
+        ensures fork { IfOk result (λ fork. (word : ℕ) (start : State) → IsRightFor self.old start setup.now marks.now
+            → IsForkFor (Effect.Word addr word) (record { start = start; setup = setup.now; marks = marks.now }) last fork) }
+        ensures short { is_short self.new ≡ is_short self.old }
+        ensures loaded { loaded_of self.new ≡ loaded_of self.old }
+    {
+        self.reach((last / SPACING + 1) as usize, setup, marks)?;
+        let step = self.last_unused(addr, last);
+        self.fork_at(step, setup, marks)
+    }
+
+    /// The last step, up to another, at which the byte of the input at an offset isn't read yet.
+    #[tactic(auto, unfolding(crate::specs::Trails::machines_of, crate::specs::Trails::last_held))]
+    fn last_unread(
+        &self,
+        offset: u32,
+        last: u32,
+        setup: &Setup,
+        marks: &[Mark],
+    ) -> Result<u32, AllocError>
+        requires { last < last_held self.now }
+        ensures within { IfOk result (λ step. step ≤ last) }
+        ensures step { IfOk result (λ step. IsStepOf (Effect.Input offset) self.now setup.now marks.now last step) }
+    {
+        let kept = self.held_before(Effect::Input(offset));
+        let place = lesser((kept - 1) as u32, last / SPACING);
+        let copy = self.held[place as usize].share()?;
+        unread_until(copy, setup, marks, offset, place * SPACING, last)
+    }
+
+    /// The last step, up to another, with no earlier use of the word at an address.
+    #[tactic(auto, unfolding(crate::specs::Trails::table_of, crate::specs::Trails::loaded_of))]
+    fn last_unused(&self, addr: u32, last: u32) -> u32
+        requires held { last < last_held self.now }
+        requires word { IsWordIn (loaded_of self.now) addr }
+        ensures within { result ≤ last }
+        ensures step { (word : ℕ) (setup : SetupOf) (marks : List MarkOf) → IsStepOf (Effect.Word addr word) self.now setup marks last result }
+    {
+        self.uses.first_below(addr / 4, last).unwrap_or(last)
+    }
+
+    /// The machine of the run before a step.
+    #[tactic(auto, unfolding(crate::specs::Trails::machines_of, crate::specs::Trails::last_held))]
+    fn fork_at(&self, step: u32, setup: &Setup, marks: &[Mark]) -> Result<Fork, AllocError>
+        requires { step < last_held self.now }
+        ensures { IfOk result (λ fork. (effect : EffectOf) (last : ℕ) → WritesAligned effect → IsStepOf effect self.now setup.now marks.now last step
+            → IsForkOf effect self.now setup.now marks.now last fork) }
+    {
+        let copy = self.held[(step / SPACING) as usize].share()?;
+        let mut meter = Meter::new();
+        let from = step / SPACING * SPACING;
+        let machine = run_on(copy, setup, marks, from, step, &mut meter)?;
+        Ok(Fork { machine, step })
+    }
+}
+
+/// The lesser of two numbers.
+fn lesser(x: u32, y: u32) -> u32
+    ensures { result ≡ min x y }
+{
+    if x < y { x } else { y }
+}
+
+/// The last step, from one up to another, at which the byte of the input at an offset isn't read yet, where it isn't at the first.
+fn unread_until(
+    machine: Machine,
+    setup: &Setup,
+    marks: &[Mark],
+    offset: u32,
+    from: u32,
+    to: u32,
+) -> Result<u32, AllocError>
+    requires { from ≤ to }
+    ensures within { IfOk result (λ step. step ≤ to) }
+    ensures last { IfOk result (λ step. (start : State) → Shows machine (pre start setup.now marks.now from)
+        → IsBelowFirst (InputShows offset start setup.now marks.now) from
+        → IsLastUnshown (Effect.Input offset) (record { start = start; setup = setup.now; marks = marks.now }) to step) }
+{
+    let mut machine = machine;
+    let mut meter = Meter::new();
+    let mut next = next_step(marks, from);
+    for k in from..to {
+        let marked = pass_marks(machine, marks, k, &mut next)?;
+        let (stepped, _touched) = marked.step(setup, &mut meter)?;
+        if stepped.position() > u64::from(offset) {
+            return Ok(k);
+        }
+        machine = stepped;
+    }
+    Ok(to)
+}

@@ -1,0 +1,7 @@
+use Rattle.std.proofs.Common.{◌≡◌, ◌++◌, take}
+use Rattle.std.specs.List.{flat_map}
+use Rattle.replay_report.specs.Outlines.{error_outline}
+use Rattle.replay_report.proofs.outlining.push_errors.Given as goal
+
+abbrev pub invariant-loop-group : goal.invariant-loop-group
+invariant-loop-group l = l.out.items ≡ l.initial.out.items ++ flat_map (error_outline l.image l.fn.callers) (take l.group-index l.groups)

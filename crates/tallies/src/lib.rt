@@ -1,0 +1,115 @@
+//! Texts that are counted: each is kept once, in order of first occurrence, with how often it was met.
+//!
+//! | Call | What it does |
+//! |---|---|
+//! | [`Tallies::begin`] | a first text, of number 0, which is counted no time yet |
+//! | [`Tallies::meet`] | one more of a text: its number, and whether it was met before |
+//! | [`Tallies::counts`] | how often each text was met, in their order |
+//!
+//! A text that was met before costs one look-up of it, and no memory. Of a new one a copy is kept. Where memory is wanting, the texts
+//! and their counts stay as they were. Counts stand still at 2^64 - 1.
+//!
+//! Contracts speak of `entries_of`, the list of the texts with their counts. The definitions stand in `specs/Tallied`.
+#![tactic(auto)]
+
+ghost use Rattle.std.specs.Prelude.{◌≡◌, ◌<◌, ◌∷◌, [], List, ℕ, true, false, IfOk, OnOk, OnErr, length};
+ghost use Rattle.tallies.specs.Tallied.{entries_of, counts_of, with_text, number_of, is_met, next_count, keyed};
+
+use indexmap::IndexMap;
+use std::alloc::{AllocError, Global};
+
+/// Texts with their counts, in order of first occurrence. Contracts see their list, `entries_of`.
+#[derive(Drop)]
+pub struct Tallies {
+    texts: IndexMap<Vec<u8>, u64>,
+}
+
+/// What is told of a text.
+#[derive(Clone, Copy)]
+pub struct Found {
+    /// Its number: how many other texts were met before its first occurrence.
+    pub number: usize,
+    /// Was it met before?
+    pub is_met: bool,
+}
+
+/// One more.
+fn next_count(count: u64) -> u64
+    ensures { result ≡ next_count count }
+{
+    count.saturating_add(1)
+}
+
+/// What is told of a text.
+fn find_in(texts: &IndexMap<Vec<u8>, u64>, text: &[u8]) -> Found
+    ensures number { result.number ≡ number_of (keyed texts.now.entries) text.now }
+    ensures met { result.is_met ≡ is_met (keyed texts.now.entries) text.now }
+    ensures within { result.is_met ≡ true → result.number < length texts.now.entries }
+{
+    match texts.get_index_of(text) {
+        Some(number) => Found {
+            number,
+            is_met: true,
+        },
+        None => Found {
+            number: texts.len(),
+            is_met: false,
+        },
+    }
+}
+
+/// One more of the text at a place.
+fn count_again(texts: &mut IndexMap<Vec<u8>, u64>, place: usize)
+    requires { place < length texts.old.entries }
+    ensures { (text : List ℕ) → place ≡ number_of (keyed texts.old.entries) text
+        → keyed texts.new.entries ≡ with_text (keyed texts.old.entries) text }
+{
+    texts[place] = next_count(texts[place]);
+}
+
+/// A copy of a new text, met once.
+fn add_new(texts: &mut IndexMap<Vec<u8>, u64>, text: &[u8]) -> Result<(), AllocError>
+    requires { is_met (keyed texts.old.entries) text.now ≡ false }
+    ensures ok { OnOk result (keyed texts.new.entries ≡ with_text (keyed texts.old.entries) text.now) }
+    ensures err { OnErr result (keyed texts.new.entries ≡ keyed texts.old.entries) }
+{
+    let text = Vec::from_slice(*texts.allocator(), text)?;
+    let _former = texts.insert(text, 1)?;
+    Ok(())
+}
+
+#[tactic(auto, unfolding(crate::specs::Tallied::entries_of))]
+impl Tallies {
+    /// A first text, which is counted no time yet.
+    pub fn begin(alloc: Global, first: Vec<u8>) -> Result<Tallies, AllocError>
+        ensures { IfOk result (λ tallies. entries_of tallies ≡ (first.items, 0) ∷ []) }
+    {
+        let mut texts = IndexMap::new(alloc);
+        let _former = texts.insert(first, 0)?;
+        Ok(Tallies { texts })
+    }
+
+    /// One more of a text: its number, and whether it was met before. Where memory is wanting for a new text, all stays as it was.
+    pub fn meet(&mut self, text: &[u8]) -> Result<Found, AllocError>
+        ensures number { IfOk result (λ found. found.number ≡ number_of (entries_of self.old) text.now) }
+        ensures met { IfOk result (λ found. found.is_met ≡ is_met (entries_of self.old) text.now) }
+        ensures ok { OnOk result (entries_of self.new ≡ with_text (entries_of self.old) text.now) }
+        ensures err { OnErr result (entries_of self.new ≡ entries_of self.old) }
+    {
+        let found = find_in(&self.texts, text);
+        if found.is_met {
+            count_again(&mut self.texts, found.number);
+        } else {
+            add_new(&mut self.texts, text)?;
+        }
+        Ok(found)
+    }
+
+    /// How often each text was met, in their order.
+    #[tactic(auto, unfolding(crate::specs::Tallied::entries_of), using(crate::proofs::Steps::counts_keyed))]
+    pub fn counts(&self, alloc: Global) -> Result<Vec<u64>, AllocError>
+        ensures { IfOk result (λ counts. counts.items ≡ counts_of (entries_of self.now)) }
+    {
+        self.texts.values().copied().collect(alloc)
+    }
+}
