@@ -1,11 +1,16 @@
 -- The command line, in `clap`'s own words (`clap`'s specs: what a line of words gives for each argument), and the order that it gives.
-use Rattle.std.specs.Prelude.{◌≡◌, ℕ, pos, List, [], ◌∷◌, Bool, true, Option, Some, codes, is_some, option_map, IfSome, IsSomeAnd}
+use denote.Ref.{Bor}
+use Rattle.std.specs.Prelude.{◌≡◌, ℕ, pos, List, [], ◌∷◌, Bool, true, false, Option, Some, codes, option_map, IsSomeAnd}
 use Rattle.std.specs.Str.{bytes_eq}
 use Rattle.std.specs.Str.Parse.{digits_value, without_leading_plus}
 use Rattle.clap.specs.Words.{App, Row, Rule, Text, first_of, new_app, new_rule, one_of, subcommand_of, with_rule, with_subcommand}
 use Rattle.clap.specs.Simple.{on_top}
 use Rattle.clap.specs.declared.builder.ValueParser.TheVariants.{Signed}
-use Rattle.command_line.specs.declared.arguments.Order.{Order}
+use Rattle.clap.specs.declared.builder.action.ArgAction.TheVariants.{SetTrue}
+use Rattle.command_line.specs.declared.order.Order.{Order}
+use Rattle.command_line.specs.declared.order.SweepWords.{SweepWords}
+use Rattle.command_line.specs.declared.order.Task.{Task}
+use Rattle.command_line.specs.declared.order.Task.TheVariants.{Report, Session, Sweep}
 
 -- the greatest step of a report (this project's limit)
 abbrev pub greatest_step : ℕ
@@ -42,22 +47,68 @@ run_command = with_rule (program_command (codes "run")) step_option
 abbrev pub with_run : App
 with_run = with_subcommand (on_top (λ top. record top { has_version = true; subcommand_required = true }) (new_app (codes "replaycheck"))) run_command.top
 
--- the command line: `run` and `session`
+-- with `run` and `session`
+abbrev pub with_session : App
+with_session = with_subcommand with_run (program_command (codes "session")).top
+
+-- an option with a value that it has where it isn't given
+abbrev pub default_option : Text → Text → Rule
+default_option name default = record (option name) { defaults = default ∷ [] }
+
+-- a flag
+abbrev pub output_flag : Rule
+output_flag = record (new_rule (codes "with-output")) { long = Some (codes "with-output"); action = Some SetTrue }
+
+-- `sweep`, with the bytes that it edits, and whole
+abbrev pub sweep_of_bytes : App
+sweep_of_bytes =
+    with_rule (with_rule (with_rule (program_command (codes "sweep")) step_option) (option (codes "bytes"))) (default_option (codes "values") (codes "all"))
+
+abbrev pub sweep_command : App
+sweep_command =
+    with_rule (with_rule (with_rule (with_rule sweep_of_bytes (option (codes "words"))) (default_option (codes "words-values") (codes "skip"))) output_flag)
+    (default_option (codes "part") (codes "1/1"))
+
+-- the command line: `run`, `session` and `sweep`
 abbrev pub command_line : App
-command_line = with_subcommand with_run (program_command (codes "session")).top
+command_line = with_subcommand with_session sweep_command.top
 
 -- a number is the one that was given for `--step`, in decimal digits
 abbrev pub IsStepOf : List Row → ℕ → Type 0
 IsStepOf rows n = IsSomeAnd (one_of (codes "step") rows) (λ text. n ≡ digits_value 10 (without_leading_plus text))
 
--- the order of what was found for a command's arguments: of `run` with a step, of `session` with none
-pub record IsOrderOf (is_run : Bool) (rows : List Row) (order : Order) : Type 0 where
+-- a flag was given, or it wasn't
+pub record IsFlagOf (name : Text) (rows : List Row) (flag : Bool) : Type 0 where
+  pub given : one_of name rows ≡ Some (codes "true") → flag ≡ true
+  pub absent : one_of name rows ≡ Some (codes "false") → flag ≡ false
+
+-- a text that an option was given, and one that it has at any rate
+abbrev pub text_of : Option (Bor Text) → Option Text
+text_of given = option_map (λ text. text.now) given
+
+-- the words of what was found for the arguments of `sweep`
+pub record IsSweepOf (rows : List Row) (asked : SweepWords) : Type 0 where
+  pub step : IsStepOf rows asked.step
+  pub bytes : text_of asked.bytes ≡ first_of (codes "bytes") rows
+  pub byte_values : Some asked.byte_values.now ≡ first_of (codes "values") rows
+  pub words : text_of asked.words ≡ first_of (codes "words") rows
+  pub word_values : Some asked.word_values.now ≡ first_of (codes "words-values") rows
+  pub part : Some asked.part.now ≡ first_of (codes "part") rows
+  pub with_output : IsFlagOf (codes "with-output") rows asked.with_output
+
+-- the command of a name, of what was found for its arguments
+abbrev pub IsTaskOf : Text → List Row → Task → Type 0
+IsTaskOf name rows (Report n) = (bytes_eq name (codes "run") ≡ true) × IsStepOf rows n
+IsTaskOf name rows (Sweep words) = (bytes_eq name (codes "sweep") ≡ true) × IsSweepOf rows words
+IsTaskOf name rows Session = (bytes_eq name (codes "run") ≡ false) × (bytes_eq name (codes "sweep") ≡ false)
+
+-- the order of what was found for a command's arguments
+pub record IsOrderOf (name : Text) (rows : List Row) (order : Order) : Type 0 where
   pub file : Some order.file.now ≡ first_of (codes "FILE") rows
   pub input : input_path order ≡ first_of (codes "input") rows
   pub rules : rules_path order ≡ first_of (codes "supp") rows
-  pub step : is_some order.step ≡ is_run
-  pub number : IfSome order.step (IsStepOf rows)
+  pub task : IsTaskOf name rows order.task
 
 -- the order of a command line's words: of what was found for the command that they enter
 abbrev pub IsOrderFor : List Text → Order → Type 0
-IsOrderFor words order = IsSomeAnd (subcommand_of command_line words) (λ entered. IsOrderOf (bytes_eq entered.0 (codes "run")) entered.1 order)
+IsOrderFor words order = IsSomeAnd (subcommand_of command_line words) (λ entered. IsOrderOf entered.0 entered.1 order)

@@ -1,30 +1,17 @@
 //! The words of the command line, and the order that they give.
-ghost use Rattle.std.specs.Prelude.{◌≡◌, IfErr, IfOk, IfSome, IsSomeAnd, codes, false, map, string_bytes, true};
-ghost use Rattle.std.specs.Str.{bytes_eq};
+ghost use Rattle.std.specs.Prelude.{◌≡◌, IfErr, IfOk, IfSome, IsSomeAnd, false, map, string_bytes, true};
 ghost use Rattle.clap.specs.Words.{FailsBy, app_of, fault_of, found_of, kind_of, rows_of, rule_of, subcommand_rows_of, takes};
 ghost use Rattle.clap.specs.declared.builder.command.Command.TheViews.{out-Command};
-ghost use Rattle.command_line.specs.Orders.{IsOrderFor, IsOrderOf, IsStepOf, command_line, file_argument, option, program_command, run_command, step_option, with_run};
+ghost use Rattle.command_line.specs.Orders.{IsOrderFor, IsOrderOf, IsStepOf, IsSweepOf, IsTaskOf, command_line, default_option, file_argument, option, output_flag, program_command, run_command, step_option, sweep_command, sweep_of_bytes, with_run, with_session};
 
-use crate::help::{ABOUT, AFTER_RUN, AFTER_SESSION, RUN, SESSION};
+use crate::help::{ABOUT, AFTER_RUN, AFTER_SESSION, AFTER_SWEEP, RUN, SESSION, SWEEP};
+use crate::order::{Order, SweepWords, Task};
 use clap::error::ErrorKind;
-use clap::{Arg, ArgMatches, Command, Error, value_parser};
+use clap::{Arg, ArgAction, ArgMatches, Command, Error, value_parser};
 use std::alloc::{AllocError, Global};
 
 /// The greatest step of a report.
 pub const MOST_STEPS: u32 = 4_194_304;
-
-/// What is asked for: a session with a program, or the report of one at a step.
-#[derive(Clone, Copy)]
-pub struct Order<'a> {
-    /// The program's file.
-    pub file: &'a str,
-    /// The file of the input, or none for an input of no bytes.
-    pub input: Option<&'a str>,
-    /// The file of suppressions.
-    pub suppressions: Option<&'a str>,
-    /// The step of a report, or none for a session.
-    pub step: Option<u32>,
-}
 
 /// The program's file, which must be given.
 fn file_argument<'a>(alloc: Global) -> Arg<'a>
@@ -96,12 +83,72 @@ fn with_run<'a>(alloc: Global) -> Result<Command<'a>, AllocError>
         .subcommand(run)
 }
 
+/// The command line with `run` and `session`.
+fn with_session<'a>(alloc: Global) -> Result<Command<'a>, AllocError>
+    ensures { IfOk result (λ command. app_of command ≡ with_session) }
+{
+    let session = program_command(alloc, "session", SESSION, AFTER_SESSION)?;
+    with_run(alloc)?.subcommand(session)
+}
+
+/// An option with a value that it has where it isn't given.
+fn default_option<'a>(
+    alloc: Global,
+    name: &'a str,
+    value: &'a str,
+    default: &'a str,
+    help: &'a str,
+) -> Arg<'a>
+    ensures rule { rule_of result ≡ default_option name.entry.now default.entry.now }
+    ensures local { result.global ≡ false }
+{
+    option(alloc, name, value, help).default_value(default)
+}
+
+/// The flag of `sweep`.
+fn output_flag<'a>(alloc: Global) -> Arg<'a>
+    ensures rule { rule_of result ≡ output_flag }
+    ensures local { result.global ≡ false }
+{
+    Arg::new(alloc, "with-output")
+        .long("with-output")
+        .action(ArgAction::SetTrue)
+        .help("Has each outcome tell how many bytes were written")
+}
+
+/// `sweep` with the bytes that it edits.
+fn sweep_of_bytes<'a>(alloc: Global) -> Result<Command<'a>, AllocError>
+    ensures shape { IfOk result (λ command. app_of command ≡ sweep_of_bytes) }
+    ensures globals { IfOk result (λ command. (out-Command command).has_globals ≡ false) }
+{
+    let command = program_command(alloc, "sweep", SWEEP, AFTER_SWEEP)?;
+    let command = command.arg(step_argument(alloc))?;
+    let bytes = "Bytes A to B of the input; A.. up to its last one; A alone";
+    let command = command.arg(option(alloc, "bytes", "A..B", bytes))?;
+    let values = "all, flips, edges, or numbers with commas";
+    command.arg(default_option(alloc, "values", "VALUES", "all", values))
+}
+
+/// `sweep`.
+fn sweep_command<'a>(alloc: Global) -> Result<Command<'a>, AllocError>
+    ensures shape { IfOk result (λ command. app_of command ≡ sweep_command) }
+    ensures globals { IfOk result (λ command. (out-Command command).has_globals ≡ false) }
+{
+    let words = "Loaded words from address A to address B; the one at A";
+    let command = sweep_of_bytes(alloc)?.arg(option(alloc, "words", "A..B", words))?;
+    let values = "skip, flips, or numbers with commas";
+    let values = default_option(alloc, "words-values", "VALUES", "skip", values);
+    let command = command.arg(values)?.arg(output_flag(alloc))?;
+    let part = "Part I of N of the places, from 1";
+    command.arg(default_option(alloc, "part", "I/N", "1/1", part))
+}
+
 /// The whole command line.
 fn make_command<'a>(alloc: Global) -> Result<Command<'a>, AllocError>
     ensures { IfOk result (λ command. app_of command ≡ command_line) }
 {
-    let session = program_command(alloc, "session", SESSION, AFTER_SESSION)?;
-    with_run(alloc)?.subcommand(session)
+    let sweep = sweep_command(alloc)?;
+    with_session(alloc)?.subcommand(sweep)
 }
 
 /// Reads the words of a command line, the program's name first. Help and the version are errors whose text goes to standard output.
@@ -129,23 +176,50 @@ fn step_of(chosen: &ArgMatches<'_>) -> Option<u32>
     chosen.get_one::<u32>("step")
 }
 
-/// The order of what was found for the arguments of a command.
-fn order_within<'a>(is_run: bool, chosen: &ArgMatches<'a>) -> Option<Order<'a>>
-    ensures { IfSome result (IsOrderOf is_run (rows_of (found_of chosen.now))) }
+/// The words of what was found for the arguments of `sweep`.
+fn sweep_of<'a>(chosen: &ArgMatches<'a>) -> Option<SweepWords<'a>>
+    ensures { IfSome result (IsSweepOf (rows_of (found_of chosen.now))) }
 {
-    let step = if is_run { Some(step_of(chosen)?) } else { None };
+    Some(SweepWords {
+        step: step_of(chosen)?,
+        bytes: chosen.get_str("bytes"),
+        byte_values: chosen.get_str("values")?,
+        words: chosen.get_str("words"),
+        word_values: chosen.get_str("words-values")?,
+        part: chosen.get_str("part")?,
+        with_output: chosen.get_flag("with-output"),
+    })
+}
+
+/// The command of a name, of what was found for its arguments.
+fn task_of<'a>(name: &str, chosen: &ArgMatches<'a>) -> Option<Task<'a>>
+    ensures { IfSome result (IsTaskOf name.now (rows_of (found_of chosen.now))) }
+{
+    if name == "run" {
+        Some(Task::Report(step_of(chosen)?))
+    } else if name == "sweep" {
+        Some(Task::Sweep(sweep_of(chosen)?))
+    } else {
+        Some(Task::Session)
+    }
+}
+
+/// The order of what was found for the arguments of a command.
+fn order_within<'a>(name: &str, chosen: &ArgMatches<'a>) -> Option<Order<'a>>
+    ensures { IfSome result (IsOrderOf name.now (rows_of (found_of chosen.now))) }
+{
     Some(Order {
         file: chosen.get_str("FILE")?,
         input: chosen.get_str("input"),
         suppressions: chosen.get_str("supp"),
-        step,
+        task: task_of(name, chosen)?,
     })
 }
 
 /// The order of what was found for a whole command line.
 fn order_of<'a>(matches: &ArgMatches<'a>) -> Option<Order<'a>>
-    ensures { IfSome result (λ order. IsSomeAnd (subcommand_rows_of matches.now) (λ found. IsOrderOf (bytes_eq found.0 (codes "run")) found.1 order)) }
+    ensures { IfSome result (λ order. IsSomeAnd (subcommand_rows_of matches.now) (λ found. IsOrderOf found.0 found.1 order)) }
 {
     let (name, chosen) = matches.subcommand()?;
-    order_within(name == "run", chosen)
+    order_within(name, chosen)
 }

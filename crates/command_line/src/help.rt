@@ -12,17 +12,21 @@ pub(crate) const RUN: &str = "Prints the report of a program at a step";
 pub(crate) const SESSION: &str =
     "Answers lines of standard input that edit a run or ask for its report";
 
-/// A text with what ends the help of both commands: statuses and refusals.
+/// What `sweep` does.
+pub(crate) const SWEEP: &str =
+    "Makes each edit of an input or of code alone, and writes a table of what each comes to";
+
+/// A text with what ends the help of each command: statuses and refusals.
 macro_rules! with_refusals {
     ($text:literal) => {
         concat!(
             $text,
             "
 Exit status:
-  0  the report or the replies were written, or help or the version was asked for
+  0  the report, the replies or the table was written, or help or the version was asked for
   1  a file or standard input can't be read, or standard output can't be written
   2  a fault of the command line
-  3  the program, the suppressions or the input is refused, as below
+  3  the program, the suppressions, the input, or what is to be edited is refused, as below
   4  out of memory
 
 `replaycheck: image refused N`, by the least N that holds:
@@ -86,5 +90,36 @@ the count of lines:
 Example, what another first byte of the input would have changed:
   printf 'goto 5000\\nreport\\ninput 0 8\\nreport\\n' |
     replaycheck session program.elf --input bytes
+"
+);
+
+/// What ends the help of `sweep`: its table.
+pub(crate) const AFTER_SWEEP: &str = with_refusals!(
+    "\
+With neither --bytes nor --words, all bytes of the input are edited; `--input -` is standard input.
+Numbers are decimal, or hexadecimal after 0x. The places are the bytes, then the words, each at a
+multiple of 4; a table has one part of them. What each gets, but for the value that stands there:
+  all      each other byte
+  flips    each value that differs in one bit
+  edges    0, 1, 0x7f, 0x80, 0xff, one more and one less
+  skip     the instruction that does nothing, 0x00000013
+  N,N,..   these numbers, of which none comes twice
+
+The table, which `replaycheck explore` reads:
+  sweep 1                   its format; then the lengths and SHA-256 of the files, and what is asked
+  outcome K                 an outcome, just before the first row that has it; its lines follow: the
+                            state, each error and each shown leak with its trace
+  unedited 0                the run with no edit
+  input OFFSET BYTE K       an edit, as a line of a session makes it, and its outcome
+  patch ADDR WORD K
+  tally K COUNT             how many edits have an outcome
+  end EDITS OUTCOMES STEPS  a table without this line isn't whole
+
+Two more refusals:
+  `replaycheck: bytes refused 3`: a range that isn't inside the input, or an input of no bytes
+  `replaycheck: words refused 4`: no word of the range is loaded
+
+Example, each other value of the first four bytes:
+  replaycheck sweep program.elf --input bytes --bytes 0..3
 "
 );

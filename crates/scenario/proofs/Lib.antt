@@ -1,3 +1,4 @@
 pub mod FrontSteps
 pub mod EditLaws
 pub mod EditSteps
+pub mod TrailFacts

@@ -1,10 +1,11 @@
 -- What a user has said of a run, and the report that is asked for. Nothing of earlier reports is in it.
-use Rattle.std.specs.Prelude.{ℕ, true, false, List, [], ◌∷◌, fold, length}
+use Rattle.std.specs.Prelude.{ℕ, Bool, true, false, List, [], ◌∷◌, fold, length}
 use Rattle.guest_elf.specs.declared.image.Image.{Image}
 use Rattle.guest_machine.specs.State.{State}
 use Rattle.guest_machine.specs.Run.{start_state, poked, post}
 use Rattle.guest_machine.specs.declared.setup.Setup.{Setup}
 use Rattle.guest_machine.specs.declared.setup.Mark.{Mark}
+use Rattle.replay_report.specs.Outlines.{IsOutline}
 use Rattle.replay_report.specs.Report.{IsReport}
 use Rattle.replay_report.specs.declared.options.Options.{Options}
 use Rattle.suppressions.specs.Rules.{Rule}
@@ -42,6 +43,10 @@ chosen_state sc = post (first_state sc) sc.setup sc.marks sc.step
 -- a text is the report at the chosen step of one run from step zero
 unfoldable pub IsReportOf : Scenario → List ℕ → Type 0
 IsReportOf sc text = IsReport (chosen_state sc) sc.image sc.rules sc.options sc.step (length sc.setup.input) text
+
+-- a text is the outline at the chosen step of one run from step zero, with or without how much was written
+unfoldable pub IsOutlineOf : Bool → Scenario → List ℕ → Type 0
+IsOutlineOf with_output sc text = IsOutline (chosen_state sc) sc.image sc.rules sc.options with_output text
 
 -- what a program, an input and suppressions begin with: nothing written, no marks, Memcheck's options, step 0
 abbrev pub begun : Image → List ℕ → List Rule → Scenario

@@ -5,13 +5,13 @@ ghost use Rattle.guest_machine.specs.State.{State};
 ghost use Rattle.replay_report.specs.Report.{AppendsReport};
 ghost use Rattle.scenario.specs.Lent.{lent};
 ghost use Rattle.scenario.specs.Limits.{most_callers};
-ghost use Rattle.scenario.specs.Scenario.{IsReportOf, chosen_state, first_state, with_words};
+ghost use Rattle.scenario.specs.Scenario.{IsOutlineOf, IsReportOf, chosen_state, first_state, with_words};
 
 use crate::word::Word;
 use checkpoints::run_to;
 use guest_elf::Image;
 use guest_machine::{Machine, Mark, Meter, Setup};
-use replay_report::{Options, render};
+use replay_report::{Options, outline, render};
 use std::alloc::{AllocError, Global};
 use suppressions::Suppression;
 
@@ -77,6 +77,28 @@ impl<'a> ScenarioRef<'a> {
             self.step,
             input_len,
             out,
+        )
+    }
+
+    /// The outline of a machine that is at the chosen step of the run.
+    #[tactic(auto, unfolding(crate::specs::Scenario::IsOutlineOf))]
+    pub(crate) fn outline(
+        &self,
+        alloc: Global,
+        machine: &Machine,
+        with_output: bool,
+    ) -> Result<Vec<u8>, AllocError>
+        requires some { 1 ≤ self.now.options.now.callers }
+        requires few { self.now.options.now.callers ≤ most_callers }
+        ensures { IfOk result (λ text. Shows machine.now (chosen_state (lent self.now)) → IsOutlineOf with_output (lent self.now) text.items) }
+    {
+        outline(
+            alloc,
+            machine,
+            self.image,
+            self.suppressions,
+            self.options,
+            with_output,
         )
     }
 

@@ -15,8 +15,9 @@
 //! | [`Scenario::drop_word`] | takes the word off again that was written last |
 //! | [`Scenario::report`] | appends the report at the chosen step, by one run from step zero |
 //! | [`Scenario::render`] | the same of a machine that is at the chosen step already |
+//! | [`Scenario::outline`] | the outline of such a machine |
 //! | [`ScenarioRef::report`] | the report of a scenario whose parts are lent, by one run from step zero |
-//! | [`Scenario::setup`], [`Scenario::marks`], [`Scenario::step`] | what the run is given, the marks, the chosen step |
+//! | [`Scenario::image`], [`Scenario::setup`], [`Scenario::marks`], [`Scenario::step`] | the program, what the run is given, the marks, the chosen step |
 //! | [`setup_with`] | an input, Memcheck's settings of the heap, and the functions of the heap that a program has by name |
 //! | [`laws::edits_follow`] | nothing: its contract says that each edit leads from run to run by its effect |
 //! | [`laws::edits_go_back`] | nothing: its contract says that what takes an edit back leaves the scenario as it was |
@@ -28,11 +29,11 @@
 //! answer what the row says. Where memory is wanting, an edit leaves the scenario as it was.
 //!
 //! A text is the report of a scenario (`IsReportOf`) where it is that of the state at the chosen step of one run that begins at step
-//! zero, with the words written, one after another.
+//! zero, with the words written, one after another; likewise its outline (`IsOutlineOf`).
 //!
 //! # Where the definitions stand
 //!
-//! In `specs/`: `Scenario` (the record, its run and its report), `Edits` (the table and its laws), `Limits`, `Setups`.
+//! In `specs/`: `Scenario` (the record, its run, its report and its outline), `Edits` (the table and its laws), `Limits`, `Setups`.
 #![tactic(auto)]
 
 mod edit;

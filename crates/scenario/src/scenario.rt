@@ -4,7 +4,7 @@ ghost use Rattle.guest_machine.specs.Shows.{Shows};
 ghost use Rattle.replay_report.specs.Report.{AppendsReport};
 ghost use Rattle.scenario.specs.Lent.{lent};
 ghost use Rattle.scenario.specs.Limits.{longest_input, most_callers};
-ghost use Rattle.scenario.specs.Scenario.{IsReportOf, begun, at_step, chosen_state};
+ghost use Rattle.scenario.specs.Scenario.{IsOutlineOf, IsReportOf, begun, at_step, chosen_state};
 
 use crate::lent::ScenarioRef;
 use crate::setups::setup_with;
@@ -66,6 +66,13 @@ impl<'a> Scenario<'a> {
         })
     }
 
+    /// The program.
+    pub fn image(&self) -> &Image<'a>
+        ensures { result.now ≡ self.now.image }
+    {
+        &self.image
+    }
+
     /// What its run is given.
     pub fn setup(&self) -> &Setup
         ensures { result.now ≡ self.now.setup }
@@ -125,5 +132,12 @@ impl<'a> Scenario<'a> {
         ensures err { OnErr result (out.new.items ≡ out.old.items) }
     {
         self.lent().render(self.alloc, machine, out)
+    }
+
+    /// The outline of a machine that is at the chosen step of the run, with or without how much was written.
+    pub fn outline(&self, machine: &Machine, with_output: bool) -> Result<Vec<u8>, AllocError>
+        ensures { IfOk result (λ text. Shows machine.now (chosen_state self.now) → IsOutlineOf with_output self.now text.items) }
+    {
+        self.lent().outline(self.alloc, machine, with_output)
     }
 }

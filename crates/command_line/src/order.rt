@@ -1,0 +1,44 @@
+//! What a command line asks for.
+
+/// What is asked for: a command on a program, with an input and suppressions.
+#[derive(Clone, Copy)]
+pub struct Order<'a> {
+    /// The program's file.
+    pub file: &'a str,
+    /// The file of the input, or none for an input of no bytes.
+    pub input: Option<&'a str>,
+    /// The file of suppressions.
+    pub suppressions: Option<&'a str>,
+    /// The command.
+    pub task: Task<'a>,
+}
+
+/// A command on a program.
+#[derive(Clone, Copy)]
+pub enum Task<'a> {
+    /// The report at a step.
+    Report(u32),
+    /// A session.
+    Session,
+    /// Every edit alone.
+    Sweep(SweepWords<'a>),
+}
+
+/// The words that say which edits are made, as they were given.
+#[derive(Clone, Copy)]
+pub struct SweepWords<'a> {
+    /// The step of the outcomes.
+    pub step: u32,
+    /// Which bytes of the input are edited.
+    pub bytes: Option<&'a str>,
+    /// Which values they get.
+    pub byte_values: &'a str,
+    /// Which words of the program are edited.
+    pub words: Option<&'a str>,
+    /// Which values they get.
+    pub word_values: &'a str,
+    /// Which part of the places is taken.
+    pub part: &'a str,
+    /// Whether an outcome tells how much was written.
+    pub with_output: bool,
+}

@@ -1,0 +1,19 @@
+use Rattle.std.proofs.Common.{◌++◌, ◌∷◌, ◌==◌, [], not, if◌then◌else◌, get_or, take, ap, sym, ◌∙◌}
+use Rattle.std.proofs.lemmas.List.{take_more}
+use Rattle.sweeps.specs.Plans.{word_values}
+use Rattle.sweeps.proofs.ListSteps.{word-more}
+use Rattle.sweeps.proofs.values.others.Goals as goal
+
+pub loop-word-init : goal.loop-word-init
+unfolding word_values
+loop-word-init c = c.new-values.ensures.items
+
+pub loop-word-preserved : goal.loop-word-preserved
+loop-word-preserved c =
+    let words = c.args.words.now in
+    let i = c.loop-word.word-index in
+    let word = get_or words i 0 in
+    c.in_ok-push_if.ensures
+    ∙ ap (λ values. values ++ (if not (word == c.args.old) then word ∷ [] else [])) c.loop-word.invariant
+    ∙ sym (word-more c.args.old (take i words) word)
+    ∙ ap (word_values c.args.old) (sym (take_more words i 0 c.loop-word-test.true))

@@ -1,0 +1,4 @@
+pub mod Plans
+pub mod Outcomes
+pub mod Tables
+pub mod Sweeps

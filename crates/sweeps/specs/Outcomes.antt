@@ -1,0 +1,39 @@
+-- What an edit comes to: the outcome of one run from step zero with that edit alone, and how many steps were made for it.
+use Rattle.std.specs.Prelude.{◌≡◌, ℕ, ◌-◌, Bool, List, [], ◌∷◌, fold, min, sum_by}
+use Rattle.checkpoints.specs.Forks.{IsLastUnshown}
+use Rattle.scenario.specs.Edits.{row}
+use Rattle.scenario.specs.Scenario.{Scenario, IsOutlineOf, run_of}
+use Rattle.tallies.specs.Tallied.{with_text}
+use Rattle.sweeps.specs.Plans.{edit_of}
+use Rattle.sweeps.specs.declared.change.Change.{Change}
+
+-- a text is the outcome of a change: the outline of the scenario with that edit
+unfoldable pub IsOutcome : Bool → Scenario → Change → List ℕ → Type 0
+IsOutcome with_output sc change text = IsOutlineOf with_output (row sc (edit_of change)).after text
+
+-- so many steps are made for a change: those from the last one on at which it doesn't show yet, up to the chosen one
+unfoldable pub TakesSteps : Scenario → Change → ℕ → Type 0
+TakesSteps sc change steps = (from : ℕ) × IsLastUnshown (row sc (edit_of change)).effect (run_of sc) sc.step from × (steps ≡ sc.step - from)
+
+-- a change, its outcome, and the steps that were made for it
+pub record Met : Type 0 where
+  pub change : Change
+  pub outcome : List ℕ
+  pub steps : ℕ
+
+-- each has the outcome and the steps of its change
+abbrev pub AreMet : Bool → Scenario → List Met → Type 0
+AreMet with_output sc [] = Unit {0}
+AreMet with_output sc (m ∷ ms) = (IsOutcome with_output sc m.change m.outcome × TakesSteps sc m.change m.steps) × AreMet with_output sc ms
+
+-- the distinct outcomes in order of first occurrence, from the unedited run's on, each with the number of edits that lead to it
+unfoldable pub tallied : List ℕ → List Met → List (List ℕ × ℕ)
+tallied first met = fold (λ entries (m : Met). with_text entries m.outcome) ((first, 0) ∷ []) met
+
+-- a number that stands still at the greatest 64-bit one
+abbrev pub standing : ℕ → ℕ
+standing n = min n 18446744073709551615
+
+-- how many steps were made for all of them
+abbrev pub steps_of : List Met → ℕ
+steps_of met = sum_by (λ (m : Met). m.steps) met

@@ -1,0 +1,64 @@
+-- The table of a sweep: for each edit a row with the number of its outcome, and before the first row of a number what the outcome is.
+use Rattle.std.specs.Prelude.{ℕ, ◌+◌, Bool, if◌then◌else◌, List, [], ◌∷◌, ◌++◌, codes, length}
+use Rattle.std.specs.Fmt.{decimal}
+use Rattle.replay_report.specs.Text.{address_text, newline}
+use Rattle.tallies.specs.Tallied.{counts_of, is_met, number_of, with_text}
+use Rattle.tallies.specs.declared.Found.{Found}
+use Rattle.sweeps.specs.Outcomes.{Met, standing, steps_of, tallied}
+use Rattle.sweeps.specs.declared.change.Change.{Change}
+use Rattle.sweeps.specs.declared.change.Change.TheVariants.{Byte, Word}
+
+-- a change, as a line of a session makes it: `input OFFSET BYTE` or `patch ADDR WORD`
+unfoldable pub change_text : Change → List ℕ
+change_text (Byte offset byte) = codes "input " ++ decimal offset ++ codes " " ++ decimal byte
+change_text (Word addr word) = codes "patch " ++ address_text addr ++ codes " " ++ address_text word
+
+-- the row of a change whose outcome has a number
+unfoldable pub change_row : Change → ℕ → List ℕ
+change_row change number = change_text change ++ codes " " ++ decimal number ++ newline
+
+-- what an outcome is
+unfoldable pub outcome_lines : ℕ → List ℕ → List ℕ
+outcome_lines number outcome = codes "outcome " ++ decimal number ++ newline ++ outcome
+
+-- the unedited run's outcome, which has number 0
+unfoldable pub first_lines : List ℕ → List ℕ
+first_lines first = outcome_lines 0 first ++ codes "unedited 0\n"
+
+-- what is written for one more change: by the number of its outcome, and whether that was met before
+abbrev pub text_with : Bool → ℕ → Change → List ℕ → List ℕ
+text_with is_met number change outcome = (if is_met then [] else outcome_lines number outcome) ++ change_row change number
+
+abbrev pub found_text : Found → Change → List ℕ → List ℕ
+found_text found change outcome = text_with found.is_met found.number change outcome
+
+unfoldable pub met_text : List (List ℕ × ℕ) → Change → List ℕ → List ℕ
+met_text entries change outcome = text_with (is_met entries outcome) (number_of entries outcome) change outcome
+
+-- and for some, after others
+unfoldable pub rows_after : List (List ℕ × ℕ) → List Met → List ℕ
+rows_after entries [] = []
+rows_after entries (m ∷ ms) = met_text entries m.change m.outcome ++ rows_after (with_text entries m.outcome) ms
+
+-- `tally NUMBER COUNT` of each outcome, from a number on
+unfoldable pub tally_line : ℕ → ℕ → List ℕ
+tally_line number count = codes "tally " ++ decimal number ++ codes " " ++ decimal count ++ newline
+
+unfoldable pub tally_lines : ℕ → List ℕ → List ℕ
+tally_lines number [] = []
+tally_lines number (count ∷ counts) = tally_line number count ++ tally_lines (number + 1) counts
+
+-- `end EDITS OUTCOMES STEPS`
+unfoldable pub end_line : ℕ → ℕ → ℕ → List ℕ
+end_line edits outcomes steps = codes "end " ++ decimal edits ++ codes " " ++ decimal outcomes ++ codes " " ++ decimal steps ++ newline
+
+-- what ends a table of so many edits, for which so many steps were made
+unfoldable pub total_lines : List (List ℕ × ℕ) → ℕ → ℕ → List ℕ
+total_lines entries edits steps = tally_lines 0 (counts_of entries) ++ end_line edits (length entries) steps
+
+-- the rows of a table, and a whole one but for its head
+unfoldable pub rows_text : List ℕ → List Met → List ℕ
+rows_text first met = first_lines first ++ rows_after ((first, 0) ∷ []) met
+
+unfoldable pub table_text : List ℕ → List Met → List ℕ
+table_text first met = rows_text first met ++ total_lines (tallied first met) (standing (length met)) (standing (steps_of met))

@@ -1,0 +1,43 @@
+//! Every edit of a run alone: what each changed byte of an input, and each changed word of a program, comes to.
+//!
+//! A [`Sweep`] goes over the places of a [`Plan`] one after another. At each it makes every edit that is asked for, alone, and appends the
+//! edit's row of the table: the line of a session that makes it, and the number of its outcome.
+//!
+//! # Public items
+//!
+//! | Call | What it does |
+//! |---|---|
+//! | [`Sweep::begin`] | makes the unedited run, and appends its outcome |
+//! | [`Sweep::visit`] | makes each edit of a place, and appends its row, after what its outcome is where that is new |
+//! | [`Sweep::finish`] | appends how many edits lead to each outcome, and how many edits, outcomes and steps there were |
+//! | [`has_word`] | whether some of the words of a program that are named is loaded whole |
+//! | [`Plan::places`] | how many places there are |
+//! | [`Change::edit`] | the edit of a scenario that a change is |
+//!
+//! # What a caller relies on
+//!
+//! Each outcome is the outline of **one run from step zero of the scenario with that edit alone** (`IsOutcome`); no outcome of another
+//! edit, and nothing that is left of one, is in it. Outcomes are numbered in order of first occurrence. A sweep knows what it has met
+//! (`HasMet`): `visit` adds the changes of its place (`changes_from`), in order. Where memory is wanting, what was appended is not to be
+//! used, and the sweep neither; its scenario is as it was.
+//!
+//! # Where the definitions stand
+//!
+//! In `specs/`: `Plans` (the places and the changes at each), `Outcomes` (what a change comes to), `Tables` (the text), `Sweeps` (what a
+//! sweep has met).
+#![tactic(auto)]
+
+mod change;
+mod counting;
+mod loaded;
+mod meeting;
+mod outcomes;
+mod plan;
+mod rows;
+mod sweep;
+mod values;
+
+pub use change::Change;
+pub use loaded::has_word;
+pub use plan::{ByteValues, Places, Plan, WordValues};
+pub use sweep::Sweep;

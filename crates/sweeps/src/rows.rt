@@ -1,0 +1,108 @@
+//! The lines of a table.
+ghost use Rattle.std.specs.Prelude.{◌≡◌, ◌++◌, [], OnOk, if◌then◌else◌, length};
+ghost use Rattle.sweeps.specs.Tables.{change_text, change_row, outcome_lines, first_lines, tally_line, tally_lines, end_line};
+
+use crate::change::Change;
+use replay_report::{push_address, push_number};
+use std::alloc::AllocError;
+
+/// Bytes put at the end.
+fn push_text(out: &mut Vec<u8>, text: &[u8]) -> Result<(), AllocError>
+    ensures { OnOk result (out.new.items ≡ out.old.items ++ text.now) }
+{
+    out.extend_from_slice(text)?;
+    Ok(())
+}
+
+/// A change, as a line of a session makes it.
+#[tactic(auto, unfolding(crate::specs::Tables::change_text), using(std::proofs::Common::append_assoc))]
+fn push_change(out: &mut Vec<u8>, change: Change) -> Result<(), AllocError>
+    ensures { OnOk result (out.new.items ≡ out.old.items ++ change_text change) }
+{
+    match change {
+        Change::Byte { offset, byte } => {
+            push_text(out, b"input ")?;
+            push_number(out, u64::from(offset))?;
+            push_text(out, b" ")?;
+            push_number(out, u64::from(byte))
+        }
+        Change::Word { addr, word } => {
+            push_text(out, b"patch ")?;
+            push_address(out, addr)?;
+            push_text(out, b" ")?;
+            push_address(out, word)
+        }
+    }
+}
+
+/// The row of a change.
+#[tactic(auto, unfolding(crate::specs::Tables::change_row), using(std::proofs::Common::append_assoc))]
+pub(crate) fn push_row(out: &mut Vec<u8>, change: Change, number: u64) -> Result<(), AllocError>
+    ensures { OnOk result (out.new.items ≡ out.old.items ++ change_row change number) }
+{
+    push_change(out, change)?;
+    push_text(out, b" ")?;
+    push_number(out, number)?;
+    push_text(out, b"\n")
+}
+
+/// What an outcome is.
+#[tactic(auto, unfolding(crate::specs::Tables::outcome_lines), using(std::proofs::Common::append_assoc))]
+pub(crate) fn push_outcome(out: &mut Vec<u8>, number: u64, outcome: &[u8]) -> Result<(), AllocError>
+    ensures { OnOk result (out.new.items ≡ out.old.items ++ outcome_lines number outcome.now) }
+{
+    push_text(out, b"outcome ")?;
+    push_number(out, number)?;
+    push_text(out, b"\n")?;
+    push_text(out, outcome)
+}
+
+/// What the unedited run comes to.
+#[tactic(auto, unfolding(crate::specs::Tables::first_lines), using(std::proofs::Common::append_assoc))]
+pub(crate) fn push_first(out: &mut Vec<u8>, outcome: &[u8]) -> Result<(), AllocError>
+    ensures { OnOk result (out.new.items ≡ out.old.items ++ first_lines outcome.now) }
+{
+    push_outcome(out, 0, outcome)?;
+    push_text(out, b"unedited 0\n")
+}
+
+/// How many edits lead to an outcome.
+#[tactic(auto, unfolding(crate::specs::Tables::tally_line), using(std::proofs::Common::append_assoc))]
+fn push_tally(out: &mut Vec<u8>, number: u64, count: u64) -> Result<(), AllocError>
+    ensures { OnOk result (out.new.items ≡ out.old.items ++ tally_line number count) }
+{
+    push_text(out, b"tally ")?;
+    push_number(out, number)?;
+    push_text(out, b" ")?;
+    push_number(out, count)?;
+    push_text(out, b"\n")
+}
+
+/// The same for each outcome.
+pub(crate) fn push_tallies(out: &mut Vec<u8>, counts: &[u64]) -> Result<(), AllocError>
+    ensures { OnOk result (out.new.items ≡ out.old.items ++ tally_lines 0 counts.now) }
+{
+    for (number, count) in counts.iter().enumerate() {
+        push_tally(out, number as u64, *count)?;
+    }
+    Ok(())
+}
+
+/// The last line.
+#[tactic(auto, unfolding(crate::specs::Tables::end_line), using(std::proofs::Common::append_assoc))]
+pub(crate) fn push_end(
+    out: &mut Vec<u8>,
+    edits: u64,
+    outcomes: u64,
+    steps: u64,
+) -> Result<(), AllocError>
+    ensures { OnOk result (out.new.items ≡ out.old.items ++ end_line edits outcomes steps) }
+{
+    push_text(out, b"end ")?;
+    push_number(out, edits)?;
+    push_text(out, b" ")?;
+    push_number(out, outcomes)?;
+    push_text(out, b" ")?;
+    push_number(out, steps)?;
+    push_text(out, b"\n")
+}

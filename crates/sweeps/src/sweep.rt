@@ -1,0 +1,155 @@
+//! A sweep, and one place of it.
+ghost use Rattle.std.specs.Prelude.{◌≡◌, ◌≤◌};
+ghost use Rattle.checkpoints.specs.Edits.{IsRightForRun};
+ghost use Rattle.checkpoints.specs.OneProof.{right-prop, shows-prop};
+ghost use Rattle.checkpoints.specs.Trails.{LoadsAs};
+ghost use Rattle.guest_machine.specs.Shows.{Shows};
+ghost use Rattle.scenario.specs.Limits.{most_steps};
+ghost use Rattle.scenario.specs.Scenario.{first_state, run_of};
+
+use crate::change::Change;
+use crate::counting::Counts;
+use crate::meeting::{Spot, meet_each};
+use crate::outcomes::fork_at;
+use crate::plan::{Place, Plan};
+use crate::rows::push_first;
+use checkpoints::Trail;
+use guest_elf::Image;
+use guest_machine::Machine;
+use scenario::{Edit, Scenario};
+use std::alloc::{AllocError, Global};
+use suppressions::Suppression;
+use tallies::Tallies;
+
+/// A run whose edits are made one after another, each alone; what they have come to so far; and how many edits and steps were made.
+#[derive(Drop)]
+pub struct Sweep<'a> {
+    alloc: Global,
+    scenario: Scenario<'a>,
+    trail: Trail,
+    ghost loads: { LoadsAs trail scenario.image },
+    ghost right: { IsRightForRun trail (run_of scenario) } by { right-prop trail (run_of scenario) },
+    ghost near: { scenario.step ≤ most_steps },
+    start: Machine,
+    ghost starts: { Shows start (first_state scenario) } by { shows-prop start (first_state scenario) },
+    input: Vec<u8>,
+    ghost copied: { input.items ≡ scenario.setup.input },
+    with_output: bool,
+    counts: Counts,
+}
+
+impl<'a> Sweep<'a> {
+    ghost use Rattle.std.specs.Prelude.{◌≡◌, ◌≤◌, ◌++◌, [], ℕ, List, IfOk, OnOk, length, map};
+    ghost use Rattle.scenario.specs.Limits.{longest_input};
+    ghost use Rattle.scenario.specs.Scenario.{at_step, begun};
+    ghost use Rattle.sweeps.specs.Outcomes.{Met};
+    ghost use Rattle.sweeps.specs.Plans.{changes_by, standing_at, standing_byte, standing_word};
+    ghost use Rattle.sweeps.specs.Sweeps.{HasMet, scenario_of, tells_output};
+    ghost use Rattle.sweeps.specs.Tables.{rows_text, table_text};
+
+    /// A sweep of a program with an input and suppressions at a step: its unedited run is made, and its outcome appended.
+    #[tactic(auto, unfolding(crate::specs::Sweeps::scenario_of, crate::specs::Sweeps::tells_output))]
+    pub fn begin(
+        alloc: Global,
+        image: Image<'a>,
+        input: Vec<u8>,
+        suppressions: Vec<Suppression>,
+        step: u32,
+        with_output: bool,
+        out: &mut Vec<u8>,
+    ) -> Result<Self, AllocError>
+        requires short { length input.items ≤ longest_input }
+        requires near { step ≤ most_steps }
+        ensures scenario { IfOk result (λ sweep. scenario_of sweep ≡ at_step (begun image.entry input.items suppressions.items) step) }
+        ensures output { IfOk result (λ sweep. tells_output sweep ≡ with_output) }
+        ensures met { IfOk result (λ sweep. (first : List ℕ) × HasMet sweep first [] × (out.new.items ≡ out.old.items ++ rows_text first [])) }
+    {
+        let start = Machine::start(alloc, &image)?;
+        let mut trail = Trail::begin(alloc, &image)?;
+        let copy = input.as_slice().to_vec(alloc)?;
+        let mut scenario = Scenario::begin(alloc, image, input, suppressions)?;
+        scenario.choose(step);
+        let machine = trail.at(step, scenario.setup(), scenario.marks())?;
+        let first = scenario.outline(&machine, with_output)?;
+        push_first(out, &first)?;
+        let tallies = Tallies::begin(alloc, first)?;
+        Ok(Sweep {
+            alloc,
+            scenario,
+            trail,
+            start,
+            input: copy,
+            with_output,
+            counts: Counts {
+                tallies,
+                edits: 0,
+                steps: 0,
+            },
+        })
+    }
+
+    /// What stands at a byte of the input, if there is one.
+    #[tactic(auto, unfolding(crate::specs::Sweeps::scenario_of, crate::specs::Plans::standing_byte))]
+    fn standing_byte(&self, offset: u32) -> Option<Change>
+        ensures { result ≡ standing_byte (scenario_of self.now) offset }
+    {
+        let byte = *self.input.get(offset as usize)?;
+        Some(Change::Byte { offset, byte })
+    }
+
+    /// What stands at a word of the program, if it is loaded whole.
+    #[tactic(auto, unfolding(crate::specs::Sweeps::scenario_of, crate::specs::Plans::standing_word))]
+    fn standing_word(&self, addr: u32) -> Option<Change>
+        ensures { result ≡ standing_word (scenario_of self.now) addr }
+    {
+        let nothing = Edit::Patch { addr, word: 0 };
+        if self.scenario.refusal(&nothing).is_some() {
+            return None;
+        }
+        let word = self.start.memory().load(addr, 4).value;
+        Some(Change::Word { addr, word })
+    }
+
+    /// What stands at a place, if something does.
+    fn standing_at(&self, plan: &Plan, place: u64) -> Option<Change>
+        ensures { result ≡ standing_at (scenario_of self.now) plan.now place }
+    {
+        match plan.place(place) {
+            Place::Byte(offset) => self.standing_byte(offset),
+            Place::Word(addr) => self.standing_word(addr),
+            Place::Nowhere => None,
+        }
+    }
+
+    /// Makes each edit of a place alone, and appends its row, after what its outcome is where that is new.
+    #[tactic(auto, unfolding(crate::specs::Sweeps::scenario_of, crate::specs::Sweeps::tells_output))]
+    pub fn visit(&mut self, plan: &Plan, place: u64, out: &mut Vec<u8>) -> Result<(), AllocError>
+        ensures scenario { scenario_of self.new ≡ scenario_of self.old }
+        ensures output { tells_output self.new ≡ tells_output self.old }
+        ensures met { OnOk result ((first : List ℕ) (met : List Met) → HasMet self.old first met
+            → (more : List Met) × (map (λ (m : Met). m.change) more ≡ changes_by plan.now (standing_at (scenario_of self.old) plan.now place))
+            × HasMet self.new first (met ++ more)
+            × ((text : List ℕ) × (out.new.items ≡ out.old.items ++ text) × (rows_text first (met ++ more) ≡ rows_text first met ++ text))) }
+    {
+        let Some(standing) = self.standing_at(plan, place) else {
+            return Ok(());
+        };
+        let values = plan.values(self.alloc, standing)?;
+        let fork = fork_at(&mut self.trail, &self.scenario, standing)?;
+        let spot = Spot {
+            standing,
+            fork: &fork,
+            with_output: self.with_output,
+        };
+        meet_each(&mut self.scenario, &mut self.counts, &spot, &values, out)
+    }
+
+    /// Appends how many edits lead to each outcome, and how many edits, outcomes and steps there were.
+    #[tactic(auto, unfolding(crate::specs::Tables::table_text, crate::specs::Sweeps::HasMet))]
+    pub fn finish(&self, out: &mut Vec<u8>) -> Result<(), AllocError>
+        ensures { OnOk result ((first : List ℕ) (met : List Met) → HasMet self.now first met
+            → (text : List ℕ) × (out.new.items ≡ out.old.items ++ text) × (table_text first met ≡ rows_text first met ++ text)) }
+    {
+        self.counts.push_totals(self.alloc, out)
+    }
+}
