@@ -3,7 +3,7 @@ use Rattle.std.proofs.Common.{◌≡◌, ◌∙◌, ℕ, ◌+◌, ◌<◌, ◌�
 use Rattle.std.proofs.lemmas.List.{length-take, take_all}
 use Rattle.scenario.specs.Limits.{longest_input}
 use Rattle.driver.specs.Carried.{Giving, IsFront, HasInput, HasRules, NoInput, NoRules, longest_text}
-use Rattle.driver.specs.declared.ends.End.TheVariants.{InputTooLarge, Suppressions, SuppressionsTooLong}
+use Rattle.driver.specs.declared.ends.End.TheVariants.{InputTooLarge, Suppressions}
 use Rattle.suppressions.specs.Rules.{Rule}
 use Rattle.suppressions.specs.Texts.{faults, rules, IsLeast}
 use Rattle.suppressions.specs.declared.fault.SuppFault.{SuppFault}
@@ -38,20 +38,14 @@ pub large-input : (gives : Giving) (named : Option (List ℕ)) (path front : Lis
 large-input gives named path front is (bytes, gave, told) more =
     subst (λ (option : Option (List ℕ)). NoInput gives option InputTooLarge) (sym is) (bytes, gave, long longest_input bytes front told more)
 
-pub has-rules : (gives : Giving) (named : Option (List ℕ)) (path front : List ℕ) (list : List Rule) → named ≡ Some path → IsFront gives path longest_text front
-    → length front ≤ longest_text → faults front ≡ [] → list ≡ rules front → HasRules gives named list
-has-rules gives named path front list is read fits none are =
-    subst (λ (option : Option (List ℕ)). HasRules gives option list) (sym is) (front, given gives path longest_text front read fits, fits, none, are)
+pub has-rules : (gives : Giving) (named : Option (List ℕ)) (path text : List ℕ) (list : List Rule) → named ≡ Some path → gives path (Some text)
+    → length text ≤ longest_text → faults text ≡ [] → list ≡ rules text → HasRules gives named list
+has-rules gives named path text list is gave fits none are =
+    subst (λ (option : Option (List ℕ)). HasRules gives option list) (sym is) (text, gave, fits, none, are)
 
-pub long-text : (gives : Giving) (named : Option (List ℕ)) (path front : List ℕ) → named ≡ Some path → IsFront gives path longest_text front
-    → longest_text < length front → NoRules gives named SuppressionsTooLong
-long-text gives named path front is (bytes, gave, told) more =
-    subst (λ (option : Option (List ℕ)). NoRules gives option SuppressionsTooLong) (sym is) (bytes, gave, long longest_text bytes front told more)
-
-pub bad-text : (gives : Giving) (named : Option (List ℕ)) (path front : List ℕ) (fault : SuppFault) → named ≡ Some path → IsFront gives path longest_text front
-    → length front ≤ longest_text → ((line : ℕ) → fault ≡ Supp.BadSuppression line → IsLeast line (faults front)) → NoRules gives named (Suppressions fault)
-bad-text gives named path front Supp.Memory is read fits least =
-    subst (λ (option : Option (List ℕ)). NoRules gives option (Suppressions Supp.Memory)) (sym is) (front, given gives path longest_text front read fits, fits)
-bad-text gives named path front (Supp.BadSuppression line) is read fits least =
-    subst (λ (option : Option (List ℕ)). NoRules gives option (Suppressions (Supp.BadSuppression line))) (sym is)
-    (front, given gives path longest_text front read fits, fits, least line refl)
+pub bad-text : (gives : Giving) (named : Option (List ℕ)) (path text : List ℕ) (fault : SuppFault) → named ≡ Some path → gives path (Some text)
+    → length text ≤ longest_text → ((line : ℕ) → fault ≡ Supp.BadSuppression line → IsLeast line (faults text)) → NoRules gives named (Suppressions fault)
+bad-text gives named path text Supp.Memory is gave fits least =
+    subst (λ (option : Option (List ℕ)). NoRules gives option (Suppressions Supp.Memory)) (sym is) (text, gave, fits)
+bad-text gives named path text (Supp.BadSuppression line) is gave fits least =
+    subst (λ (option : Option (List ℕ)). NoRules gives option (Suppressions (Supp.BadSuppression line))) (sym is) (text, gave, fits, least line refl)

@@ -2,3 +2,10 @@ pub mod RunSteps
 pub mod Fronts
 pub mod Pieces
 pub mod Stages
+pub mod TableSteps
+pub mod Numerals
+pub mod Decimals
+pub mod Hexadecimals
+pub mod LineFields
+pub mod RowLines
+pub mod StreamSteps

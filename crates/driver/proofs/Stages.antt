@@ -3,7 +3,7 @@ use Rattle.std.proofs.Common.{◌≡◌, ◌⊎◌, ℕ, List, Option, Some, Non
 use Rattle.std.proofs.KnownBytes.{Appends-nil, Consumes-nil}
 use Rattle.std.specs.Io.KnownBytes.{Appends, Consumes}
 use Rattle.command_line.specs.Orders.{input_path, rules_path}
-use Rattle.command_line.specs.declared.arguments.Order.{Order}
+use Rattle.command_line.specs.declared.order.Order.{Order}
 use Rattle.guest_elf.specs.File.{IsImageOf, early_refusal, refusal}
 use Rattle.guest_elf.specs.declared.fault.ElfFault.{ElfFault}
 use Rattle.guest_elf.specs.declared.fault.ElfFault.TheVariants.{Memory}
@@ -44,17 +44,17 @@ no-image gives path front bytes fault read same refused least = (
 )
 
 -- where the file gives a program, what becomes of it is what becomes of the command
-pub with-image : (gives : Giving) (order : Order) (front bytes : List ℕ) (image : ProgramImage) (old new : Streams) (end : End)
-    → IsFront gives order.file.now most_judged front → bytes ≡ front → IsImageOf bytes image → CarriedWithImage gives order image old new end → Carried gives order old new end
-with-image gives order front bytes image old new end read same is carried =
+pub with-image : (gives : Giving) (order : Order) (step : Option ℕ) (front bytes : List ℕ) (image : ProgramImage) (old new : Streams) (end : End)
+    → IsFront gives order.file.now most_judged front → bytes ≡ front → IsImageOf bytes image → CarriedWithImage gives order step image old new end → Carried gives order step old new end
+with-image gives order step front bytes image old new end read same is carried =
     inr (image, (front, read, subst (λ (xs : List ℕ). IsImageOf xs image) same is), carried)
 
 -- where all files give what is wanted, what is asked for is done
-pub with-all : (gives : Giving) (order : Order) (front bytes : List ℕ) (image : ProgramImage) (list : List Rule) (input : List ℕ) (old new : Streams) (end : End)
+pub with-all : (gives : Giving) (order : Order) (step : Option ℕ) (front bytes : List ℕ) (image : ProgramImage) (list : List Rule) (input : List ℕ) (old new : Streams) (end : End)
     → IsFront gives order.file.now most_judged front → bytes ≡ front → IsImageOf bytes image
-    → HasRules gives (rules_path order) list → HasInput gives (input_path order) input → Does order.step image list input old new end → Carried gives order old new end
-with-all gives order front bytes image list input old new end read same is rules given does =
-    with-image gives order front bytes image old new end read same is (inr (list, rules, inr (input, given, does)))
+    → HasRules gives (rules_path order) list → HasInput gives (input_path order) input → Does step image list input old new end → Carried gives order step old new end
+with-all gives order step front bytes image list input old new end read same is rules given does =
+    with-image gives order step front bytes image old new end read same is (inr (list, rules, inr (input, given, does)))
 
 pub does-report : (chosen : Option ℕ) (step : ℕ) (image : ProgramImage) (list : List Rule) (input : List ℕ) (left held-old held-new : Option (List ℕ)) (end : End) → chosen ≡ Some step
     → Reports (IsReportOnce image input list step) held-old held-new end → Does chosen image list input (streams left held-old) (streams left held-new) end

@@ -3,7 +3,7 @@
 use Rattle.std.specs.Prelude.{ℕ, ◌≡◌, ◌+◌, ◌<◌, ◌≤◌, ◌⊎◌, List, [], Option, Some, None, length, take}
 use Rattle.std.specs.Io.KnownBytes.{Appends, Consumes}
 use Rattle.command_line.specs.Orders.{input_path, rules_path}
-use Rattle.command_line.specs.declared.arguments.Order.{Order}
+use Rattle.command_line.specs.declared.order.Order.{Order}
 use Rattle.guest_elf.specs.File.{IsImageOf, refusal, early_refusal}
 use Rattle.guest_elf.specs.declared.fault.ElfFault.{ElfFault}
 use Rattle.guest_elf.specs.declared.fault.ElfFault.TheVariants as Elf
@@ -109,19 +109,20 @@ Does (Some step) image list input old new end = Consumes old.left new.left [] ×
 Does None image list input old new end = Serves (fresh (opening image input list)) old new end
 
 -- with the program and its suppressions: the input is read, and what is asked for done, or the input ends the program
-abbrev pub CarriedWithRules : Giving → Order → ProgramImage → List Rule → Streams → Streams → End → Type 0
-CarriedWithRules gives order image list old new end =
+abbrev pub CarriedWithRules : Giving → Order → Option ℕ → ProgramImage → List Rule → Streams → Streams → End → Type 0
+CarriedWithRules gives order step image list old new end =
     (NoInput gives (input_path order) end × Untouched old new)
-    ⊎ ((input : List ℕ) × HasInput gives (input_path order) input × Does order.step image list input old new end)
+    ⊎ ((input : List ℕ) × HasInput gives (input_path order) input × Does step image list input old new end)
 
 -- with the program: the suppressions are read, and then the input, or the suppressions end the program
-abbrev pub CarriedWithImage : Giving → Order → ProgramImage → Streams → Streams → End → Type 0
-CarriedWithImage gives order image old new end =
+abbrev pub CarriedWithImage : Giving → Order → Option ℕ → ProgramImage → Streams → Streams → End → Type 0
+CarriedWithImage gives order step image old new end =
     (NoRules gives (rules_path order) end × Untouched old new)
-    ⊎ ((list : List Rule) × HasRules gives (rules_path order) list × CarriedWithRules gives order image list old new end)
+    ⊎ ((list : List Rule) × HasRules gives (rules_path order) list × CarriedWithRules gives order step image list old new end)
 
--- an order was carried out: the program is read, and then its suppressions and its input, or the program's file ends the program
-abbrev pub Carried : Giving → Order → Streams → Streams → End → Type 0
-Carried gives order old new end =
+-- an order for the report of a step, or a session, was carried out: the program is read, and then its suppressions and its input, or the
+-- program's file ends the program
+abbrev pub Carried : Giving → Order → Option ℕ → Streams → Streams → End → Type 0
+Carried gives order step old new end =
     (NoImage gives order.file.now end × Untouched old new)
-    ⊎ ((image : ProgramImage) × HasImage gives order.file.now image × CarriedWithImage gives order image old new end)
+    ⊎ ((image : ProgramImage) × HasImage gives order.file.now image × CarriedWithImage gives order step image old new end)

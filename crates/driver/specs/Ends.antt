@@ -6,7 +6,9 @@ use Rattle.guest_elf.specs.declared.fault.ElfFault.{ElfFault}
 use Rattle.guest_elf.specs.declared.fault.ElfFault.TheVariants.{Memory}
 use Rattle.driver.specs.declared.ends.End.{End}
 use Rattle.driver.specs.declared.ends.End.TheVariants.{Done, CannotRead, CannotReadInput, CannotWrite, Usage, NotText}
-use Rattle.driver.specs.declared.ends.End.TheVariants.{Image, Suppressions, SuppressionsTooLong, InputTooLarge, NoMemory}
+use Rattle.driver.specs.declared.ends.End.TheVariants.{BadText, BytesRefused, WordsRefused, Image, Suppressions, SuppressionsTooLong, InputTooLarge, NoMemory}
+use Rattle.driver.specs.declared.ends.SweepOption.{SweepOption}
+use Rattle.driver.specs.declared.ends.SweepOption.TheVariants as Sweep
 use Rattle.replay_session.specs.declared.fault.BeginFault.{BeginFault}
 use Rattle.replay_session.specs.declared.fault.BeginFault.TheVariants as Begin
 use Rattle.replay_session.specs.declared.serving.ServeFault.{ServeFault}
@@ -23,6 +25,9 @@ status_of CannotReadInput = 1
 status_of CannotWrite = 1
 status_of Usage = 2
 status_of NotText = 2
+status_of (BadText option text) = 2
+status_of BytesRefused = 3
+status_of WordsRefused = 3
 status_of (Image Memory) = 4
 status_of (Image fault) = 3
 status_of (Suppressions Supp.Memory) = 4
@@ -43,6 +48,14 @@ abbrev pub image_line : ElfFault → List ℕ
 image_line Memory = no_memory_line
 image_line fault = line_with (codes "replaycheck: image refused ") (decimal (number_of fault))
 
+-- what the line says of an option of a sweep, before the text that it was given
+abbrev pub complaint : SweepOption → List ℕ
+complaint Sweep.Bytes = codes "replaycheck: no range, list or part: --bytes "
+complaint Sweep.Values = codes "replaycheck: no range, list or part: --values "
+complaint Sweep.Words = codes "replaycheck: no range, list or part: --words "
+complaint Sweep.WordsValues = codes "replaycheck: no range, list or part: --words-values "
+complaint Sweep.Part = codes "replaycheck: no range, list or part: --part "
+
 -- the line on standard error: none where all is done, and none for the command line, whose parser has written it
 abbrev pub line_of : End → List ℕ
 line_of Done = []
@@ -51,6 +64,9 @@ line_of CannotReadInput = line_with (codes "replaycheck: cannot read standard in
 line_of CannotWrite = line_with (codes "replaycheck: cannot write") []
 line_of Usage = []
 line_of NotText = line_with (codes "error: invalid UTF-8 was detected in one or more arguments") []
+line_of (BadText option text) = line_with (complaint option) text.now
+line_of BytesRefused = line_with (codes "replaycheck: bytes refused 3") []
+line_of WordsRefused = line_with (codes "replaycheck: words refused 4") []
 line_of (Image fault) = image_line fault
 line_of (Suppressions Supp.Memory) = no_memory_line
 line_of (Suppressions (Supp.BadSuppression line)) = line_with (codes "replaycheck: suppressions refused 13 at line ") (decimal line)

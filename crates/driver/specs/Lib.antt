@@ -2,3 +2,8 @@ pub mod Once
 pub mod Ends
 pub mod Opened
 pub mod Carried
+pub mod Requests
+pub mod Planned
+pub mod Swept
+pub mod Sweeping
+pub mod Laws

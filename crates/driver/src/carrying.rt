@@ -1,18 +1,21 @@
 //! A command on a program is carried out: its files are read, and a report printed or a session served.
-ghost use Rattle.std.specs.Prelude.{◌≡◌, ◌≤◌, ◌<◌, ◌^◌, IfOk, IfErr, length, option_map};
+ghost use Rattle.std.specs.Prelude.{◌≡◌, ◌≤◌, ◌<◌, ◌^◌, Some, IfOk, IfErr, length, option_map};
 ghost use Rattle.replay_session.specs.Stages.{fresh};
 ghost use Rattle.replay_session.specs.Turns.{opening};
 ghost use Rattle.driver.specs.Carried.{Carried, HasInput, HasRules, IsFront, NoBytes, NoInput, NoRules, Reports, Serves, streams};
+ghost use Rattle.driver.specs.Sweeping.{CarriedOut, CarriedSweep, HasStream, HasSweepInput, HasText, is_stream, NoStream, NoSweepInput, NoText};
 ghost use Rattle.driver.specs.Ends.{end_of};
 ghost use Rattle.driver.specs.Once.{IsReportOnce};
 ghost use Rattle.scenario.specs.Limits.{longest_input};
 
 use crate::ends::End;
-use crate::files::{Files, ReadFault};
+use crate::files::{Files, ReadFault, front_of};
 use crate::reporting::run_once;
-use command_line::Order;
+use crate::sweeping::request::Request;
+use crate::sweeping::sweep_program;
+use command_line::{Order, SweepWords, Task};
 use guest_elf::{Image, read};
-use replay_session::{LONGEST_INPUT, Session, serve};
+use replay_session::{LONGEST_INPUT, MOST_STEPS, Session, serve};
 use std::alloc::Global;
 use std::io::{Read, Write};
 use suppressions::{Suppression, TEXT_LIMIT, parse};
@@ -39,6 +42,18 @@ fn read_front<'a, F: Files>(
     }
 }
 
+/// The text of a file of suppressions.
+fn read_text<'a, F: Files>(alloc: Global, files: &F, path: &'a str) -> Result<Vec<u8>, End<'a>>
+    ensures ok { IfOk result (λ text. HasText (F.gives files.now) (Some path.entry.now) text.items) }
+    ensures err { IfErr result (NoText (F.gives files.now) (Some path.entry.now)) }
+{
+    let text = read_front(alloc, files, path, TEXT_LIMIT)?;
+    if text.len() > TEXT_LIMIT {
+        return Err(End::SuppressionsTooLong);
+    }
+    Ok(text)
+}
+
 /// The suppressions of a file, if one is named.
 fn read_suppressions<'a, F: Files>(
     alloc: Global,
@@ -51,11 +66,42 @@ fn read_suppressions<'a, F: Files>(
     let Some(path) = path else {
         return Ok(Vec::new(alloc));
     };
-    let text = read_front(alloc, files, path, TEXT_LIMIT)?;
-    if text.len() > TEXT_LIMIT {
-        return Err(End::SuppressionsTooLong);
-    }
+    let text = read_text(alloc, files, path)?;
     Ok(parse(alloc, &text)?)
+}
+
+/// The text of a file of suppressions, or none where no file is named.
+fn read_named_text<'a, F: Files>(
+    alloc: Global,
+    files: &F,
+    path: Option<&'a str>,
+) -> Result<Vec<u8>, End<'a>>
+    ensures ok { IfOk result (λ text. HasText (F.gives files.now) (option_map (λ path. path.now) path.entry) text.items) }
+    ensures err { IfErr result (NoText (F.gives files.now) (option_map (λ path. path.now) path.entry)) }
+{
+    match path {
+        Some(path) => read_text(alloc, files, path),
+        None => Ok(Vec::new(alloc)),
+    }
+}
+
+/// The bytes of an input from standard input.
+fn read_stream<'a, R: Read>(alloc: Global, reader: &mut R) -> Result<Vec<u8>, End<'a>>
+    ensures ok { IfOk result (λ input. HasStream (R.remaining reader.old) input.items) }
+    ensures err { IfErr result (NoStream (R.remaining reader.old)) }
+{
+    match front_of(alloc, reader, LONGEST_INPUT + 1) {
+        Ok(input) => {
+            if input.len() > LONGEST_INPUT {
+                return Err(End::InputTooLarge);
+            }
+            Ok(input)
+        }
+        Err(error) => match ReadFault::from(error) {
+            ReadFault::NoMemory => Err(End::NoMemory),
+            ReadFault::Unreadable => Err(End::CannotReadInput),
+        },
+    }
 }
 
 /// The bytes of the input, if a file is named.
@@ -76,6 +122,34 @@ fn read_input<'a, F: Files>(
         return Err(End::InputTooLarge);
     }
     Ok(input)
+}
+
+/// Whether an input is that of standard input, `-`.
+fn is_stream(path: Option<&str>) -> bool
+    ensures { result ≡ is_stream (option_map (λ path. path.now) path.entry) }
+{
+    match path {
+        Some(path) => path == "-",
+        None => false,
+    }
+}
+
+/// The bytes of the input of a sweep: for `-` those of standard input.
+fn read_sweep_input<'a, F: Files, R: Read>(
+    alloc: Global,
+    files: &F,
+    reader: &mut R,
+    path: Option<&'a str>,
+) -> Result<Vec<u8>, End<'a>>
+    ensures ok { IfOk result (λ input. HasSweepInput (F.gives files.now) (option_map (λ path. path.now) path.entry) (R.remaining reader.old) input.items) }
+    ensures short { IfOk result (λ input. length input.items ≤ longest_input) }
+    ensures err { IfErr result (NoSweepInput (F.gives files.now) (option_map (λ path. path.now) path.entry) (R.remaining reader.old)) }
+{
+    if is_stream(path) {
+        read_stream(alloc, reader)
+    } else {
+        read_input(alloc, files, path)
+    }
 }
 
 /// Prints the report of a program at a step.
@@ -110,24 +184,68 @@ fn serve_session<'a, R: Read, W: Write>(
     Ok(serve(session, reader, writer)?)
 }
 
-/// Follows an order: the program is read, then the suppressions, then the input, each judged before the next is read.
+/// Follows an order for the report of a step, or for a session: the program is read, then the suppressions, then the input, each judged before the next is read.
 fn follow_order<'a, F: Files, R: Read, W: Write>(
     alloc: Global,
     order: &Order<'a>,
+    step: Option<u32>,
     files: &F,
     reader: &mut R,
     writer: &mut W,
 ) -> Result<(), End<'a>>
-    ensures { Carried (F.gives files.now) order.now
+    ensures { Carried (F.gives files.now) order.now step
         (streams (R.remaining reader.old) (W.contents writer.old)) (streams (R.remaining reader.new) (W.contents writer.new)) (end_of result) }
 {
     let file = read_front(alloc, files, order.file, MOST_READ)?;
     let image = read(alloc, &file)?;
     let suppressions = read_suppressions(alloc, files, order.suppressions)?;
     let input = read_input(alloc, files, order.input)?;
-    match order.step {
+    match step {
         Some(step) => print_report(alloc, &image, input, &suppressions, step, writer),
         None => serve_session(alloc, image, input, suppressions, reader, writer),
+    }
+}
+
+/// Follows an order for a sweep: its words are read, and then the program, the suppressions and the input, each judged before the next.
+fn follow_sweep<'a, F: Files, R: Read, W: Write>(
+    alloc: Global,
+    order: &Order<'a>,
+    words: &SweepWords<'a>,
+    files: &F,
+    reader: &mut R,
+    writer: &mut W,
+) -> Result<(), End<'a>>
+    ensures { CarriedSweep (F.gives files.now) order.now words.now (streams (R.remaining reader.old) (W.contents writer.old)) (W.contents writer.new) (end_of result) }
+{
+    if words.step > MOST_STEPS {
+        return Err(End::Usage);
+    }
+    let request = Request::of(alloc, words)?;
+    let file = read_front(alloc, files, order.file, MOST_READ)?;
+    let image = read(alloc, &file)?;
+    let text = read_named_text(alloc, files, order.suppressions)?;
+    let suppressions = parse(alloc, &text)?;
+    let input = read_sweep_input(alloc, files, reader, order.input)?;
+    sweep_program(
+        alloc,
+        &file,
+        &text,
+        image,
+        input,
+        suppressions,
+        words,
+        request,
+        writer,
+    )
+}
+
+/// How the program ends with a result.
+fn ended<'a>(done: Result<(), End<'a>>) -> End<'a>
+    ensures { result ≡ end_of done.entry }
+{
+    match done {
+        Ok(()) => End::Done,
+        Err(end) => end,
     }
 }
 
@@ -139,11 +257,12 @@ pub fn carry_out<'a, F: Files, R: Read, W: Write>(
     reader: &mut R,
     writer: &mut W,
 ) -> End<'a>
-    ensures { Carried (F.gives files.now) order.now
+    ensures { CarriedOut (F.gives files.now) order.now order.now.task
         (streams (R.remaining reader.old) (W.contents writer.old)) (streams (R.remaining reader.new) (W.contents writer.new)) result }
 {
-    match follow_order(alloc, order, files, reader, writer) {
-        Ok(()) => End::Done,
-        Err(end) => end,
+    match order.task {
+        Task::Report(step) => ended(follow_order(alloc, order, Some(step), files, reader, writer)),
+        Task::Session => ended(follow_order(alloc, order, None, files, reader, writer)),
+        Task::Sweep(words) => ended(follow_sweep(alloc, order, &words, files, reader, writer)),
     }
 }

@@ -1,7 +1,7 @@
 //! How the program ends: its error line and exit status.
 ghost use Rattle.std.specs.Prelude.{◌≡◌, [], IsTrue, MatchOption};
 ghost use Rattle.std.specs.Io.KnownBytes.{Appends};
-ghost use Rattle.driver.specs.Ends.{AppendsFront, end_of_begin, end_of_run, end_of_serve, line_of, line_with, status_of};
+ghost use Rattle.driver.specs.Ends.{AppendsFront, complaint, end_of_begin, end_of_run, end_of_serve, line_of, line_with, status_of};
 ghost use Rattle.driver.specs.declared.ends.End.TheVariants.{Image, Suppressions};
 
 use crate::lines::send_line;
@@ -14,6 +14,31 @@ use suppressions::SuppFault;
 
 /// What follows the word of a line that is fixed.
 const NOTHING: &[u8] = b"";
+
+/// An option of a sweep whose text is read.
+#[derive(Clone, Copy)]
+pub enum SweepOption {
+    Bytes,
+    Values,
+    Words,
+    WordsValues,
+    Part,
+}
+
+impl SweepOption {
+    /// What an error line says before the text that the option was given.
+    fn complaint(self) -> &'static str
+        ensures { result.now ≡ complaint self }
+    {
+        match self {
+            SweepOption::Bytes => "replaycheck: no range, list or part: --bytes ",
+            SweepOption::Values => "replaycheck: no range, list or part: --values ",
+            SweepOption::Words => "replaycheck: no range, list or part: --words ",
+            SweepOption::WordsValues => "replaycheck: no range, list or part: --words-values ",
+            SweepOption::Part => "replaycheck: no range, list or part: --part ",
+        }
+    }
+}
 
 /// How the program ends. `Done` stands for help too, and `Usage` for a fault of the command line, whose text the command-line
 /// parser has written.
@@ -28,6 +53,12 @@ pub enum End<'a> {
     Usage,
     /// A word of the command line is no UTF-8.
     NotText,
+    /// What an option of a sweep was given is no range, list or part.
+    BadText { option: SweepOption, text: &'a str },
+    /// The bytes of a sweep lie outside of the input.
+    BytesRefused,
+    /// None of the words of a sweep is loaded.
+    WordsRefused,
     Image(ElfFault),
     Suppressions(SuppFault),
     /// A text of more than 1,048,576 bytes.
@@ -97,12 +128,14 @@ pub fn tell<W: Write>(end: &End, writer: &mut W) -> u8
     match end {
         End::Done => 0,
         End::CannotRead(_) | End::CannotReadInput | End::CannotWrite => 1,
-        End::Usage | End::NotText => 2,
+        End::Usage | End::NotText | End::BadText { .. } => 2,
         End::Image(ElfFault::Memory) | End::Suppressions(SuppFault::Memory) | End::NoMemory => 4,
         End::Image(_)
         | End::Suppressions(SuppFault::BadSuppression(_))
         | End::SuppressionsTooLong
-        | End::InputTooLarge => 3,
+        | End::InputTooLarge
+        | End::BytesRefused
+        | End::WordsRefused => 3,
     }
 }
 
@@ -147,6 +180,9 @@ fn pieces_of<'a>(end: End<'a>, digits: &'a mut Buffer) -> Option<(&'a str, &'a [
         }
         End::SuppressionsTooLong => ("replaycheck: suppressions refused 15", NOTHING),
         End::InputTooLarge => ("replaycheck: input refused 14", NOTHING),
+        End::BytesRefused => ("replaycheck: bytes refused 3", NOTHING),
+        End::WordsRefused => ("replaycheck: words refused 4", NOTHING),
+        End::BadText { option, text } => (option.complaint(), text.as_bytes()),
     };
     Some(pieces)
 }

@@ -61,7 +61,7 @@ pub fn read_opened<R: Read + Drop>(
 }
 
 /// The first bytes of a reader, so many at most.
-fn front_of<R: Read + Drop>(alloc: Global, reader: R, most: usize) -> io::Result<Vec<u8>>
+pub(crate) fn front_of<R: Read + Drop>(alloc: Global, reader: R, most: usize) -> io::Result<Vec<u8>>
     ensures most { IfOk result (λ front. length front.items ≤ most) }
     ensures bytes { IfOk result (λ front. IfSome (R.remaining reader) (λ bytes. front.items ≡ take most bytes)) }
 {

@@ -7,6 +7,7 @@
 //! | [`tell`] | writes the error line of an end, and answers the exit status |
 //! | [`Files`] | what gives files their bytes: the machine, or a test |
 //! | [`read_opened`] | the first bytes of a file that was opened, or a [`ReadFault`] |
+//! | [`laws::rows_are_lines`] | nothing: its contract says that the line of a sweep's row, as a session reads it, makes the row's edit |
 //!
 //! # What a caller relies on
 //!
@@ -16,17 +17,19 @@
 //! - [`tell`]: the exit status is that of the end (`status_of`), and what was written is its line (`line_of`), or a front of it.
 //!
 //! A program's file is judged by its first 67,108,865 bytes, and so whole up to 67,108,864: the number of its refusal is the least that
-//! holds of the file. The definitions stand in `specs/`: `Ends`, `Once`, `Opened` and `Carried`.
+//! holds of the file. The definitions stand in `specs/`: `Ends`, `Once`, `Opened`, `Carried` and `Laws`.
 #![tactic(auto)]
 
 mod carrying;
 mod ends;
 mod files;
+pub mod laws;
 mod lines;
 mod reporting;
+mod sweeping;
 
 pub use carrying::{MOST_READ, carry_out};
-pub use ends::{End, tell};
+pub use ends::{End, SweepOption, tell};
 pub use files::{Files, ReadFault, read_opened};
 pub use reporting::{RunFault, run_once};
 

@@ -1,7 +1,7 @@
 //! How orders are carried out and what is told of it, over files, readers and writers that fail.
 use crate::shelf::Shelf;
-use command_line::Order;
-use driver::{End, ReadFault, RunFault, carry_out, read_opened, run_once, tell};
+use command_line::{Order, SweepWords, Task};
+use driver::{End, ReadFault, RunFault, SweepOption, carry_out, read_opened, run_once, tell};
 use guest_elf::{ElfFault, read};
 use guest_programs::program;
 use replay_session::LONGEST_INPUT;
@@ -134,6 +134,16 @@ fn each_end_is_told(rt: HostRuntime) -> Result<(), Fail> {
             "replaycheck: suppressions refused 15\n",
         ),
         (End::InputTooLarge, 3, "replaycheck: input refused 14\n"),
+        (End::BytesRefused, 3, "replaycheck: bytes refused 3\n"),
+        (End::WordsRefused, 3, "replaycheck: words refused 4\n"),
+        (
+            End::BadText {
+                option: SweepOption::Bytes,
+                text: "5..x",
+            },
+            2,
+            "replaycheck: no range, list or part: --bytes 5..x\n",
+        ),
         (End::NoMemory, 4, "replaycheck: out of memory\n"),
     ] {
         for room in [1000, 24] {
@@ -152,7 +162,10 @@ fn order_of<'a>(file: &'a str, suppressions: Option<&'a str>, step: Option<u32>)
         file,
         input: None,
         suppressions,
-        step,
+        task: match step {
+            Some(step) => Task::Report(step),
+            None => Task::Session,
+        },
     }
 }
 
@@ -224,6 +237,100 @@ fn orders_are_carried_out(rt: HostRuntime) -> Result<(), Fail> {
         let (came, written) = carried(alloc, &order, rules)?;
         assert!(rt; came == status, "{label}");
         assert!(rt; written.as_slice() == want, "{label}");
+    }
+    Ok(())
+}
+
+/// An order for a sweep of the program of the shelf with its input.
+fn sweep_of<'a>(bytes: Option<&'a str>, words: Option<&'a str>, part: &'a str) -> Order<'a> {
+    Order {
+        file: "program",
+        input: Some("input"),
+        suppressions: None,
+        task: Task::Sweep(SweepWords {
+            step: 3,
+            bytes,
+            byte_values: "0,97",
+            words,
+            word_values: "0x00100513,0x513",
+            part,
+            with_output: true,
+        }),
+    }
+}
+
+/// The end of a table behind its digests: a word that makes the exit status 1; the values that stand there are no edits.
+const WORD_TABLE: &[u8] = b"
+words 0x00010000..0x0001000b 0x00100513,0x513
+step 3
+output yes
+part 2/3
+outcome 0
+exited 0
+output 0
+unedited 0
+outcome 1
+exited 1
+output 0
+patch 0x00010004 0x00100513 1
+tally 0 0
+tally 1 1
+end 1 2 2
+";
+
+/// Bytes that the program doesn't read: no step is made for them.
+const BYTE_TABLE: &[u8] = b"
+bytes 0..1 0,97
+step 3
+output yes
+part 1/1
+outcome 0
+exited 0
+output 0
+unedited 0
+input 0 0 0
+input 1 0 0
+input 1 97 0
+tally 0 3
+end 3 1 0
+";
+
+/// Sweeps, and words that no sweep has.
+#[test]
+fn sweeps_are_carried_out(rt: HostRuntime) -> Result<(), Fail> {
+    let alloc = rt.alloc();
+    for (label, order, status, want) in [
+        (
+            "words, the second of three parts",
+            sweep_of(None, Some("0x10000..0x1000b"), "2/3"),
+            0,
+            WORD_TABLE,
+        ),
+        (
+            "bytes, up to the last",
+            sweep_of(Some("0.."), None, "1/1"),
+            0,
+            BYTE_TABLE,
+        ),
+        (
+            "bytes outside of the input",
+            sweep_of(Some("1..2"), None, "1/1"),
+            3,
+            b"",
+        ),
+        (
+            "no word loaded",
+            sweep_of(None, Some("0..0xffff"), "1/1"),
+            3,
+            b"",
+        ),
+        ("no range", sweep_of(Some("2..1"), None, "1/1"), 2, b""),
+        ("no part", sweep_of(None, None, "4/3"), 2, b""),
+    ] {
+        let (came, written) = carried(alloc, &order, b"")?;
+        assert!(rt; came == status, "{label}");
+        assert!(rt; written.ends_with(want), "{label}");
+        assert!(rt; written.is_empty() == want.is_empty(), "{label}");
     }
     Ok(())
 }

@@ -1,6 +1,6 @@
 //! What lines of words ask for.
 use clap::error::ErrorKind;
-use command_line::{Order, read_order};
+use command_line::{Order, Task, read_order};
 use std::alloc::Global;
 use std::test::Fail;
 
@@ -14,13 +14,22 @@ fn words_of(alloc: Global, line: &[&str]) -> Result<Vec<String>, Fail> {
     Ok(words)
 }
 
-/// An order as a text: its files and its step, with `-` and -1 for what it leaves out.
+/// An order as a text: its files and what is asked for, with `-` for what it leaves out.
 fn text_of(alloc: Global, order: &Order<'_>) -> Result<String, Fail> {
     let file = order.file;
     let input = order.input.unwrap_or("-");
     let rules = order.suppressions.unwrap_or("-");
-    let step = order.step.map_or(-1, i64::from);
-    Ok(format!(in alloc; "{file} {input} {rules} {step}")?)
+    let task = match order.task {
+        Task::Report(step) => format!(in alloc; "{step}")?,
+        Task::Session => format!(in alloc; "session")?,
+        Task::Sweep(asked) => {
+            let (step, part, output) = (asked.step, asked.part, asked.with_output);
+            let (bytes, byte_values) = (asked.bytes.unwrap_or("-"), asked.byte_values);
+            let (words, word_values) = (asked.words.unwrap_or("-"), asked.word_values);
+            format!(in alloc; "{step} {bytes} {byte_values} {words} {word_values} {part} {output}")?
+        }
+    };
+    Ok(format!(in alloc; "{file} {input} {rules} {task}")?)
 }
 
 #[test]
@@ -41,7 +50,28 @@ fn lines_give_orders(rt: HostRuntime) -> Result<(), Fail> {
         (
             "a session with files",
             ["session", "f", "--supp", "s", "--input=i"].as_slice(),
-            "f i s -1",
+            "f i s session",
+        ),
+        (
+            "a sweep of all bytes",
+            ["sweep", "f"].as_slice(),
+            "f - - 1048576 - all - skip 1/1 false",
+        ),
+        (
+            "a sweep of bytes and words",
+            [
+                "sweep",
+                "f",
+                "--bytes=1..2",
+                "--values=edges",
+                "--words=0x4",
+                "--words-values=flips",
+                "--part=2/3",
+                "--with-output",
+                "--step=9",
+            ]
+            .as_slice(),
+            "f - - 9 1..2 edges 0x4 flips 2/3 true",
         ),
     ] {
         let words = words_of(alloc, line)?;

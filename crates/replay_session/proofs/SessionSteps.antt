@@ -1,65 +1,22 @@
 -- What each part of a line does to what was said to a session.
-use Rattle.std.proofs.Common.{◌≡◌, ℕ, ◌+◌, ◌<◌, Bool, true, false, List, ap, sym, ◌∙◌, arith, Result, Ok, Err}
+use Rattle.std.proofs.Common.{◌≡◌, Bool, true, false, ap, sym, ◌∙◌, Result, Ok, Err}
 use Rattle.std.proofs.Math.Path.{transport}
 use Rattle.std.proofs.lemmas.Bool.{false≢true}
-use Rattle.std.specs.Prelude.{OnOk, is_err, ◌^◌, ◌%◌, ◌==◌, ◌&&◌, zero, suc, is_some}
-use Rattle.std.proofs.lemmas.Bool.Decides.{nat_tests}
-use Rattle.error_events.proofs.SameKeys.{left-true, right-true}
+use Rattle.std.specs.Prelude.{OnOk, is_err, is_some}
 use Rattle.guest_elf.specs.Images.{loaded_at}
 use Rattle.guest_elf.specs.declared.image.Image.{Image}
-use Rattle.guest_machine.specs.Run.{post}
-use Rattle.guest_machine.specs.Shows.{Shows}
-use Rattle.guest_machine.specs.State.{State}
-use Rattle.guest_machine.specs.declared.machine.Machine.{Machine}
-use Rattle.guest_machine.specs.declared.setup.Setup.{Setup}
-use Rattle.guest_machine.specs.declared.setup.Mark.{Mark}
 use Rattle.checkpoints.specs.Edits.{IsRightForLed, IsRightForRun}
-use Rattle.checkpoints.specs.Effects.{LeadsTo, WritesWithin}
-use Rattle.checkpoints.specs.Trails.{IsRightFor, LoadsAs, loaded_of}
-use Rattle.checkpoints.specs.Words.{IsWordIn, is_among}
+use Rattle.checkpoints.specs.Effects.{LeadsTo}
+use Rattle.checkpoints.specs.Trails.{LoadsAs, loaded_of}
+use Rattle.checkpoints.specs.Words.{is_among}
 use Rattle.checkpoints.specs.declared.effect.Effect.{Effect}
-use Rattle.checkpoints.specs.declared.effect.Effect.TheVariants.{Word as WordAt}
 use Rattle.checkpoints.specs.declared.trail.Trail.{Trail}
-use Rattle.scenario.specs.Edits.{Follows, IsTaken, row, is_word, is_loaded, WritesLoaded}
-use Rattle.scenario.specs.Scenario.{Scenario, chosen_state, first_state, run_of}
+use Rattle.scenario.specs.Edits.{Follows, IsTaken, row}
+use Rattle.scenario.specs.Scenario.{Scenario, run_of}
 use Rattle.scenario.specs.declared.edit.Edit.{Edit as AnEdit}
 use Rattle.scenario.proofs.EditLaws.{image_kept}
-use Rattle.replay_session.specs.Turns.{after}
 
 -- ---- edits
-
--- a loaded word of an image is one of the ranges of its trail
-word-in : (trail : Trail) (image : Image) (addr : ℕ) → LoadsAs trail image → addr < 2 ^ 32 → is_word image addr ≡ true → IsWordIn (loaded_of trail) addr
-unfolding is_word
-word-in trail image addr loads small is =
-    let aligned : addr % 4 ≡ 0 = grind (arith, nat_tests) in record {
-      aligned = aligned;
-      small = small;
-      loaded = λ i h. loads (addr + i) ∙ each i h aligned;
-    }
-  where
-    tests : Bool
-    tests = is_loaded image addr 0 && (is_loaded image addr 1 && (is_loaded image addr 2 && is_loaded image addr 3))
-
-    all : tests ≡ true
-    all = right-true (addr % 4 == 0) tests is
-
-    at : (i : ℕ) → is_loaded image addr i ≡ true → (addr + i) % 2 ^ 32 ≡ addr + i → is_some (loaded_at image (addr + i)) ≡ true
-    at i h e = ap (λ a. is_some (loaded_at image a)) (sym e) ∙ h
-
-    plain : (i : ℕ) → i < 4 → addr % 4 ≡ 0 → (addr + i) % 2 ^ 32 ≡ addr + i
-    plain i h m = omega arith
-
-    each : (i : ℕ) → i < 4 → addr % 4 ≡ 0 → is_some (loaded_at image (addr + i)) ≡ true
-    each zero h m = at 0 (left-true (is_loaded image addr 0) _ all) (plain 0 h m)
-    each (suc zero) h m = at 1 (left-true (is_loaded image addr 1) _ (right-true (is_loaded image addr 0) _ all)) (plain 1 h m)
-    each (suc (suc zero)) h m = at 2 (left-true (is_loaded image addr 2) _ (right-true (is_loaded image addr 1) _ (right-true (is_loaded image addr 0) _ all))) (plain 2 h m)
-    each (suc (suc (suc zero))) h m = at 3 (right-true (is_loaded image addr 2) _ (right-true (is_loaded image addr 1) _ (right-true (is_loaded image addr 0) _ all))) (plain 3 h m)
-    each (suc (suc (suc (suc i)))) h m = absurd (omega arith)
-
-pub within : (trail : Trail) (image : Image) (effect : Effect) → LoadsAs trail image → WritesLoaded image effect → WritesWithin (loaded_of trail) effect
-within trail image (WordAt addr word) loads h = word-in trail image addr loads h.0 h.1
-within trail image _ loads h = tt
 
 -- the trail goes over to the run of the edited scenario
 pub followed : Follows → (sc after : Scenario) (edit : AnEdit) (effect : Effect) (old new : Trail) → IsTaken sc edit → effect ≡ (row sc edit).effect → after ≡ (row sc edit).after
@@ -76,20 +33,3 @@ loads-followed sc after edit old new left same loads a =
 pub no-error : {T E P : Type 0} (r : Result T E) → is_err r ≡ false → OnOk r P → P
 no-error (Ok x) h p = p
 no-error (Err e) h p = absurd (false≢true (sym h))
-
--- ---- the report
-
--- a trail that a report moved on is right for the same run
-pub moved : (sc : Scenario) (setup : Setup) (marks : List Mark) (old new : Trail) → setup ≡ sc.setup → marks ≡ sc.marks
-    → ((start : State) → IsRightFor old start setup marks → IsRightFor new start setup marks) → IsRightForRun old (run_of sc) → IsRightForRun new (run_of sc)
-moved sc setup marks old new given marked right h =
-    transport (λ i. IsRightFor new (first_state sc) (given i) (marked i))
-    (right (first_state sc) (transport (λ i. IsRightFor old (first_state sc) (sym given i) (sym marked i)) h))
-
--- the machine that a trail has at the chosen step
-pub shown : (sc : Scenario) (setup : Setup) (marks : List Mark) (step : ℕ) (old : Trail) (machine : Machine) → setup ≡ sc.setup → marks ≡ sc.marks → step ≡ sc.step
-    → ((start : State) → IsRightFor old start setup marks → Shows machine (post start setup marks step)) → IsRightForRun old (run_of sc) → Shows machine (chosen_state sc)
-unfolding chosen_state
-shown sc setup marks step old machine given marked chosen shows h =
-    transport (λ i. Shows machine (post (first_state sc) (given i) (marked i) (chosen i)))
-    (shows (first_state sc) (transport (λ i. IsRightFor old (first_state sc) (sym given i) (sym marked i)) h))

@@ -90,6 +90,7 @@ mod serving;
 mod session;
 
 pub use fault::{BeginFault, Fault};
+pub use numbers::number;
 pub use reply::Reply;
 pub use scenario::{LONGEST_INPUT, MOST_STEPS, setup_with};
 pub use serving::send::{Sent, send};

@@ -39,7 +39,7 @@ fn number_in(base: u64, most: usize, field: &[u8]) -> Option<u32>
 
 /// A number: decimal, or hexadecimal after `0x`.
 #[tactic(auto, unfolding(crate::specs::Commands::number))]
-pub(crate) fn number(field: &[u8]) -> Option<u32>
+pub fn number(field: &[u8]) -> Option<u32>
     ensures { result ≡ number field.now }
 {
     match field.strip_prefix(b"0x") {

@@ -1,6 +1,6 @@
 //! One run from step zero of an edited scenario.
 use guest_elf::read;
-use guest_machine::Meter;
+use guest_machine::{Machine, Meter};
 use guest_programs::program;
 use scenario::{Edit, Scenario};
 use std::alloc::Global;
@@ -41,5 +41,30 @@ fn a_word_shows_until_it_is_dropped(rt: HostRuntime) -> Result<(), Fail> {
     let mut scenario = Scenario::begin(alloc, image, Vec::new(alloc), Vec::new(alloc))?;
     scenario.choose(3);
     assert!(rt; is_written_and_dropped(alloc, &mut scenario)?);
+    Ok(())
+}
+
+/// The outline of a scenario without edits, by a machine that is at its step.
+fn outline_at(alloc: Global, scenario: &Scenario<'_>, with_output: bool) -> Result<Vec<u8>, Fail> {
+    let mut meter = Meter::new();
+    let mut machine = Machine::start(alloc, scenario.image())?;
+    for _ in 0..scenario.step() {
+        let (next, _) = machine.step(scenario.setup(), &mut meter)?;
+        machine = next;
+    }
+    Ok(scenario.outline(&machine, with_output)?)
+}
+
+#[test]
+fn an_outline_is_of_the_chosen_step(rt: HostRuntime) -> Result<(), Fail> {
+    let alloc = rt.alloc();
+    let file = program(alloc, &EXITS)?;
+    let image = read(alloc, &file).map_err(|_| Fail::from("the image is refused"))?;
+    let mut scenario = Scenario::begin(alloc, image, Vec::new(alloc), Vec::new(alloc))?;
+    assert!(rt; outline_at(alloc, &scenario, false)?.as_slice() == b"running\n".as_slice());
+    scenario.choose(3);
+    assert!(rt;
+        outline_at(alloc, &scenario, true)?.as_slice() == b"exited 0\noutput 0\n".as_slice()
+    );
     Ok(())
 }

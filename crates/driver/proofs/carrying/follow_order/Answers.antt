@@ -16,13 +16,13 @@ returns-in_err-image g c =
 pub returns-in_err-suppressions : goal.returns-in_err-suppressions
 returns-in_err-suppressions g c =
     rw (passed-on c.from_residual-in_err-suppressions.result _ c.from_residual-in_err-suppressions.ensures.1)
-    (with-image (g.F.Files.gives c.args.files.now) c.args.order.now _ _ _ _ _ _ c.in_ok-file.ensures.ok c.deref.ensures.value c.in_ok-image.ensures.image
+    (with-image (g.F.Files.gives c.args.files.now) c.args.order.now c.args.step _ _ _ _ _ _ c.in_ok-file.ensures.ok c.deref.ensures.value c.in_ok-image.ensures.image
     (inl (c.in_err-suppressions.ensures.err, untouched _ _)))
 
 pub returns-in_err-input : goal.returns-in_err-input
 returns-in_err-input g c =
     rw (passed-on c.from_residual-in_err-input.result _ c.from_residual-in_err-input.ensures.1)
-    (with-image (g.F.Files.gives c.args.files.now) c.args.order.now _ _ _ _ _ _ c.in_ok-file.ensures.ok c.deref.ensures.value c.in_ok-image.ensures.image
+    (with-image (g.F.Files.gives c.args.files.now) c.args.order.now c.args.step _ _ _ _ _ _ c.in_ok-file.ensures.ok c.deref.ensures.value c.in_ok-image.ensures.image
     (inr (c.in_ok-suppressions.suppressions.items, c.in_ok-suppressions.ensures.ok, inl (c.in_err-input.ensures.err, untouched _ _))))
 
 pub returns-in-Some : goal.returns-in-Some
@@ -30,10 +30,10 @@ returns-in-Some g c =
     let told = subst (λ (list : List Rule). Reports (IsReportOnce c.in_ok-image.image c.in_ok-input.input.items list c.in-Some.step)
     (g.W.Write.contents c.args.writer.now) (g.W.Write.contents c.print_report.new.writer) (end_of c.print_report.result))
     c.deref-in-Some.ensures.value c.print_report.ensures in
-    with-all (g.F.Files.gives c.args.files.now) c.args.order.now _ _ _ _ _ _ _ _ c.in_ok-file.ensures.ok c.deref.ensures.value c.in_ok-image.ensures.image
+    with-all (g.F.Files.gives c.args.files.now) c.args.order.now c.args.step _ _ _ _ _ _ _ _ c.in_ok-file.ensures.ok c.deref.ensures.value c.in_ok-image.ensures.image
     c.in_ok-suppressions.ensures.ok c.in_ok-input.ensures.ok (does-report _ c.in-Some.step _ _ _ _ _ _ _ c.in-Some.is told)
 
 pub returns : goal.returns
 returns g c =
-    with-all (g.F.Files.gives c.args.files.now) c.args.order.now _ _ _ _ _ _ _ _ c.in_ok-file.ensures.ok c.deref.ensures.value c.in_ok-image.ensures.image
+    with-all (g.F.Files.gives c.args.files.now) c.args.order.now c.args.step _ _ _ _ _ _ _ _ c.in_ok-file.ensures.ok c.deref.ensures.value c.in_ok-image.ensures.image
     c.in_ok-suppressions.ensures.ok c.in_ok-input.ensures.ok (does-session _ _ _ _ _ _ _ c.in-None.is c.serve_session.ensures)

@@ -5,7 +5,8 @@ use Rattle.checkpoints.specs.declared.effect.Effect.{Effect}
 use Rattle.scenario.specs.Scenario.{first_state}
 use Rattle.replay_session.specs.Session.{turn_of, trail_of}
 use Rattle.replay_session.specs.Work.{work_on}
-use Rattle.replay_session.proofs.SessionSteps.{within, followed, loads-followed, no-error}
+use Rattle.scenario.proofs.TrailFacts.{within}
+use Rattle.replay_session.proofs.SessionSteps.{followed, loads-followed, no-error}
 use Rattle.replay_session.proofs.WorkSteps.{moves-followed}
 use Rattle.replay_session.proofs.session.Session.edit.Goals as goal
 

@@ -2,7 +2,7 @@ use Rattle.std.proofs.Common.{◌∙◌, ap}
 use Rattle.std.proofs.lemmas.Result.{on_ok_weaker}
 use Rattle.checkpoints.specs.Words.{is_among}
 use Rattle.replay_session.specs.Session.{turn_of}
-use Rattle.replay_session.proofs.SessionSteps.{moved, shown}
+use Rattle.scenario.proofs.TrailFacts.{moved, shown}
 use Rattle.replay_session.proofs.session.Session.report.Goals as goal
 
 pub invariant_of-self : goal.invariant_of-self

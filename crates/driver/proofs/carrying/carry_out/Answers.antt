@@ -1,0 +1,10 @@
+use Rattle.driver.proofs.carrying.carry_out.Goals as goal
+
+pub returns-in-Report : goal.returns-in-Report
+returns-in-Report g c = rw (c.in-Report.is, c.ended.ensures) c.follow_order.ensures
+
+pub returns-in-Session : goal.returns-in-Session
+returns-in-Session g c = rw (c.in-Session.is, c.ended-in-Session.ensures) c.follow_order-in-Session.ensures
+
+pub returns-in-Sweep : goal.returns-in-Sweep
+returns-in-Sweep g c = rw (c.in-Sweep.is, c.ended-in-Sweep.ensures) c.follow_sweep.ensures

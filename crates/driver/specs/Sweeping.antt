@@ -1,0 +1,122 @@
+-- What a sweep of a program does, and what becomes of a command for one: its words are read, then the files, each judged before the next.
+use Rattle.std.specs.Prelude.{◌≡◌, ℕ, ◌-◌, ◌<◌, ◌≤◌, ◌⊎◌, Bool, true, false, List, [], Option, Some, None, codes, IfSome, length}
+use Rattle.std.specs.Str.{bytes_eq}
+use Rattle.std.specs.Io.KnownBytes.{Appends}
+use Rattle.command_line.specs.Orders.{input_path, rules_path}
+use Rattle.command_line.specs.declared.order.Order.{Order}
+use Rattle.command_line.specs.declared.order.SweepWords.{SweepWords}
+use Rattle.command_line.specs.declared.order.Task.{Task}
+use Rattle.command_line.specs.declared.order.Task.TheVariants.{Report, Session, Sweep}
+use Rattle.guest_elf.specs.File.{IsImageOf}
+use Rattle.guest_elf.specs.declared.image.Image.{Image as ProgramImage}
+use Rattle.scenario.specs.Limits.{longest_input, most_steps}
+use Rattle.scenario.specs.Scenario.{at_step, begun}
+use Rattle.suppressions.specs.Rules.{Rule}
+use Rattle.suppressions.specs.Texts.{faults, rules, IsLeast}
+use Rattle.suppressions.specs.declared.fault.SuppFault.TheVariants as Supp
+use Rattle.sweeps.specs.declared.plan.Plan.{Plan}
+use Rattle.driver.specs.Carried.{Carried, Giving, HasInput, IsFront, NoBytes, NoImage, NoInput, Streams, longest_text, most_judged}
+use Rattle.driver.specs.Planned.{IsNoRequest, IsPlanOf, IsRequestOf, bytes_meant, part_from, part_to, words_by}
+use Rattle.driver.specs.Swept.{Case, Writes, head_text}
+use Rattle.driver.specs.declared.ends.End.{End}
+use Rattle.driver.specs.declared.ends.End.TheVariants.{BytesRefused, CannotReadInput, InputTooLarge, NoMemory, Suppressions, SuppressionsTooLong, Usage, WordsRefused}
+use Rattle.driver.specs.declared.sweeping.request.Request.{Request}
+
+-- the sweep of a program with an input and suppressions, of which these bytes were read, by the plan of a request
+abbrev pub case_of : List ℕ → List ℕ → ProgramImage → List ℕ → List Rule → SweepWords → Request → Plan → Case
+case_of file text image input list words request plan = record {
+  head = head_text file input text words plan.bytes request.words request.part;
+  with_output = words.with_output;
+  sc = at_step (begun image input list) words.step;
+  plan = plan;
+  from = part_from plan request.part;
+}
+
+-- the places that are meant are refused, and nothing is written; or the table of those of the part is
+abbrev pub Sweeps : List ℕ → List ℕ → ProgramImage → List ℕ → List Rule → SweepWords → Request → Option (List ℕ) → Option (List ℕ) → End → Type 0
+Sweeps file text image input list words request old new end =
+    ((end ≡ BytesRefused) × (bytes_meant request (length input) ≡ None) × Appends old new [])
+    ⊎ (((end ≡ WordsRefused) × (words_by image request.words ≡ None) × Appends old new [])
+    ⊎ ((plan : Plan) × IsPlanOf request image (length input) plan
+    × Writes (case_of file text image input list words request plan) (part_to plan request.part - part_from plan request.part) old new end))
+
+-- the text of suppressions, or none where no file is named
+abbrev pub HasText : Giving → Option (List ℕ) → List ℕ → Type 0
+HasText gives None text = text ≡ []
+HasText gives (Some path) text = gives path (Some text) × (length text ≤ longest_text)
+
+abbrev pub NoText : Giving → Option (List ℕ) → End → Type 0
+NoText gives None end = ⊥
+NoText gives (Some path) SuppressionsTooLong = (text : List ℕ) × gives path (Some text) × (longest_text < length text)
+NoText gives (Some path) end = NoBytes gives path end
+
+-- the rules of a text, or why it has none
+abbrev pub NoRulesIn : List ℕ → End → Type 0
+NoRulesIn text (Suppressions (Supp.BadSuppression line)) = IsLeast line (faults text)
+NoRulesIn text (Suppressions Supp.Memory) = Unit {0}
+NoRulesIn text end = ⊥
+
+-- the input of a sweep: for `-` what standard input had, where that tells it, and else that of a file
+abbrev pub HasStream : Option (List ℕ) → List ℕ → Type 0
+HasStream left input = IfSome left (λ bytes. input ≡ bytes) × (length input ≤ longest_input)
+
+abbrev pub NoStream : Option (List ℕ) → End → Type 0
+NoStream left CannotReadInput = Unit {0}
+NoStream left InputTooLarge = IfSome left (λ bytes. longest_input < length bytes)
+NoStream left NoMemory = Unit {0}
+NoStream left end = ⊥
+
+abbrev pub is_stream : Option (List ℕ) → Bool
+is_stream None = false
+is_stream (Some path) = bytes_eq path (codes "-")
+
+abbrev pub HasInputBy : Bool → Giving → Option (List ℕ) → Option (List ℕ) → List ℕ → Type 0
+HasInputBy true gives named left input = HasStream left input
+HasInputBy false gives named left input = HasInput gives named input
+
+abbrev pub HasSweepInput : Giving → Option (List ℕ) → Option (List ℕ) → List ℕ → Type 0
+HasSweepInput gives named left input = HasInputBy (is_stream named) gives named left input
+
+abbrev pub NoInputBy : Bool → Giving → Option (List ℕ) → Option (List ℕ) → End → Type 0
+NoInputBy true gives named left end = NoStream left end
+NoInputBy false gives named left end = NoInput gives named end
+
+abbrev pub NoSweepInput : Giving → Option (List ℕ) → Option (List ℕ) → End → Type 0
+NoSweepInput gives named left end = NoInputBy (is_stream named) gives named left end
+
+-- all that a sweep needs was read
+pub record HasAll (gives : Giving) (order : Order) (words : SweepWords) (left : Option (List ℕ)) : Type 0 where
+  pub request : Request
+  pub file : List ℕ
+  pub image : ProgramImage
+  pub text : List ℕ
+  pub input : List ℕ
+  pub asks : IsRequestOf words request
+  pub reads : IsFront gives order.file.now most_judged file
+  pub has_image : IsImageOf file image
+  pub has_text : HasText gives (rules_path order) text
+  pub has_rules : faults text ≡ []
+  pub has_input : HasSweepInput gives (input_path order) left input
+
+-- or it wasn't: the step is too great, the words make no request, or a file ends the program
+abbrev pub HasNotAll : Giving → Order → SweepWords → Option (List ℕ) → End → Type 0
+HasNotAll gives order words left end =
+    ((end ≡ Usage) × (most_steps < words.step))
+    ⊎ (IsNoRequest words end
+    ⊎ (NoImage gives order.file.now end
+    ⊎ (NoText gives (rules_path order) end
+    ⊎ (((text : List ℕ) × HasText gives (rules_path order) text × NoRulesIn text end)
+    ⊎ NoSweepInput gives (input_path order) left end))))
+
+-- a command for a sweep was carried out
+abbrev pub CarriedSweep : Giving → Order → SweepWords → Streams → Option (List ℕ) → End → Type 0
+CarriedSweep gives order words old held end =
+    (HasNotAll gives order words old.left end × Appends old.held held [])
+    ⊎ ((all : HasAll gives order words old.left)
+    × Sweeps all.file all.text all.image all.input (rules all.text) words all.request old.held held end)
+
+-- an order was carried out
+abbrev pub CarriedOut : Giving → Order → Task → Streams → Streams → End → Type 0
+CarriedOut gives order (Report step) old new end = Carried gives order (Some step) old new end
+CarriedOut gives order Session old new end = Carried gives order None old new end
+CarriedOut gives order (Sweep words) old new end = CarriedSweep gives order words old new.held end
