@@ -6,6 +6,15 @@ import sys
 for folder in ("lib", "test"):
     sys.path.insert(0, os.path.realpath(f"{__file__}/../../tools/{folder}"))
 
+from replaycheck.assembly import addi, branch, load_number  # noqa: E402
+
+T0 = 5
+
+
+def repeat(turns, body):
+    """A loop of so many turns, counted in t0: addi t0, t0, -1; bne t0, x0, to the body."""
+    return load_number(T0, turns) + body + [addi(T0, T0, -1), branch(1, T0, 0, -4 * (len(body) + 1))]
+
 
 def spent(program, folder, file, words, lines=(), supp=b"", may_refuse=False):
     """Processor seconds and greatest memory in MiB of one run of a program's file. It must end with 0 and refuse no line, unless

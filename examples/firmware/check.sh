@@ -34,6 +34,11 @@ same_by_number() {
     <(../../tools/bin/replaycheck-talk station-by-number.elf --input station.input station.session | without_heap_places)
 }
 
+# A sweep, without source lines.
+explored() {
+  ../../tools/bin/replaycheck-explore station.elf --input station.input --svg "$room/station.svg" | sed -E 's/ \([^()]+:[0-9]+\)//'
+}
+
 # The remarks of kinds.session are those of the cases in kinds.c.
 same_cases() {
   diff <(sed -nE 's|^    case ([0-9]+): .* /\* (.*) \*/$|\1: \2|p' kinds.c) <(sed -nE 's/^# ([0-9]+: .*)$/\1/p' kinds.session)
@@ -42,8 +47,12 @@ same_cases() {
 check 'a session on station.elf' same station ../../tools/bin/replaycheck-talk station.elf --input station.input station.session
 check 'each kind of error' same kinds ../../tools/bin/replaycheck-talk kinds.elf --input kinds.input kinds.session
 check 'the cases of kinds.c' same_cases
-check 'each byte of station.input' same sweep ../../tools/bin/replaycheck-sweep station.elf --input station.input --svg "$room/station.svg"
-check 'its picture' cmp station.svg "$room/station.svg"
+check 'each byte of station.input' same sweep explored
+if command -v riscv64-unknown-elf-addr2line riscv64-linux-gnu-addr2line addr2line >"$room/found"; then
+  check 'its picture' cmp station.svg "$room/station.svg"
+else
+  left_out 'its picture' 'there is no addr2line'
+fi
 check 'heap calls by number' same_by_number
 
 if command -v qemu-riscv32 >/dev/null; then

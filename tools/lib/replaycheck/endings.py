@@ -18,7 +18,7 @@ class Fault(Exception):
 
 
 class Interrupted(BaseException):
-    """A signal has come."""
+    """A signal has come, or would come where Python let it."""
 
     def __init__(self, number):
         super().__init__(number)
@@ -26,7 +26,8 @@ class Interrupted(BaseException):
 
 
 class Starting:
-    """Whether a child is being started, and the signal that has come meanwhile: it waits until the child is known."""
+    """Whether a child or a folder is being made, and the signal that has come meanwhile: it waits until that is
+    known."""
 
     is_on = False
     come = None
@@ -41,17 +42,23 @@ def interrupt(number, _):
         raise Interrupted(number)
 
 
-def start(words, needs="", **pipes):
-    """Starts a child. Where its program isn't there, what is needed is told."""
+def undisturbed(action):
+    """Does something that a signal waits for."""
     Starting.is_on = True
     try:
-        children.append(subprocess.Popen(words, **pipes))
-    except OSError as fault:
-        raise Fault(f"cannot run {words[0]}: {fault.strerror}{needs and '; ' + needs}") from None
+        action()
     finally:
         Starting.is_on = False
         if Starting.come is not None:
             raise Interrupted(Starting.come)
+
+
+def start(words, needs="", **pipes):
+    """Starts a child. Where its program isn't there, what is needed is told."""
+    try:
+        undisturbed(lambda: children.append(subprocess.Popen(words, **pipes)))
+    except OSError as fault:
+        raise Fault(f"cannot run {words[0]}: {fault.strerror}{needs and '; ' + needs}") from None
     return children[-1]
 
 
@@ -91,7 +98,7 @@ def put(action):
         action()
     except BrokenPipeError:  # nobody reads on
         silence()
-        die_of(signal.SIGPIPE)
+        raise Interrupted(signal.SIGPIPE) from None
     except OSError as fault:
         silence()
         raise Fault(f"cannot write: {fault.strerror}") from None

@@ -1,0 +1,178 @@
+"""The head of a sweep's table: which files, edits and step it is of, and which of its parts."""
+import re
+from dataclasses import dataclass
+from typing import List, Optional, Tuple, Union
+
+from .lines import NUMBER, BadTable, shown
+
+MOST_PARTS, LONGEST_INPUT, LAST_STEP = 1000000, 1048576, 4194304
+DIGEST = re.compile(rb"(program|input|supp) (%b) ([0-9a-f]{64})" % NUMBER)
+BYTES = re.compile(rb"bytes (%b)\.\.(%b) (all|flips|edges|%b(?:,%b)*)" % ((NUMBER,) * 4))
+WORD = rb"0x[0-9a-f]{8}"
+WORDS = re.compile(rb"words (%b)\.\.(%b) (skip|flips|%b(?:,%b)*)" % ((WORD,) * 4))
+STEP = re.compile(rb"step (%b)" % NUMBER)
+OUTPUT = re.compile(rb"output (yes|no)")
+PART = re.compile(rb"part (%b)/(%b)" % (NUMBER, NUMBER))
+OLD = re.compile(rb"#\t(input|patch)\t")
+SMALL = {"program": 1 << 27, "input": LONGEST_INPUT, "supp": LONGEST_INPUT}
+MOST_EDITS = {"all": 255, "edges": 7, "skip": 1}
+Values = Union[str, Tuple[int, ...]]
+
+
+@dataclass(frozen=True)
+class Range:
+    """Bytes or words, each from a first place to a last one, and the values that they are given."""
+
+    kind: str
+    first: int
+    last: int
+    values: Values
+
+    @property
+    def most(self):
+        """So many edits a place has at most."""
+        if self.values == "flips":
+            return 8 if self.kind == "bytes" else 32
+        return MOST_EDITS[self.values] if isinstance(self.values, str) else len(self.values)
+
+    @property
+    def start(self):
+        """The first place: words are multiples of 4."""
+        return self.first if self.kind == "bytes" else -(-self.first // 4) * 4
+
+    @property
+    def stride(self):
+        return 1 if self.kind == "bytes" else 4
+
+    @property
+    def size(self):
+        return max(0, (self.last - self.start) // self.stride + 1)
+
+    def place(self, index):
+        return self.start + index * self.stride
+
+    def named(self, place):
+        return f"0x{place:08x}" if self.kind == "words" else str(place)
+
+    def line(self, place, value):
+        """The line of a session that makes an edit."""
+        return f"patch 0x{place:08x} 0x{value:08x}" if self.kind == "words" else f"input {place} {value}"
+
+    def __str__(self):
+        values = self.values
+        if not isinstance(values, str):
+            values = ",".join(self.named(it) for it in values)
+        return f"{self.kind} {self.named(self.first)}..{self.named(self.last)}, values {values}"
+
+    def words(self):
+        """The options that ask for it."""
+        told = self.values if isinstance(self.values, str) else ",".join(map(self.named, self.values))
+        names = ("--bytes", "--values") if self.kind == "bytes" else ("--words", "--words-values")
+        return [f"{names[0]}={self.named(self.first)}..{self.named(self.last)}", f"{names[1]}={told}"]
+
+
+@dataclass(frozen=True)
+class Head:
+    """`lines` are those before `part`, as they stand there. A digest is a length and a sum."""
+
+    lines: Tuple[bytes, ...]
+    files: Tuple[Tuple[int, str], ...]
+    ranges: Tuple[Range, ...]
+    step: int
+    has_output: bool
+    part: Tuple[int, int]
+
+    @property
+    def places(self):
+        return sum(it.size for it in self.ranges)
+
+    @property
+    def interval(self):
+        """The places of the part: from one, up to and without another."""
+        index, count = self.part
+        return cut(self.places, index - 1, count), cut(self.places, index, count)
+
+    def place(self, ordinal):
+        """The range and the place of an ordinal among all places."""
+        for it in self.ranges:
+            if ordinal < it.size:
+                return it, it.place(ordinal)
+            ordinal -= it.size
+        raise IndexError(ordinal)
+
+    def same(self):
+        """What must be equal in the parts of one sweep."""
+        return self.files, self.ranges, self.step, self.has_output
+
+
+def cut(places, index, count):
+    return places * index // count
+
+
+def at_most(lines, number, limit, what):
+    value = int(number, 0) if number[:2] == b"0x" else int(number)
+    if value > limit:
+        lines.fault(f"{what} above {limit}")
+    return value
+
+
+def values_of(lines, text, limit):
+    """A name, or a list of numbers, none twice."""
+    if text.isalpha():
+        return text.decode()
+    found = tuple(at_most(lines, it, limit, "a value") for it in text.split(b","))
+    if len(set(found)) < len(found):
+        lines.fault("a value twice")
+    return found
+
+
+def read_range(lines, kind, pattern, limit, most):
+    """A range of bytes or words, or None where the next line is none."""
+    if not lines.next.startswith(kind.encode() + b" "):
+        return None
+    found = lines.must(pattern, f"`{kind} A..B VALUES`")
+    first, last = (at_most(lines, it, limit, "a place") for it in found.groups()[:2])
+    if first > last:
+        lines.fault("a range that ends before it begins")
+    return Range(kind, first, last, values_of(lines, found[3], most))
+
+
+def read_files(lines):
+    for name, limit in SMALL.items():
+        found = lines.must(DIGEST, f"`{name} LEN SHA256`")
+        if found[1] != name.encode():
+            lines.fault(f"`{name} LEN SHA256` comes here")
+        yield at_most(lines, found[2], limit, "a length"), found[3].decode()
+
+
+def read_version(lines):
+    if not lines.next:
+        lines.other("`sweep 1`")
+    if OLD.match(lines.next):
+        raise BadTable(f"{lines.name}: a table in the form that `replaycheck sweep --table` wrote before: make it anew "
+                       "by `replaycheck explore --table`, or by `replaycheck sweep` with --part")
+    if re.fullmatch(rb"sweep [0-9]+", lines.next) and lines.next != b"sweep 1":
+        lines.here(f"an unknown version: {shown(lines.next)}; this reads `sweep 1`")
+    if lines.next != b"sweep 1":
+        lines.here(f"no table of a sweep: it begins with {shown(lines.next)}")
+    lines.go_on()
+
+
+def read_head(lines):
+    """The head that the next lines are."""
+    taken = lines.taken = []
+    read_version(lines)
+    files = tuple(read_files(lines))
+    ranges: List[Optional[Range]] = [read_range(lines, "bytes", BYTES, LONGEST_INPUT - 1, 255),
+                                     read_range(lines, "words", WORDS, 0xFFFFFFFF, 0xFFFFFFFF)]
+    step = at_most(lines, lines.must(STEP, "`step N`")[1], LAST_STEP, "a step")
+    has_output = lines.must(OUTPUT, "`output yes` or `output no`")[1] == b"yes"
+    before = tuple(taken)
+    part = lines.must(PART, "`part I/N`")
+    index, count = (at_most(lines, it, MOST_PARTS, "a part") for it in part.groups())
+    if not 1 <= index <= count:
+        lines.fault("no part")
+    if not any(ranges):
+        lines.fault("neither bytes nor words in the head")
+    lines.taken = None
+    return Head(before, files, tuple(it for it in ranges if it), step, has_output, (index, count))

@@ -1,0 +1,69 @@
+"""Folders: one for what is only there while it works, and one that keeps the tables of the parts that are done."""
+import fcntl
+import os
+import re
+import shutil
+import tempfile
+
+from replaycheck.endings import Fault, undisturbed
+
+from .lines import shown
+
+TABLE = re.compile(r"part-([1-9][0-9]{0,6})-of-([1-9][0-9]{0,6})")
+
+
+class Room:
+    """A folder that is gone at the end, however that comes."""
+
+    path = None
+
+    def __enter__(self):
+        try:
+            undisturbed(self.make)
+        except BaseException:
+            self.__exit__()
+            raise
+        return self.path
+
+    def make(self):
+        self.path = tempfile.mkdtemp(prefix="explore-")
+
+    def __exit__(self, *_):
+        if self.path:
+            shutil.rmtree(self.path, ignore_errors=True)
+
+
+class Kept:
+    """A folder of tables that is kept. One `explore` at a time works in it."""
+
+    def __init__(self, path):
+        self.path = path
+        os.makedirs(path, exist_ok=True)
+        self.lock = os.open(path, os.O_RDONLY | os.O_DIRECTORY)
+        try:
+            fcntl.flock(self.lock, fcntl.LOCK_EX | fcntl.LOCK_NB)
+        except BlockingIOError:
+            raise Fault(f"{shown(path)}: another `explore` works in this folder") from None
+        self.found = [it for it in map(TABLE.fullmatch, sorted(os.listdir(path))) if it]
+
+    def count(self, wanted):
+        """How many parts the sweep is cut into: as many as the tables here say, or as are wanted."""
+        counts = {int(it[2]) for it in self.found}
+        if len(counts) > 1 or wanted and counts - {wanted}:
+            told = " and of ".join(map(str, sorted(counts)))
+            raise Fault(f"{shown(self.path)}: it keeps another request: parts of {told}"
+                        + (f", not of {wanted}" if wanted else ""))
+        return counts.pop() if counts else wanted
+
+    def parts(self, runner):
+        """The tables that are here, by the numbers of their parts."""
+        found = {}
+        for it in self.found:
+            try:
+                source = runner.source(os.path.join(self.path, it[0]))
+            except Fault as fault:
+                raise Fault(f"{shown(self.path)}: it keeps another request, or no whole table: {fault}") from None
+            if source.head.part != (int(it[1]), int(it[2])):
+                raise Fault(f"{source}: the file's name is that of another part")
+            found[int(it[1])] = source
+        return found

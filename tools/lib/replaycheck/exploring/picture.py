@@ -1,0 +1,166 @@
+"""A picture of a sweep, as SVG."""
+import html
+
+from .lines import LONGEST_SHOWN, shown
+from .outcomes import Outcome
+from .panels import panels_of
+
+# Colours for light and dark pages that the colour-blind tell apart: warm for what is new, cold for what is not.
+NEW = (("#d55e00", "#ff7a1a"), ("#e69f00", "#ffc04d"), ("#a6447d", "#e08bbd"), ("#7a3b00", "#c08a5a"))
+OTHER_NEW = ("#1a1a1a", "#ffffff")
+NOT_NEW = (("#0072b2", "#3f9fd9"), ("#56b4e9", "#1f6fa0"), ("#009e73", "#26b98c"), ("#a3d9c8", "#0f5a45"))
+OTHER = ("#b9c9d9", "#62758a")
+UNEDITED = ("#e4e4e4", "#3a3a3a")
+STYLE = """<style>
+.bg{{fill:#ffffff}}.ink{{fill:#1a1a1a}}.dim{{fill:#555555}}
+.s{{font-size:10px}}.e{{text-anchor:end}}.m{{text-anchor:middle}}.b{{font-weight:bold}}
+.axis{{stroke:#555555;stroke-width:1}}
+{light}
+@media (prefers-color-scheme:dark){{
+.bg{{fill:#161616}}.ink{{fill:#eeeeee}}.dim{{fill:#aaaaaa}}.axis{{stroke:#aaaaaa}}
+{dark}
+}}
+</style>"""
+LEFT, TOP, LEGEND_LINE, LEAST_MARK, NARROWEST = 84, 72, 18, 3, 1060
+
+
+def xml(text, longest=LONGEST_SHOWN):
+    """A text as XML has it: printable ASCII, all else as `\\x1b`, cut where it is long."""
+    told = "".join(shown(text[at:at + LONGEST_SHOWN]) for at in range(0, min(len(text), longest), LONGEST_SHOWN))
+    return html.escape(told[:longest] + ("..." if len(text) > longest else ""), quote=True)
+
+
+class Picture:
+    """Takes the places of a merged table, and draws them."""
+
+    def __init__(self, merged, sources):
+        self.merged, self.panels, self.outcomes = merged, panels_of(merged.head, sources), []
+
+    def add(self, place):
+        next(it for it in self.panels if it.range == place.range).add(place, self.badness)
+
+    def badness(self, number):
+        """How bad an outcome is; the unedited run's is the least."""
+        while len(self.outcomes) <= number:
+            index = len(self.outcomes)
+            outcome = Outcome(index, self.merged.outcomes[index])
+            first = self.outcomes[0][0] if self.outcomes else outcome
+            self.outcomes.append((outcome, outcome.badness(first) if index else -1))
+        return self.outcomes[number][1]
+
+    # ---- colours
+
+    def choose_colours(self, summary):
+        """The class of each outcome: those with the most edits have a colour of their own."""
+        self.summary, self.kinds = summary, {0: "o0"}
+        self.colours = {"o0": UNEDITED, "n": OTHER_NEW, "o": OTHER}
+        for is_new, colours, name in ((True, NEW, "n"), (False, NOT_NEW, "o")):
+            numbers = [it for it in summary.order[1:] if bool(summary.news[it]) == is_new]
+            numbers.sort(key=lambda it: (-self.merged.tallies[it], it))
+            for place, number in enumerate(numbers):
+                self.kinds[number] = f"{name}{place + 1}" if place < len(colours) else name
+                if place < len(colours):
+                    self.colours[self.kinds[number]] = colours[place]
+
+    def style(self):
+        light, dark = ("".join(f".{name}{{fill:{pair[i]}}}" for name, pair in self.colours.items()) for i in (0, 1))
+        return STYLE.format(light=light, dark=dark)
+
+    # ---- what is drawn
+
+    def text(self, summary):
+        self.choose_colours(summary)
+        body, below = [], TOP
+        for panel in self.panels:
+            body += self.panel(panel, below)
+            below += panel.tall * panel.rows + 70
+        legend = list(self.legend(below))
+        width = max([NARROWEST, *(LEFT + it.wide * it.bins + 20 for it in self.panels)])
+        height = below + LEGEND_LINE * (len(legend) + 1)
+        ranges = "; ".join(map(str, self.merged.head.ranges))
+        title = xml(f"{summary.title}: {self.merged.edits} edits, {ranges}, step {self.merged.head.step}", 140)
+        shared = [f"{it.count} places share {it.bins} columns, and the worst is seen" for it in self.panels
+                  if it.bins < it.count]
+        notes = ["a column for each place, a row for each value, the value as it was left out", *shared, *summary.notes]
+        note = xml("; ".join(notes), 200)
+        return "\n".join([
+            '<?xml version="1.0" encoding="UTF-8"?>',
+            f'<svg xmlns="http://www.w3.org/2000/svg" role="img" width="{width}" height="{height}" '
+            f'viewBox="0 0 {width} {height}" font-family="DejaVu Sans, Verdana, Arial, sans-serif" font-size="12">',
+            f"<title>{title}</title>", self.style(), '<rect class="bg" width="100%" height="100%"/>',
+            f'<text class="ink" x="16" y="24" font-size="16">{title}</text>',
+            f'<text class="dim" x="16" y="44">{note}</text>',
+            *body, *legend, "</svg>", ""])
+
+    def panel(self, panel, top):
+        """The cells of a panel, those with something new on top, and its axes."""
+        marks = []
+        for column, first, last in panel.runs():
+            drawn = self.run(panel, top, column, first, last)
+            if self.summary.news[panel.cells[column][first].outcome]:
+                marks.append(drawn)
+            else:
+                yield drawn
+        yield from marks
+        yield from self.axes(panel, top)
+
+    def run(self, panel, top, column, first, last):
+        """Cells of a column that have one outcome, as a rectangle with a title."""
+        cell, is_small = panel.cells[column][first], panel.tall == 2
+        x, y = LEFT + column * panel.wide, top + first * panel.tall
+        wide, tall = panel.wide - (panel.wide > 6), (last - first + 1) * panel.tall - (not is_small)
+        if self.summary.news[cell.outcome] and tall < LEAST_MARK:
+            y, tall = y - (LEAST_MARK - tall) / 2, LEAST_MARK
+        return (f'<rect class="{self.kinds[cell.outcome]}" x="{x}" y="{y:g}" width="{wide}" height="{tall}">'
+                f"<title>{self.tip(panel, column, first, last)}</title></rect>")
+
+    def tip(self, panel, column, first, last):
+        cell, final = panel.cells[column][first], panel.cells[column][last]
+        low, high = panel.places_of(column)
+        edit = panel.range.line(cell.at, cell.value)
+        if low == high:
+            before = self.summary.before(panel.range, cell.at)
+            to = f" to {panel.range.line(final.at, final.value).split(' ')[2]}" if last > first else ""
+            edit += to + (f" (was {panel.range.named(before)})" if before is not None else "")
+        else:
+            places = f"{panel.range.kind} {panel.range.named(low)} to {panel.range.named(high)}"
+            edit = f"{places}, the worst of them: {edit}"
+        return f"{xml(edit)}\n{xml(f'{cell.outcome}: {self.told(cell.outcome)}', 300)}"
+
+    def told(self, number):
+        """An outcome in one line."""
+        outcome = self.summary.outcomes[number]
+        return "; ".join([outcome.told, *(self.summary.sources.told(it) for it in self.summary.news[number]
+                                          if it.text != outcome.state)])
+
+    def axes(self, panel, top):
+        below, right = top + panel.tall * panel.rows, LEFT + panel.wide * panel.bins
+        yield f'<path class="axis" fill="none" d="M{LEFT - 2.5} {top}V{below + 2.5}H{right}"/>'
+        for row, name in panel.row_names():
+            y = top + row * panel.tall + (4 if panel.tall == 2 else panel.tall // 2 + 4)
+            yield f'<text class="dim s e" x="{LEFT - 6}" y="{y}">{xml(name)}</text>'
+        for index, name in panel.ticks():
+            x = LEFT + index * panel.wide + panel.wide / 2
+            yield f'<path class="axis" d="M{x:g} {below + 2}v5"/>'
+            yield f'<text class="dim s m" x="{x:g}" y="{below + 18}">{xml(name)}</text>'
+        what = "offset in the input" if panel.range.kind == "bytes" else "address"
+        yield f'<text class="dim s" x="{LEFT}" y="{below + 34}">{what}; on the left the value</text>'
+
+    def legend(self, top):
+        """A line for each outcome that has a colour of its own, and for the others together."""
+        lines = [(self.kinds[number], str(number), self.merged.tallies[number], self.told(number),
+                  "ink b" if self.summary.news[number] else "ink")
+                 for number in self.summary.order if self.kinds[number] not in ("n", "o")]
+        lines[0] = (*lines[0][:3], f"as unedited: {lines[0][3]}", "ink")
+        for kind, what in (("n", "more outcomes with something new"), ("o", "more outcomes with nothing new")):
+            numbers = [it for it in self.kinds if self.kinds[it] == kind]
+            if numbers:
+                edits = sum(self.merged.tallies[it] for it in numbers)
+                lines.append((kind, "", edits, f"{len(numbers)} {what}", "ink"))
+        yield (f'<text class="dim s e" x="110" y="{top}">edits</text>'
+               f'<text class="dim s" x="120" y="{top}">outcome; bold: new</text>')
+        for index, (kind, number, edits, text, style) in enumerate(lines):
+            y = top + LEGEND_LINE * (index + 1)
+            yield (f'<rect class="{kind}" x="16" y="{y - 11}" width="14" height="14"/>'
+                   f'<text class="ink" x="38" y="{y}">{number}</text><text class="ink e" x="110" y="{y}">{edits}</text>'
+                   f'<text class="{style}" x="120" y="{y}">{xml(text, 120)}<title>{xml(text, 1000)}</title></text>')

@@ -1,0 +1,210 @@
+"""What a sweep is asked for: its files, each read once here, the places and the values."""
+import argparse
+import hashlib
+import os
+import re
+import stat
+import sys
+from dataclasses import dataclass
+
+from replaycheck.adopting.elf import Elf, refusals
+from replaycheck.endings import Fault
+from replaycheck.sessions import path_of
+
+from .heads import Range
+from .lines import shown
+from .tables import EDGES
+
+NUMBER = r"0[xX][0-9a-fA-F]{1,8}|[0-9]{1,10}"
+RANGE = re.compile(rf"({NUMBER})(?:\.\.({NUMBER})?)?")
+LONGEST = {"program": (1 << 26) + 1, "input": (1 << 20) + 1, "supp": (1 << 20) + 1}
+
+
+def number_of(text):
+    return int(text, 16 if text[:2] in ("0x", "0X") else 10)
+
+
+def range_of(text):
+    """Reads A..B, A.. or A: the first and the last one, None where it is open."""
+    found = RANGE.fullmatch(text)
+    first = number_of(found[1]) if found else 0
+    last = None if found and text.endswith("..") else number_of(found[2] or found[1]) if found else 0
+    if not found or first >= 1 << 32 or last is not None and not first <= last < 1 << 32:
+        raise argparse.ArgumentTypeError(f"no range: {text!r}")
+    return first, last
+
+
+def words_of(text):
+    first, last = range_of(text)
+    if last is None:
+        raise argparse.ArgumentTypeError(f"a range of words has an end: {text!r}")
+    return first, last
+
+
+def values_reader(names, limit, instead):
+    """A reader of values: a name, or a list of numbers, none twice. `instead` has what took the place of old names."""
+    def read(text):
+        if text in instead:
+            raise argparse.ArgumentTypeError(f"{text!r}: {instead[text]}")
+        if text in names:
+            return text
+        found = text.split(",")
+        if not all(re.fullmatch(NUMBER, it) for it in found):
+            raise argparse.ArgumentTypeError(f"neither {', '.join(names)} nor a list of numbers: {text!r}")
+        numbers = tuple(map(number_of, found))
+        if len(set(numbers)) < len(numbers) or max(numbers) >= limit:
+            raise argparse.ArgumentTypeError(f"a number twice, or one from {limit} on: {text!r}")
+        return numbers
+    return read
+
+
+# ---- files
+
+
+@dataclass
+class Given:
+    """A file as it was read: the name that the user gave, the path that parts are given, and the content."""
+
+    name: str
+    path: str
+    content: bytes
+
+    @property
+    def digest(self):
+        return len(self.content), hashlib.sha256(self.content).hexdigest()
+
+
+def is_plain(path):
+    """Whether a file can be read again and again: none that a pipe or another process stands behind."""
+    return not path.startswith(("/dev/", "/proc/")) and stat.S_ISREG(os.stat(path).st_mode)
+
+
+def given(what, name, room):
+    """Reads a file. What is no plain one is copied, for the parts."""
+    if name is None:
+        return Given("", "", b"")
+    is_standard = name == "-" and what == "input"
+    path = name if is_standard else path_of(name)
+    with sys.stdin.buffer if is_standard else open(path, "rb") as file:
+        content = file.read(LONGEST[what])
+    if is_standard or not is_plain(path):
+        path = os.path.join(room, what)
+        with open(path, "wb") as copy:
+            copy.write(content)
+    return Given(name, path, content)
+
+
+class Request:
+    """`ranges` are those that the head of each part must have, where they can be told here: what the program refuses,
+    it refuses itself."""
+
+    def __init__(self, options, room):
+        self.step, self.has_output = options.step, options.with_output
+        self.files = [given(what, name, room) for what, name in
+                      (("program", options.file), ("input", options.input), ("supp", options.supp))]
+        self.program, self.input, self.supp = self.files
+        self.code = options.code
+        self.elf = None if refusals(self.program.content) else Elf(self.program.content)
+        words = options.words
+        if options.code is not None:
+            words = self.code_range(options.code)
+        self.ranges = []
+        if options.bytes or not words:
+            self.ranges.append(self.bytes_range(options.bytes or (0, None), options.values or "all"))
+        if words:
+            self.ranges.append(Range("words", *words, options.words_values or "skip"))
+
+    def bytes_range(self, places, values):
+        first, last = places
+        last = max(first, len(self.input.content) - 1) if last is None else last
+        return Range("bytes", first, last, values)
+
+    def code_range(self, name):
+        """The addresses of a function, or of A..B."""
+        if RANGE.fullmatch(name) and not name.endswith(".."):
+            return range_of(name)
+        if self.elf is None:
+            raise Fault(f"--code {shown(name)}: {shown(self.program.name)} has no functions that can be read")
+        found = {(it.value, self.elf.extent(it)) for it in self.elf.functions
+                 if self.elf.name(it) == name and self.elf.extent(it) >= 4}
+        if not found:
+            raise Fault(f"--code {shown(name)}: no such function")
+        if len(found) > 1:
+            where = "; ".join(f"--words 0x{at:08x}..0x{at + size - 4:08x}" for at, size in sorted(found))
+            raise Fault(f"--code {shown(name)}: {len(found)} functions have that name: {where}")
+        (at, size), = found
+        return at, at + size // 4 * 4 - 4
+
+    # ---- what is told of it
+
+    @property
+    def places(self):
+        return sum(it.size for it in self.ranges)
+
+    def before(self, it, at):
+        """The value that stands at a place, None where none does."""
+        if it.kind == "bytes":
+            return self.input.content[at] if at < len(self.input.content) else None
+        return None if self.elf is None else self.word(at)
+
+    def word(self, address):
+        """A word of the loaded program; what the file doesn't have of a segment is 0."""
+        found = []
+        for at in range(address, address + 4):
+            place = self.elf.place(at, 1)
+            is_loaded = any(it.vaddr <= at < it.vaddr + it.memsz for it in self.elf.loads)
+            if place is None and not is_loaded:
+                return None
+            found.append(0 if place is None else self.elf.data[place])
+        return int.from_bytes(bytes(found), "little")
+
+    def edits(self):
+        """How many edits there are, as far as that is told without a look at each place; for progress alone."""
+        count = 0
+        for it in self.ranges:
+            if it.kind == "bytes" and it.values == "edges":
+                for was in self.input.content[it.first:it.last + 1]:
+                    count += len({*EDGES, (was + 1) % 256, (was - 1) % 256} - {was})
+            else:
+                count += it.size * it.most
+        return count
+
+    def check_files(self, source):
+        """Refuses a table that isn't of these files."""
+        for given_file, was, now in zip(self.files, (it.digest for it in self.files), source.head.files):
+            if was != now:
+                named = shown(given_file.name) or "a file that wasn't given"
+                raise Fault(f"{source}: it is of another {named}, {now[0]} bytes with the digest {now[1][:16]}.., not "
+                            f"{was[0]} with {was[1][:16]}..: the file was changed, or the table is of another sweep")
+
+    def check(self, source):
+        """Refuses a table that isn't of this request."""
+        self.check_files(source)
+        head = source.head
+        wanted = [self.ranges_told(self.ranges), f"step {self.step}", f"output {'yes' if self.has_output else 'no'}"]
+        came = [self.ranges_told(head.ranges), f"step {head.step}", f"output {'yes' if head.has_output else 'no'}"]
+        for want, have in zip(wanted, came):
+            if want != have:
+                raise Fault(f"{source}: it is of another sweep: {have}, not {want}")
+
+    @staticmethod
+    def ranges_told(ranges):
+        """Ranges in words: from the first place to the last one, and values of bytes in the order in which they are
+        tried."""
+        told = []
+        for it in ranges:
+            is_listed = it.kind == "bytes" and not isinstance(it.values, str)
+            last = it.place(it.size - 1) if it.size else it.last
+            told.append(str(Range(it.kind, it.start, last, tuple(sorted(it.values)) if is_listed else it.values)))
+        return " and ".join(told)
+
+    def words(self):
+        """The command line of a part, without its number."""
+        words = ["sweep", f"--step={self.step}", *(word for it in self.ranges for word in it.words())]
+        words += [f"--input={self.input.path}"] if self.input.path else []
+        words += [f"--supp={self.supp.path}"] if self.supp.path else []
+        return [*words, *(["--with-output"] if self.has_output else []), path_of(self.program.path)]
+
+    def title(self):
+        words = [os.path.basename(it.name) or it.name for it in self.files[:2] if it.name]
+        return shown(" with ".join(words)) + (f", {shown(self.code)}" if self.code else "")

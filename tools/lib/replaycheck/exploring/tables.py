@@ -1,0 +1,222 @@
+"""The table of a sweep, or of a part of one, read place by place. What a sweep wouldn't write is refused, with the
+number of its line."""
+import re
+from dataclasses import dataclass, field
+from typing import Dict, List
+
+from replaycheck.reports import LEAK_KINDS, kind_of
+
+from .heads import Head, Range, read_head
+from .lines import NUMBER, Lines, shown
+
+ROW = re.compile(rb"(?:input (%b) (%b)|patch (0x[0-9a-f]{8}) (0x[0-9a-f]{8})) (%b)" % (NUMBER, NUMBER, NUMBER))
+OUTCOME = re.compile(rb"outcome (%b)" % NUMBER)
+STATE = re.compile(rb"running|exited %b|stopped (?:break|illegal|misaligned) 0x[0-9a-f]{8}|stopped jump" % NUMBER)
+WRITTEN = re.compile(rb"output %b" % NUMBER)
+FRAME = re.compile(rb"   (at|by) 0x[0-9a-f]{8}: [!-~]+")
+TALLY = re.compile(rb"tally (%b) (%b)" % (NUMBER, NUMBER))
+END = re.compile(rb"end (%b) (%b) (%b)" % (NUMBER, NUMBER, NUMBER))
+UNEDITED = re.compile(rb"unedited 0")
+EDGES = (0, 1, 0x7F, 0x80, 0xFF)
+NO_OP = 0x13
+MOST_FRAMES, MOST_LINES = 24, 200000
+NO_FRAME = b"Jump to the invalid address stated on the next line"
+
+
+@dataclass
+class Place:
+    """A byte or a word, its number among all places, and its edits: the values, and the numbers of their outcomes."""
+
+    range: Range
+    at: int
+    ordinal: int
+    edits: Dict[int, int] = field(default_factory=dict)
+
+    @property
+    def values(self):
+        return list(self.edits)
+
+
+# ---- an outcome
+
+
+def read_trace(lines, may_be_none):
+    count = 0
+    while lines.next.startswith(b"   "):
+        found = lines.must(FRAME, "a frame")
+        if found[1] != (b"by" if count else b"at"):
+            lines.fault("a frame out of turn")
+        count += 1
+    if count > MOST_FRAMES or not (count or may_be_none):
+        lines.fault(f"{count} frames")
+
+
+def read_outcome(lines, has_output):
+    """The lines of an outcome, joined."""
+    taken = lines.taken = []
+    lines.must(STATE, "a state")
+    if has_output:
+        lines.must(WRITTEN, "`output W`")
+    while not lines.next.startswith((b"input ", b"patch ", b"unedited ")) and len(taken) < MOST_LINES:
+        text = lines.next.decode("ascii", "replace")
+        if text not in LEAK_KINDS and not kind_of(text):
+            lines.other("an error, a leak or an edit")
+        lines.go_on()
+        read_trace(lines, lines.was == NO_FRAME)
+    if len(taken) >= MOST_LINES:
+        lines.fault(f"an outcome of more than {MOST_LINES} lines")
+    lines.taken = None
+    return b"\n".join(taken)
+
+
+# ---- the value that stood at a place
+
+
+def byte_before(values, edited):
+    """The byte that stood where these values are all the edits of it; None where they aren't, or where that can't be
+    told."""
+    if values == "all":
+        rest = set(range(256)) - set(edited)
+        return rest.pop() if len(rest) == 1 else None
+    if values == "flips":
+        was = sum(1 << bit for bit in range(8) if sum(it >> bit & 1 for it in edited) > 4)
+        return was if sorted(was ^ 1 << bit for bit in range(8)) == edited else None
+    if values == "edges":
+        near = {(it + away) % 256 for it in edited for away in (1, -1)}
+        return next((was for was in near if sorted({*EDGES, (was + 1) % 256, (was - 1) % 256} - {was}) == edited), None)
+    return None
+
+
+def word_before(values, edited):
+    if values == "flips" and len(edited) == 32:
+        was = edited[0] ^ 1
+        return was if [was ^ 1 << bit for bit in range(32)] == edited else None
+    return None
+
+
+def value_before(place):
+    before = byte_before if place.range.kind == "bytes" else word_before
+    return before(place.range.values, place.values)
+
+
+def has_all(place):
+    """Whether the edits of a place are all that the sweep makes there, in order."""
+    values, edited = place.range.values, place.values
+    if isinstance(values, str) and values != "skip":
+        return value_before(place) is not None
+    wanted = [NO_OP] if values == "skip" else sorted(values) if place.range.kind == "bytes" else list(values)
+    return edited == wanted or len(edited) == len(wanted) - 1 and edited == [it for it in wanted if it in set(edited)]
+
+
+# ---- a table
+
+
+class Table:
+    """A table whose head is read; `places` reads on. `outcomes` are the texts that were met, by number."""
+
+    def __init__(self, file, name, number=0):
+        self.lines = Lines(file, name, number)
+        self.head: Head = read_head(self.lines)
+        self.name = f"{self.lines.name} (part {self.head.part[0]}/{self.head.part[1]})"
+        self.outcomes: List[bytes] = []
+        self.known: Dict[bytes, int] = {}
+        self.tallies: List[int] = []
+        self.edits = self.steps = 0
+        self.read_new()
+        self.lines.must(UNEDITED, "`unedited 0`")
+        self.tallies[0] = 0
+
+    def read_new(self):
+        """A new outcome."""
+        found = self.lines.must(OUTCOME, "`outcome K`")
+        if int(found[1]) != len(self.outcomes):
+            self.lines.fault(f"outcome {len(self.outcomes)} comes here")
+        text = read_outcome(self.lines, self.head.has_output)
+        if text in self.known:
+            self.lines.here(f"outcome {len(self.outcomes)} is outcome {self.known[text]}")
+        self.known[text] = len(self.outcomes)
+        self.outcomes.append(text)
+        self.tallies.append(-1)  # of which no edit was read yet
+
+    def rows(self):
+        """The edits, each its kind, place, value and outcome."""
+        lines, tallies = self.lines, self.tallies
+        while True:
+            if lines.next.startswith(b"outcome "):
+                self.read_new()
+            found = ROW.fullmatch(lines.next)
+            if not found:
+                if lines.next.startswith(b"tally ") and tallies[-1] >= 0:
+                    return
+                lines.other("an edit, `outcome K` or `tally K COUNT`")
+            outcome = int(found[5])
+            if outcome >= len(tallies) or tallies[-1] < 0 and outcome != len(tallies) - 1:
+                lines.here(f"outcome {len(tallies) - 1} comes here: {shown(lines.next)}")
+            tallies[outcome] = tallies[outcome] + 1 if tallies[outcome] >= 0 else 1
+            self.edits += 1
+            yield ("bytes", int(found[1]), int(found[2]), outcome) if found[1] else (
+                "words", int(found[3], 16), int(found[4], 16), outcome)
+            lines.go_on()
+
+    def places(self):
+        """The places in order, each with its edits, those that have none left out."""
+        last, place = self.head.interval[0] - 1, None
+        for kind, at, value, outcome in self.rows():
+            if place is None or at != place.at or kind != place.range.kind:
+                if place:
+                    self.close(place)
+                    yield place
+                place = self.open(kind, at, last)
+                last = place.ordinal
+            if value in place.edits:
+                again = "" if place.edits[value] == outcome else ", with two outcomes"
+                self.lines.here(f"the edit `{place.range.line(at, value)}` stands there twice{again}")
+            if len(place.edits) == place.range.most:
+                self.lines.here(f"more edits of a place than {place.range.most}: {shown(self.lines.next)}")
+            place.edits[value] = outcome
+        if place:
+            self.close(place)
+            yield place
+        self.none_left_out(last, self.head.interval[1])
+        self.read_end()
+
+    def open(self, kind, at, last):
+        """A place that comes after another one, and is the part's."""
+        before = 0
+        for it in self.head.ranges:
+            if it.kind == kind and it.start <= at <= it.last and (at - it.start) % it.stride == 0:
+                ordinal = before + (at - it.start) // it.stride
+                first, end = self.head.interval
+                if not first <= ordinal < end:
+                    self.lines.here(f"an edit of another part: {shown(self.lines.next)}")
+                if ordinal <= last:
+                    self.lines.here(f"an edit out of turn: {shown(self.lines.next)}")
+                self.none_left_out(last, ordinal)
+                return Place(it, at, ordinal)
+            before += it.size
+        return self.lines.here(f"an edit outside of the sweep: {shown(self.lines.next)}")
+
+    def none_left_out(self, last, ordinal):
+        """Each byte has edits, unless one value alone is tried, which may be the one that stands there."""
+        if ordinal > last + 1:
+            it, at = self.head.place(last + 1)
+            if it.kind == "bytes" and (isinstance(it.values, str) or len(it.values) > 1):
+                self.lines.here(f"a gap: no edit of byte {at}")
+
+    def close(self, place):
+        if not has_all(place):
+            self.lines.here(f"a gap, or edits out of turn: those of {place.range.kind[:-1]} "
+                            f"{place.range.named(place.at)} aren't all that values "
+                            f"{place.range.values if isinstance(place.range.values, str) else 'of the list'} are")
+
+    def read_end(self):
+        for number, tally in enumerate(self.tallies):
+            found = self.lines.must(TALLY, f"`tally {number} {tally}`")
+            if (int(found[1]), int(found[2])) != (number, tally):
+                self.lines.fault(f"`tally {number} {tally}` comes here")
+        found = self.lines.must(END, f"`end {self.edits} {len(self.outcomes)} STEPS`")
+        if (int(found[1]), int(found[2])) != (self.edits, len(self.outcomes)):
+            self.lines.fault(f"`end {self.edits} {len(self.outcomes)} ..` comes here")
+        self.steps = int(found[3])
+        if self.lines.next and not self.lines.next.startswith(b"sweep "):
+            self.lines.here(f"something behind the end: {shown(self.lines.next)}")

@@ -1,0 +1,145 @@
+"""Tables of sweeps that were never made, for tools/test/test-explore, and ways in which a table is wrong."""
+import hashlib
+import random
+
+ERROR = "Invalid read of size 1\n   at 0x00010044: total\n   by 0x00010028: main"
+LEAK = "definitely lost\n   at 0x00010918: malloc"
+JUMP = "Jump to the invalid address stated on the next line\n   at 0x00010028: main"
+OUTCOMES = ["exited 0", "exited 1", f"exited 0\n{ERROR}", f"exited 3\n{LEAK}", "running", f"stopped jump\n{JUMP}",
+            "stopped break 0x00010028", f"exited 0\n{ERROR}\n{LEAK}"]
+SUM = hashlib.sha256(b"").hexdigest()
+
+
+class Made:
+    """A sweep of so many bytes and words, each edit of which has an outcome by chance."""
+
+    def __init__(self, places, words=0, values="3,5,7", seed=1, outcomes=OUTCOMES):
+        chance = random.Random(seed)
+        self.head = [f"program 9 {SUM}", f"input {places} {SUM}", f"supp 0 {SUM}", f"bytes 0..{places - 1} {values}"]
+        self.head += [f"words 0x00010000..0x{0x10000 + 4 * words - 1:08x} flips"] if words else []
+        self.head += ["step 100", "output no"]
+        self.outcomes = outcomes
+        self.rows = []  # for each place its edits, each with an outcome
+        for at in range(places):
+            was = chance.randrange(256) if values in ("all", "flips") else 9
+            tried = {"all": range(256), "flips": sorted(was ^ 1 << bit for bit in range(8))}.get(values)
+            tried = [int(it) for it in values.split(",")] if tried is None else tried
+            self.rows.append([(f"input {at} {value}", chance.randrange(len(outcomes))) for value in tried if value != was])
+        for index in range(words):
+            at, was = 0x10000 + 4 * index, chance.getrandbits(32)
+            edits = [(f"patch 0x{at:08x} 0x{was ^ 1 << bit:08x}", chance.randrange(len(outcomes))) for bit in range(32)]
+            self.rows.append(edits if index % 3 else [])  # not each word is loaded
+
+    def part(self, index=1, count=1):
+        """The table of a part."""
+        size = len(self.rows)
+        low, high = size * (index - 1) // count, size * index // count
+        numbers = {self.outcomes[0]: 0}
+        lines = ["sweep 1", *self.head, f"part {index}/{count}", "outcome 0", self.outcomes[0], "unedited 0"]
+        tallies = [0]
+        edits = [it for place in self.rows[low:high] for it in place]
+        for edit, index in edits:
+            outcome = self.outcomes[index]
+            if outcome not in numbers:
+                lines += [f"outcome {len(numbers)}", outcome]
+                numbers[outcome] = len(numbers)
+                tallies.append(0)
+            tallies[numbers[outcome]] += 1
+            lines.append(f"{edit} {numbers[outcome]}")
+        lines += [f"tally {number} {tally}" for number, tally in enumerate(tallies)]
+        lines += [f"end {len(edits)} {len(tallies)} {7 * len(edits)}"]
+        return "".join(f"{line}\n" for line in lines).encode()
+
+
+def changed(old, new):
+    """A change of a table: the first time that a text stands there, another one."""
+    def change(table):
+        assert old in table, old
+        return table.replace(old, new, 1)
+    return change
+
+
+HUGE = b"9" * 5000000
+# Label, what becomes of a good table, and what is said of it.
+WRONG_TABLES = [
+    ("an empty table", lambda it: b"", "it is empty"),
+    ("no end line", lambda it: it[:it.index(b"end ")], "no line `end ..`"),
+    ("a line that is cut", lambda it: it[:-3], "the last line is cut"),
+    ("cut amid the rows", lambda it: it[:it.index(b"input 1 ")], "no line `end ..`"),
+    ("another version", changed(b"sweep 1", b"sweep 2"), "unknown version: sweep 2"),
+    ("the form before this one", lambda it: b"#\tinput\tall\t9\tx\ty\t1:2\t\t0..1\t3\nunedited\t-\n",
+     "replaycheck explore --table"),
+    ("another file", lambda it: b"\x7fELF\x01\x1b[31m\n", "no table of a sweep: it begins with \\x7fELF\\x01\\x1b[31m"),
+    ("no digest", changed(b"input 6 ", b"input six "), "line 3: `input LEN SHA256` comes here"),
+    ("files in another order", changed(b"supp 0", b"input 0"), "`supp LEN SHA256` comes here"),
+    ("no range", changed(b"bytes 0..5 3,5,7\n", b""), "neither bytes nor words"),
+    ("a range the wrong way round", changed(b"bytes 0..5", b"bytes 5..0"), "ends before it begins"),
+    ("a value twice", changed(b"3,5,7", b"3,5,3"), "a value twice"),
+    ("a part that is none", changed(b"part 1/1", b"part 2/1"), "no part"),
+    ("an outcome out of turn", changed(b"outcome 1\n", b"outcome 2\n"), "outcome 1 comes here"),
+    ("an outcome again", lambda it: it.replace(b"outcome 1\n" + it.split(b"outcome 1\n")[1].split(b"\ninput")[0],
+                                               b"outcome 1\nexited 0", 1), "outcome 1 is outcome 0"),
+    ("no state", changed(b"exited 0", b"left 0"), "a state comes here"),
+    ("an error that there is not", changed(b"Invalid read of size 1", b"Invalid read of size 3"), "an error, a leak"),
+    ("a frame out of turn", changed(b"   by 0x00010028", b"   at 0x00010028"), "a frame out of turn"),
+    ("a frame without a name", changed(b"   at 0x00010044: total", b"   at 0x00010044: "), "a frame comes here"),
+    ("control bytes in a name", changed(b"total", b"t\x1b[2Jl"), "t\\x1b[2Jl"),
+    ("control bytes in a row", changed(b"input 1 5", b"input 1\x1b 5"), "input 1\\x1b 5"),
+    ("no row", changed(b"input 1 5", b"inputs 1 5"), "line "),
+    ("an edit twice, with two outcomes", changed(b"input 1 5 ", b"input 1 3 "), "the edit `input 1 3` stands there twice"),
+    ("a place again", changed(b"input 2 3", b"input 1 9"), "more edits of a place than 3"),
+    ("a gap in a place", lambda it: without(it, b"input 2 3", b"input 2 5"), "a gap"),
+    ("a byte without edits", lambda it: without(it, b"input 2 3", b"input 2 5", b"input 2 7"), "a gap: no edit of byte 2"),
+    ("the last byte without edits", lambda it: without(it, b"input 5 3", b"input 5 5", b"input 5 7"), "a gap: no edit of byte 5"),
+    ("places out of turn", changed(b"input 2 3", b"input 0 9"), "an edit out of turn"),
+    ("a byte outside", changed(b"input 5 3", b"input 6 3"), "outside of the sweep"),
+    ("an outcome that isn't there", lambda it: it.replace(b"input 5 7 ", b"input 5 7 9", 1), "comes here"),
+    ("a wrong tally", lambda it: it.replace(b"tally 1 ", b"tally 1 1", 1), "`tally 1 "),
+    ("a wrong end", changed(b"end 18 ", b"end 19 "), "`end 18 "),
+    ("something behind the end", lambda it: it + b"input 0 3 0\n", "behind the end"),
+    ("an empty line", changed(b"unedited 0\n", b"unedited 0\n\n"), "an empty line"),
+    ("a length without an end", changed(b"program 9", b"program " + HUGE), "line 2"),
+    ("an offset without an end", changed(b"input 1 5", b"input " + HUGE + b" 5"), "line "),
+    ("a tally without an end", changed(b"tally 0 ", b"tally 0 " + HUGE), "line "),
+    ("steps that are no number", lambda it: it[:it.rindex(b" ")] + b" -\n", "`end 18 "),
+    ("a number of 14 digits for a step", changed(b"step 100", b"step 10000000000000"), "a step above 4194304"),
+    ("a range of bytes too far", changed(b"bytes 0..5", b"bytes 0..5000000"), "a place above"),
+]
+
+
+def without(table, *edits):
+    """A table without rows."""
+    return b"\n".join(line for line in table.split(b"\n") if not line.startswith(tuple(edit + b" " for edit in edits)))
+
+
+# Command lines that are refused: label, words, what is said.
+REFUSED = [
+    ("no word", [], "no FILE"), ("an option twice", ["p.elf", "--step=1", "--step=2"], "--step is given twice"),
+    ("two files", ["p.elf", "q.elf"], "unrecognized arguments: q.elf"),
+    ("--also", ["p.elf", "--also", "mark 0 0 1 undefined"], "--also is no option any more: no lines come before"),
+    ("--most", ["p.elf", "--most=3"], "--most is no option any more: a sweep of any size"),
+    ("--values nops", ["p.elf", "--code=main", "--values=nops"], "--words-values skip"),
+    ("--values branches", ["p.elf", "--code=main", "--values=branches"], "`replaycheck word`"),
+    ("values of bytes for words", ["p.elf", "--code=main", "--values=flips"], "--words-values"),
+    ("values of words for bytes", ["p.elf", "--words-values=flips"], "goes with --words or --code"),
+    ("two kinds of words", ["p.elf", "--code=main", "--words=0"], "at once"),
+    ("no range", ["p.elf", "--bytes=5..x"], "no range: '5..x'"), ("a range backwards", ["p.elf", "--bytes=5..3"], "no range"),
+    ("words without an end", ["p.elf", "--words=0x10000.."], "has an end"),
+    ("a value twice", ["p.elf", "--values=1,2,1"], "a number twice"), ("a value of 256", ["p.elf", "--values=256"], "from 256 on"),
+    ("no value", ["p.elf", "--values=some"], "neither all, flips, edges nor a list"),
+    ("tables and a range", ["--from", "a", "--bytes=0"], "--from takes tables that are there: --bytes makes them"),
+    ("a seed alone", ["p.elf", "--seed=1"], "--seed goes with --sample"), ("no jobs", ["p.elf", "--jobs=0"], "no number from 1"),
+    ("two things for one output", ["p.elf", "--table=-", "--svg=-"], "at once"), ("no script", ["p.elf", "--script=x"], "invalid choice"),
+    ("a missing program", ["missing.elf"], "missing.elf: No such file"), ("a folder", ["."], ".: Is a directory"),
+    ("a missing input", ["packet.elf", "--input=missing"], "missing: No such file"),
+    ("a missing table", ["--from", "missing"], "missing: No such file"),
+    ("no function", ["packet.elf", "--code=nothing"], "no such function"),
+    ("no program's file", ["packet.input", "--input=packet.input"], "image refused 20: no ELF file"),
+    ("a byte outside", ["packet.elf", "--input=packet.input", "--bytes=8"], "bytes refused 3: no such byte of the input"),
+    ("an empty input", ["packet.elf", "--input=/dev/null"], "bytes refused 3"),
+    ("no such word", ["packet.elf", "--input=packet.input", "--words=0x90000000"],
+     "words refused 4: no word of the loaded program"),
+    ("bad suppressions", ["packet.elf", "--input=packet.input", "--supp=packet.input"], "suppressions refused 13"),
+    ("a picture that can't be", ["packet.elf", "--input=packet.input", "--bytes=7", "--values=flips", "--svg=no/picture"],
+     "no/picture: No such file"),
+]
