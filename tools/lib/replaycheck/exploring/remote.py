@@ -49,7 +49,7 @@ class Remote(Runner):
                 said = shown(file.read(1000).replace(b"\n", b" "))
         missing = sorted(set(parts) - {it.head.part[0] for it in found})
         if missing:
-            raise Fault(f"part {missing[0]}/{self.count} has failed twice: {said}")
+            raise Fault(f"part {missing[0]}/{self.count} has failed twice: {said or 'it said nothing'}")
         return found
 
     def child(self, room, parts):
