@@ -9,6 +9,18 @@ enum { IMAGE = 64, SIGNATURE = 128, ONE = 0x35, OTHER = 0x4a };
 
 static unsigned char input[IMAGE + SIGNATURE];
 
+static void start(void)
+{
+    write(STDOUT_FILENO, "started\n", 8);
+}
+
+/* The same number, of which the compiler knows nothing: else it has the second test stand on what the first one found. */
+static unsigned unknown(unsigned number)
+{
+    __asm__ volatile("" : "+r"(number));
+    return number;
+}
+
 static unsigned differs(const unsigned char *a, const unsigned char *b, unsigned length)
 {
     unsigned bits = 0;
@@ -36,9 +48,10 @@ int main(void)
         passed += ONE;
     if (differs(wanted, found, sizeof wanted) == 0)
         passed += OTHER;
-    if (passed != ONE + OTHER)
+    if (unknown(passed) != unknown(ONE + OTHER))
         return 1;
-    if (passed != ONE + OTHER)
+    if (unknown(passed) != unknown(ONE + OTHER))
         return 1;
+    start();
     return 0;
 }
