@@ -54,8 +54,8 @@ export class Code {
     const text = disassembled(word, address);
     const names = [address === this.at && 'at', patched !== undefined && 'patched'].filter(Boolean).join(' ');
     return element('tr', { className: names },
-      element('td', {}, hexWord(address)), element('td', {}, hexWord(word)), element('td', {}, this.instruction(text)),
-      element('td', { className: 'quiet' }, this.lineOf(address) ?? ''), element('td', {}, ...this.edits(address, patched)));
+      element('td', {}, ...this.edits(address, patched)), element('td', {}, hexWord(address)), element('td', {}, this.instruction(text)),
+      element('td', { className: 'quiet' }, this.lineOf(address) ?? ''), element('td', { className: 'quiet' }, hexWord(word)));
   }
 
   instruction(text) {

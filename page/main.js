@@ -146,7 +146,6 @@ class App {
     await this.refresh();
     this.opened = performance.now() - begun;
     const about = this.opening.example ? `${this.opening.example.about} ` : '';
-    say('step-told', $('step-told').textContent);
     say('byte-told', `${about}${title}: opened in ${milliseconds(this.opened)}.`);
     if (this.program.base.length * 255 <= SWEPT_AT_ONCE && this.program.base.length && this.last <= SHORT_RUN) this.sweep();
   }
@@ -262,11 +261,20 @@ class App {
     this.reports.show(report, unedited, time);
     this.bytes.show(this.scenario, report.read);
     this.code.show(scenario);
+    this.lookAtNew();
     this.edits.show(this.scenario, Math.min(step, this.last));
     $('undo').disabled = this.place === 0;
     $('redo').disabled = this.place === this.history.length - 1;
     clearTimeout(this.timer);
     this.timer = setTimeout(() => this.settle(), QUIET);
+  }
+
+  // Shows the code at the first error that is new, once, where nobody works there.
+  lookAtNew() {
+    const [first] = this.reports.groups.filter((it) => it.how === 'new');
+    const key = first?.group.key ?? '';
+    if (key && key !== this.lookedAt && !$('code-part').contains(document.activeElement)) this.code.visit(first.group.trace[0].address, false);
+    this.lookedAt = key;
   }
 
   async settle() {

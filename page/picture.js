@@ -9,6 +9,8 @@ const EDGES = [0, 1, 0x7f, 0x80, 0xff];
 const EDGE_NAMES = ['0', '1', '0x7f', '0x80', '0xff', 'one more', 'one less'];
 const DRAW_EVERY = 150;  // milliseconds
 const MOST_LEGEND = 60, MOST_TOLD = 3;
+const LEFT = 46, BELOW = 20;  // pixels beside and below the cells, for what the axes say
+const LEAST_APART = 90;  // pixels between two places that are named
 const DARK = matchMedia('(prefers-color-scheme: dark)');
 
 export const VALUES = {
@@ -121,14 +123,54 @@ export class Picture {
       else this.fill(on, cell, index, 0);
     });
     for (const [cell, index] of fresh) this.fill(on, cell, index, LEAST_MARK * scale);
+    this.axes(on, scale);
     this.outline(on, scale);
   }
 
+  // Where the cells are, in pixels of the canvas.
+  get field() {
+    const scale = devicePixelRatio || 1;
+    return { left: LEFT * scale, wide: this.canvas.width - LEFT * scale, tall: this.canvas.height - BELOW * scale };
+  }
+
   box(index) {
-    const { width, height } = this.canvas, column = Math.floor(index / this.rows), row = index % this.rows;
-    const [x, right] = [column, column + 1].map((it) => it * width / this.columns);
-    const [y, below] = [row, row + 1].map((it) => it * height / this.rows);
+    const { left, wide, tall } = this.field, column = Math.floor(index / this.rows), row = index % this.rows;
+    const [x, right] = [column, column + 1].map((it) => left + it * wide / this.columns);
+    const [y, below] = [row, row + 1].map((it) => it * tall / this.rows);
     return [x, y, right - x, below - y];
+  }
+
+  // The names of some values and places.
+  axes(on, scale) {
+    const { left, wide, tall } = this.field;
+    on.font = `${11 * scale}px sans-serif`;
+    on.fillStyle = getComputedStyle(this.canvas).color;
+    on.textBaseline = 'middle';
+    on.textAlign = 'right';
+    for (const [row, name] of this.rowNames()) {
+      const y = (row + .5) * tall / this.rows;
+      on.fillText(name, left - 5 * scale, Math.max(7 * scale, Math.min(tall - 5 * scale, y)), left - 6 * scale);
+    }
+    on.textAlign = 'center';
+    const each = Math.max(1, Math.ceil(LEAST_APART * scale * this.columns / wide));
+    for (let column = 0; column < this.columns; column += each) {
+      const x = Math.max(left + 12 * scale, left + (column + .5) * wide / this.columns);
+      on.fillText(this.placeName(this.firstOf(column)).replace('byte ', ''), Math.min(x, this.canvas.width - 30 * scale), tall + BELOW * scale / 2);
+    }
+  }
+
+  rowNames() {
+    const { values, kind } = this.swept.asked;
+    if (values === 'all') return [0, 64, 128, 192, 255].map((it) => [it, hexByte(it)]);
+    if (values === 'edges') return [...EDGE_NAMES.entries()];
+    if (values === 'skip') return [[0, 'skip']];
+    return (kind === 'bytes' ? [0, 3, 7] : [0, 8, 16, 24, 31]).map((it) => [it, `bit ${it}`]);
+  }
+
+  // The first place of a column.
+  firstOf(column) {
+    const { kind, first } = this.swept.asked, index = Math.ceil(column * this.count / this.columns);
+    return kind === 'bytes' ? first + index : first + 4 * index;
   }
 
   fill(on, cell, index, least) {
@@ -209,8 +251,8 @@ export class Picture {
     const line = first && (this.swept.asked.kind === 'bytes' ? inputLine(...first) : patchLine(...first));
     const button = first && number ? element('button', { onclick: () => this.make(this.swept.asked.kind, ...first) }, line) : '';
     if (button) button.dataset.held = `first ${number}`;
-    return element('tr', {}, element('td', {}, box, swatch), element('td', { className: 'number' }, grouped(this.swept.tallies[number])),
-      element('td', {}, told), element('td', {}, button));
+    const cell = (className, ...children) => element('td', { role: 'cell', className }, ...children);
+    return element('tr', { role: 'row' }, cell('shows', box, swatch), cell('number', grouped(this.swept.tallies[number])), cell('outcome', told), cell('first', button));
   }
 
   // ---- pointing
@@ -218,8 +260,9 @@ export class Picture {
   point(event) {
     if (!this.swept) return;
     const box = this.canvas.getBoundingClientRect();
-    const part = (at, begin, whole, count) => Math.max(0, Math.min(count - 1, Math.floor((at - begin) / whole * count)));
-    this.here = { column: part(event.clientX, box.left, box.width, this.columns), row: part(event.clientY, box.top, box.height, this.rows) };
+    const part = (at, whole, count) => Math.max(0, Math.min(count - 1, Math.floor(at / whole * count)));
+    this.here = { column: part(event.clientX - box.left - LEFT, box.width - LEFT, this.columns),
+      row: part(event.clientY - box.top, box.height - BELOW, this.rows) };
     this.snap();
     this.tell();
   }

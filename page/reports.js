@@ -16,7 +16,7 @@ export class Reports {
   }
 
   show(report, unedited, time) {
-    const groups = compared(report, unedited);
+    const groups = this.groups = compared(report, unedited);
     const hidden = groups.length - MOST_GROUPS;
     $('report').replaceChildren(
       ...groups.slice(0, MOST_GROUPS).map((it) => this.group(it)),

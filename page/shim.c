@@ -9,23 +9,17 @@ typedef unsigned long size;
 typedef long offset;
 _Static_assert(sizeof(size) == 8 && sizeof(void *) == 8, "addresses have 64 bits");
 
-#ifdef NATIVE /* a test of the heap alone gives these two */
-#define IMPORT(name)
+/* A test of the heap alone defines HEAP_ALONE, and gives these two. */
+#ifdef HEAP_ALONE
 #define EXPORT(name)
 extern byte *heap_begin(void);
 extern int heap_grow(size pages);
 #else
-#define IMPORT(name) __attribute__((import_module("page"), import_name(#name)))
 #define EXPORT(name) __attribute__((export_name(#name)))
 extern byte __heap_base;
 static byte *heap_begin(void) { return &__heap_base; }
 static int heap_grow(size pages) { return __builtin_wasm_memory_grow(0, pages) != (size)-1; }
 #endif
-
-IMPORT(read) double page_read(int file, double at, double most);
-IMPORT(write) double page_write(int file, double at, double length);
-IMPORT(open) int page_open(double path);
-IMPORT(word) double page_word(int index, double at, double most);
 
 /* ---- the heap: blocks of some sizes, four between a power of two and the next, each size with a list of what was
    given back. A block has 16 bytes before it, with its class. */
@@ -115,7 +109,17 @@ taken rattle_realloc(void *block, size kept, size length, size alignment) {
   return told(change(block, length ? length : alignment));
 }
 
+/* The heap takes no more bytes than this. */
+EXPORT(allow) void allow(double bytes) { limit = bytes < (double)LARGEST ? (size)bytes : LARGEST; }
+
+#ifndef HEAP_ALONE
 /* ---- files */
+
+#define IMPORT(name) __attribute__((import_module("page"), import_name(#name)))
+IMPORT(read) double page_read(int file, double at, double most);
+IMPORT(write) double page_write(int file, double at, double length);
+IMPORT(open) int page_open(double path);
+IMPORT(word) double page_word(int index, double at, double most);
 
 enum { NO_SUCH_FILE = 2, CANNOT = 5, BAD = 22, NO_SEEK = 29 };
 static int fault;
@@ -197,9 +201,4 @@ size strlen(const char *text) {
 
 int main(void);
 EXPORT(run) int run(void) { return main(); }
-
-/* The heap takes no more bytes than this. */
-EXPORT(allow) void allow(double bytes) { limit = bytes < (double)LARGEST ? (size)bytes : LARGEST; }
-
-/* So many bytes the heap has taken. */
-EXPORT(used) double used(void) { return top ? (double)(top - (size)heap_begin()) : 0; }
+#endif
