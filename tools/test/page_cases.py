@@ -122,8 +122,9 @@ def forms_in_turn(bench):
           set('option-redzone', 64); set('option-callers', 2); set('option-queue', 0);
           document.querySelector('#option-form [value=reachable]').checked = true; document.querySelector('#option-form button').click(); })()""")
         check("options")
-        same("options", sorted(page.run("replaycheck.scenario.lines"))[2:6],
-             ["option queue 0", "option redzone 64", "option show definite,possible,reachable", f"supp add {SUPPRESSED}"])
+        same("lines", sorted(page.run("replaycheck.scenario.lines")),
+             ["input 37 5", "mark 55 0x00020011 2 undefined", "option callers 2", "option queue 0", "option redzone 64",
+              "option show definite,possible,reachable", f"supp add {SUPPRESSED}"])
         for step in (0, 55, 500):
             page.run(f"(() => {{ const it = document.getElementById('step'); it.value = {step}; it.dispatchEvent(new Event('input')); }})()")
             check(f"step {step}")
@@ -301,7 +302,7 @@ def bad_files(bench):
     """Files that can't be run are told in a sentence with what to do, and the next file is opened."""
     packet = (TOP / "examples/packet.elf").read_bytes()
     cases = [(b"hello", None, ".elf file"), (packet[:4] + b"\x02" + packet[5:], None, "-march=rv32im"), (packet[:18] + b"\x3e" + packet[19:], None, "not for RISC-V"),
-             (packet[:40], None, "damaged"), (packet, bytes((1 << 20) + 1), "shorter input")]
+             (packet[:100], None, "damaged"), (packet, bytes((1 << 20) + 1), "shorter input")]
     with bench.page() as page:
         for program, given, told in cases:
             bench.give(page, {"program": program, **({"input": given} if given else {})})

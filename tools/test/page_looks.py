@@ -80,7 +80,7 @@ def source_lines(bench):
         ran = subprocess.run([tool, "-e", str(path), *(hex(at) for at, _ in told)], capture_output=True, text=True, check=True)
         want = [re.sub(r" \(discriminator.*", "", it).rpartition("/")[2] for it in ran.stdout.splitlines()]
         wrong = [(hex(at), line, it) for (at, line), it in zip(told, want) if it[-1].isdigit() and not it.endswith(":0") and line != it]
-        expect(len(told) > 150 and len(wrong) * 200 <= len(told), f"{name}: {len(wrong)} of {len(told)} lines: {wrong[:5]}")
+        expect(len(told) > 100 and len(wrong) * 200 <= len(told), f"{name}: {len(wrong)} of {len(told)} lines: {wrong[:5]}")
 
 
 def instructions(bench):
@@ -99,28 +99,29 @@ def instructions(bench):
             got = told.get(int(at, 16))
             if got is not None and plain(got) != plain(f"{instruction} {fields}".strip()):
                 wrong.append((at, got, f"{instruction} {fields}"))
-        expect(len(rows) > 150, f"{len(rows)} rows alone")
+        expect(len(rows) > 100, f"{len(rows)} rows alone")
         same(name, wrong[:5], [])
+
+
+OTHER_NAMES = {"nop": lambda _: ("addi", ["zero", "zero", "0"]), "ret": lambda _: ("jalr", ["zero", "0(ra)"]), "fence": lambda _: ("fence", []),
+               "li": lambda it: ("addi", [it[0], "zero", it[1]]), "mv": lambda it: ("addi", [*it, "0"]), "j": lambda it: ("jal", ["zero", *it]),
+               "jal": lambda it: ("jal", it if len(it) == 2 else ["ra", *it])}
+JUMPS = {"jal", "j", "beq", "bne", "blt", "bge", "bltu", "bgeu"}
+
+
+def number_of(text, is_place):
+    """A number in one form; objdump has places without 0x."""
+    if re.fullmatch(r"-?(0x[0-9a-f]+|[0-9]+)", text) and not (is_place and not text.startswith("0x")):
+        return str(int(text, 0))
+    return str(int(text, 16)) if is_place else text
 
 
 def plain(text):
     """An instruction without the assembler's other names for it, and with its numbers in one form."""
     name, _, fields = text.partition(" ")
-    parts = [str(int(it, 0)) if re.fullmatch(r"-?(0x[0-9a-f]+|\d+)", it) else it for it in fields.strip().split(",") if it]
-    parts = [str(int(it, 16)) if re.fullmatch(r"[0-9a-f]{4,8}", it) and name in ("jal", "j", "beq", "bne", "blt", "bge", "bltu", "bgeu") else it for it in parts]
-    other = {"nop": ("addi", ["zero", "zero", "0"]), "ret": ("jalr", ["zero", "0(ra)"])}
-    if name in other:
-        name, parts = other[name]
-    elif name == "li":
-        name, parts = "addi", [parts[0], "zero", parts[1]]
-    elif name == "mv":
-        name, parts = "addi", [*parts, "0"]
-    elif name == "j":
-        name, parts = "jal", ["zero", *parts]
-    elif name == "jal" and len(parts) == 1:
-        parts = ["ra", *parts]
-    elif name == "fence":
-        parts = []
+    parts = [it for it in fields.strip().split(",") if it]
+    parts = [number_of(it, name in JUMPS and it is parts[-1]) for it in parts]
+    name, parts = OTHER_NAMES.get(name, lambda it: (name, it))(parts)
     return f"{name} {','.join(parts)}"
 
 

@@ -6,7 +6,7 @@ from replaycheck.endings import Fault
 
 IMPORT = re.compile(r"^import \{ ([^}]+) \} from '\./([a-z-]+\.js)';\n", re.M)
 EXPORT = re.compile(r"^export (?=(?:async )?(?:const|let|function|class) )", re.M)
-EXPORTED = re.compile(r"^export (?:async )?(?:const|let|function|class) (\w+)", re.M)
+EXPORTED = re.compile(r"^export (?:async )?(?:const|let|function|class) ([\w$]+)", re.M)
 OTHER = re.compile(r"^\s*(?:import|export)\b", re.M)
 
 
