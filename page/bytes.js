@@ -26,6 +26,7 @@ export class Bytes {
   get wide() { return NARROW.matches ? 8 : 16; }
 
   show(scenario, read) {
+    if (scenario === this.scenario && read === this.read) return;
     Object.assign(this, { scenario, read });
     this.here = Math.max(0, Math.min(this.here, scenario.length - 1));
     this.render();

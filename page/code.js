@@ -36,8 +36,9 @@ export class Code {
   }
 
   show(scenario) {
+    const isSame = this.scenario?.patches === scenario.patches;
     this.scenario = scenario;
-    if (this.shown) this.render();
+    if (this.shown && !isSame) this.render();
   }
 
   render() {

@@ -27,6 +27,9 @@ export class Edits {
   }
 
   show(scenario, step) {
+    if (document.activeElement !== $('lines')) $('lines').value = this.text();
+    if (!$('mark-form').contains(document.activeElement)) $('mark-step').value = step;
+    if (scenario === this.scenario) return;
     this.scenario = scenario;
     const edits = editsOf(scenario);
     say('edits-told', edits.length ? many(edits.length, 'edit') : 'none');
@@ -34,8 +37,6 @@ export class Edits {
     const held = [...$('chips').querySelectorAll('button')].indexOf(document.activeElement);
     $('chips').replaceChildren(...edits.slice(0, MOST_CHIPS).map((it) => this.chip(it)));
     if (held >= 0) ($('chips').querySelectorAll('button')[Math.min(held, edits.length - 1)] ?? $('bytes')).focus();
-    if (document.activeElement !== $('lines')) $('lines').value = this.text();
-    if (!$('mark-form').contains(document.activeElement)) $('mark-step').value = step;
     if (!$('option-form').contains(document.activeElement)) this.showOptions();
   }
 

@@ -1,10 +1,10 @@
 // Every edit of the input's bytes, or of a function's words, alone: parts of the proved sweep, in as many workers as processors.
 import { Ended, Helper } from './sessions.js';
 
-const PARTS_EACH = 6;
+const PARTS_EACH = 4;  // so that no worker waits long for the last one
 const MOST_PARTS = 1000;
 
-const partsOf = (places, workers) => Math.max(1, Math.min(places, workers * PARTS_EACH, MOST_PARTS));
+const partsOf = (places, workers) => (workers === 1 ? 1 : Math.max(1, Math.min(places, workers * PARTS_EACH, MOST_PARTS)));
 
 // What came of the edits. `outcomes` are texts, of which the first is the unedited run's; an edit is of a place, its value, and an outcome.
 export class Swept {
