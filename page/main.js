@@ -147,7 +147,8 @@ class App {
     this.opened = performance.now() - begun;
     const about = this.opening.example ? `${this.opening.example.about} ` : '';
     say('byte-told', `${about}${title}: opened in ${milliseconds(this.opened)}.`);
-    if (this.program.base.length * 255 <= SWEPT_AT_ONCE && this.program.base.length && this.last <= SHORT_RUN) this.sweep();
+    const isShort = this.program.base.length && this.program.base.length * 255 <= SWEPT_AT_ONCE && this.last <= SHORT_RUN;
+    if (isShort && !words.has('still')) this.sweep();
   }
 
   // ---- the scenario

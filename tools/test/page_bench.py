@@ -68,10 +68,11 @@ class Bench:
         told = ["\n".join(it) for it in outcomes]
         return {edit: told[number] for edit, number in edits.items()}
 
-    def page(self, words="", **shape):
+    def page(self, words="?still", **shape):
         return self.browser.page(self.address + words, **shape)
 
-    def open(self, example="station", words="", **shape):
+    def open(self, example="station", words="?still", **shape):
+        """A page with an example, which sweeps nothing by itself where the words of its address don't say otherwise."""
         page = self.page(words, **shape)
         page.run(f"replaycheck.opening.choose({json.dumps(example)})")
         self.settle(page)

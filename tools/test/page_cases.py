@@ -159,7 +159,7 @@ def undone_and_redone(bench):
 def many_edits(bench):
     """Random edits one after another, over sessions that are begun anew after 60 lines."""
     chance = random.Random(45)
-    with bench.open(words="?lines=60") as page:
+    with bench.open(words="?still&lines=60") as page:
         for turn in range(60):
             line = chance.choice([f"input {chance.randrange(40)} {chance.randrange(256)}", f"input append {chance.randrange(256)}", "input cut",
                                   f"patch {0x10204 + 4 * chance.randrange(40):#x} 0x13", f"option redzone {chance.randrange(100)}",
@@ -236,7 +236,7 @@ def swept(bench, page, words, options, want_edits):
 
 def picture_of_bytes(bench):
     """Every edit of a byte: the program's own table, its counts in the legend, and a click that makes an edit."""
-    with bench.open() as page:
+    with bench.open(words="") as page:
         step = page.run("replaycheck.step")
         swept(bench, page, STATION, [f"--step={step}"], 10455)
         page.until("document.getElementById('sweep-told').textContent.includes('287 of them')")
@@ -253,7 +253,7 @@ def picture_of_bytes(bench):
 
 def picture_least(bench):
     """In the picture a new error is at least three pixels high, and the legend takes an outcome out."""
-    with bench.open() as page:
+    with bench.open(words="") as page:
         page.until(FINAL, 120)
         page.run("replaycheck.picture.draw()")
         count = """(() => { const p = replaycheck.picture, on = p.canvas.getContext('2d'), index = 27 * p.rows + 2, [x, y, w, h] = p.box(index);
@@ -367,11 +367,11 @@ def policy(bench):
 
 def memory_short(bench):
     """Where memory runs out that is told, and the page goes on."""
-    with bench.page("?memory=300000") as page:
+    with bench.page("?still&memory=300000") as page:
         page.run("replaycheck.opening.choose('station')")
         page.until("document.getElementById('notice').textContent")
         expect("Memory ran out" in page.text("notice"), f"it says {page.text('notice')!r}")
-    with bench.open(words="?memory=12000000") as page:
+    with bench.open(words="?still&memory=12000000") as page:
         page.run("replaycheck.use('option show all\\nmark 0 0x20000 1000000 undefined\\ninput 1 8')")
         bench.settle(page)
         page.run("replaycheck.go(4194304)")
@@ -396,7 +396,7 @@ def by_keyboard(bench):
                 return
             page.press("Tab")
         raise Wrong(f"Tab never comes to {condition}")
-    with bench.page() as page:
+    with bench.page(words="") as page:
         tab_to(page, "it.closest('#examples') !== null")
         page.press("Enter")
         page.until("replaycheck.shown")

@@ -29,7 +29,7 @@ WORK = "input 1 8\nmark 55 0x20011 2 undefined\npatch 0x101e0 0x13\ninput append
 
 def opened(bench, **shape):
     """A page with errors that are new, edits of each kind, and a picture."""
-    page = bench.open(**shape)
+    page = bench.open(words="", **shape)
     page.run(f"replaycheck.use({json.dumps(WORK)})")
     bench.settle(page)
     page.run("[...document.querySelectorAll('details')].forEach((it) => { it.open = true; })")
@@ -127,7 +127,7 @@ def plain(text):
 
 def picture_file(bench, path):
     """Writes the picture of README."""
-    with bench.open(width=1180, height=1180) as page:
+    with bench.open(words="", width=1180, height=1180) as page:
         page.focus("bytes")
         page.press("ArrowRight", "0", "8")
         page.until("replaycheck.sweeping?.swept.isWhole", 120)

@@ -13,12 +13,16 @@ def options_of(page):
     reader = Reader(page)
     reader.option("--output", default=str(TOP / "out"))
     reader.option("--anew", is_flag=True)
-    return reader.read()
+    reader.option("--kept", is_flag=True)
+    options = reader.read()
+    if options.anew and options.kept:
+        reader.error("--anew and --kept at once")
+    return options
 
 
 def build(options):
     out = pathlib.Path(options.output)
-    made = module(options.anew)
+    made = module(options.anew, options.kept)
     write_folder(out / "page", made)
     page = one_file(made)
     (out / "replaycheck.html").write_bytes(page)

@@ -18,7 +18,8 @@ from . import kit as kits
 NAME = "replaycheck"
 PROGRAM = TOP / "crates" / NAME / "out" / NAME
 SHIM = TOP / "page" / "shim.c"
-KEPT = TOP / "out" / "page-module"
+KEPT = pathlib.Path(os.environ.get("XDG_CACHE_HOME") or pathlib.Path.home() / ".cache") / "replaycheck" / "page-modules"
+MOST_KEPT = 4
 STACK, MOST_MEMORY = 4 << 20, 4 << 30
 # The processor that the text is for: its name, the layout of its data, which is the same but for types that aren't used, and attributes.
 LAYOUT = re.compile(r"^target datalayout = .*\n", re.M)
@@ -94,18 +95,27 @@ def copy_of_crates(room):
     return Crates(top)
 
 
-def take_text(kit, tools, room):
-    """Has the program built once more, so that the compiler is given its text. What comes of it must be the program."""
-    crates = Crates(TOP)
-    if not crates.are_built():
-        crates = copy_of_crates(room)
+def built_again(kit, tools, room, crates):
+    """Whether the program, built once more over libraries, is the proved one, byte for byte."""
     print("replaycheck page: proves the program's crate over its libraries, and takes its intermediate text", file=sys.stderr)
     words = [kit / "bin/rattle", "build", *crates.words(kit), "--toolchain", tools.folder, "--backend", "llvm", "-o", room / "native.o"]
     kits.run(words, crates.top / "crates" / NAME, "building the program's crate")
     tools.must_have(kits.IR)
     kits.run([kit / "bin/rattle-link", "--target", kits.NATIVE, "--toolchain", kit / "toolchain", "-o", room / "native", room / "native.o",
               kit / "c/libos_c.a", kit / "c/liblibc_c.a"], room, "linking the program")
-    if not filecmp.cmp(room / "native", PROGRAM, shallow=False):
+    return filecmp.cmp(room / "native", PROGRAM, shallow=False)
+
+
+def take_text(kit, tools, room):
+    """Has the program built once more, so that the compiler is given its text: over the libraries that the gate has left, if
+    there are such and they are of this program, or else over a copy's."""
+    crates = Crates(TOP)
+    try:
+        if crates.are_built() and built_again(kit, tools, room, crates):
+            return
+    except Fault:
+        pass  # what was left is of other sources
+    if not built_again(kit, tools, room, copy_of_crates(room)):
         raise Fault(f"what was built isn't {PROGRAM.relative_to(TOP)}, byte for byte, so the page would have another program")
 
 
@@ -135,11 +145,24 @@ def compile_module(tools, room):
 
 
 def stamp_of(kit):
-    """What tells whether a module that was kept is of these sources."""
+    """What tells of which sources a module is that was kept."""
     made = hashlib.sha256()
     for path in (PROGRAM, SHIM, kit / "KIT-ID", kit / "toolchain/bin/clang", pathlib.Path(__file__), pathlib.Path(kits.__file__)):
         made.update(hashlib.sha256(path.read_bytes()).digest())
     return made.hexdigest()
+
+
+def keep(made, path):
+    """Keeps a module for later builds, where there is room for it."""
+    try:
+        path.parent.mkdir(parents=True, exist_ok=True)
+        part = path.with_suffix(f".{os.getpid()}")
+        part.write_bytes(made)
+        part.rename(path)
+        for old in sorted(path.parent.glob("*.wasm"), key=lambda it: -it.stat().st_mtime)[MOST_KEPT:]:
+            old.unlink()
+    except OSError as fault:
+        print(f"replaycheck page: the module isn't kept for the next time: {fault}", file=sys.stderr)
 
 
 def build_program():
@@ -147,19 +170,23 @@ def build_program():
         raise Fault("the program isn't built")
 
 
-def module(anew=False):
-    """The module's bytes. One that was made of the same sources is taken as it is, but where it is wanted anew."""
+def module(anew=False, is_kept=False):
+    """The module's bytes. One that was made of the same sources is taken as it is, but where it is wanted anew; where it must be
+    a kept one, of the program as it is, nothing is built."""
     kit = kits.find()
-    build_program()
-    stamp, kept = stamp_of(kit), KEPT / "module.wasm"
-    if not anew and kept.is_file() and (KEPT / "stamp").is_file() and (KEPT / "stamp").read_text() == stamp:
+    if not is_kept:
+        build_program()
+    elif not PROGRAM.is_file():
+        raise Fault("there is no program yet")
+    kept = KEPT / f"{stamp_of(kit)}.wasm"
+    if not anew and kept.is_file():
         return kept.read_bytes()
+    if is_kept:
+        raise Fault("no module of this program is kept; `replaycheck page` makes one")
     with tempfile.TemporaryDirectory(prefix="replaycheck-page-") as folder:
         room = pathlib.Path(os.path.realpath(folder))
         tools = kits.Tools(kit, room)
         take_text(kit, tools, room)
         made = compile_module(tools, room)
-    KEPT.mkdir(parents=True, exist_ok=True)
-    kept.write_bytes(made)
-    (KEPT / "stamp").write_text(stamp)
+    keep(made, kept)
     return made
