@@ -15,7 +15,7 @@ import { Scenario, hexWord } from './scenario.js';
 import { NEEDS, sentence } from './sentences.js';
 import { Session } from './sessions.js';
 import { Search, Steps } from './steps.js';
-import { Sweep } from './sweeping.js';
+import { MOST_EDITS, Sweep } from './sweeping.js';
 
 const words = new URLSearchParams(location.search);
 const LIMIT = Number(words.get('memory')) || 1 << 30;  // bytes that a session may take
@@ -24,6 +24,7 @@ const SHORT_RUN = 100000;  // steps of a run for which it does
 const QUIET = 300;  // milliseconds after an edit, before landmarks are searched and the link is changed
 const MOST_UNDONE = 1000;
 const LOOK_FIRST = 1024, BEYOND = 4096;
+const LONG = 600;  // milliseconds after which work is told, with a button that stops it
 
 class App {
   constructor() {
@@ -49,6 +50,7 @@ class App {
     $('redo').addEventListener('click', () => this.travel(1));
     $('sweep').addEventListener('click', () => this.sweep());
     $('stop').addEventListener('click', () => this.sweeping?.stop());
+    $('stop-report').addEventListener('click', () => { this.session?.stop(); this.unedited?.stop(); });
     $('sweep-what').addEventListener('change', () => this.valuesOf($('sweep-what').value));
     addEventListener('hashchange', () => this.opening.follow(location.hash));
     addEventListener('keydown', (event) => {
@@ -90,12 +92,29 @@ class App {
     this.before = new Map();
     this.lineOf = remembered(sourceLines(elf));
     try {
-      await this.findEnd();
+      await this.told('The program runs', this.findEnd());
     } catch (fault) {
       if (turn === this.turn) this.failed(fault);
       return;
     }
     if (turn === this.turn) await this.begin(files, lines, begun);
+  }
+
+  // Waits for work, which is told where it is long, with the time that it takes.
+  async told(what, work) {
+    const begun = performance.now();
+    const timer = setInterval(() => {
+      const seconds = Math.round((performance.now() - begun) / 1000);
+      if (performance.now() - begun > LONG) say('work', `${what}: ${many(seconds, 'second')}`);
+      $('stop-report').hidden = performance.now() - begun <= LONG;
+    }, LONG / 3);
+    try {
+      return await work;
+    } finally {
+      clearInterval(timer);
+      say('work', '');
+      $('stop-report').hidden = true;
+    }
   }
 
   close() {
@@ -238,7 +257,7 @@ class App {
     const { scenario, step, turn } = this;
     try {
       const begun = performance.now();
-      const [{ text }, unedited] = await Promise.all([this.session.report(scenario, step), this.reportBefore(step)]);
+      const [{ text }, unedited] = await this.told('The report is made', Promise.all([this.session.report(scenario, step), this.reportBefore(step)]));
       if (turn !== this.turn) return;
       this.shown = { scenario, step, report: parseReport(text), unedited, time: performance.now() - begun };
       this.display();
@@ -332,6 +351,10 @@ class App {
     this.sweeping?.stop();
     if (!asked) {
       this.notice('There is nothing to sweep: no input, or no function.');
+      return;
+    }
+    if (allEdits(asked) > MOST_EDITS) {
+      this.notice(`These are ${grouped(allEdits(asked))} edits, and this page makes ${grouped(MOST_EDITS)} at most. Choose fewer values, or use \`replaycheck sweep\`.`);
       return;
     }
     const { files, left } = this.sweptFiles, { scenario } = this;

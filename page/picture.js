@@ -76,9 +76,11 @@ export class Picture {
 
   // Takes what the sweep has more of, and draws it now and then.
   more(isLast = false) {
-    for (const [at, edits] of this.swept.places) {
-      for (let i = this.taken.get(at) ?? 0; i < edits.length; i++) this.take(at, edits[i]);
-      this.taken.set(at, edits.length);
+    for (const [at, { values, outcomes }] of this.swept.places) {
+      const taken = this.taken.get(at) ?? 0;
+      if (taken === values.length) continue;
+      for (let i = taken; i < values.length; i++) this.take(at, values[i], outcomes[i]);
+      this.taken.set(at, values.length);
     }
     if (!isLast && performance.now() - this.lastDrawn < DRAW_EVERY) return;
     this.lastDrawn = performance.now();
@@ -87,7 +89,7 @@ export class Picture {
     this.tell();
   }
 
-  take(at, [value, number]) {
+  take(at, value, number) {
     const index = this.columnOf(at) * this.rows + this.rowOf(at, value), was = this.cells[index];
     if (!was || this.outcome(number).bad > this.outcome(was.number).bad) this.cells[index] = { at, value, number };
   }
@@ -214,17 +216,19 @@ export class Picture {
 
   // What the sweep said of a byte's values, in few words.
   saidOf(at) {
-    const edits = this.swept?.asked.kind === 'bytes' ? this.swept.places.get(at) : null;
-    if (!edits) return '';
+    const place = this.swept?.asked.kind === 'bytes' ? this.swept.places.get(at) : null;
+    if (!place) return '';
     const counts = new Map();
-    for (const [, number] of edits) counts.set(number, (counts.get(number) ?? 0) + 1);
+    for (const number of place.outcomes) counts.set(number, (counts.get(number) ?? 0) + 1);
     const fresh = [...counts].filter(([number]) => this.outcome(number).fresh.length).sort((a, b) => this.outcome(b[0]).bad - this.outcome(a[0]).bad);
     const same = counts.get(0) ?? 0;
     const told = fresh.slice(0, MOST_TOLD).map(([number, count]) => {
-      const [value] = edits.find((it) => it[1] === number);
+      const value = place.values[place.outcomes.indexOf(number)];
       return `${count} (${hexByte(value)} first): ${this.outcome(number).fresh[0].told}`;
     });
-    return `Of ${many(edits.length, 'other value')}, ${same} change nothing; ${told.length ? `new by ${told.join(' · ')}` : 'none makes a new error'}.`;
+    const other = place.values.length;
+    const first = same === other ? `None of ${many(other, 'other value')} changes anything` : `Of ${many(other, 'other value')}, ${same} change nothing`;
+    return `${first}; ${told.length ? `new by ${told.join(' · ')}` : 'none makes a new error'}.`;
   }
 
   legend() {

@@ -2,7 +2,7 @@
 import { REFUSALS } from './facts.js';
 import { size } from './dom.js';
 import { NoEdit } from './scenario.js';
-import { Ended, Refused, TooManyLines } from './sessions.js';
+import { Ended, Refused, Stopped, TooManyLines } from './sessions.js';
 
 const FOR_THE_PROCESSOR = 'Compile and link it for RV32IM: -march=rv32im -mabi=ilp32.';
 const ADVICE = {
@@ -31,6 +31,7 @@ function refusedFile(said) {
 // What to say of a fault.
 export function sentence(fault, limit) {
   if (fault instanceof NoEdit) return `“${fault.message}” is no line that edits a run. ${REFUSALS[2]}.`;
+  if (fault instanceof Stopped) return 'Stopped. The page shows the report before.';
   if (fault instanceof TooManyLines) return 'These are more edits than a session takes. Change the input’s file instead.';
   if (fault instanceof Refused && fault.number === 1) return `Memory ran out at “${fault.line}”; this page takes ${size(limit)} at most. ${NO_MEMORY}`;
   if (fault instanceof Refused) return `“${fault.line}” was refused: ${REFUSALS[fault.number]}.`;

@@ -20,6 +20,9 @@ export class Ended extends Error {
   }
 }
 
+// The work was stopped.
+export class Stopped extends Error {}
+
 // The scenario has more lines than a session answers.
 export class TooManyLines extends Error {}
 
@@ -57,7 +60,7 @@ export class Helper {
 
   stop() {
     this.worker.terminate();
-    this.fail(new Ended({ text: 'stopped' }));
+    this.fail(new Stopped());
   }
 }
 

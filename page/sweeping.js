@@ -1,12 +1,15 @@
 // Every edit of the input's bytes, or of a function's words, alone: parts of the proved sweep, in as many workers as processors.
-import { Ended, Helper } from './sessions.js';
+import { Helper, Stopped } from './sessions.js';
 
 const PARTS_EACH = 4;  // so that no worker waits long for the last one
 const MOST_PARTS = 1000;
 
 const partsOf = (places, workers) => (workers === 1 ? 1 : Math.max(1, Math.min(places, workers * PARTS_EACH, MOST_PARTS)));
 
-// What came of the edits. `outcomes` are texts, of which the first is the unedited run's; an edit is of a place, its value, and an outcome.
+// So many edits are made at most, as all are held.
+export const MOST_EDITS = 4000000;
+
+// What came of the edits. `outcomes` are texts, of which the first is the unedited run's; a place has values, each with its outcome.
 export class Swept {
   constructor(asked) {
     Object.assign(this, { asked, outcomes: [], numbers: new Map(), tallies: [], firsts: [], places: new Map(), edits: 0, isWhole: false });
@@ -27,8 +30,10 @@ export class Swept {
     for (const text of told.outcomes) part.numbers.push(this.number(text));
     for (let i = 0; i < told.edits.length; i += 3) {
       const [at, value, own] = told.edits.subarray(i, i + 3), number = part.numbers[own];
-      if (!this.places.has(at)) this.places.set(at, []);
-      this.places.get(at).push([value, number]);
+      if (!this.places.has(at)) this.places.set(at, { values: [], outcomes: [] });
+      const place = this.places.get(at);
+      place.values.push(value);
+      place.outcomes.push(number);
       this.tallies[number]++;
       this.edits++;
       const first = this.firsts[number];
@@ -70,7 +75,7 @@ export class Sweep {
     } catch (fault) {
       const wasStopped = this.isStopped;
       this.stop();
-      if (!wasStopped || !(fault instanceof Ended)) throw fault;
+      if (!wasStopped || !(fault instanceof Stopped)) throw fault;
     }
     this.swept.time = performance.now() - begun;
     this.swept.isWhole = !this.isStopped;

@@ -228,7 +228,7 @@ def swept(bench, page, words, options, want_edits):
     """Whether the page's sweep comes to the program's table, edit by edit."""
     page.until(FINAL, 120)
     told = page.run("""(() => { const { places, outcomes } = replaycheck.sweeping.swept;
-      return [...places].flatMap(([at, edits]) => edits.map(([value, number]) => [at, value, outcomes[number]])); })()""")
+      return [...places].flatMap(([at, it]) => it.values.map((value, index) => [at, value, outcomes[it.outcomes[index]]])); })()""")
     want = bench.table(words, *options)
     same("edits", len(told), want_edits)
     same("outcomes", {(at, value): text for at, value, text in told}, want)
@@ -277,6 +277,38 @@ def picture_of_words(bench):
           document.getElementById('sweep-values').value = 'flips'; document.getElementById('sweep').click(); })()""")
         options = [f"--words={begin}..{begin + size - 4}", "--words-values=flips", f"--step={page.run('replaycheck.step')}"]
         swept(bench, page, words_of("boot"), options, 32 * size // 4)
+
+
+def report_stopped(bench):
+    """A report that takes long is told with a button; stopped, the page shows the one before, and answers the next edit."""
+    words = [str(TOP / "examples/firmware/polled.elf")]
+    with bench.page() as page:
+        bench.give(page, {"program": (TOP / "examples/firmware/polled.elf").read_bytes()})
+        page.run("replaycheck.go(4194304)")
+        bench.settle(page)
+        page.run("replaycheck.edit(replaycheck.plain.after('mark 0 0x10013000 8 undefined'))")
+        page.run("new Promise((done) => { const it = document.getElementById('stop-report');"
+                 " const look = () => { if (!it.hidden) it.click(); if (it.hidden && !replaycheck.isBusy || !it.hidden) done(); else setTimeout(look, 20); }; look(); })")
+        page.until("!replaycheck.isBusy")
+        expect("Stopped" in page.text("notice"), f"it says {page.text('notice')!r}")
+        same("lines then", page.run("replaycheck.scenario.lines"), [])
+        page.run("replaycheck.go(2000)")
+        page.run("replaycheck.use('goto 2000\\nmark 0 0x10013000 8 defined')")
+        bench.same_report(page, words, "after the stop")
+
+
+def drop(bench):
+    """Files that are dropped on the page, all at once: each by what is in it."""
+    packet = [(TOP / "examples" / EXAMPLES["packet"][it]).read_bytes() for it in ("program", "input")]
+    files = [["packet.elf", list(packet[0])], ["known.supp", list(b"{\nknown\nMemcheck:Addr1\nfun:total\n}\n")], ["packet.input", list(packet[1])]]
+    with bench.page() as page:
+        page.run("""((files) => { const given = new DataTransfer();
+          for (const [name, bytes] of files) given.items.add(new File([Uint8Array.from(bytes)], name));
+          document.body.dispatchEvent(new DragEvent('drop', { dataTransfer: given, bubbles: true, cancelable: true })); })(""" + json.dumps(files) + ")")
+        bench.settle(page)
+        page.run("replaycheck.use('input 0 9')")
+        bench.settle(page)
+        same("errors and suppressed ones", page.run("[replaycheck.shown.report.errors, replaycheck.shown.report.suppressed > 0]"), [0, True])
 
 
 def picture_stopped(bench):
