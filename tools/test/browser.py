@@ -15,7 +15,8 @@ import time
 NAMES = ("chromium", "chromium-browser", "google-chrome", "google-chrome-stable")
 FLAGS = ("--headless=new", "--no-sandbox", "--disable-gpu", "--no-first-run", "--disable-background-networking",
          "--disable-component-update", "--disable-default-apps", "--disable-extensions", "--disable-sync", "--mute-audio",
-         "--no-proxy-server", "--hide-scrollbars", "--remote-debugging-pipe")
+         "--disable-renderer-backgrounding", "--disable-background-timer-throttling", "--disable-backgrounding-occluded-windows",
+         "--disable-lcd-text", "--no-proxy-server", "--hide-scrollbars", "--remote-debugging-pipe")
 PATIENCE = 60  # seconds
 KEYS = {"Enter": (13, "\r"), "Tab": (9, "\t"), "Escape": (27, ""), "Delete": (46, ""), "ArrowLeft": (37, ""), "ArrowUp": (38, ""),
         "ArrowRight": (39, ""), "ArrowDown": (40, ""), "Home": (36, ""), "End": (35, ""), " ": (32, " ")}
@@ -176,13 +177,11 @@ class Page:
         found = self.call("Runtime.evaluate", expression=f"document.getElementById({json.dumps(identifier)})")["result"]
         self.call("DOM.setFileInputFiles", objectId=found["objectId"], files=[str(it) for it in paths])
 
-    def picture(self, whole=False):
-        """The page as PNG, all of it or what is in view."""
-        given = {"captureBeyondViewport": True}
-        if whole:
-            size = self.call("Page.getLayoutMetrics")["cssContentSize"]
-            given["clip"] = {"x": 0, "y": 0, "width": size["width"], "height": size["height"], "scale": 1}
-        return base64.b64decode(self.call("Page.captureScreenshot", format="png", **given)["data"])
+    def picture(self, height=None, scale=1):
+        """The page as PNG: so many pixels of it from the top, or all."""
+        size = self.call("Page.getLayoutMetrics")["cssContentSize"]
+        clip = {"x": 0, "y": 0, "width": size["width"], "height": height or size["height"], "scale": scale}
+        return base64.b64decode(self.call("Page.captureScreenshot", format="png", captureBeyondViewport=True, clip=clip)["data"])
 
     def complaints(self):
         """What the page's scripts and its policy complained of."""

@@ -126,14 +126,15 @@ def plain(text):
 
 
 def picture_file(bench, path):
-    """Writes the picture of README."""
-    with bench.open(words="", width=1180, height=1180) as page:
+    """Writes the picture of README: the firmware's example with one byte edited, and its picture."""
+    with bench.open(words="", width=1180, height=900) as page:
+        page.until("replaycheck.sweeping?.swept.isWhole", 120)
         page.focus("bytes")
         page.press("ArrowRight", "0", "8")
-        page.until("replaycheck.sweeping?.swept.isWhole", 120)
-        page.run("(() => { replaycheck.bytes.pick(1); document.activeElement.blur(); })()")
         bench.settle(page)
-        path.write_bytes(page.picture())
+        page.until("replaycheck.steps.landmarks.some((it) => it.kinds.includes('end'))")
+        page.run("(() => { replaycheck.bytes.pick(1); document.activeElement.blur(); document.getElementById('code').style.maxHeight = '15rem'; })()")
+        path.write_bytes(page.picture(page.run("document.getElementById('legend-rows').children[4].getBoundingClientRect().bottom + scrollY"), 0.7))
 
 
 def has_binutils():
