@@ -154,6 +154,26 @@ def undone_and_redone(bench):
             page.press("y", modifiers=2)
             bench.same_report(page, STATION, "redone")
             same("redone", page.run("replaycheck.scenario.lines"), want)
+        for _ in range(4):
+            page.press("z", modifiers=2)
+        page.run("replaycheck.edit(replaycheck.scenario.after('input 5 9'))")
+        bench.settle(page)
+        expect(page.run("document.getElementById('redo').disabled"), "what was undone can be made again after another edit")
+        page.press("z", modifiers=2)
+        bench.same_report(page, STATION, "undone once more")
+        same("undone once more", page.run("replaycheck.scenario.lines"), seen[3])
+
+
+def marks_taken_off(bench):
+    """Marks that are taken off in any order leave the others."""
+    marks = ["mark 55 0x20011 2 undefined", "mark 100 0x20010 1 noaccess", "mark 300 0x20014 4 undefined", "mark 0 0x7fffffc7 1 defined"]
+    with bench.open() as page:
+        for order in ((1, 1, 1, 0), (3, 0, 1, 0), (0, 0, 0, 0)):
+            page.run(f"replaycheck.use({json.dumps(chr(10).join(marks))})")
+            bench.same_report(page, STATION, "all marks")
+            for index in order:
+                page.run(f"document.querySelectorAll('#chips button')[{index}].click()")
+                bench.same_report(page, STATION, f"mark {index} of {order} taken off")
 
 
 def many_edits(bench):
@@ -243,11 +263,14 @@ def picture_of_bytes(bench):
         counts = page.run("[...document.querySelectorAll('#legend-rows .number')].map((it) => it.textContent)")
         same("counts in the legend", counts, ["7", "3", "2", "1", "1", "261", "12", "2,636", "7,532"])
         page.run("document.getElementById('picture').scrollIntoView()")
-        x, y = page.run("""(() => { const it = document.getElementById('picture').getBoundingClientRect(), p = replaycheck.picture;
-          const [left, top, wide, tall] = p.box(1 * p.rows + 8); return [it.left + left + wide / 2, it.top + top + tall / 2]; })()""")
-        page.click(x, y)
-        bench.same_report(page, STATION, "a click on the picture")
-        same("the edit of the click", page.run("replaycheck.scenario.lines"), ["input 1 8"])
+        for at, value in ((1, 8), (37, 250), (15, 255)):
+            x, y = page.run(f"""(() => {{ const it = document.getElementById('picture').getBoundingClientRect(), p = replaycheck.picture;
+              const [left, top, wide, tall] = p.box({at} * p.rows + {value}); return [it.left + left + wide / 2, it.top + top + tall / 2]; }})()""")
+            page.run("replaycheck.use('')")
+            bench.settle(page)
+            page.click(x, y)
+            bench.same_report(page, STATION, "a click on the picture")
+            same("the edit of the click", page.run("replaycheck.scenario.lines"), [f"input {at} {value}"])
         expect(re.search(r"254|255 other values", page.run("replaycheck.byteTold(1)")), "nothing is told of a byte's values")
 
 
@@ -319,7 +342,7 @@ def picture_stopped(bench):
         page.run("document.getElementById('sweep').click()")
         page.until("replaycheck.sweeping && replaycheck.sweeping.swept.edits > 0")
         page.run("document.getElementById('stop').click()")
-        page.until("document.getElementById('stop').disabled")
+        page.until("document.getElementById('stop').disabled", 3)
         edits = page.run("replaycheck.sweeping.swept.edits")
         expect(0 < edits < 4000 * 255 and "stopped after" in page.text("sweep-told"), f"{edits} edits: {page.text('sweep-told')}")
         page.run("replaycheck.use('input 1 8')")
@@ -399,10 +422,11 @@ def policy(bench):
 
 def memory_short(bench):
     """Where memory runs out that is told, and the page goes on."""
-    with bench.page("?still&memory=300000") as page:
-        page.run("replaycheck.opening.choose('station')")
-        page.until("document.getElementById('notice').textContent")
-        expect("Memory ran out" in page.text("notice"), f"it says {page.text('notice')!r}")
+    for few in (20000, 300000):
+        with bench.page(f"?still&memory={few}") as page:
+            page.run("replaycheck.opening.choose('station')")
+            page.until("document.getElementById('notice').textContent")
+            expect("Memory ran out" in page.text("notice"), f"with {few} bytes it says {page.text('notice')!r}")
     with bench.open(words="?still&memory=12000000") as page:
         page.run("replaycheck.use('option show all\\nmark 0 0x20000 1000000 undefined\\ninput 1 8')")
         bench.settle(page)

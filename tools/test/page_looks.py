@@ -2,6 +2,7 @@
 import json
 import re
 import shutil
+import struct
 import subprocess
 
 from page_bench import TOP, Wrong, expect, same
@@ -83,6 +84,28 @@ def source_lines(bench):
         expect(len(told) > 100 and len(wrong) * 200 <= len(told), f"{name}: {len(wrong)} of {len(told)} lines: {wrong[:5]}")
 
 
+# A program of lines with each of its operations, which no assembler for RISC-V uses all of, and what it says of addresses.
+LINE_PROGRAM = bytes([0, 5, 2, 0, 0, 1, 0, 3, 9, 1, 76, 8, 19, 2, 11, 4, 2, 3, 0x7F, 1, 9, 16, 0, 0, 1, 1])
+LINES_TOLD = {0xFFFF: None, 0x10000: "a.c:10", 0x10003: "a.c:10", 0x10004: "a.c:12", 0x10014: "a.c:12", 0x10015: "a.c:13", 0x10020: "b.h:12",
+              0x1002F: "b.h:12", 0x10030: None}
+
+
+def line_operations(bench):
+    """Each operation of a program of lines, by one that was made by hand; and that a damaged one ends."""
+    head = bytes([1, 1, 0xFB, 14, 13, 0, 1, 1, 1, 1, 0, 0, 0, 1, 0, 0, 1, 0]) + b"a.c\0\0\0\0sub/b.h\0\0\0\0\0"
+    unit = struct.pack("<HI", 3, len(head)) + head + LINE_PROGRAM
+    content = struct.pack("<I", len(unit)) + unit
+    with bench.page() as page:
+        def told(text):
+            return page.run("""(async (bytes, addresses) => { const { Elf } = await import('./elf.js'), { sourceLines } = await import('./lines.js');
+              const elf = new Elf(Uint8Array.from(bytes)); elf.sections = [{ name: '.debug_line', begin: 0, size: bytes.length }];
+              const lineOf = sourceLines(elf); return addresses.map(lineOf); })""" + f"({json.dumps(list(text))}, {json.dumps(list(LINES_TOLD))})")
+        same("lines", dict(zip(LINES_TOLD, told(content))), LINES_TOLD)
+        for at in range(len(content)):
+            told(content[:at])
+            told(content[:at] + bytes([content[at] ^ 0x80]) + content[at + 1:])
+
+
 def instructions(bench):
     """Each instruction is the one that objdump tells, in its words without aliases."""
     tool = BINUTILS + "objdump"
@@ -141,4 +164,4 @@ def has_binutils():
     return all(shutil.which(BINUTILS + it) for it in ("addr2line", "objdump"))
 
 
-__all__ = ["Wrong", "contrast", "has_binutils", "instructions", "names_and_roles", "picture_file", "source_lines", "widths"]
+__all__ = ["Wrong", "contrast", "has_binutils", "instructions", "line_operations", "names_and_roles", "picture_file", "source_lines", "widths"]

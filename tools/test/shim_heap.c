@@ -51,8 +51,19 @@ static void put(int i, taken got, size length) {
   blocks[i].length = length;
 }
 
+/* With so little allowed, blocks are refused before they pass it. */
+static void check_limit(void) {
+  enum { LIMIT = 50000, EACH = 1000 };
+  long count = 0;
+  allow(LIMIT);
+  while (rattle_alloc(EACH, 16).is_there) count++;
+  if (!count || count * EACH > LIMIT) fail("the limit isn't kept");
+  allow(1e15);
+}
+
 int main(void) {
   long refused = 0, done = 0;
+  check_limit();
   for (long round = 0; round < ROUNDS; round++) {
     int i = (int)(next() % BLOCKS);
     size length = some_length() + 1;
@@ -77,7 +88,6 @@ int main(void) {
     done++;
   }
   for (int i = 0; i < BLOCKS; i++) if (blocks[i].at) check(i, blocks[i].length);
-  allow((double)(top - (size)heap_begin()));
   if (!refused) fail("nothing was refused, so memory never ran out");
   if (rattle_alloc(1ul << 30, 16).is_there || rattle_alloc(1ul << 40, 16).is_there) fail("more was given than there is");
   printf("%ld calls, of which %ld were refused\n", done + refused, refused);
