@@ -1,0 +1,98 @@
+// What the page shows of a program's file beside its reports: functions, words, sections. The program itself judges the file.
+const MAGIC = 0x464c457f;
+const HEADER = 52;
+const SYMBOL_TABLE = 2;
+const FUNCTION = 2;
+const LOADED = 1;
+const EXECUTED = 1;
+const decoder = new TextDecoder();
+
+export class Elf {
+  constructor(bytes) {
+    this.bytes = bytes;
+    this.view = new DataView(bytes.buffer, bytes.byteOffset, bytes.byteLength);
+    this.segments = [];
+    this.sections = [];
+    this.functions = [];
+    try {
+      this.read();
+    } catch (fault) {
+      if (!(fault instanceof RangeError)) throw fault;  // a damaged file: what was read until there
+    }
+  }
+
+  half(at) { return this.view.getUint16(at, true); }
+  word(at) { return this.view.getUint32(at, true); }
+
+  string(at) {
+    if (at >= this.bytes.length) return '';
+    const end = this.bytes.indexOf(0, at);
+    return decoder.decode(this.bytes.slice(at, end < 0 ? this.bytes.length : end));
+  }
+
+  read() {
+    if (this.word(0) !== MAGIC || this.bytes.length < HEADER) return;
+    const [segments, sections] = [this.word(28), this.word(32)];
+    const [segmentSize, segmentCount, sectionSize, sectionCount, names] = [42, 44, 46, 48, 50].map((at) => this.half(at));
+    for (let i = 0; i < segmentCount; i++) this.readSegment(segments + i * segmentSize);
+    for (let i = 0; i < sectionCount; i++) {
+      const at = sections + i * sectionSize;
+      const [name, kind, , , begin, size, link] = [0, 1, 2, 3, 4, 5, 6].map((field) => this.word(at + 4 * field));
+      this.sections.push({ name, kind, begin, size, link });
+    }
+    const strings = this.sections[names]?.begin ?? this.bytes.length;
+    for (const it of this.sections) it.name = this.string(strings + it.name);
+    this.sections.filter((it) => it.kind === SYMBOL_TABLE).forEach((it) => this.readSymbols(it));
+    this.functions.sort((a, b) => a.address - b.address);
+  }
+
+  readSegment(at) {
+    const [kind, offset, address, , inFile, size, flags] = [0, 1, 2, 3, 4, 5, 6].map((field) => this.word(at + 4 * field));
+    if (kind === LOADED) this.segments.push({ offset, address, inFile, size, isCode: (flags & EXECUTED) !== 0 });
+  }
+
+  readSymbols(table) {
+    const strings = this.sections[table.link]?.begin ?? this.bytes.length;
+    const seen = new Set();
+    for (let at = table.begin; at + 16 <= Math.min(table.begin + table.size, this.bytes.length); at += 16) {
+      const [name, address, size] = [this.word(at), this.word(at + 4), this.word(at + 8)];
+      if ((this.bytes[at + 12] & 15) !== FUNCTION || !size || seen.has(address)) continue;
+      seen.add(address);
+      this.functions.push({ name: this.string(strings + name), address, size });
+    }
+  }
+
+  section(name) { return this.sections.find((it) => it.name === name); }
+
+  // The function that has an address; without one of that name, the code around it.
+  functionAt(address) {
+    const found = this.functions.find((it) => it.address <= address && address < it.address + it.size);
+    if (found) return found;
+    const segment = this.segmentAt(address);
+    if (!segment) return null;
+    const begin = Math.max(segment.address, (address & ~3) - 64);
+    return { name: '???', address: begin >>> 0, size: Math.min(128, segment.address + segment.size - begin) };
+  }
+
+  segmentAt(address) {
+    return this.segments.find((it) => it.address <= address && address < it.address + it.size);
+  }
+
+  // Where a loaded word stands in the file, -1 where it isn't in it as a whole.
+  offsetOf(address) {
+    const it = this.segmentAt(address);
+    return it && address + 4 - it.address <= it.inFile ? it.offset + address - it.address : -1;
+  }
+
+  // The word that is loaded at an address, null where there is none.
+  loaded(address) {
+    const segment = this.segmentAt(address);
+    if (!segment || address + 4 > segment.address + segment.size) return null;
+    let word = 0;
+    for (let i = 3; i >= 0; i--) {
+      const inSegment = address + i - segment.address;
+      word = word * 256 + (inSegment < segment.inFile ? this.bytes[segment.offset + inSegment] ?? 0 : 0);
+    }
+    return word;
+  }
+}

@@ -1,0 +1,127 @@
+// The files that are given: from the disk, dropped, from an example, or named by a link.
+import { EXAMPLES } from './examples.js';
+import { $, element } from './dom.js';
+
+const ELF = [0x7f, 0x45, 0x4c, 0x46];
+const SUM_DIGITS = 16;
+
+const bytesOf = (text) => Uint8Array.from(atob(text), (it) => it.charCodeAt(0));
+const isElf = (bytes) => ELF.every((it, index) => bytes[index] === it);
+
+function isSuppressions(name, bytes) {
+  return name.endsWith('.supp') || (bytes[0] === 0x7b && new TextDecoder().decode(bytes.slice(0, 4096)).includes('Memcheck:'));
+}
+
+async function sumOf(bytes) {
+  if (!crypto.subtle) return '';
+  const sum = new Uint8Array(await crypto.subtle.digest('SHA-256', bytes));
+  return [...sum].map((it) => it.toString(16).padStart(2, '0')).join('').slice(0, SUM_DIGITS);
+}
+
+export class Opening {
+  // `open` takes files by their roles, each with a name and bytes; `refuse` a sentence.
+  constructor({ open, refuse }) {
+    Object.assign(this, { open, refuse, files: {}, example: null });
+    for (const role of ['program', 'input', 'supp']) {
+      $(`open-${role}`).addEventListener('change', (event) => this.chosen(role, event.target));
+    }
+    $('example').append(...EXAMPLES.map((it) => element('option', { value: it.name }, it.name)));
+    $('example').addEventListener('change', () => $('example').value && this.choose($('example').value));
+    $('examples').append(...EXAMPLES.map((it) => element('button', { onclick: () => this.choose(it.name) }, element('strong', {}, it.name), element('span', {}, it.about))));
+    addEventListener('dragover', (event) => { event.preventDefault(); document.body.classList.add('over'); });
+    addEventListener('dragleave', () => document.body.classList.remove('over'));
+    addEventListener('drop', (event) => this.dropped(event));
+  }
+
+  async chosen(role, field) {
+    const [file] = field.files;
+    if (file) await this.take({ [role]: await this.read(file) });
+    field.value = '';
+  }
+
+  async read(file) {
+    return { name: file.name, bytes: new Uint8Array(await file.arrayBuffer()) };
+  }
+
+  async dropped(event) {
+    event.preventDefault();
+    document.body.classList.remove('over');
+    const found = {};
+    for (const file of event.dataTransfer.files) {
+      const it = await this.read(file);
+      const role = isElf(it.bytes) ? 'program' : isSuppressions(it.name, it.bytes) ? 'supp' : 'input';
+      found[role] = it;
+    }
+    if (Object.keys(found).length) await this.take(found);
+  }
+
+  // Takes files beside those that are there. Another program begins without the old one's input and suppressions.
+  async take(files, lines) {
+    this.example = null;
+    $('example').value = '';
+    this.files = files.program ? files : { ...this.files, ...files };
+    if (!this.files.program) {
+      this.refuse('A program is needed first: an ELF file for RV32IM, as the linker writes it.');
+      return;
+    }
+    await this.begin(lines);
+  }
+
+  async choose(name, lines) {
+    const example = EXAMPLES.find((it) => it.name === name);
+    this.example = example;
+    $('example').value = name;
+    this.files = { program: { name: example.program, bytes: bytesOf(example.programBytes) } };
+    if (example.inputBytes !== undefined) this.files.input = { name: example.input, bytes: bytesOf(example.inputBytes) };
+    await this.begin(lines);
+  }
+
+  async begin(lines) {
+    const wanted = lines ?? (this.wanted && this.files[this.wanted.last] ? this.wanted.lines : undefined);
+    const notice = this.wanted && wanted ? await this.differing() : '';
+    if (wanted) this.wanted = null;
+    await this.open(this.files, wanted);
+    if (notice) this.refuse(notice);
+  }
+
+  // ---- links
+
+  async link(lines) {
+    const words = new URLSearchParams();
+    if (this.example) words.set('example', this.example.name);
+    else {
+      for (const [role, it] of Object.entries(this.files)) {
+        words.set(role, it.name);
+        words.set(`${role}-sum`, it.sum ??= await sumOf(it.bytes));
+      }
+    }
+    if (lines.length) words.set('lines', lines.join('\n'));
+    return `#${words}`;
+  }
+
+  // Opens what a link names, or asks for its files. Whether it names something.
+  async follow(hash) {
+    const words = new URLSearchParams(hash.slice(1));
+    const lines = (words.get('lines') ?? '').split('\n').filter(Boolean);
+    const example = words.get('example');
+    if (example) {
+      if (EXAMPLES.some((it) => it.name === example)) await this.choose(example, lines);
+      else this.refuse(`There is no example “${example}” here.`);
+    } else if (words.get('program')) {
+      const roles = ['program', 'input', 'supp'].filter((it) => words.has(it));
+      this.wanted = { lines, roles, last: roles.at(-1), sums: roles.map((it) => words.get(`${it}-sum`)) };
+      this.refuse(`This link is about ${roles.map((it) => `“${words.get(it)}”`).join(' with ')}. Open ${roles.length > 1 ? 'these files' : 'this file'}, and its ${lines.length} lines are used.`);
+    }
+    return Boolean(example || words.get('program'));
+  }
+
+  // What to say where a file isn't the one that a link was made with.
+  async differing() {
+    const other = [];
+    for (const [index, role] of this.wanted.roles.entries()) {
+      const it = this.files[role];
+      if (it && this.wanted.sums[index] && (await sumOf(it.bytes)) !== this.wanted.sums[index]) other.push(it.name);
+    }
+    return other.length ? `The link was made with other bytes than those of ${other.map((it) => `“${it}”`).join(' and ')}, so what you see may differ.` : '';
+  }
+}

@@ -1,0 +1,85 @@
+// The report in place: what is new against the unedited run first, with source lines behind the frames.
+import { $, element, say, many, grouped, milliseconds } from './dom.js';
+import { compared, stateOf, suppressionOf } from './report.js';
+import { hexWord } from './scenario.js';
+
+const BADGES = { new: 'new', changed: 'changed', gone: 'gone' };
+const STATES = {
+  jump: 'jumped to where no memory is', break: 'met an EBREAK', illegal: 'met no instruction of RV32IM', misaligned: 'jumped to an odd place',
+};
+const MOST_GROUPS = 200;
+
+export class Reports {
+  // `lineOf` tells the source line of an address; `visit` shows its code; `suppress` takes a suppression's text.
+  constructor({ lineOf, visit, suppress, kinds }) {
+    Object.assign(this, { lineOf, visit, suppress, kinds });
+  }
+
+  show(report, unedited, time) {
+    const groups = this.groups = compared(report, unedited);
+    const hidden = groups.length - MOST_GROUPS;
+    $('report').replaceChildren(
+      ...groups.slice(0, MOST_GROUPS).map((it) => this.group(it)),
+      ...(hidden > 0 ? [element('p', { className: 'quiet' }, `${many(hidden, 'more group')} in the text below`)] : []),
+      this.sums(report, unedited));
+    say('report-text', report.text);
+    say('report-told', `at step ${grouped(report.step)}`);
+    say('time', `answered in ${milliseconds(time)}`);
+    this.verdict(report, groups);
+  }
+
+  verdict(report, groups) {
+    const state = stateOf(report), line = state.address === null ? null : this.lineOf(state.address);
+    const lost = report.sums['definitely lost'].bytes;
+    const fresh = groups.filter((it) => it.how === 'new').length;
+    const words = [
+      this.stateWords(state) + (line ? ` (${line})` : ''),
+      report.errors ? `${many(report.errors, 'error')} in ${many(report.contexts, 'place')}` : 'no errors',
+      lost ? `${many(lost, 'byte')} lost` : '',
+      fresh ? `${grouped(fresh)} new` : '',
+    ];
+    say('verdict', words.filter(Boolean).join(' · '));
+    $('verdict').className = report.errors || lost || state.name === 'stopped' ? 'bad' : 'good';
+  }
+
+  stateWords({ name, rest, address }) {
+    if (name === 'exited') return `exited with ${rest}`;
+    if (name === 'running') return `running at ${rest}`;
+    return `stopped: ${STATES[rest.split(' ')[0]] ?? rest}, at ${hexWord(address)}`;
+  }
+
+  group({ group, how, was }) {
+    const times = group.isError && group.count > 1 ? ` (${grouped(group.count)} times)` : '';
+    const before = how === 'changed' && was.isError ? `, ${grouped(was.count)} unedited` : '';
+    const badge = BADGES[how] ? [element('span', { className: 'badge' }, BADGES[how])] : [];
+    const parts = [element('p', {}, ...badge, element('strong', { className: 'what' }, group.text), times + before), this.frames(group.trace)];
+    if (group.note) parts.push(element('p', {}, group.note.text), this.frames(group.blockTrace));
+    if (how !== 'gone') {
+      const text = suppressionOf(group, this.kinds);
+      parts.push(element('p', {}, element('button', { onclick: () => this.suppress(text), 'aria-label': `suppress ${group.text}` }, 'Suppress')));
+    }
+    return element('article', { className: `group ${how}` }, ...parts);
+  }
+
+  frames(trace) {
+    return element('ol', { className: 'frames' }, ...trace.map((frame, index) => {
+      const line = this.lineOf(frame.address);
+      const told = `${index ? 'by' : 'at'} ${frame.name} ${line ? `(${line})` : ''}`;
+      return element('li', {}, element('button', { onclick: () => this.visit(frame.address), title: hexWord(frame.address) }, `${told} ${hexWord(frame.address)}`));
+    }));
+  }
+
+  sums(report, unedited) {
+    const rows = Object.entries(report.sums).map(([name, { bytes, blocks }]) => {
+      const was = unedited.sums[name];
+      const differs = was.bytes !== bytes || was.blocks !== blocks;
+      const before = differs ? `was ${many(was.bytes, 'byte')} in ${many(was.blocks, 'block')}` : '';
+      return element('tr', {}, element('th', { scope: 'row' }, name), element('td', {}, `${many(bytes, 'byte')} in ${many(blocks, 'block')}`),
+        element('td', { className: 'quiet' }, before));
+    });
+    const written = unedited.written === report.written ? '' : `was ${many(unedited.written, 'byte')}`;
+    rows.push(element('tr', {}, element('th', { scope: 'row' }, 'output'), element('td', {}, many(report.written, 'byte')),
+      element('td', { className: 'quiet' }, written)));
+    return element('table', { className: 'sums' }, element('caption', { className: 'hidden' }, 'blocks that are left, and output'), element('tbody', {}, ...rows));
+  }
+}

@@ -1,0 +1,205 @@
+// The edits that stand, as a value that is never changed: how it looks as lines of a session, what lines lead from one to another,
+// and what is left of it without one of its edits. Whether an edit may be made, the program says.
+const NUMBER = /^(?:[0-9]{1,10}|0[xX][0-9a-fA-F]{1,8})$/;
+const KINDS = ['defined', 'undefined', 'noaccess'];
+export const OPTIONS = { redzone: '16', queue: '20000000', callers: '12', show: 'definite,possible' };
+export const hexWord = (number) => `0x${number.toString(16).padStart(8, '0')}`;
+
+// A line that is no edit, in words.
+export class NoEdit extends Error {}
+
+export class Scenario {
+  constructor(base, parts = {}) {
+    this.base = base;
+    Object.assign(this, { cut: 0, appended: [], changes: new Map(), patches: new Map(), marks: [], options: new Map(),
+      added: [], switched: new Map(), ...parts });
+  }
+
+  with(parts) {
+    return new Scenario(this.base, { ...this, ...parts });
+  }
+
+  get kept() { return this.base.length - this.cut; }
+  get length() { return this.kept + this.appended.length; }
+
+  byte(at) {
+    return at < this.kept ? this.changes.get(at) ?? this.base[at] : this.appended[at - this.kept];
+  }
+
+  isEdited(at) {
+    return at >= this.kept || this.changes.has(at);
+  }
+
+  get input() {
+    const bytes = new Uint8Array(this.length);
+    bytes.set(this.base.subarray(0, this.kept));
+    bytes.set(this.appended, this.kept);
+    for (const [at, value] of this.changes) bytes[at] = value;
+    return bytes;
+  }
+
+  // ---- edits
+
+  withByte(at, value) {
+    if (at >= this.kept && at < this.length) return this.with({ appended: this.appended.with(at - this.kept, value) });
+    return this.with({ changes: changed(this.changes, at, value === this.base[at] ? null : value) });
+  }
+
+  withAppended(value) { return this.with({ appended: [...this.appended, value] }); }
+
+  withCut() {
+    if (this.appended.length) return this.with({ appended: this.appended.slice(0, -1) });
+    return this.with({ cut: this.cut + 1, changes: changed(this.changes, this.kept - 1, null) });
+  }
+
+  withPatch(at, word) { return this.with({ patches: changed(this.patches, at, word) }); }
+  withMark(mark) { return this.with({ marks: [...this.marks, mark] }); }
+  withoutMark(index) { return this.with({ marks: this.marks.filter((_, it) => it !== index) }); }
+  withOption(name, value) { return this.with({ options: changed(this.options, name, value === OPTIONS[name] ? null : value) }); }
+  withSuppression(text) { return this.with({ added: [...this.added, text] }); }
+
+  // ---- lines
+
+  get lines() {
+    return [
+      ...[...this.options].map(([name, value]) => `option ${name} ${value}`),
+      ...this.added.map((it) => `supp add ${it}`),
+      ...[...this.switched].map(([index, how]) => `supp ${how} ${index}`),
+      ...[...this.patches].map(([at, word]) => patchLine(at, word)),
+      ...this.marks.map(markLine),
+      ...Array(this.cut).fill('input cut'),
+      ...this.appended.map((value) => `input append ${value}`),
+      ...[...this.changes].sort(([a], [b]) => a - b).map(([at, value]) => inputLine(at, value)),
+    ];
+  }
+
+  get isEmpty() { return this.lines.length === 0; }
+
+  // The scenario after a line. `goto`, `report` and the like change nothing here.
+  after(line) {
+    const words = line.split(' ');
+    const way = AFTER[words[0] === 'input' && words[1] in AFTER ? words[1] : words[0]];
+    const found = way?.(this, words.slice(words[0] === 'input' && words[1] in AFTER ? 2 : 1));
+    if (!found) throw new NoEdit(line);
+    return found;
+  }
+}
+
+function changed(map, key, value) {
+  const copy = new Map(map);
+  if (value === null) copy.delete(key);
+  else copy.set(key, value);
+  return copy;
+}
+
+export const inputLine = (at, value) => `input ${at} ${value}`;
+export const patchLine = (at, word) => `patch ${hexWord(at)} ${hexWord(word)}`;
+export const markLine = (it) => `mark ${it.step} ${hexWord(it.at)} ${it.length} ${it.kind}`;
+
+function numbers(words, count) {
+  return words.length === count && words.every((it) => NUMBER.test(it)) ? words.map(Number) : null;
+}
+
+function supp(scenario, [how, ...rest]) {
+  if (how === 'add' && rest.length) return scenario.withSuppression(rest.join(' '));
+  const index = numbers(rest, 1);
+  return index && (how === 'on' || how === 'off') && scenario.with({ switched: changed(scenario.switched, index[0], how) });
+}
+
+const AFTER = {
+  input: (it, words) => { const found = numbers(words, 2); return found && it.withByte(...found); },
+  append: (it, words) => { const found = numbers(words, 1); return found && it.withAppended(found[0]); },
+  cut: (it, words) => !words.length && it.length > 0 && it.withCut(),
+  patch: (it, words) => { const found = numbers(words, 2); return found && it.withPatch(...found); },
+  mark: (it, [kind, ...words]) => {
+    const found = numbers([kind, ...words].slice(0, 3), 3), name = words[2];
+    return found && words.length === 3 && KINDS.includes(name) && it.withMark({ step: found[0], at: found[1], length: found[2], kind: name });
+  },
+  unmark: (it, words) => { const found = numbers(words, 1); return found && found[0] < it.marks.length && it.withoutMark(found[0]); },
+  option: (it, words) => words.length === 2 && words[0] in OPTIONS && it.withOption(...words),
+  supp,
+};
+
+// ---- from one scenario to another
+
+function optionLines(a, b) {
+  const names = Object.keys(OPTIONS).filter((it) => a.options.get(it) !== b.options.get(it));
+  return names.map((it) => `option ${it} ${b.options.get(it) ?? OPTIONS[it]}`);
+}
+
+function suppressionLines(a, b) {
+  if (a.added.some((it, index) => b.added[index] !== it)) return null;
+  const indexes = new Set([...a.switched.keys(), ...b.switched.keys()]);
+  return [
+    ...b.added.slice(a.added.length).map((it) => `supp add ${it}`),
+    ...[...indexes].filter((it) => a.switched.get(it) !== b.switched.get(it)).map((it) => `supp ${b.switched.get(it) ?? 'on'} ${it}`),
+  ];
+}
+
+function patchLines(a, b, loaded) {
+  const lines = [];
+  for (const at of new Set([...a.patches.keys(), ...b.patches.keys()])) {
+    if (a.patches.get(at) === b.patches.get(at)) continue;
+    const word = b.patches.get(at) ?? loaded(at);
+    if (word === null) return null;
+    lines.push(patchLine(at, word));
+  }
+  return lines;
+}
+
+function markLines(a, b) {
+  const wanted = b.marks.map(markLine), lines = [];
+  const left = a.marks.map(markLine);
+  for (let index = left.length - 1; index >= 0; index--) {
+    if (left[index] === wanted[index] && left.slice(0, index).every((it, before) => it === wanted[before])) break;
+    left.splice(index, 1);
+    lines.push(`unmark ${index}`);
+  }
+  return [...lines, ...wanted.slice(left.length)];
+}
+
+function inputLines(a, b) {
+  const kept = a.cut === b.cut ? commonLength(a.appended, b.appended) : 0;
+  const lines = Array(a.appended.length - kept + Math.max(0, b.cut - a.cut)).fill('input cut');
+  for (let at = a.kept; at < b.kept; at++) lines.push(`input append ${b.byte(at)}`);
+  lines.push(...b.appended.slice(kept).map((it) => `input append ${it}`));
+  for (const at of new Set([...a.changes.keys(), ...b.changes.keys()])) {
+    if (at < Math.min(a.kept, b.kept) && a.byte(at) !== b.byte(at)) lines.push(inputLine(at, b.byte(at)));
+  }
+  const beyond = [...b.changes.keys()].filter((at) => at >= b.kept);  // no such byte: the program says so
+  return [...lines, ...beyond.map((at) => inputLine(at, b.changes.get(at)))];
+}
+
+function commonLength(a, b) {
+  let length = 0;
+  while (length < a.length && length < b.length && a[length] === b[length]) length++;
+  return length;
+}
+
+// The lines that lead a session from one scenario to another, null where it takes a new session. `loaded` tells the word that a
+// program's file has at an address, null where it has none.
+export function linesBetween(a, b, loaded) {
+  if (a.base !== b.base) return null;
+  const parts = [optionLines(a, b), suppressionLines(a, b), patchLines(a, b, loaded), markLines(a, b), inputLines(a, b)];
+  return parts.includes(null) ? null : parts.flat();
+}
+
+// ---- chips
+
+const hexByte = (value) => `0x${value.toString(16).padStart(2, '0')}`;
+
+// The edits one by one: what each is called, its lines, and the scenario without it.
+export function editsOf(it) {
+  const edits = [];
+  const add = (label, lines, without) => edits.push({ label, lines, without });
+  for (const [name, value] of it.options) add(`${name} ${value}`, [`option ${name} ${value}`], it.withOption(name, OPTIONS[name]));
+  it.added.forEach((text, index) => add(`suppressed: ${text}`, [`supp add ${text}`], it.with({ added: it.added.toSpliced(index, 1), switched: new Map() })));
+  for (const [index, how] of it.switched) add(`suppression ${index} ${how}`, [`supp ${how} ${index}`], it.with({ switched: changed(it.switched, index, null) }));
+  for (const [at, word] of it.patches) add(`${hexWord(at)}: ${word === 0x13 ? 'skipped' : hexWord(word)}`, [patchLine(at, word)], it.withPatch(at, null));
+  it.marks.forEach((mark, index) => add(`${mark.length} at ${hexWord(mark.at)} ${mark.kind} from step ${mark.step}`, [markLine(mark)], it.withoutMark(index)));
+  if (it.cut) add(`${it.cut} cut off`, Array(it.cut).fill('input cut'), it.with({ cut: 0, appended: it.appended }));
+  if (it.appended.length) add(`${it.appended.length} appended`, it.appended.map((value) => `input append ${value}`), it.with({ appended: [] }));
+  const changes = [...it.changes].sort(([a], [b]) => a - b);
+  for (const [at, value] of changes) add(`byte ${at}: ${hexByte(it.base[at] ?? 0)} → ${hexByte(value)}`, [inputLine(at, value)], it.with({ changes: changed(it.changes, at, null) }));
+  return edits;
+}

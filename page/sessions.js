@@ -1,0 +1,126 @@
+// Sessions with the proved program in workers, each of which follows the page from one scenario and step to another.
+import { Scenario, linesBetween } from './scenario.js';
+
+// A session answers 100,000 lines, so another one takes over before that.
+const MOST_LINES = 90000;
+
+// The program refuses a line, by a number.
+export class Refused extends Error {
+  constructor(line, number) {
+    super(`${line}: refused ${number}`);
+    Object.assign(this, { line, number });
+  }
+}
+
+// The program has ended, or its worker has.
+export class Ended extends Error {
+  constructor({ status, said, text, memory }) {
+    super(said || text);
+    Object.assign(this, { status, said, memory });
+  }
+}
+
+// The work was stopped.
+export class Stopped extends Error {}
+
+// The scenario has more lines than a session answers.
+export class TooManyLines extends Error {}
+
+// A worker that is asked one thing or several, with their answers as promises. `onPart` takes what comes before an answer.
+export class Helper {
+  constructor(makeWorker) {
+    this.worker = makeWorker();
+    this.waiting = new Map();
+    this.next = 1;
+    this.worker.onmessage = ({ data }) => this.told(data);
+    this.worker.onerror = (event) => this.fail(new Ended({ text: event.message || 'the worker could not be started' }));
+  }
+
+  told({ id, value, fault, part }) {
+    const it = this.waiting.get(id);
+    if (part) it?.onPart(part);
+    if (!it || part) return;
+    this.waiting.delete(id);
+    if (fault) it.fail(new Ended(fault));
+    else it.done(value);
+  }
+
+  ask(does, given, onPart) {
+    return new Promise((done, fail) => {
+      const id = this.next++;
+      this.waiting.set(id, { done, fail, onPart });
+      this.worker.postMessage({ id, does, ...given });
+    });
+  }
+
+  fail(fault) {
+    for (const it of this.waiting.values()) it.fail(fault);
+    this.waiting.clear();
+  }
+
+  stop() {
+    this.worker.terminate();
+    this.fail(new Stopped());
+  }
+}
+
+// A session that is asked for the report of a scenario at a step, and keeps what it was led to.
+export class Session {
+  constructor(program, mostLines = MOST_LINES) {
+    Object.assign(this, { program, mostLines, helper: null, memory: 0, sessions: 0, busy: Promise.resolve() });
+  }
+
+  stop() {
+    this.helper?.stop();
+    this.helper = null;
+  }
+
+  async begin() {
+    this.stop();
+    const { module, files, limit, again, makeWorker } = this.program;
+    this.helper = new Helper(makeWorker);
+    this.said = 0;
+    this.sessions++;
+    this.at = { scenario: new Scenario(this.program.base), step: 0 };
+    const { waits } = await this.helper.ask('begin', { module, files, limit, again });
+    this.waits = waits;
+  }
+
+  // The replies to lines that lead to a scenario and a step, and then to `report`.
+  report(scenario, step) {
+    const answer = this.busy.then(() => this.lead(scenario, step));
+    this.busy = answer.catch(() => {});
+    return answer;
+  }
+
+  async lead(scenario, step) {
+    const begun = performance.now();
+    let lines = this.helper && linesBetween(this.at.scenario, scenario, this.program.loaded);
+    if (!lines || this.said + lines.length + 2 > this.mostLines) {
+      await this.begin();
+      lines = scenario.lines;
+      if (lines.length + 2 > this.mostLines) throw new TooManyLines();
+    }
+    if (step !== this.at.step) lines = [...lines, `goto ${step}`];
+    const report = await this.say([...lines, 'report']);
+    this.at = { scenario, step };
+    return { text: report, time: performance.now() - begun };
+  }
+
+  // The last reply. Where a line is refused the next report is that of a new session.
+  async say(lines) {
+    this.said += lines.length;
+    let answer;
+    try {
+      answer = await this.helper.ask('ask', { lines });
+    } catch (fault) {
+      this.stop();
+      throw fault;
+    }
+    this.memory = answer.memory;
+    const refused = answer.replies.findIndex((it) => it.startsWith('refused '));
+    if (refused < 0) return answer.replies.at(-1);
+    this.stop();
+    throw new Refused(lines[refused], Number(answer.replies[refused].split(' ')[1]));
+  }
+}

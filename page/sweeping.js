@@ -1,0 +1,95 @@
+// Every edit of the input's bytes, or of a function's words, alone: parts of the proved sweep, in as many workers as processors.
+import { Helper, Stopped } from './sessions.js';
+
+const PARTS_EACH = 4;  // so that no worker waits long for the last one
+const MOST_PARTS = 1000;
+
+const partsOf = (places, workers) => (workers === 1 ? 1 : Math.max(1, Math.min(places, workers * PARTS_EACH, MOST_PARTS)));
+
+// So many edits are made at most, as all are held.
+export const MOST_EDITS = 4000000;
+
+// What came of the edits. `outcomes` are texts, of which the first is the unedited run's; a place has values, each with its outcome.
+export class Swept {
+  constructor(asked) {
+    Object.assign(this, { asked, outcomes: [], numbers: new Map(), tallies: [], firsts: [], places: new Map(), edits: 0, isWhole: false });
+  }
+
+  number(text) {
+    if (!this.numbers.has(text)) {
+      this.numbers.set(text, this.outcomes.length);
+      this.outcomes.push(text);
+      this.tallies.push(0);
+      this.firsts.push(null);
+    }
+    return this.numbers.get(text);
+  }
+
+  // Takes what a part tells: new outcomes, by the numbers of the part, and edits.
+  add(part, told) {
+    for (const text of told.outcomes) part.numbers.push(this.number(text));
+    for (let i = 0; i < told.edits.length; i += 3) {
+      const [at, value, own] = told.edits.subarray(i, i + 3), number = part.numbers[own];
+      if (!this.places.has(at)) this.places.set(at, { values: [], outcomes: [] });
+      const place = this.places.get(at);
+      place.values.push(value);
+      place.outcomes.push(number);
+      this.tallies[number]++;
+      this.edits++;
+      const first = this.firsts[number];
+      if (!first || at < first[0] || (at === first[0] && value < first[1])) this.firsts[number] = [at, value];
+    }
+  }
+}
+
+export class Sweep {
+  // `asked` has the kind, the first and the last place, the values and the step; `told` is called while it goes on.
+  constructor(program, files, asked, told) {
+    Object.assign(this, { program, files, asked, told, swept: new Swept(asked), helpers: [], memory: 0, isStopped: false });
+  }
+
+  get words() {
+    const { kind, first, last, values, step } = this.asked;
+    const names = kind === 'bytes' ? ['--bytes', '--values'] : ['--words', '--words-values'];
+    return [`${names[0]}=${first}..${last}`, `${names[1]}=${values}`, `--step=${step}`];
+  }
+
+  stop() {
+    this.isStopped = true;
+    for (const it of this.helpers) it.stop();
+  }
+
+  async run(workers) {
+    const { kind, first, last } = this.asked;
+    const parts = partsOf(kind === 'bytes' ? last - first + 1 : (last - first) / 4 + 1, workers);
+    let next = 1;
+    const work = async () => {
+      const helper = new Helper(this.program.makeWorker);
+      this.helpers.push(helper);
+      while (next <= parts && !this.isStopped) await this.part(helper, next++, parts);
+      helper.stop();
+    };
+    const begun = performance.now();
+    try {
+      await Promise.all(Array.from({ length: Math.min(workers, parts) }, work));
+    } catch (fault) {
+      const wasStopped = this.isStopped;
+      this.stop();
+      if (!wasStopped || !(fault instanceof Stopped)) throw fault;
+    }
+    this.swept.time = performance.now() - begun;
+    this.swept.isWhole = !this.isStopped;
+    return this.swept;
+  }
+
+  async part(helper, number, count) {
+    const { module, limit } = this.program;
+    const part = { numbers: [] };
+    const words = [...this.words, `--part=${number}/${count}`];
+    const { memory } = await helper.ask('sweep', { module, files: this.files, limit, words }, (told) => {
+      this.swept.add(part, told);
+      this.told(this.swept);
+    });
+    this.memory = Math.max(this.memory, memory);
+  }
+}

@@ -1,0 +1,136 @@
+// What runs the proved program beside the page: a session that is asked lines, or a part of a sweep.
+import { Run, canWait, fileWords } from './program.js';
+import { Replies } from './replies.js';
+import { Table } from './tables.js';
+
+const encoder = new TextEncoder();
+const decoder = new TextDecoder();
+const POST_EVERY = 50;  // milliseconds
+let session = null;
+
+class Fault extends Error {
+  constructor(status, said, memory) {
+    super(said);
+    Object.assign(this, { status, said, memory });
+  }
+}
+
+const text = (lines) => encoder.encode(lines.map((line) => `${line}\n`).join(''));
+
+// A session that waits in `read` while nobody asks.
+class Waiting {
+  constructor({ module, files, limit }) {
+    this.lines = [];
+    this.wake = null;
+    this.asked = [];
+    this.replies = new Replies();
+    const ask = () => this.lines.shift() ?? new Promise((wake) => { this.wake = wake; });
+    const tell = (bytes) => this.told(decoder.decode(bytes.slice()));
+    const words = ['replaycheck', 'session', ...fileWords(files)];
+    this.run = new Run(module, { words, files, limit, ask, tell, waits: true });
+    this.run.start().then((status) => this.end(new Fault(status, this.run.said, this.run.memory)), (fault) => this.end(fault));
+  }
+
+  told(written) {
+    for (const reply of this.replies.add(written)) {
+      const [first] = this.asked;
+      first.replies.push(reply);
+      if (first.replies.length < first.count) continue;
+      this.asked.shift();
+      first.done(first.replies);
+    }
+  }
+
+  end(fault) {
+    this.ended = fault;
+    for (const it of this.asked.splice(0)) it.fail(fault);
+  }
+
+  ask(lines) {
+    if (this.ended) return Promise.reject(this.ended);
+    return new Promise((done, fail) => {
+      this.asked.push({ count: lines.length, replies: [], done, fail });
+      const wake = this.wake;
+      this.wake = null;
+      if (wake) wake(text(lines));
+      else this.lines.push(text(lines));
+    });
+  }
+
+  get memory() {
+    return this.run.memory;
+  }
+}
+
+// Where the browser can't let it wait, each question is a session of its own, with all lines before it.
+class Again {
+  constructor(begun) {
+    this.begun = begun;
+    this.before = [];
+    this.memory = 0;
+  }
+
+  async ask(lines) {
+    const { module, files, limit } = this.begun;
+    const replies = new Replies();
+    const written = [];
+    let given = text([...this.before, ...lines]);
+    const ask = () => [given, given = null][0];
+    const tell = (bytes) => { written.push(...replies.add(decoder.decode(bytes.slice()))); };
+    const run = new Run(module, { words: ['replaycheck', 'session', ...fileWords(files)], files, limit, ask, tell });
+    const status = run.start();
+    this.memory = run.memory;
+    if (status) throw new Fault(status, run.said, run.memory);
+    this.before.push(...lines.filter((line) => line !== 'report' && line !== 'worked'));
+    return written.slice(-lines.length);
+  }
+}
+
+// A part of a sweep. What comes of edits is posted while it is written.
+function sweep({ id, module, files, limit, words }) {
+  const table = new Table();
+  let last = performance.now();
+  const post = () => {
+    const part = table.take();
+    postMessage({ id, part }, [part.edits.buffer]);
+    last = performance.now();
+  };
+  const tell = (bytes) => {
+    table.add(decoder.decode(bytes.slice()));
+    if (performance.now() - last >= POST_EVERY) post();
+  };
+  const all = ['replaycheck', 'sweep', ...fileWords(files), ...words];
+  const run = new Run(module, { words: all, files, limit, ask: () => null, tell });
+  const status = run.start();
+  post();
+  if (status || !table.isWhole) throw new Fault(status, run.said, run.memory);
+  return { memory: run.memory };
+}
+
+// A whole run with its words, as a command line makes it.
+function command({ module, files, limit, words, given }) {
+  const written = [];
+  let left = given;
+  const ask = () => [left, left = null][0];
+  const run = new Run(module, { words, files, limit, ask, tell: (bytes) => { written.push(bytes.slice()); } });
+  const status = run.start();
+  return { status, said: run.said, written, memory: run.memory };
+}
+
+const DOES = {
+  begin: (asked) => {
+    session = canWait && !asked.again ? new Waiting(asked) : new Again(asked);
+    return { waits: session instanceof Waiting };
+  },
+  ask: async ({ lines }) => ({ replies: await session.ask(lines), memory: session.memory }),
+  sweep,
+  command,
+};
+
+onmessage = async ({ data }) => {
+  try {
+    postMessage({ id: data.id, value: await DOES[data.does](data) });
+  } catch (fault) {
+    postMessage({ id: data.id, fault: { status: fault.status, said: fault.said ?? '', text: String(fault), memory: fault.memory } });
+  }
+};

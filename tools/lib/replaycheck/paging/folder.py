@@ -1,0 +1,103 @@
+"""The page as a folder to serve and as one file, from its sources, the program's module and the examples."""
+import base64
+import gzip
+import hashlib
+import json
+import re
+
+from replaycheck.endings import Fault
+from replaycheck.exploring import outcomes, picture
+from replaycheck.guest_files import TOP
+from replaycheck.options import LAST_STEP
+from replaycheck.refusals import WORDS
+from replaycheck.reports import LEAK_KINDS, TEXTS
+
+from .scripts import one_script
+
+SOURCES, EXAMPLES = TOP / "page", TOP / "examples"
+MAIN, WORKER, RESOURCES, ONE_FILE = "main.js", "worker.js", "resources.js", "one-file.js"
+POLICY = re.compile(r'(<meta http-equiv="Content-Security-Policy" content=")[^"]*(">)')
+STYLE = '<link rel="stylesheet" href="page.css">'
+SCRIPT = f'<script type="module" src="{MAIN}"></script>'
+
+
+def constant(name, value):
+    return f"export const {name} = {json.dumps(value, ensure_ascii=True)};\n"
+
+
+def facts(module):
+    """What the page has in common with the tools."""
+    return "".join(constant(name, value) for name, value in (
+        ("LAST_STEP", LAST_STEP), ("REFUSALS", WORDS), ("LEAK_KINDS", LEAK_KINDS),
+        ("ERROR_KINDS", [(pattern.pattern, name) for pattern, name in TEXTS]),
+        ("BADNESS", outcomes.BADNESS), ("FRAMES_TOLD", outcomes.FRAMES_TOLD), ("RUNNING", outcomes.RUNNING),
+        ("NEW", picture.NEW), ("OTHER_NEW", picture.OTHER_NEW), ("NOT_NEW", picture.NOT_NEW), ("OTHER", picture.OTHER),
+        ("UNEDITED", picture.UNEDITED), ("MODULE_SUM", hashlib.sha256(module).hexdigest())))
+
+
+def encoded(path):
+    return base64.b64encode(path.read_bytes()).decode()
+
+
+def examples():
+    """The examples that the page offers, with their files."""
+    made = []
+    for it in json.loads((SOURCES / "examples.json").read_text()):
+        example = {"name": it["name"], "about": it["about"]}
+        for role in ("program", "input"):
+            if role in it:
+                path = EXAMPLES / it[role]
+                example[role], example[f"{role}Bytes"] = path.name, encoded(path)
+        made.append(example)
+    return constant("EXAMPLES", made)
+
+
+def modules_of(module):
+    """The modules of the page: those of its folder, and those that are made."""
+    found = {path.name: path.read_text() for path in sorted(SOURCES.glob("*.js"))}
+    return {**found, "facts.js": facts(module), "examples.js": examples()}
+
+
+def write_folder(folder, module):
+    """The folder to serve."""
+    modules = modules_of(module)
+    modules.pop(ONE_FILE)
+    files = {name: text.encode() for name, text in modules.items()}
+    for name in ("index.html", "page.css"):
+        files[name] = (SOURCES / name).read_bytes()
+    files["replaycheck.wasm"] = module
+    folder.mkdir(parents=True, exist_ok=True)
+    for path in folder.iterdir():
+        if path.name not in files and path.is_file():
+            path.unlink()
+    for name, content in files.items():
+        (folder / name).write_bytes(content)
+
+
+def source_of(text):
+    """What a policy names an inline text by."""
+    return "'sha256-" + base64.b64encode(hashlib.sha256(text.encode()).digest()).decode() + "'"
+
+
+def replaced(page, old, new):
+    if page.count(old) != 1:
+        raise Fault(f"page/index.html hasn't the line {old} once")
+    return page.replace(old, new)
+
+
+def one_file(module):
+    """The page with all in it."""
+    modules = modules_of(module)
+    worker = one_script(WORKER, modules)
+    packed = base64.b64encode(gzip.compress(module, 9, mtime=0)).decode()
+    modules["inlined.js"] = constant("MODULE", packed) + constant("WORKER", worker)
+    modules[RESOURCES] = modules.pop(ONE_FILE)
+    script = one_script(MAIN, modules).replace("</script", "<\\/script").replace("<!--", "<\\!--")
+    style = (SOURCES / "page.css").read_text()
+    policy = (f"default-src 'none'; script-src {source_of(script)} 'wasm-unsafe-eval' blob:; style-src {source_of(style)}; "
+              "worker-src blob:; img-src data:; base-uri 'none'; form-action 'none'")
+    page, count = POLICY.subn(lambda it: it[1] + policy + it[2], (SOURCES / "index.html").read_text())
+    if count != 1:
+        raise Fault("page/index.html hasn't one policy")
+    page = replaced(page, STYLE, f"<style>{style}</style>")
+    return replaced(page, SCRIPT, f"<script>{script}</script>").encode()

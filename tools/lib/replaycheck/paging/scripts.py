@@ -1,0 +1,43 @@
+"""Modules of JavaScript as one script: each a function that gives what it exports, in the order in which they need each
+other."""
+import re
+
+from replaycheck.endings import Fault
+
+IMPORT = re.compile(r"^import \{ ([^}]+) \} from '\./([a-z-]+\.js)';\n", re.M)
+EXPORT = re.compile(r"^export (?=(?:async )?(?:const|let|function|class) )", re.M)
+EXPORTED = re.compile(r"^export (?:async )?(?:const|let|function|class) ([\w$]+)", re.M)
+OTHER = re.compile(r"^\s*(?:import|export)\b", re.M)
+
+
+def order_of(name, modules, seen=(), done=None):
+    """The names of a module and of those that it needs, the needed ones first."""
+    done = [] if done is None else done
+    if name in seen:
+        raise Fault(f"modules of the page need each other in a ring: {' '.join([*seen, name])}")
+    if name not in modules:
+        raise Fault(f"{seen[-1] if seen else 'the page'} needs {name}, which isn't there")
+    for found in IMPORT.finditer(modules[name]):
+        order_of(found[2], modules, (*seen, name), done)
+    if name not in done:
+        done.append(name)
+    return done
+
+
+def variable(name):
+    return "module_" + re.sub(r"\W", "_", name.removesuffix(".js"))
+
+
+def wrapped(name, text):
+    """A module as a function that is called at once."""
+    exported = ", ".join(EXPORTED.findall(text))
+    body = IMPORT.sub(lambda it: f"const {{ {it[1].replace(' as ', ': ')} }} = {variable(it[2])};\n", text)
+    body = EXPORT.sub("", body)
+    if OTHER.search(body):
+        raise Fault(f"{name} has an import or an export in a form that the page of one file can't have")
+    return f"const {variable(name)} = (() => {{\n{body}return {{ {exported} }};\n}})();\n"
+
+
+def one_script(name, modules):
+    """The script of a module with all that it needs."""
+    return "'use strict';\n" + "".join(wrapped(it, modules[it]) for it in order_of(name, modules))

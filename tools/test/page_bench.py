@@ -1,0 +1,97 @@
+"""What the cases of test-page share: the page in a browser, and the program beside it."""
+import base64
+import json
+import pathlib
+import subprocess
+import sys
+
+sys.dont_write_bytecode = True
+sys.path.insert(0, str(pathlib.Path(__file__).resolve().parents[1] / "lib"))
+from replaycheck.guest_files import TOP, answered  # noqa: E402
+
+EXAMPLES = {it["name"]: it for it in json.loads((TOP / "page" / "examples.json").read_text())}
+SETTLED = ("!replaycheck.isBusy && replaycheck.shown && replaycheck.shown.scenario === replaycheck.scenario"
+           " && replaycheck.shown.step === replaycheck.step")
+
+
+class Wrong(Exception):
+    """What a case has found."""
+
+
+def expect(is_so, told):
+    if not is_so:
+        raise Wrong(told)
+
+
+def same(what, got, want):
+    if got != want:
+        raise Wrong(f"{what}: {str(got)[:900]!r}\n  and not {str(want)[:900]!r}")
+
+
+def words_of(example):
+    """The files of an example, as the program's words."""
+    it = EXAMPLES[example]
+    given = ["--input", str(TOP / "examples" / it["input"])] if "input" in it else []
+    return [str(TOP / "examples" / it["program"]), *given]
+
+
+class Bench:
+    """The program, a browser, and where the page is: a folder that is served, and a file."""
+
+    def __init__(self, program, browser, address, file):
+        self.program, self.browser, self.address, self.file = program, browser, address, file
+
+    def native(self, words, lines):
+        """The program's replies to lines of a session."""
+        text = "".join(f"{line}\n" for line in lines)
+        ran = subprocess.run([self.program, "session", *words], input=text.encode(), capture_output=True)
+        if ran.returncode:
+            raise Wrong(f"the program ended with status {ran.returncode}: {ran.stderr.decode()}")
+        return answered(ran.stdout.decode().splitlines())
+
+    def table(self, words, *options):
+        """The program's table of a sweep: the outcomes, and the outcome of each edit."""
+        ran = subprocess.run([self.program, "sweep", *words, *options], capture_output=True, text=True, check=True)
+        outcomes, edits, text = [], {}, None
+        for line in ran.stdout.splitlines():
+            first, *fields = line.split(" ")
+            if first == "outcome" and len(fields) == 1:
+                outcomes.append([])
+                text = outcomes[-1]
+            elif first in ("input", "patch") and len(fields) == 3:
+                edits[int(fields[0], 0), int(fields[1], 0)] = int(fields[2])
+                text = None
+            elif first in ("unedited", "tally", "end"):
+                text = None
+            elif text is not None:
+                text.append(line)
+        told = ["\n".join(it) for it in outcomes]
+        return {edit: told[number] for edit, number in edits.items()}
+
+    def page(self, words="?still", **shape):
+        return self.browser.page(self.address + words, **shape)
+
+    def open(self, example="station", words="?still", **shape):
+        """A page with an example, which sweeps nothing by itself where the words of its address don't say otherwise."""
+        page = self.page(words, **shape)
+        page.run(f"replaycheck.opening.choose({json.dumps(example)})")
+        self.settle(page)
+        return page
+
+    def settle(self, page):
+        page.until(SETTLED)
+
+    def give(self, page, files, name="program.elf"):
+        """Opens files as a user's: bytes by their roles."""
+        told = {role: {"name": name if role == "program" else f"{role}.bin", "text": base64.b64encode(it).decode()} for role, it in files.items()}
+        page.run("(async () => { const files = " + json.dumps(told) + "; for (const it of Object.values(files)) "
+                 "it.bytes = Uint8Array.from(atob(it.text), (c) => c.charCodeAt(0)); await replaycheck.opening.take(files); })()")
+
+    def same_report(self, page, words, what):
+        """Whether the page shows the report that the program writes after the same lines."""
+        self.settle(page)
+        lines = [it for it in page.run("replaycheck.scenario.lines")] + [f"goto {page.run('replaycheck.step')}", "report"]
+        want = self.native(words, lines)
+        refused = [line for line, reply in zip(lines, want) if reply.startswith("refused")]
+        expect(not refused, f"{what}: the program refuses {refused}")
+        same(what, page.text("report-text").rstrip("\n"), want[-1])
