@@ -19,8 +19,7 @@ const DAMAGED = 'The file is damaged, or a tool has rewritten it: link it anew.'
 const WHAT = { image: 'The program', input: 'The input', suppressions: 'The suppressions' };
 const NO_MEMORY = 'Take a shorter run or fewer edits, or close other pages.';
 
-export const NEEDS = 'This page needs WebAssembly with 64-bit memory, which this browser lacks. Chromium 133 or newer and Firefox 134'
-  + ' or newer have it.';
+export const NEEDS = 'This page needs WebAssembly with 64-bit memory, which this browser lacks: take a current Chromium.';
 
 function refusedFile(said) {
   const found = /^replaycheck: (image|input|suppressions) refused (\d+)(?: at line (\d+))?/.exec(said);
