@@ -99,9 +99,15 @@ export class Picture {
 
   // ---- colours
 
+  // Outcomes that are else alike by their first edits, since their numbers depend on which part came first.
+  byFirst(a, b) {
+    const [one, other] = [a, b].map((it) => this.swept.firsts[it] ?? [0, 0]);
+    return one[0] - other[0] || one[1] - other[1];
+  }
+
   chooseColours() {
     const pick = DARK.matches ? 1 : 0, order = [...this.outcomes.keys()].slice(1);
-    order.sort((a, b) => this.swept.tallies[b] - this.swept.tallies[a] || a - b);
+    order.sort((a, b) => this.swept.tallies[b] - this.swept.tallies[a] || this.byFirst(a, b));
     this.colours = [UNEDITED[pick]];
     for (const [isNew, colours, other] of [[true, NEW, OTHER_NEW], [false, NOT_NEW, OTHER]]) {
       order.filter((it) => Boolean(this.outcomes[it].fresh.length) === isNew).forEach((number, place) => {
@@ -247,7 +253,7 @@ export class Picture {
     this.outcome(0);
     const { tallies } = this.swept, bad = (number) => this.outcome(number).bad;
     const order = [...this.swept.outcomes.keys()];
-    order.sort((a, b) => (a === 0) - (b === 0) || bad(b) - bad(a) || tallies[b] - tallies[a]);
+    order.sort((a, b) => (a === 0) - (b === 0) || bad(b) - bad(a) || tallies[b] - tallies[a] || this.byFirst(a, b));
     this.chooseColours();
     const held = document.activeElement?.dataset?.held;
     $('legend-rows').replaceChildren(...order.slice(0, MOST_LEGEND).map((number) => this.legendRow(number)));
