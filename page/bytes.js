@@ -6,7 +6,8 @@ const NARROW = matchMedia('(max-width: 30rem)');
 const HEX = /^[0-9a-fA-F]$/;
 
 export class Bytes {
-  // `edit` takes the scenario after an edit, and whether it goes on with the edit before it; `tell` gives what is said of a byte.
+  // `edit` takes the scenario after an edit, and whether it goes on with the edit before it; `tell` gives what is said of
+  // a byte.
   constructor({ edit, tell }) {
     Object.assign(this, { edit, tell, here: 0, digit: null, read: 0, scenario: null });
     this.grid = $('bytes');
@@ -71,8 +72,8 @@ export class Bytes {
     const names = [at >= this.read && 'unread', isEdited && 'edited', at === this.here && 'here'];
     const was = isEdited && at < this.scenario.base.length ? `, was ${hexByte(this.scenario.base[at])}` : '';
     const told = `byte ${at}: ${hexByte(value)}${was}${at >= this.read ? ', not read' : ''}`;
-    const cell = element('span', { role: 'gridcell', id: `byte-${at}`, className: names.filter(Boolean).join(' '), 'aria-label': told,
-      'aria-selected': at === this.here }, value.toString(16).padStart(2, '0'));
+    const cell = element('span', { role: 'gridcell', id: `byte-${at}`, className: names.filter(Boolean).join(' '),
+      'aria-label': told, 'aria-selected': at === this.here }, value.toString(16).padStart(2, '0'));
     cell.dataset.at = at;
     return cell;
   }
@@ -111,7 +112,8 @@ export class Bytes {
   }
 
   set(value, goesOn = false) {
-    if (value !== this.scenario.byte(this.here)) this.edit(this.scenario.withByte(this.here, value), goesOn && `byte ${this.here}`);
+    if (value === this.scenario.byte(this.here)) return;
+    this.edit(this.scenario.withByte(this.here, value), goesOn && `byte ${this.here}`);
   }
 
   type(digit) {

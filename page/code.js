@@ -55,7 +55,8 @@ export class Code {
     const text = disassembled(word, address);
     const names = [address === this.at && 'at', patched !== undefined && 'patched'].filter(Boolean).join(' ');
     return element('tr', { className: names },
-      element('td', {}, ...this.edits(address, patched)), element('td', {}, hexWord(address)), element('td', {}, this.instruction(text)),
+      element('td', {}, ...this.edits(address, patched)), element('td', {}, hexWord(address)),
+      element('td', {}, this.instruction(text)),
       element('td', { className: 'quiet' }, this.lineOf(address) ?? ''), element('td', { className: 'quiet' }, hexWord(word)));
   }
 
@@ -73,8 +74,9 @@ export class Code {
     const set = (word) => this.edit(this.scenario.withPatch(address, word));
     if (this.writing === address) return [this.field(address, set)];
     const write = () => { this.writing = address; this.render(); $('new-word').focus(); };
-    if (patched !== undefined) return [button('put back', 'put back the word at', () => set(null)), ' ', button('word…', 'another word at', write)];
-    return [button('skip', 'skip the instruction at', () => set(NOTHING)), ' ', button('word…', 'another word at', write)];
+    const first = patched === undefined ? button('skip', 'skip the instruction at', () => set(NOTHING))
+      : button('put back', 'put back the word at', () => set(null));
+    return [first, ' ', button('word…', 'another word at', write)];
   }
 
   field(address, set) {
@@ -86,8 +88,9 @@ export class Code {
       const text = event.target.value.trim();
       this.writing = null;
       if (WORD.test(text)) set(Number(text));
-      else this.refuse(`A word is a number such as 0x00000013, and not “${text}”. \`replaycheck word\` prints that of an instruction.`);
+      else this.refuse(`A word is a number such as 0x00000013, and not “${text}”. \`replaycheck word\` prints an instruction’s.`);
     };
-    return element('input', { id: 'new-word', value: hexWord(word), onkeydown: key, 'aria-label': `new word at ${hexWord(address)}, Enter sets it`, spellcheck: false });
+    return element('input', { id: 'new-word', value: hexWord(word), onkeydown: key, spellcheck: false,
+      'aria-label': `new word at ${hexWord(address)}, Enter sets it` });
   }
 }

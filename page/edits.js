@@ -7,7 +7,7 @@ const MOST_CHIPS = 200;
 const NUMBER = /^(?:[0-9]{1,10}|0[xX][0-9a-fA-F]{1,8})$/;
 
 export class Edits {
-  // `edit` takes a scenario; `use` the lines of a text; `refuse` a sentence; `link` gives the address of the page with the scenario.
+  // `edit` takes a scenario; `use` the lines of a text; `refuse` a sentence; `link` gives the page's address with the scenario.
   constructor({ edit, use, refuse, link, text }) {
     Object.assign(this, { edit, use, refuse, link, text });
     $('none').addEventListener('click', () => this.use(''));
@@ -41,7 +41,9 @@ export class Edits {
   }
 
   chip({ label, lines, without }) {
-    return element('li', {}, label, element('button', { onclick: () => this.edit(without), 'aria-label': `take off ${label}`, title: lines.slice(0, 4).join('\n') }, '✕'));
+    const title = lines.slice(0, 4).join('\n');
+    return element('li', {}, label,
+      element('button', { onclick: () => this.edit(without), 'aria-label': `take off ${label}`, title }, '✕'));
   }
 
   showOptions() {
@@ -53,7 +55,9 @@ export class Edits {
 
   options() {
     let scenario = this.scenario;
-    for (const name of ['redzone', 'queue', 'callers']) scenario = scenario.withOption(name, $(`option-${name}`).value || OPTIONS[name]);
+    for (const name of ['redzone', 'queue', 'callers']) {
+      scenario = scenario.withOption(name, $(`option-${name}`).value || OPTIONS[name]);
+    }
     const kinds = SHOWN.filter((kind) => [...$('option-form').elements.show].find((it) => it.value === kind).checked);
     this.edit(scenario.withOption('show', kinds.length ? kinds.join(',') : 'none'));
   }
@@ -61,12 +65,15 @@ export class Edits {
   mark() {
     const at = $('mark-at').value.trim();
     if (!NUMBER.test(at)) return this.refuse(`An address is a number such as 0x7fffffc7, and not “${at}”.`);
-    return this.edit(this.scenario.withMark({ step: Number($('mark-step').value), at: Number(at), length: Number($('mark-length').value), kind: $('mark-kind').value }));
+    const [step, length] = ['mark-step', 'mark-length'].map((it) => Number($(it).value));
+    return this.edit(this.scenario.withMark({ step, at: Number(at), length, kind: $('mark-kind').value }));
   }
 
   append() {
     const value = $('append-value').value.trim();
-    if (!NUMBER.test(value) || Number(value) > 255) return this.refuse(`A byte is a number from 0 to 255, such as 0x41, and not “${value}”.`);
+    if (!NUMBER.test(value) || Number(value) > 255) {
+      return this.refuse(`A byte is a number from 0 to 255, such as 0x41, and not “${value}”.`);
+    }
     return this.edit(this.scenario.withAppended(Number(value)));
   }
 

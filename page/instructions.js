@@ -41,7 +41,8 @@ function branch(word, rs1, rs2, address) {
 }
 
 function jump(word, rd, address) {
-  const distance = signed(word >>> 31 << 20 | (word >>> 12 & 255) << 12 | (word >>> 20 & 1) << 11 | (word >>> 21 & 1023) << 1, 21);
+  const high = word >>> 31 << 20 | (word >>> 12 & 255) << 12;
+  const distance = signed(high | (word >>> 20 & 1) << 11 | (word >>> 21 & 1023) << 1, 21);
   const target = hexadecimal(address + distance);
   return { zero: `j ${target}`, ra: `jal ${target}` }[rd] ?? `jal ${rd},${target}`;
 }

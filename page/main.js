@@ -36,9 +36,11 @@ class App {
     this.opening = new Opening({ open: (files, lines) => this.open(files, lines), refuse });
     this.bytes = new Bytes({ edit, tell: (at) => this.byteTold(at) });
     this.code = new Code({ edit, refuse });
-    this.reports = new Reports({ lineOf, visit, suppress: (text) => this.edit(this.scenario.withSuppression(text)), kinds: { errors: ERROR_KINDS, leaks: LEAK_KINDS } });
+    const suppress = (text) => this.edit(this.scenario.withSuppression(text));
+    this.reports = new Reports({ lineOf, visit, suppress, kinds: { errors: ERROR_KINDS, leaks: LEAK_KINDS } });
     this.steps = new Steps({ go: (step) => this.go(step), most: LAST_STEP });
-    this.edits = new Edits({ edit, use: (text) => this.use(text), refuse, link: () => location.href, text: () => `${this.lines.join('\n')}\n` });
+    const text = () => `${this.lines.join('\n')}\n`;
+    this.edits = new Edits({ edit, use: (lines) => this.use(lines), refuse, link: () => location.href, text });
     this.picture = new Picture({ lineOf, make: (kind, at, value) => this.make(kind, at, value) });
     this.listen();
     this.valuesOf($('sweep-what').value);
@@ -54,7 +56,8 @@ class App {
     $('sweep-what').addEventListener('change', () => this.valuesOf($('sweep-what').value));
     addEventListener('hashchange', () => this.opening.follow(location.hash));
     addEventListener('keydown', (event) => {
-      if (!(event.ctrlKey || event.metaKey) || /^(?:INPUT|TEXTAREA)$/.test(event.target.tagName) && event.target.type !== 'range') return;
+      const isText = /^(?:INPUT|TEXTAREA)$/.test(event.target.tagName) && !/^(?:range|checkbox)$/.test(event.target.type);
+      if (!(event.ctrlKey || event.metaKey) || isText) return;
       const key = event.key.toLowerCase();
       if (key === 'z' || key === 'y') {
         this.travel(key === 'y' || event.shiftKey ? 1 : -1);
@@ -84,7 +87,8 @@ class App {
     const elf = new Elf(files.program.bytes);
     const given = Object.fromEntries(Object.entries(files).map(([role, it]) => [role, it.bytes]));
     const base = given.input ?? new Uint8Array();
-    this.program = { module, files: given, base, elf, limit: LIMIT, again: words.has('again'), makeWorker, loaded: (at) => elf.loaded(at) };
+    const loaded = (at) => elf.loaded(at);
+    this.program = { module, files: given, base, elf, limit: LIMIT, again: words.has('again'), makeWorker, loaded };
     this.session = new Session(this.program, Number(words.get('lines')) || undefined);
     this.unedited = new Session(this.program);
     this.search = new Session(this.program);
@@ -132,7 +136,8 @@ class App {
     $('start').hidden = false;
   }
 
-  // The first step at which the unedited run has ended, or the last step there is; and the step that the slider's end stands for.
+  // The first step at which the unedited run has ended, or the last step there is; and the step that the slider's end stands
+  // for.
   async findEnd() {
     const isRunning = async (step) => (await this.reportBefore(step)).state.startsWith('running');
     let low = -1, high = LOOK_FIRST;
@@ -257,7 +262,8 @@ class App {
     const { scenario, step, turn } = this;
     try {
       const begun = performance.now();
-      const [{ text }, unedited] = await this.told('The report is made', Promise.all([this.session.report(scenario, step), this.reportBefore(step)]));
+      const both = Promise.all([this.session.report(scenario, step), this.reportBefore(step)]);
+      const [{ text }, unedited] = await this.told('The report is made', both);
       if (turn !== this.turn) return;
       this.shown = { scenario, step, report: parseReport(text), unedited, time: performance.now() - begun };
       this.display();
@@ -293,7 +299,8 @@ class App {
   lookAtNew() {
     const [first] = this.reports.groups.filter((it) => it.how === 'new');
     const key = first?.group.key ?? '';
-    if (key && key !== this.lookedAt && !$('code-part').contains(document.activeElement)) this.code.visit(first.group.trace[0].address, false);
+    const isFree = !$('code-part').contains(document.activeElement);
+    if (key && key !== this.lookedAt && isFree && first.group.trace.length) this.code.visit(first.group.trace[0].address, false);
     this.lookedAt = key;
   }
 
@@ -315,7 +322,8 @@ class App {
   }
 
   valuesOf(kind) {
-    $('sweep-values').replaceChildren(...Object.entries(VALUES[kind]).map(([value, told]) => element('option', { value }, told)));
+    const options = Object.entries(VALUES[kind]).map(([value, told]) => element('option', { value }, told));
+    $('sweep-values').replaceChildren(...options);
   }
 
   // What is swept, null where there is nothing of that kind.
@@ -337,7 +345,7 @@ class App {
       if (offset < 0) left.push(`the patch at ${hexWord(at)}`);
       else new DataView(files.program.buffer).setUint32(offset, word, true);
     }
-    const blocks = scenario.added.map((it) => it.split(' ')).map(([kind, ...rest]) => `{\nadded\nMemcheck:${[kind, ...rest].join('\n')}\n}\n`);
+    const blocks = scenario.added.map((it) => `{\nadded\nMemcheck:${it.split(' ').join('\n')}\n}\n`);
     const supp = [...program.files.supp ?? [], ...new TextEncoder().encode(`\n${blocks.join('')}`)];
     if (program.files.supp || blocks.length) files.supp = Uint8Array.from(supp);
     if (scenario.marks.length) left.push('marks');
@@ -354,12 +362,14 @@ class App {
       return;
     }
     if (allEdits(asked) > MOST_EDITS) {
-      this.notice(`These are ${grouped(allEdits(asked))} edits, and this page makes ${grouped(MOST_EDITS)} at most. Choose fewer values, or use \`replaycheck sweep\`.`);
+      this.notice(`These are ${grouped(allEdits(asked))} edits, and this page makes ${grouped(MOST_EDITS)} at most.`
+        + ' Choose fewer values, or use `replaycheck sweep`.');
       return;
     }
     const { files, left } = this.sweptFiles, { scenario } = this;
     const sweep = this.sweeping = new Sweep(this.program, files, asked, () => this.sweepGoesOn(sweep));
-    const before = (at) => (asked.kind === 'bytes' ? scenario.byte(at) : scenario.patches.get(at) ?? this.program.elf.loaded(at) ?? 0);
+    const word = (at) => scenario.patches.get(at) ?? this.program.elf.loaded(at) ?? 0;
+    const before = (at) => (asked.kind === 'bytes' ? scenario.byte(at) : word(at));
     this.picture.begin(sweep.swept, before);
     this.sweepAll = allEdits(asked);
     $('stop').disabled = false;
@@ -385,11 +395,13 @@ class App {
 
   sweepEnds(sweep, swept, left) {
     this.picture.more(true);
-    const fresh = swept.tallies.reduce((sum, count, number) => sum + (this.picture.outcome(number).fresh.length ? count : 0), 0);
+    const isFresh = (number) => this.picture.outcome(number).fresh.length > 0;
+    const fresh = swept.tallies.reduce((sum, count, number) => sum + (isFresh(number) ? count : 0), 0);
     const rate = Math.round(swept.edits / Math.max(1, swept.time) * 1000);
     const told = swept.isWhole ? '' : `stopped after ${grouped(swept.edits)} of ${many(this.sweepAll, 'edit')}: `;
     const without = left.length ? ` Left out: ${left.join(', ')}.` : '';
-    say('sweep-told', `${told}${many(swept.edits, 'edit')} in ${milliseconds(swept.time)} (${grouped(rate)} a second, ${size(sweep.memory)} a worker); ${grouped(fresh)} of them make something new.${without}`);
+    const cost = `${many(swept.edits, 'edit')} in ${milliseconds(swept.time)} (${grouped(rate)} a second, ${size(sweep.memory)} a worker)`;
+    say('sweep-told', `${told}${cost}; ${grouped(fresh)} of them make something new.${without}`);
     this.bytes.tellOf(this.bytes.here);
   }
 }

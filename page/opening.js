@@ -27,7 +27,8 @@ export class Opening {
     }
     $('example').append(...EXAMPLES.map((it) => element('option', { value: it.name }, it.name)));
     $('example').addEventListener('change', () => $('example').value && this.choose($('example').value));
-    $('examples').append(...EXAMPLES.map((it) => element('button', { onclick: () => this.choose(it.name) }, element('strong', {}, it.name), element('span', {}, it.about))));
+    $('examples').append(...EXAMPLES.map((it) => element('button', { onclick: () => this.choose(it.name) },
+      element('strong', {}, it.name), element('span', {}, it.about))));
     addEventListener('dragover', (event) => { event.preventDefault(); document.body.classList.add('over'); });
     addEventListener('dragleave', () => document.body.classList.remove('over'));
     addEventListener('drop', (event) => this.dropped(event));
@@ -110,7 +111,9 @@ export class Opening {
     } else if (words.get('program')) {
       const roles = ['program', 'input', 'supp'].filter((it) => words.has(it));
       this.wanted = { lines, roles, last: roles.at(-1), sums: roles.map((it) => words.get(`${it}-sum`)) };
-      this.refuse(`This link is about ${roles.map((it) => `“${words.get(it)}”`).join(' with ')}. Open ${roles.length > 1 ? 'these files' : 'this file'}, and its ${lines.length} lines are used.`);
+      const names = roles.map((it) => `“${words.get(it)}”`).join(' with ');
+      const what = roles.length > 1 ? 'these files' : 'this file';
+      this.refuse(`This link is about ${names}. Open ${what}, and its ${lines.length} lines are used.`);
     }
     return Boolean(example || words.get('program'));
   }
@@ -122,6 +125,7 @@ export class Opening {
       const it = this.files[role];
       if (it && this.wanted.sums[index] && (await sumOf(it.bytes)) !== this.wanted.sums[index]) other.push(it.name);
     }
-    return other.length ? `The link was made with other bytes than those of ${other.map((it) => `“${it}”`).join(' and ')}, so what you see may differ.` : '';
+    const names = other.map((it) => `“${it}”`).join(' and ');
+    return names && `The link was made with other bytes than those of ${names}, so what you see may differ.`;
   }
 }

@@ -1,4 +1,4 @@
-// What an outcome of a sweep says: its state, its errors and leaks in one line each, and which of them the unedited run has not.
+// What an outcome of a sweep says: its state, its errors and leaks in one line each, and which the unedited run has not.
 import { BADNESS, FRAMES_TOLD, RUNNING } from './facts.js';
 
 const FRAME = /^ {3}(?:at|by) (0x[0-9a-f]{8}): (.*)$/;
@@ -32,7 +32,8 @@ export class Outcome {
   news(unedited) {
     const had = new Set([...unedited.parts.map((it) => it.text), unedited.state]);
     const stop = { text: this.state, told: this.state };
-    return [stop, ...this.parts].filter((it) => badnessOf(it.text) && !had.has(it.text)).sort((a, b) => badnessOf(b.text) - badnessOf(a.text));
+    const found = [stop, ...this.parts].filter((it) => badnessOf(it.text) && !had.has(it.text));
+    return found.sort((a, b) => badnessOf(b.text) - badnessOf(a.text));
   }
 
   badness(unedited) {

@@ -1,4 +1,5 @@
-// The picture of a sweep: a column for each place, or for several where they are many, a row for each value, a colour for each outcome.
+// The picture of a sweep: a column for each place, or for several where they are many, a row for each value, a colour for each
+// outcome.
 import { $, element, say, grouped, many, hexByte } from './dom.js';
 import { NEW, NOT_NEW, OTHER, OTHER_NEW, UNEDITED } from './facts.js';
 import { Outcome } from './outcomes.js';
@@ -42,8 +43,9 @@ export class Picture {
   begin(swept, before) {
     const { kind, first, last, values } = swept.asked;
     const count = kind === 'bytes' ? last - first + 1 : (last - first) / 4 + 1;
-    const rows = values === 'all' ? 256 : values === 'edges' ? EDGE_NAMES.length : values === 'skip' ? 1 : kind === 'bytes' ? 8 : 32;
-    Object.assign(this, { swept, before, count, rows, columns: Math.min(count, MOST_COLUMNS), outcomes: [], taken: new Map(), lastDrawn: 0 });
+    const rows = { all: 256, edges: EDGE_NAMES.length, skip: 1, flips: kind === 'bytes' ? 8 : 32 }[values];
+    Object.assign(this, { swept, before, count, rows, columns: Math.min(count, MOST_COLUMNS), outcomes: [], taken: new Map() });
+    this.lastDrawn = 0;
     this.hidden.clear();
     this.cells = Array.from({ length: this.columns * rows }, () => null);
     this.here = { column: 0, row: 0 };
@@ -54,7 +56,8 @@ export class Picture {
     while (this.outcomes.length < this.swept.outcomes.length) {
       const made = new Outcome(this.swept.outcomes[this.outcomes.length], this.lineOf);
       const unedited = this.outcomes[0] ?? made;
-      this.outcomes.push(Object.assign(made, { fresh: made.news(unedited), bad: this.outcomes.length ? made.badness(unedited) : -1 }));
+      const bad = this.outcomes.length ? made.badness(unedited) : -1;
+      this.outcomes.push(Object.assign(made, { fresh: made.news(unedited), bad }));
     }
     return this.outcomes[number];
   }
@@ -96,9 +99,15 @@ export class Picture {
 
   // ---- colours
 
+  // Outcomes that are else alike by their first edits, since their numbers depend on which part came first.
+  byFirst(a, b) {
+    const [one, other] = [a, b].map((it) => this.swept.firsts[it] ?? [0, 0]);
+    return one[0] - other[0] || one[1] - other[1];
+  }
+
   chooseColours() {
     const pick = DARK.matches ? 1 : 0, order = [...this.outcomes.keys()].slice(1);
-    order.sort((a, b) => this.swept.tallies[b] - this.swept.tallies[a] || a - b);
+    order.sort((a, b) => this.swept.tallies[b] - this.swept.tallies[a] || this.byFirst(a, b));
     this.colours = [UNEDITED[pick]];
     for (const [isNew, colours, other] of [[true, NEW, OTHER_NEW], [false, NOT_NEW, OTHER]]) {
       order.filter((it) => Boolean(this.outcomes[it].fresh.length) === isNew).forEach((number, place) => {
@@ -157,7 +166,8 @@ export class Picture {
     const each = Math.max(1, Math.ceil(LEAST_APART * scale * this.columns / wide));
     for (let column = 0; column < this.columns; column += each) {
       const x = Math.max(left + 12 * scale, left + (column + .5) * wide / this.columns);
-      on.fillText(this.placeName(this.firstOf(column)).replace('byte ', ''), Math.min(x, this.canvas.width - 30 * scale), tall + BELOW * scale / 2);
+      const name = this.placeName(this.firstOf(column)).replace('byte ', '');
+      on.fillText(name, Math.min(x, this.canvas.width - 30 * scale), tall + BELOW * scale / 2);
     }
   }
 
@@ -209,9 +219,14 @@ export class Picture {
   tell() {
     const cell = this.cell;
     if (!this.swept) return;
-    if (!cell) { say('picture-told', `Columns: ${this.swept.asked.kind === 'bytes' ? 'bytes of the input' : 'words of the function'}. Rows: values. Point at one, or move by arrow keys; a click or Enter makes the edit.`); return; }
+    if (!cell) {
+      const columns = this.swept.asked.kind === 'bytes' ? 'bytes of the input' : 'words of the function';
+      say('picture-told', `Columns: ${columns}. Rows: values. Point at one, or move by arrow keys; a click or Enter makes the edit.`);
+      return;
+    }
     const shares = this.count > this.columns ? ', the worst of its column' : '';
-    say('picture-told', `${this.placeName(cell.at)} as ${this.valueName(cell.value)} (now ${this.valueName(this.before(cell.at))})${shares}: ${this.outcomeTold(cell.number)}`);
+    const edit = `${this.placeName(cell.at)} as ${this.valueName(cell.value)} (now ${this.valueName(this.before(cell.at))})`;
+    say('picture-told', `${edit}${shares}: ${this.outcomeTold(cell.number)}`);
   }
 
   // What the sweep said of a byte's values, in few words.
@@ -220,21 +235,25 @@ export class Picture {
     if (!place) return '';
     const counts = new Map();
     for (const number of place.outcomes) counts.set(number, (counts.get(number) ?? 0) + 1);
-    const fresh = [...counts].filter(([number]) => this.outcome(number).fresh.length).sort((a, b) => this.outcome(b[0]).bad - this.outcome(a[0]).bad);
+    const fresh = [...counts].filter(([number]) => this.outcome(number).fresh.length);
+    fresh.sort(([a], [b]) => this.outcome(b).bad - this.outcome(a).bad);
     const same = counts.get(0) ?? 0;
     const told = fresh.slice(0, MOST_TOLD).map(([number, count]) => {
       const value = place.values[place.outcomes.indexOf(number)];
       return `${count} (${hexByte(value)} first): ${this.outcome(number).fresh[0].told}`;
     });
     const other = place.values.length;
-    const first = same === other ? `None of ${many(other, 'other value')} changes anything` : `Of ${many(other, 'other value')}, ${same} change nothing`;
+    const values = many(other, 'other value');
+    const first = same === other ? `None of ${values} changes anything` : `Of ${values}, ${same} change nothing`;
     return `${first}; ${told.length ? `new by ${told.join(' · ')}` : 'none makes a new error'}.`;
   }
 
   legend() {
     if (!this.swept?.outcomes.length) return;
     this.outcome(0);
-    const order = [...this.swept.outcomes.keys()].sort((a, b) => (a === 0) - (b === 0) || this.outcome(b).bad - this.outcome(a).bad || this.swept.tallies[b] - this.swept.tallies[a]);
+    const { tallies } = this.swept, bad = (number) => this.outcome(number).bad;
+    const order = [...this.swept.outcomes.keys()];
+    order.sort((a, b) => (a === 0) - (b === 0) || bad(b) - bad(a) || tallies[b] - tallies[a] || this.byFirst(a, b));
     this.chooseColours();
     const held = document.activeElement?.dataset?.held;
     $('legend-rows').replaceChildren(...order.slice(0, MOST_LEGEND).map((number) => this.legendRow(number)));
@@ -253,10 +272,12 @@ export class Picture {
       this.draw();
     });
     const line = first && (this.swept.asked.kind === 'bytes' ? inputLine(...first) : patchLine(...first));
-    const button = first && number ? element('button', { onclick: () => this.make(this.swept.asked.kind, ...first) }, line) : '';
+    const make = () => this.make(this.swept.asked.kind, ...first);
+    const button = first && number ? element('button', { onclick: make }, line) : '';
     if (button) button.dataset.held = `first ${number}`;
     const cell = (className, ...children) => element('td', { role: 'cell', className }, ...children);
-    return element('tr', { role: 'row' }, cell('shows', box, swatch), cell('number', grouped(this.swept.tallies[number])), cell('outcome', told), cell('first', button));
+    return element('tr', { role: 'row' }, cell('shows', box, swatch), cell('number', grouped(this.swept.tallies[number])),
+      cell('outcome', told), cell('first', button));
   }
 
   // ---- pointing
@@ -285,12 +306,13 @@ export class Picture {
 
   key(event) {
     if (!this.swept) return;
-    const moves = { ArrowLeft: [-1, 0], ArrowRight: [1, 0], ArrowUp: [0, -1], ArrowDown: [0, 1], PageUp: [0, -16], PageDown: [0, 16],
-      Home: [-this.columns, 0], End: [this.columns, 0] };
+    const moves = { ArrowLeft: [-1, 0], ArrowRight: [1, 0], ArrowUp: [0, -1], ArrowDown: [0, 1], PageUp: [0, -16],
+      PageDown: [0, 16], Home: [-this.columns, 0], End: [this.columns, 0] };
     if (event.key === 'Enter' || event.key === ' ') this.choose();
     else if (event.key in moves) {
       const [x, y] = moves[event.key];
-      this.here = { column: Math.max(0, Math.min(this.columns - 1, this.here.column + x)), row: Math.max(0, Math.min(this.rows - 1, this.here.row + y)) };
+      const within = (at, count) => Math.max(0, Math.min(count - 1, at));
+      this.here = { column: within(this.here.column + x, this.columns), row: within(this.here.row + y, this.rows) };
       this.draw();
       this.tell();
     } else return;

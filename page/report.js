@@ -16,7 +16,7 @@ function groupOf(lines) {
   const error = ERROR.exec(lines[0]), leak = LEAK.exec(lines[0]);
   const group = { isError: Boolean(error), lines, trace: [], note: null, blockTrace: [] };
   Object.assign(group, error ? { count: Number(error[1]), text: error[2] }
-    : { count: Number(leak[2]), size: Number(leak[1]), kind: leak[3], text: `${leak[1]} bytes in ${leak[2]} blocks are ${leak[3]}` });
+    : { count: Number(leak[2]), kind: leak[3], text: `${leak[1]} bytes in ${leak[2]} blocks are ${leak[3]}` });
   for (const line of lines.slice(1)) {
     const note = NOTE.exec(line);
     if (note) group.note = { address: Number(note[1]), text: line.trim() };
@@ -44,7 +44,7 @@ export function parseReport(text) {
   return report;
 }
 
-// The groups of a report beside those of the unedited run: new ones first, then those that are in both, then those that are gone.
+// The groups of a report beside those of the unedited run: new ones first, then those of both, then those that are gone.
 export function compared(report, unedited) {
   const before = new Map(unedited.groups.map((it) => [it.key, it]));
   const now = new Set(report.groups.map((it) => it.key));

@@ -5,7 +5,8 @@ import { hexWord } from './scenario.js';
 
 const BADGES = { new: 'new', changed: 'changed', gone: 'gone' };
 const STATES = {
-  jump: 'jumped to where no memory is', break: 'met an EBREAK', illegal: 'met no instruction of RV32IM', misaligned: 'jumped to an odd place',
+  jump: 'jumped to where no memory is', break: 'met an EBREAK', illegal: 'met no instruction of RV32IM',
+  misaligned: 'jumped to an address that is no multiple of 4',
 };
 const MOST_GROUPS = 200;
 
@@ -52,11 +53,13 @@ export class Reports {
     const times = group.isError && group.count > 1 ? ` (${grouped(group.count)} times)` : '';
     const before = how === 'changed' && was.isError ? `, ${grouped(was.count)} unedited` : '';
     const badge = BADGES[how] ? [element('span', { className: 'badge' }, BADGES[how])] : [];
-    const parts = [element('p', {}, ...badge, element('strong', { className: 'what' }, group.text), times + before), this.frames(group.trace)];
+    const what = element('strong', { className: 'what' }, group.text);
+    const parts = [element('p', {}, ...badge, what, times + before), this.frames(group.trace)];
     if (group.note) parts.push(element('p', {}, group.note.text), this.frames(group.blockTrace));
     if (how !== 'gone') {
       const text = suppressionOf(group, this.kinds);
-      parts.push(element('p', {}, element('button', { onclick: () => this.suppress(text), 'aria-label': `suppress ${group.text}` }, 'Suppress')));
+      const button = { onclick: () => this.suppress(text), 'aria-label': `suppress ${group.text}` };
+      parts.push(element('p', {}, element('button', button, 'Suppress')));
     }
     return element('article', { className: `group ${how}` }, ...parts);
   }
@@ -65,7 +68,8 @@ export class Reports {
     return element('ol', { className: 'frames' }, ...trace.map((frame, index) => {
       const line = this.lineOf(frame.address);
       const told = `${index ? 'by' : 'at'} ${frame.name} ${line ? `(${line})` : ''}`;
-      return element('li', {}, element('button', { onclick: () => this.visit(frame.address), title: hexWord(frame.address) }, `${told} ${hexWord(frame.address)}`));
+      return element('li', {},
+        element('button', { onclick: () => this.visit(frame.address) }, `${told} ${hexWord(frame.address)}`));
     }));
   }
 
@@ -74,12 +78,14 @@ export class Reports {
       const was = unedited.sums[name];
       const differs = was.bytes !== bytes || was.blocks !== blocks;
       const before = differs ? `was ${many(was.bytes, 'byte')} in ${many(was.blocks, 'block')}` : '';
-      return element('tr', {}, element('th', { scope: 'row' }, name), element('td', {}, `${many(bytes, 'byte')} in ${many(blocks, 'block')}`),
+      return element('tr', {}, element('th', { scope: 'row' }, name),
+        element('td', {}, `${many(bytes, 'byte')} in ${many(blocks, 'block')}`),
         element('td', { className: 'quiet' }, before));
     });
     const written = unedited.written === report.written ? '' : `was ${many(unedited.written, 'byte')}`;
     rows.push(element('tr', {}, element('th', { scope: 'row' }, 'output'), element('td', {}, many(report.written, 'byte')),
       element('td', { className: 'quiet' }, written)));
-    return element('table', { className: 'sums' }, element('caption', { className: 'hidden' }, 'blocks that are left, and output'), element('tbody', {}, ...rows));
+    const caption = element('caption', { className: 'hidden' }, 'blocks that are left, and output');
+    return element('table', { className: 'sums' }, caption, element('tbody', {}, ...rows));
   }
 }

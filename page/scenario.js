@@ -1,5 +1,7 @@
-// The edits that stand, as a value that is never changed: how it looks as lines of a session, what lines lead from one to another,
-// and what is left of it without one of its edits. Whether an edit may be made, the program says.
+// The edits that stand, as a value that is never changed: how it looks as lines of a session, what lines lead from one to
+// another, and what is left of it without one of its edits. Whether an edit may be made, the program says.
+import { NOTHING } from './instructions.js';
+
 const NUMBER = /^(?:[0-9]{1,10}|0[xX][0-9a-fA-F]{1,8})$/;
 const KINDS = ['defined', 'undefined', 'noaccess'];
 export const OPTIONS = { redzone: '16', queue: '20000000', callers: '12', show: 'definite,possible' };
@@ -55,7 +57,11 @@ export class Scenario {
   withPatch(at, word) { return this.with({ patches: changed(this.patches, at, word) }); }
   withMark(mark) { return this.with({ marks: [...this.marks, mark] }); }
   withoutMark(index) { return this.with({ marks: this.marks.filter((_, it) => it !== index) }); }
-  withOption(name, value) { return this.with({ options: changed(this.options, name, value === OPTIONS[name] ? null : value) }); }
+
+  withOption(name, value) {
+    return this.with({ options: changed(this.options, name, value === OPTIONS[name] ? null : value) });
+  }
+
   withSuppression(text) { return this.with({ added: [...this.added, text] }); }
 
   // ---- lines
@@ -113,9 +119,13 @@ const AFTER = {
   patch: (it, words) => { const found = numbers(words, 2); return found && it.withPatch(...found); },
   mark: (it, [kind, ...words]) => {
     const found = numbers([kind, ...words].slice(0, 3), 3), name = words[2];
-    return found && words.length === 3 && KINDS.includes(name) && it.withMark({ step: found[0], at: found[1], length: found[2], kind: name });
+    const isKnown = found && words.length === 3 && KINDS.includes(name);
+    return isKnown && it.withMark({ step: found[0], at: found[1], length: found[2], kind: name });
   },
-  unmark: (it, words) => { const found = numbers(words, 1); return found && found[0] < it.marks.length && it.withoutMark(found[0]); },
+  unmark: (it, words) => {
+    const found = numbers(words, 1);
+    return found && found[0] < it.marks.length && it.withoutMark(found[0]);
+  },
   option: (it, words) => words.length === 2 && words[0] in OPTIONS && it.withOption(...words),
   supp,
 };
@@ -132,7 +142,8 @@ function suppressionLines(a, b) {
   const indexes = new Set([...a.switched.keys(), ...b.switched.keys()]);
   return [
     ...b.added.slice(a.added.length).map((it) => `supp add ${it}`),
-    ...[...indexes].filter((it) => a.switched.get(it) !== b.switched.get(it)).map((it) => `supp ${b.switched.get(it) ?? 'on'} ${it}`),
+    ...[...indexes].filter((it) => a.switched.get(it) !== b.switched.get(it))
+      .map((it) => `supp ${b.switched.get(it) ?? 'on'} ${it}`),
   ];
 }
 
@@ -192,14 +203,30 @@ const hexByte = (value) => `0x${value.toString(16).padStart(2, '0')}`;
 export function editsOf(it) {
   const edits = [];
   const add = (label, lines, without) => edits.push({ label, lines, without });
-  for (const [name, value] of it.options) add(`${name} ${value}`, [`option ${name} ${value}`], it.withOption(name, OPTIONS[name]));
-  it.added.forEach((text, index) => add(`suppressed: ${text}`, [`supp add ${text}`], it.with({ added: it.added.toSpliced(index, 1), switched: new Map() })));
-  for (const [index, how] of it.switched) add(`suppression ${index} ${how}`, [`supp ${how} ${index}`], it.with({ switched: changed(it.switched, index, null) }));
-  for (const [at, word] of it.patches) add(`${hexWord(at)}: ${word === 0x13 ? 'skipped' : hexWord(word)}`, [patchLine(at, word)], it.withPatch(at, null));
-  it.marks.forEach((mark, index) => add(`${mark.length} at ${hexWord(mark.at)} ${mark.kind} from step ${mark.step}`, [markLine(mark)], it.withoutMark(index)));
+  for (const [name, value] of it.options) {
+    add(`${name} ${value}`, [`option ${name} ${value}`], it.withOption(name, OPTIONS[name]));
+  }
+  it.added.forEach((text, index) => {
+    // (the numbers of those behind it change, so that none is switched by its number any more)
+    add(`suppressed: ${text}`, [`supp add ${text}`], it.with({ added: it.added.toSpliced(index, 1), switched: new Map() }));
+  });
+  for (const [index, how] of it.switched) {
+    add(`suppression ${index} ${how}`, [`supp ${how} ${index}`], it.with({ switched: changed(it.switched, index, null) }));
+  }
+  for (const [at, word] of it.patches) {
+    add(`${hexWord(at)}: ${word === NOTHING ? 'skipped' : hexWord(word)}`, [patchLine(at, word)], it.withPatch(at, null));
+  }
+  it.marks.forEach((mark, index) => {
+    const label = `${mark.length} at ${hexWord(mark.at)} ${mark.kind} from step ${mark.step}`;
+    add(label, [markLine(mark)], it.withoutMark(index));
+  });
   if (it.cut) add(`${it.cut} cut off`, Array(it.cut).fill('input cut'), it.with({ cut: 0, appended: it.appended }));
-  if (it.appended.length) add(`${it.appended.length} appended`, it.appended.map((value) => `input append ${value}`), it.with({ appended: [] }));
+  const lines = it.appended.map((value) => `input append ${value}`);
+  if (lines.length) add(`${lines.length} appended`, lines, it.with({ appended: [] }));
   const changes = [...it.changes].sort(([a], [b]) => a - b);
-  for (const [at, value] of changes) add(`byte ${at}: ${hexByte(it.base[at] ?? 0)} → ${hexByte(value)}`, [inputLine(at, value)], it.with({ changes: changed(it.changes, at, null) }));
+  for (const [at, value] of changes) {
+    const label = `byte ${at}: ${hexByte(it.base[at] ?? 0)} → ${hexByte(value)}`;
+    add(label, [inputLine(at, value)], it.with({ changes: changed(it.changes, at, null) }));
+  }
   return edits;
 }

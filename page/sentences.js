@@ -19,7 +19,7 @@ const DAMAGED = 'The file is damaged, or a tool has rewritten it: link it anew.'
 const WHAT = { image: 'The program', input: 'The input', suppressions: 'The suppressions' };
 const NO_MEMORY = 'Take a shorter run or fewer edits, or close other pages.';
 
-export const NEEDS = 'This page needs WebAssembly with 64-bit memory, which this browser lacks. Chromium 133 or newer and Firefox 134 or newer have it.';
+export const NEEDS = 'This page needs WebAssembly with 64-bit memory, which this browser lacks: take a current Chromium.';
 
 function refusedFile(said) {
   const found = /^replaycheck: (image|input|suppressions) refused (\d+)(?: at line (\d+))?/.exec(said);
@@ -33,9 +33,10 @@ export function sentence(fault, limit) {
   if (fault instanceof NoEdit) return `“${fault.message}” is no line that edits a run. ${REFUSALS[2]}.`;
   if (fault instanceof Stopped) return 'Stopped. The page shows the report before.';
   if (fault instanceof TooManyLines) return 'These are more edits than a session takes. Change the input’s file instead.';
-  if (fault instanceof Refused && fault.number === 1) return `Memory ran out at “${fault.line}”; this page takes ${size(limit)} at most. ${NO_MEMORY}`;
+  const memory = `this page takes ${size(limit)} at most. ${NO_MEMORY}`;
+  if (fault instanceof Refused && fault.number === 1) return `Memory ran out at “${fault.line}”; ${memory}`;
   if (fault instanceof Refused) return `“${fault.line}” was refused: ${REFUSALS[fault.number]}.`;
-  if (fault instanceof Ended && fault.status === 4) return `Memory ran out; this page takes ${size(limit)} at most. ${NO_MEMORY}`;
+  if (fault instanceof Ended && fault.status === 4) return `Memory ran out; ${memory}`;
   if (fault instanceof Ended && fault.said) return refusedFile(fault.said);
   return `That failed in the browser (${fault.message}). The next edit begins anew.`;
 }

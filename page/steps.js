@@ -1,4 +1,5 @@
-// The step slider, with the landmarks of the run: the first step at which a report has read more, has other blocks, has an error, has ended.
+// The step slider, with the landmarks of the run: the first step at which a report has read more, has other blocks, has one
+// more error, has ended.
 import { $, element, say, grouped, many } from './dom.js';
 import { parseReport } from './report.js';
 
@@ -97,7 +98,7 @@ export class Steps {
   show(step) {
     this.step = step;
     $('step').value = this.shown;
-    if (document.activeElement !== $('step-number')) $('step-number').value = step >= this.follow && step > this.last ? (step === this.follow ? this.last : step) : step;
+    if (document.activeElement !== $('step-number')) $('step-number').value = step === this.follow ? this.last : step;
     say('step-told', `of ${many(this.last, 'step')}${this.step === this.follow ? ', the end' : ''}`);
     $('step').setAttribute('aria-valuetext', `step ${grouped(this.shown)} of ${grouped(this.last)}`);
   }
@@ -119,7 +120,8 @@ export class Steps {
       .sort((a, b) => order.indexOf(a.kind) - order.indexOf(b.kind));
     $('landmarks').replaceChildren(...marks.map(({ step, kind }) => {
       const told = `step ${grouped(step)}: ${NAMES[kind]}`;
-      const made = element('button', { className: kind, title: told, 'aria-label': told, tabIndex: kind === 'error' ? 0 : -1, onclick: () => this.choose(step) });
+      const made = element('button', { className: kind, title: told, 'aria-label': told, onclick: () => this.choose(step) });
+      made.tabIndex = kind === 'error' ? 0 : -1;
       made.style.left = `${100 * Math.min(1, step / Math.max(1, this.last))}%`;
       return made;
     }));

@@ -1,4 +1,5 @@
-// Every edit of the input's bytes, or of a function's words, alone: parts of the proved sweep, in as many workers as processors.
+// Every edit of the input's bytes, or of a function's words, alone: parts of the proved sweep, in as many workers as there are
+// processors.
 import { Helper, Stopped } from './sessions.js';
 
 const PARTS_EACH = 4;  // so that no worker waits long for the last one
@@ -9,10 +10,12 @@ const partsOf = (places, workers) => (workers === 1 ? 1 : Math.max(1, Math.min(p
 // So many edits are made at most, as all are held.
 export const MOST_EDITS = 4000000;
 
-// What came of the edits. `outcomes` are texts, of which the first is the unedited run's; a place has values, each with its outcome.
+// What came of the edits. `outcomes` are texts, of which the first is the unedited run's; a place has values, each with its
+// outcome.
 export class Swept {
   constructor(asked) {
-    Object.assign(this, { asked, outcomes: [], numbers: new Map(), tallies: [], firsts: [], places: new Map(), edits: 0, isWhole: false });
+    Object.assign(this, { asked, outcomes: [], numbers: new Map(), tallies: [], firsts: [], places: new Map() });
+    Object.assign(this, { edits: 0, isWhole: false });
   }
 
   number(text) {

@@ -131,6 +131,7 @@ onmessage = async ({ data }) => {
   try {
     postMessage({ id: data.id, value: await DOES[data.does](data) });
   } catch (fault) {
-    postMessage({ id: data.id, fault: { status: fault.status, said: fault.said ?? '', text: String(fault), memory: fault.memory } });
+    const { status, said = '', memory } = fault;
+    postMessage({ id: data.id, fault: { status, said, memory, text: String(fault) } });
   }
 };

@@ -1,7 +1,11 @@
 """The cases of test-page: what one does on the page, against what the program says."""
 import json
+import pathlib
 import random
 import re
+import struct
+import subprocess
+import tempfile
 
 from page_bench import EXAMPLES, Wrong, expect, same, words_of
 from replaycheck.guest_files import DATA, TOP, Worked, elf
@@ -25,7 +29,6 @@ def worked_sessions(bench):
 
 def bench_replies(bench, worked):
     """The program's own replies, where a session has none written."""
-    import tempfile
     with tempfile.TemporaryDirectory() as folder:
         for name in ("program", "input", "supp"):
             with open(f"{folder}/{name}", "wb") as file:
@@ -178,7 +181,7 @@ def marks_taken_off(bench):
 
 def many_edits(bench):
     """Random edits one after another, over sessions that are begun anew after 60 lines."""
-    chance = random.Random(45)
+    chance = random.Random(3)
     with bench.open(words="?still&lines=60") as page:
         for turn in range(60):
             line = chance.choice([f"input {chance.randrange(40)} {chance.randrange(256)}", f"input append {chance.randrange(256)}", "input cut",
@@ -302,6 +305,30 @@ def picture_of_words(bench):
         swept(bench, page, words_of("boot"), options, 32 * size // 4)
 
 
+def picture_of_edits(bench):
+    """The sweep of an edited run is the program's table of the files that the edits make, and what they can't have is told."""
+    with bench.open() as page, tempfile.TemporaryDirectory() as folder:
+        page.run("replaycheck.use('patch 0x10368 0x00800493\\ninput 27 2\\ninput append 7\\nsupp add Cond fun:show fun:main fun:_start')")
+        bench.same_report(page, STATION, "the edited run")
+        program = bytearray((TOP / "examples/firmware/station.elf").read_bytes())
+        offset, at = struct.unpack_from("<II", program, struct.unpack_from("<I", program, 28)[0] + 4)
+        struct.pack_into("<I", program, offset + 0x10368 - at, 0x00800493)
+        given = bytearray((TOP / "examples/firmware/station.input").read_bytes() + b"\7")
+        given[27] = 2
+        supp = b"{\nknown\nMemcheck:Cond\nfun:show\nfun:main\nfun:_start\n}\n"
+        paths = [pathlib.Path(folder, it) for it in ("program", "input", "supp")]
+        for path, content in zip(paths, (program, given, supp)):
+            path.write_bytes(content)
+        page.run("(() => { document.getElementById('sweep-values').value = 'edges'; document.getElementById('sweep').click(); })()")
+        words = [str(paths[0]), "--input", str(paths[1]), "--supp", str(paths[2])]
+        options = ["--values=edges", f"--step={page.run('replaycheck.step')}"]
+        swept(bench, page, words, options, len(bench.table(words, *options)))
+        page.run("replaycheck.use('mark 55 0x20011 2 undefined\\noption queue 0')")
+        bench.settle(page)
+        page.run("document.getElementById('sweep').click()")
+        page.until("document.getElementById('sweep-told').textContent.includes('Left out: marks, options of the heap.')", 120)
+
+
 def report_stopped(bench):
     """A report that takes long is told with a button; stopped, the page shows the one before, and answers the next edit."""
     words = [str(TOP / "examples/firmware/polled.elf")]
@@ -371,18 +398,14 @@ def bad_files(bench):
 
 def damaged_files(bench):
     """Damaged programs harm nothing: each is told or run, as the program itself does, and the page goes on."""
-    import os
-    import subprocess
-    import tempfile
     chance, content = random.Random(7), (TOP / "examples/firmware/station.elf").read_bytes()
     with bench.page() as page, tempfile.TemporaryDirectory() as folder:
         for turn in range(40):
             made = bytearray(content[:chance.randrange(60, len(content))] if turn % 2 else content)
             for _ in range(chance.randrange(1, 12)):
                 made[chance.randrange(min(len(made), 200 if turn % 4 == 0 else len(made)))] = chance.randrange(256)
-            path = os.path.join(folder, "program")
-            with open(path, "wb") as file:
-                file.write(made)
+            path = pathlib.Path(folder, "program")
+            path.write_bytes(made)
             bench.give(page, {"program": bytes(made)})
             page.until("!replaycheck.isBusy")
             ran = subprocess.run([bench.program, "run", path, "--step", str(page.run("replaycheck.step ?? 1024") or 0)], capture_output=True, text=True)

@@ -7,8 +7,9 @@ import subprocess
 
 from replaycheck.endings import Fault
 
-NEEDED = ("bin/rattle", "bin/rattle-link", "toolchain/bin/clang", "toolchain/bin/ld.lld", "toolchain/bin/llvm-ar", "toolchain/lib",
-          "c/libos_c.a", "c/liblibc_c.a", "rlibs/std.rlib", "rattle/logic/antt-project.json", "logic_built")
+NEEDED = ("bin/rattle", "bin/rattle-link", "toolchain/bin/clang", "toolchain/bin/ld.lld", "toolchain/bin/llvm-ar",
+          "toolchain/lib", "c/libos_c.a", "c/liblibc_c.a", "rlibs/std.rlib", "rattle/logic/antt-project.json",
+          "logic_built")
 TARGET, NATIVE = "wasm64-unknown-unknown", "x86_64-unknown-linux-gnu"
 IR, HELPERS = "module.bc", "helpers.c"
 KEEPING = """#!/bin/sh
@@ -33,7 +34,8 @@ def find():
 
 def run(words, folder, what):
     """Runs a tool, whose words are told where it fails."""
-    ran = subprocess.run([str(it) for it in words], cwd=folder, stdin=subprocess.DEVNULL, capture_output=True, text=True, errors="replace")
+    ran = subprocess.run([str(it) for it in words], cwd=folder, stdin=subprocess.DEVNULL, capture_output=True, text=True,
+                         errors="replace")
     if ran.returncode:
         said = (ran.stdout + ran.stderr).strip()[-2000:]
         raise Fault(f"{what} failed: {words[0]} ended with status {ran.returncode}\n{said}")
@@ -52,7 +54,8 @@ class Tools:
             if tool.name != "clang":
                 (self.folder / "bin" / tool.name).symlink_to(tool)
         script = self.folder / "bin/clang"
-        script.write_text(KEEPING.format(files=f"{IR} {HELPERS}", kept=shlex.quote(str(self.kept)), clang=shlex.quote(str(self.clang))))
+        script.write_text(KEEPING.format(files=f"{IR} {HELPERS}", kept=shlex.quote(str(self.kept)),
+                                         clang=shlex.quote(str(self.clang))))
         script.chmod(0o755)
 
     def flags(self):
@@ -63,10 +66,11 @@ class Tools:
     def take_helpers(self, room):
         """Has the linker hand its helpers to the compiler, by a library of one function that it links."""
         (room / "empty.c").write_text("int empty(void) { return 0; }\n")
-        run([self.clang, f"--target={TARGET}", "--no-default-config", "-c", "empty.c", "-o", "empty.o"], room, "an empty library")
+        words = [self.clang, f"--target={TARGET}", "--no-default-config", "-c", "empty.c", "-o", "empty.o"]
+        run(words, room, "an empty library")
         run([self.kit / "toolchain/bin/llvm-ar", "rcD", "empty.a", "empty.o"], room, "an empty library")
-        run([self.kit / "bin/rattle-link", "--target", TARGET, "--toolchain", self.folder, "-o", "empty.wasm", "empty.a"], room,
-            "linking an empty library")
+        words = ["--target", TARGET, "--toolchain", self.folder, "-o", "empty.wasm", "empty.a"]
+        run([self.kit / "bin/rattle-link", *words], room, "linking an empty library")
         self.must_have(HELPERS)
 
     def must_have(self, name):

@@ -21,11 +21,16 @@ SHIM = TOP / "page" / "shim.c"
 KEPT = pathlib.Path(os.environ.get("XDG_CACHE_HOME") or pathlib.Path.home() / ".cache") / "replaycheck" / "page-modules"
 MOST_KEPT = 4
 STACK, MOST_MEMORY = 4 << 20, 4 << 30
-# The processor that the text is for: its name, the layout of its data, which is the same but for types that aren't used, and attributes.
+# What of the text is of its processor: the name, the layout of data, which is the same but for types that aren't used, and
+# attributes of functions.
 LAYOUT = re.compile(r"^target datalayout = .*\n", re.M)
 TRIPLE = re.compile(r'^target triple = ".*"$', re.M)
 ATTRIBUTES = re.compile(r' "(?:probe-stack|stack-probe-size|target-cpu|target-features|tune-cpu|frame-pointer)"="[^"]*"')
 PARTS = ("src", "specs", "proofs", "args", "stdin", "stdout", "status", "data")
+
+
+def tell(what):
+    print(f"replaycheck page: {what}", file=sys.stderr, flush=True)
 
 
 def libraries_of(text):
@@ -79,7 +84,7 @@ def copy_of_crates(room):
     (top / ".git").mkdir(parents=True)
     shutil.copy(TOP / "HANDLES", top)
     lines = (TOP / "crates.txt").read_text().splitlines(True)
-    (top / "crates.txt").write_text("".join(it for it in lines if it.partition(":")[0].split()[:1] and it.split(":")[0].split()[0] in names))
+    (top / "crates.txt").write_text("".join(it for it in lines if not names.isdisjoint(it.partition(":")[0].split()[:1])))
     for name in names:
         for part in PARTS:
             source, to = TOP / "crates" / name / part, top / "crates" / name / part
@@ -88,7 +93,7 @@ def copy_of_crates(room):
             elif source.exists():
                 to.parent.mkdir(parents=True, exist_ok=True)
                 shutil.copy(source, to)
-    print("replaycheck page: takes the proved libraries", file=sys.stderr)
+    tell("takes the proved libraries")
     ran = subprocess.run(["rt", "ci"], cwd=top, stdin=subprocess.DEVNULL, capture_output=True, text=True, errors="replace")
     if ran.returncode:
         raise Fault(f"rt ci failed:\n{(ran.stdout + ran.stderr)[-2000:]}")
@@ -97,12 +102,12 @@ def copy_of_crates(room):
 
 def built_again(kit, tools, room, crates):
     """Whether the program, built once more over libraries, is the proved one, byte for byte."""
-    print("replaycheck page: proves the program's crate over its libraries, and takes its intermediate text", file=sys.stderr)
-    words = [kit / "bin/rattle", "build", *crates.words(kit), "--toolchain", tools.folder, "--backend", "llvm", "-o", room / "native.o"]
-    kits.run(words, crates.top / "crates" / NAME, "building the program's crate")
+    tell("proves the program's crate over its libraries, and takes its intermediate text")
+    words = ["--toolchain", tools.folder, "--backend", "llvm", "-o", room / "native.o"]
+    kits.run([kit / "bin/rattle", "build", *crates.words(kit), *words], crates.top / "crates" / NAME, "building the program's crate")
     tools.must_have(kits.IR)
-    kits.run([kit / "bin/rattle-link", "--target", kits.NATIVE, "--toolchain", kit / "toolchain", "-o", room / "native", room / "native.o",
-              kit / "c/libos_c.a", kit / "c/liblibc_c.a"], room, "linking the program")
+    words = ["--target", kits.NATIVE, "--toolchain", kit / "toolchain", "-o", room / "native", room / "native.o"]
+    kits.run([kit / "bin/rattle-link", *words, kit / "c/libos_c.a", kit / "c/liblibc_c.a"], room, "linking the program")
     return filecmp.cmp(room / "native", PROGRAM, shallow=False)
 
 
@@ -127,17 +132,18 @@ def for_pages(text):
 
 def compile_module(tools, room):
     """The module, from what was kept of the text."""
-    print("replaycheck page: compiles the program for WebAssembly", file=sys.stderr)
+    tell("compiles the program for WebAssembly")
     tools.take_helpers(room)
     flags = tools.flags()
-    as_text = ["-x", "ir", tools.kept / kits.IR, "-S", "-emit-llvm", "-Xclang", "-disable-llvm-passes", "-O1", "-o", "module.ll"]
-    kits.run([tools.clang, *as_text], room, "reading the program's text")
+    as_text = ["-S", "-emit-llvm", "-Xclang", "-disable-llvm-passes", "-O1", "-o", "module.ll"]
+    kits.run([tools.clang, "-x", "ir", tools.kept / kits.IR, *as_text], room, "reading the program's text")
     text = room / "module.ll"
     text.write_text(for_pages(text.read_text()))
     free = ["-ffreestanding", "-fno-builtin", "-nostdinc"]
-    for what, words in (("the program", ["-O3", "-x", "ir", "module.ll"]), ("the shim", ["-O2", *free, "-Wall", "-Wextra", "-Werror", SHIM]),
-                        ("the helpers", ["-O2", "-fwrapv", *free, "-x", "c", tools.kept / kits.HELPERS])):
-        kits.run([tools.clang, *flags, "-c", *words, "-o", f"{what.split()[-1]}.o"], room, f"compiling {what}")
+    for name, words in (("program", ["-O3", "-x", "ir", "module.ll"]),
+                        ("shim", ["-O2", *free, "-Wall", "-Wextra", "-Werror", SHIM]),
+                        ("helpers", ["-O2", "-fwrapv", *free, "-x", "c", tools.kept / kits.HELPERS])):
+        kits.run([tools.clang, *flags, "-c", *words, "-o", f"{name}.o"], room, f"compiling the {name}")
     kits.run([tools.linker, "-flavor", "wasm", "-mwasm64", "--no-entry", "--stack-first", "-z", f"stack-size={STACK}",
               "--export=__heap_base", "--gc-sections", "--fatal-warnings", f"--max-memory={MOST_MEMORY}", "--strip-debug",
               "program.o", "shim.o", "helpers.o", "-o", "module.wasm"], room, "linking the module")
@@ -162,7 +168,7 @@ def keep(made, path):
         for old in sorted(path.parent.glob("*.wasm"), key=lambda it: -it.stat().st_mtime)[MOST_KEPT:]:
             old.unlink()
     except OSError as fault:
-        print(f"replaycheck page: the module isn't kept for the next time: {fault}", file=sys.stderr)
+        tell(f"the module isn't kept for the next time: {fault}")
 
 
 def build_program():
