@@ -1,6 +1,7 @@
 //! A machine of RV32IM (RISC-V Unprivileged ISA 20191213, chapters 2 and 7), each of whose registers and bytes has undefined bits
 //! (Seward and Nethercote, "Using Valgrind to detect undefined value errors with bit-precision", USENIX 2005, section 2.4).
 
+use crate::looks::Access;
 use crate::memory::{Memory, RangeKind};
 use std::collections::HashMap;
 
@@ -58,6 +59,10 @@ const LARGEST_FRAME: u32 = 2_000_000;
 const STACK_POINTER: usize = 2;
 const A0: usize = 10;
 const A7: usize = 17;
+
+/// The opcodes of loads and stores.
+const LOAD: u32 = 0x03;
+const STORE: u32 = 0x23;
 
 const EXIT: u32 = 93;
 const EXIT_GROUP: u32 = 94;
@@ -388,7 +393,7 @@ impl Machine {
                 return self.linked_jump(word, to);
             }
             0x63 => return self.branch(word),
-            0x03 => match field(word, 14, 12) {
+            LOAD => match field(word, 14, 12) {
                 0 => self.load::<1>(word, true),
                 1 => self.load::<2>(word, true),
                 2 => self.load::<4>(word, true),
@@ -396,7 +401,7 @@ impl Machine {
                 5 => self.load::<2>(word, false),
                 _ => return self.illegal(),
             },
-            0x23 => match field(word, 14, 12) {
+            STORE => match field(word, 14, 12) {
                 0 => self.store::<1>(word),
                 1 => self.store::<2>(word),
                 2 => self.store::<4>(word),
@@ -437,6 +442,23 @@ impl Machine {
         }
         if stack_pointer.value != self.registers[STACK_POINTER].value {
             self.stack_rule(stack_pointer);
+        }
+    }
+
+    /// What the next step does with memory beside taking its word: where, and with how many bytes.
+    pub fn access(&self) -> Option<(Access, u32, u32)> {
+        let word = self.memory.load::<4>(self.pc);
+        if self.status != Status::Running || self.pc % 4 != 0 || word.bad.is_some() {
+            return None;
+        }
+        let (word, funct3) = (word.value, field(word.value, 14, 12));
+        let base = self.register(field(word, 19, 15)).value;
+        match field(word, 6, 0) {
+            LOAD if matches!(funct3, 0 | 1 | 2 | 4 | 5) => {
+                Some((Access::Read, base.wrapping_add(imm_i(word)), 1 << (funct3 % 4)))
+            }
+            STORE if funct3 < 3 => Some((Access::Write, base.wrapping_add(imm_s(word)), 1 << funct3)),
+            _ => None,
         }
     }
 }

@@ -1,6 +1,8 @@
 //! A plain interpreter of RV32IM with accessible and undefined bits: what a step costs where nothing is proved. It runs the loop
-//! that `bench/run` gives the program too, and prints where it leads; or a program of words from a file, and prints where it is after them.
+//! that `bench/run` gives the program too, and prints where it leads; or a program of words from a file, and prints where it is after them,
+//! or answers looks at its run.
 
+mod looks;
 mod machine;
 mod memory;
 #[cfg(test)]
@@ -21,12 +23,16 @@ fn main() {
     let words: Vec<String> = std::env::args().skip(1).collect();
     let number = |at: usize| words.get(at).and_then(|word| word.parse().ok());
     match (words.len(), number(0), number(1)) {
+        (3, None, Some(memory)) if words[0] == "looks" => match std::fs::read(&words[2]) {
+            Ok(bytes) => look(memory as u32, &bytes),
+            Err(fault) => println!("twin: {fault}"),
+        },
         (1, Some(steps), _) => time(steps),
         (3, Some(steps), Some(memory)) => match std::fs::read(&words[2]) {
             Ok(bytes) => tell(steps, memory as u32, &bytes),
             Err(fault) => println!("twin: {fault}"),
         },
-        _ => println!("usage: twin STEPS | twin STEPS MEMORY FILE"),
+        _ => println!("usage: twin STEPS | twin STEPS MEMORY FILE | twin looks MEMORY FILE"),
     }
 }
 
@@ -53,12 +59,24 @@ fn make(machine: &mut Machine, steps: u64) -> u64 {
 /// Makes so many steps of a program whose words are the bytes of a file, in so many bytes of memory, and prints the state, and each
 /// error: its kind, its instruction, how often it came, and its first address.
 fn tell(steps: u64, memory: u32, bytes: &[u8]) {
-    let words: Vec<u32> = bytes.as_chunks().0.iter().map(|word| u32::from_le_bytes(*word)).collect();
-    let mut machine = Machine::start(PROGRAM_START, &words, memory);
+    let mut machine = Machine::start(PROGRAM_START, &words_of(bytes), memory);
     make(&mut machine, steps);
     println!("{:?} {:#010x}", machine.status, machine.pc);
     for (error, count) in &machine.errors {
         let address = machine.addresses.get(error).map_or(String::new(), |address| format!(" {address:#010x}"));
         println!("{:?} {:#010x} {count}{address}", error.0, error.1);
+    }
+}
+
+fn words_of(bytes: &[u8]) -> Vec<u32> {
+    bytes.as_chunks().0.iter().map(|word| u32::from_le_bytes(*word)).collect()
+}
+
+/// Answers each line of standard input that looks at the run of such a program.
+fn look(memory: u32, bytes: &[u8]) {
+    let words = words_of(bytes);
+    for line in std::io::stdin().lines().map_while(Result::ok) {
+        let reply = looks::answer(|| Machine::start(PROGRAM_START, &words, memory), &line);
+        println!("{}", reply.unwrap_or("no look".to_string()));
     }
 }

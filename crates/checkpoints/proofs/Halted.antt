@@ -16,9 +16,14 @@ unfolding marked
 marks-keep-status [] s = refl
 marks-keep-status (m ∷ ms) s = marks-keep-status ms (marked s m)
 
-marked-halted : (k : ℕ) (marks : List Mark) (s : State) → is_running s.core.status ≡ false → is_running (after_marks k marks s).core.status ≡ false
+-- the marks of a step don't change whether it runs
+pub marked-runs : (k : ℕ) (marks : List Mark) (s : State) → is_running (after_marks k marks s).core.status ≡ is_running s.core.status
 unfolding after_marks
-marked-halted k marks s h = ap is_running (marks-keep-status (marks_at k marks) s) ∙ h
+marked-runs k marks s = ap is_running (marks-keep-status (marks_at k marks) s)
+
+marked-halted : (k : ℕ) (marks : List Mark) (s : State) → is_running s.core.status ≡ false
+    → is_running (after_marks k marks s).core.status ≡ false
+marked-halted k marks s h = marked-runs k marks s ∙ h
 
 module _ (law : StaysHalted) (start : State) (setup : Setup) (marks : List Mark) (from : ℕ) (halted : is_running (pre start setup marks from).core.status ≡ false) where
   -- one more step
@@ -45,10 +50,15 @@ module _ (law : StaysHalted) (start : State) (setup : Setup) (marks : List Mark)
       let more : to ≡ from + (to - from) = omega arith in
       ap (pre start setup marks) more ∙ stays-there (to - from) (λ k low high. none k low (omega arith))
 
-  pub uses-no-word : (addr k : ℕ) → from ≤ k → uses_word start setup marks addr k ≡ false
-  unfolding uses_word post
-  uses-no-word addr k l =
+  pub halted-after : (k : ℕ) → from ≤ k → is_running (post start setup marks k).core.status ≡ false
+  unfolding post
+  halted-after k l =
       let more : from + (k - from) ≡ k = omega arith in
       let now = ap (λ n. is_running (pre start setup marks n).core.status) (sym more) ∙ halted-later (k - from) in
-      let s = after_marks k marks (pre start setup marks k) in
-      meets-nowhere (touches s setup) addr (λ j few. (law setup s (marked-halted k marks (pre start setup marks k) now)).1 (addr + j))
+      marked-halted k marks (pre start setup marks k) now
+
+  pub uses-no-word : (addr k : ℕ) → from ≤ k → uses_word start setup marks addr k ≡ false
+  unfolding uses_word
+  uses-no-word addr k l =
+      let s = post start setup marks k in
+      meets-nowhere (touches s setup) addr (λ j few. (law setup s (halted-after k l)).1 (addr + j))

@@ -10,7 +10,7 @@ use Rattle.clap.specs.declared.builder.action.ArgAction.TheVariants.{SetTrue}
 use Rattle.command_line.specs.declared.order.Order.{Order}
 use Rattle.command_line.specs.declared.order.SweepWords.{SweepWords}
 use Rattle.command_line.specs.declared.order.Task.{Task}
-use Rattle.command_line.specs.declared.order.Task.TheVariants.{Report, Session, Sweep}
+use Rattle.command_line.specs.declared.order.Task.TheVariants.{Report, Session, Look, Sweep}
 
 -- the greatest step of a report (this project's limit)
 abbrev pub greatest_step : ℕ
@@ -51,6 +51,10 @@ with_run = with_subcommand (on_top (λ top. record top { has_version = true; sub
 abbrev pub with_session : App
 with_session = with_subcommand with_run (program_command (codes "session")).top
 
+-- with `look`
+abbrev pub with_look : App
+with_look = with_subcommand with_session (program_command (codes "look")).top
+
 -- an option with a value that it has where it isn't given
 abbrev pub default_option : Text → Text → Rule
 default_option name default = record (option name) { defaults = default ∷ [] }
@@ -69,9 +73,9 @@ sweep_command =
     with_rule (with_rule (with_rule (with_rule sweep_of_bytes (option (codes "words"))) (default_option (codes "words-values") (codes "skip"))) output_flag)
     (default_option (codes "part") (codes "1/1"))
 
--- the command line: `run`, `session` and `sweep`
+-- the command line: `run`, `session`, `look` and `sweep`
 abbrev pub command_line : App
-command_line = with_subcommand with_session sweep_command.top
+command_line = with_subcommand with_look sweep_command.top
 
 -- a number is the one that was given for `--step`, in decimal digits
 abbrev pub IsStepOf : List Row → ℕ → Type 0
@@ -100,7 +104,8 @@ pub record IsSweepOf (rows : List Row) (asked : SweepWords) : Type 0 where
 abbrev pub IsTaskOf : Text → List Row → Task → Type 0
 IsTaskOf name rows (Report n) = (bytes_eq name (codes "run") ≡ true) × IsStepOf rows n
 IsTaskOf name rows (Sweep words) = (bytes_eq name (codes "sweep") ≡ true) × IsSweepOf rows words
-IsTaskOf name rows Session = (bytes_eq name (codes "run") ≡ false) × (bytes_eq name (codes "sweep") ≡ false)
+IsTaskOf name rows Look = bytes_eq name (codes "look") ≡ true
+IsTaskOf name rows Session = (bytes_eq name (codes "run") ≡ false) × (bytes_eq name (codes "sweep") ≡ false) × (bytes_eq name (codes "look") ≡ false)
 
 -- the order of what was found for a command's arguments
 pub record IsOrderOf (name : Text) (rows : List Row) (order : Order) : Type 0 where

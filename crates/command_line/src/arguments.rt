@@ -2,9 +2,9 @@
 ghost use Rattle.std.specs.Prelude.{◌≡◌, IfErr, IfOk, IfSome, IsSomeAnd, false, map, string_bytes, true};
 ghost use Rattle.clap.specs.Words.{FailsBy, app_of, fault_of, found_of, kind_of, rows_of, rule_of, subcommand_rows_of, takes};
 ghost use Rattle.clap.specs.declared.builder.command.Command.TheViews.{out-Command};
-ghost use Rattle.command_line.specs.Orders.{IsOrderFor, IsOrderOf, IsStepOf, IsSweepOf, IsTaskOf, command_line, default_option, file_argument, option, output_flag, program_command, run_command, step_option, sweep_command, sweep_of_bytes, with_run, with_session};
+ghost use Rattle.command_line.specs.Orders.{IsOrderFor, IsOrderOf, IsStepOf, IsSweepOf, IsTaskOf, command_line, default_option, file_argument, option, output_flag, program_command, run_command, step_option, sweep_command, sweep_of_bytes, with_look, with_run, with_session};
 
-use crate::help::{ABOUT, AFTER_RUN, AFTER_SESSION, AFTER_SWEEP, RUN, SESSION, SWEEP};
+use crate::help::{ABOUT, AFTER_LOOK, AFTER_RUN, AFTER_SESSION, AFTER_SWEEP, LOOK, RUN, SESSION, SWEEP};
 use crate::order::{Order, SweepWords, Task};
 use clap::error::ErrorKind;
 use clap::{Arg, ArgAction, ArgMatches, Command, Error, value_parser};
@@ -91,6 +91,14 @@ fn with_session<'a>(alloc: Global) -> Result<Command<'a>, AllocError>
     with_run(alloc)?.subcommand(session)
 }
 
+/// The command line with `run`, `session` and `look`.
+fn with_look<'a>(alloc: Global) -> Result<Command<'a>, AllocError>
+    ensures { IfOk result (λ command. app_of command ≡ with_look) }
+{
+    let look = program_command(alloc, "look", LOOK, AFTER_LOOK)?;
+    with_session(alloc)?.subcommand(look)
+}
+
 /// An option with a value that it has where it isn't given.
 fn default_option<'a>(
     alloc: Global,
@@ -148,7 +156,7 @@ fn make_command<'a>(alloc: Global) -> Result<Command<'a>, AllocError>
     ensures { IfOk result (λ command. app_of command ≡ command_line) }
 {
     let sweep = sweep_command(alloc)?;
-    with_session(alloc)?.subcommand(sweep)
+    with_look(alloc)?.subcommand(sweep)
 }
 
 /// Reads the words of a command line, the program's name first. Help and the version are errors whose text goes to standard output.
@@ -199,6 +207,8 @@ fn task_of<'a>(name: &str, chosen: &ArgMatches<'a>) -> Option<Task<'a>>
         Some(Task::Report(step_of(chosen)?))
     } else if name == "sweep" {
         Some(Task::Sweep(sweep_of(chosen)?))
+    } else if name == "look" {
+        Some(Task::Look)
     } else {
         Some(Task::Session)
     }

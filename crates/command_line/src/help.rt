@@ -12,6 +12,10 @@ pub(crate) const RUN: &str = "Prints the report of a program at a step";
 pub(crate) const SESSION: &str =
     "Answers lines of standard input that edit a run or ask for its report";
 
+/// What `look` does.
+pub(crate) const LOOK: &str =
+    "Answers the lines of a session, and others that show registers, memory and who uses it";
+
 /// What `sweep` does.
 pub(crate) const SWEEP: &str =
     "Makes each edit of an input or of code alone, and writes a table of what each comes to";
@@ -90,6 +94,29 @@ the count of lines:
 Example, what another first byte of the input would have changed:
   printf 'goto 5000\\nreport\\ninput 0 8\\nreport\\n' |
     replaycheck session program.elf --input bytes
+"
+);
+
+/// What ends the help of `look`: the lines that it has beside those of a session.
+pub(crate) const AFTER_LOOK: &str = with_refusals!(
+    "\
+The lines of a session, which `replaycheck session --help` lists, and these, which change nothing
+and don't count. Each is answered for the chosen step of the run with all edits:
+  look registers                the state as in a report, and of x1 to x31 value and undefined bits
+  look memory ADDR LEN          LEN bytes, up to 4096, and in a second line their undefined bits;
+                                __ below a byte that may not be accessed
+  look next KIND ADDR LEN END   the first step, from the chosen one on and below END, that does it
+  look last KIND ADDR LEN FROM  the last step, before the chosen one and not before FROM, that does
+
+KIND is what a step does with the LEN bytes at ADDR: `run` where its pc is among them and the
+program runs, `read` where it reads some of them beside its own word, `write` where it writes some.
+The answer is `step N`, or `none`. Refused are, beside want of memory (1):
+  2   no look, or a field that is missing, too many, empty or of the wrong form
+  5   END or FROM above 4194304
+  6   a range of 0 bytes, one that ends above 2^32, or more than 4096 bytes of memory
+
+Example, the last write of a word before the first 5000 steps are over:
+  printf 'goto 5000\\nlook last write 0x20010 4 0\\n' | replaycheck look program.elf
 "
 );
 

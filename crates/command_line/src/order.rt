@@ -20,6 +20,8 @@ pub enum Task<'a> {
     Report(u32),
     /// A session.
     Session,
+    /// A session whose run can be looked at.
+    Look,
     /// Every edit alone.
     Sweep(SweepWords<'a>),
 }

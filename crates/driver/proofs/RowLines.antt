@@ -5,7 +5,8 @@ use Rattle.std.specs.Str.Parse.{AllDigits}
 use Rattle.std.proofs.lemmas.Bool.Decides.{nat_tests}
 use Rattle.replay_report.specs.Text.{address_text}
 use Rattle.replay_session.specs.Commands.{command_of, fields, has_empty, input_of, input_with, number, parsed, patch_of, patch_with, replace_of, taken}
-use Rattle.replay_session.specs.Turns.{Turn, accepted, after, if_command, longest_line, most_lines}
+use Rattle.replay_session.specs.Turns.{Turn, accepted, after, if_command, most_lines}
+use Rattle.line_server.specs.Lines.{longest_line}
 use Rattle.sweeps.specs.Tables.{change_text}
 use Rattle.sweeps.specs.declared.change.Change.TheVariants.{Byte, Word}
 use Rattle.driver.specs.Laws.{RowsAreLines}

@@ -1,5 +1,5 @@
 -- The stages of a command on a program.
-use Rattle.std.proofs.Common.{◌≡◌, ◌⊎◌, ℕ, List, Option, Some, None, Result, Ok, Err, IfErr, IsErrAnd, inr, sym, subst}
+use Rattle.std.proofs.Common.{◌≡◌, ◌⊎◌, ℕ, List, [], Option, Some, Result, Ok, Err, IfErr, IsErrAnd, inr, sym, subst}
 use Rattle.std.proofs.KnownBytes.{Appends-nil, Consumes-nil}
 use Rattle.std.specs.Io.KnownBytes.{Appends, Consumes}
 use Rattle.command_line.specs.Orders.{input_path, rules_path}
@@ -8,17 +8,17 @@ use Rattle.guest_elf.specs.File.{IsImageOf, early_refusal, refusal}
 use Rattle.guest_elf.specs.declared.fault.ElfFault.{ElfFault}
 use Rattle.guest_elf.specs.declared.fault.ElfFault.TheVariants.{Memory}
 use Rattle.guest_elf.specs.declared.image.Image.{Image as ProgramImage}
-use Rattle.replay_session.specs.Lines.{closed_lines}
-use Rattle.replay_session.specs.Replies.{Answers, joined}
-use Rattle.replay_session.specs.Served.{StoppedBy}
-use Rattle.replay_session.specs.Stages.{Stage, fresh}
-use Rattle.replay_session.specs.Turns.{opening}
-use Rattle.replay_session.specs.declared.serving.ServeFault.{ServeFault}
-use Rattle.replay_session.specs.declared.serving.ServeFault.TheVariants.{ReadFailed, WriteFailed, Endless, NoMemory as ServedNoMemory}
+use Rattle.line_server.specs.Lines.{closed_lines}
+use Rattle.line_server.specs.Answers.{Relation, joined}
+use Rattle.line_server.specs.Served.{StoppedBy}
+use Rattle.line_server.specs.declared.fault.ServeFault.{ServeFault}
+use Rattle.line_server.specs.declared.fault.ServeFault.TheVariants.{ReadFailed, WriteFailed, Endless, NoMemory as ServedNoMemory}
 use Rattle.driver.specs.Carried.{Carried, CarriedWithImage, Does, Giving, HasInput, HasRules, IsFront, NoImage, Reports, Serves, Streams, Untouched}
 use Rattle.driver.specs.Carried.{most_judged, streams}
 use Rattle.driver.specs.Ends.{end_of, end_of_serve}
 use Rattle.driver.specs.Once.{IsReportOnce}
+use Rattle.driver.specs.declared.carrying.Action.{Action}
+use Rattle.driver.specs.declared.carrying.Action.TheVariants.{Report}
 use Rattle.driver.specs.declared.ends.End.{End}
 use Rattle.driver.specs.declared.ends.End.TheVariants.{Image}
 use Rattle.suppressions.specs.Rules.{Rule}
@@ -44,40 +44,41 @@ no-image gives path front bytes fault read same refused least = (
 )
 
 -- where the file gives a program, what becomes of it is what becomes of the command
-pub with-image : (gives : Giving) (order : Order) (step : Option ℕ) (front bytes : List ℕ) (image : ProgramImage) (old new : Streams) (end : End)
-    → IsFront gives order.file.now most_judged front → bytes ≡ front → IsImageOf bytes image → CarriedWithImage gives order step image old new end → Carried gives order step old new end
-with-image gives order step front bytes image old new end read same is carried =
+pub with-image : (gives : Giving) (order : Order) (action : Action) (front bytes : List ℕ) (image : ProgramImage) (old new : Streams) (end : End)
+    → IsFront gives order.file.now most_judged front → bytes ≡ front → IsImageOf bytes image → CarriedWithImage gives order action image old new end → Carried gives order action old new end
+with-image gives order action front bytes image old new end read same is carried =
     inr (image, (front, read, subst (λ (xs : List ℕ). IsImageOf xs image) same is), carried)
 
 -- where all files give what is wanted, what is asked for is done
-pub with-all : (gives : Giving) (order : Order) (step : Option ℕ) (front bytes : List ℕ) (image : ProgramImage) (list : List Rule) (input : List ℕ) (old new : Streams) (end : End)
+pub with-all : (gives : Giving) (order : Order) (action : Action) (front bytes : List ℕ) (image : ProgramImage) (list : List Rule) (input : List ℕ) (old new : Streams) (end : End)
     → IsFront gives order.file.now most_judged front → bytes ≡ front → IsImageOf bytes image
-    → HasRules gives (rules_path order) list → HasInput gives (input_path order) input → Does step image list input old new end → Carried gives order step old new end
-with-all gives order step front bytes image list input old new end read same is rules given does =
-    with-image gives order step front bytes image old new end read same is (inr (list, rules, inr (input, given, does)))
+    → HasRules gives (rules_path order) list → HasInput gives (input_path order) input → Does action image list input old new end → Carried gives order action old new end
+with-all gives order action front bytes image list input old new end read same is rules given does =
+    with-image gives order action front bytes image old new end read same is (inr (list, rules, inr (input, given, does)))
 
-pub does-report : (chosen : Option ℕ) (step : ℕ) (image : ProgramImage) (list : List Rule) (input : List ℕ) (left held-old held-new : Option (List ℕ)) (end : End) → chosen ≡ Some step
-    → Reports (IsReportOnce image input list step) held-old held-new end → Does chosen image list input (streams left held-old) (streams left held-new) end
-does-report chosen step image list input left held-old held-new end is reports =
-    subst (λ (option : Option ℕ). Does option image list input (streams left held-old) (streams left held-new) end) (sym is) (Consumes-nil left, reports)
+pub does-report : (action : Action) (step : ℕ) (image : ProgramImage) (list : List Rule) (input : List ℕ) (left held-old held-new : Option (List ℕ)) (end : End) → action ≡ Report step
+    → Reports (IsReportOnce image input list step) held-old held-new end → Does action image list input (streams left held-old) (streams left held-new) end
+does-report action step image list input left held-old held-new end is reports =
+    subst (λ (done : Action). Does done image list input (streams left held-old) (streams left held-new) end) (sym is) (Consumes-nil left, reports)
 
-pub does-session : (chosen : Option ℕ) (image : ProgramImage) (list : List Rule) (input : List ℕ) (old new : Streams) (end : End) → chosen ≡ None
-    → Serves (fresh (opening image input list)) old new end → Does chosen image list input old new end
-does-session chosen image list input old new end is serves = subst (λ (option : Option ℕ). Does option image list input old new end) (sym is) serves
+pub does-same : (action other : Action) (image : ProgramImage) (list : List Rule) (input : List ℕ) (old new : Streams) (end : End) → action ≡ other
+    → Does other image list input old new end → Does action image list input old new end
+does-same action other image list input old new end is does = subst (λ (done : Action). Does done image list input old new end) (sym is) does
 
 -- what holds of the error that was passed on
 pub same-error : {T E : Type 0} (result : Result T E) (error : E) (P : E → Type 0) → IsErrAnd result (λ e. e ≡ error) → P error → IfErr result P
 same-error (Ok x) error P is holds = tt
 same-error (Err e) error P is holds = subst P (sym is) holds
 
--- what a fault of a service comes to
-pub serves-fault : (stage : Stage) (fault : ServeFault) (left-old left-new held-old held-new : Option (List ℕ)) → StoppedBy fault stage left-old left-new held-old held-new
-    → Serves stage (streams left-old held-old) (streams left-new held-new) (end_of_serve fault)
-serves-fault stage (ReadFailed replies bytes) left-old left-new held-old held-new stopped = (replies, bytes, stopped)
-serves-fault stage (Endless replies bytes) left-old left-new held-old held-new stopped = (replies, bytes, stopped)
-serves-fault stage (WriteFailed replies bytes) left-old left-new held-old held-new stopped = (replies, bytes, stopped)
-serves-fault stage (ServedNoMemory replies bytes) left-old left-new held-old held-new (seen, used, (none, whole)) =
-    let no-replies = subst (λ (xs : List ℕ). Answers stage (closed_lines xs) whole.replies) none whole.answers in (
+-- what a fault of a service comes to, where no lines have no replies
+pub serves-fault : (AreReplies : Relation) (none-of : (replies : List (List ℕ)) → AreReplies [] replies → replies ≡ []) (fault : ServeFault)
+    (left-old left-new held-old held-new : Option (List ℕ)) → StoppedBy fault AreReplies left-old left-new held-old held-new
+    → Serves AreReplies (streams left-old held-old) (streams left-new held-new) (end_of_serve fault)
+serves-fault AreReplies none-of (ReadFailed replies bytes) left-old left-new held-old held-new stopped = (replies, bytes, stopped)
+serves-fault AreReplies none-of (Endless replies bytes) left-old left-new held-old held-new stopped = (replies, bytes, stopped)
+serves-fault AreReplies none-of (WriteFailed replies bytes) left-old left-new held-old held-new stopped = (replies, bytes, stopped)
+serves-fault AreReplies none-of (ServedNoMemory replies bytes) left-old left-new held-old held-new (seen, used, (none, whole)) =
+    let no-replies = none-of whole.replies (subst (λ (xs : List ℕ). AreReplies (closed_lines xs) whole.replies) none whole.answers) in (
       subst (Consumes left-old left-new) none used,
       subst (λ (rs : List (List ℕ)). Appends held-old held-new (joined rs)) no-replies whole.appended,
     )

@@ -1,5 +1,5 @@
--- What becomes of a command on a program: its files are read in order, each judged before the next, and then a report is printed or a
--- session served.
+-- What becomes of a command on a program: its files are read in order, each judged before the next, and then a report is printed or lines
+-- are answered.
 use Rattle.std.specs.Prelude.{ℕ, ◌≡◌, ◌+◌, ◌<◌, ◌≤◌, ◌⊎◌, List, [], Option, Some, None, length, take}
 use Rattle.std.specs.Io.KnownBytes.{Appends, Consumes}
 use Rattle.command_line.specs.Orders.{input_path, rules_path}
@@ -8,12 +8,17 @@ use Rattle.guest_elf.specs.File.{IsImageOf, refusal, early_refusal}
 use Rattle.guest_elf.specs.declared.fault.ElfFault.{ElfFault}
 use Rattle.guest_elf.specs.declared.fault.ElfFault.TheVariants as Elf
 use Rattle.guest_elf.specs.declared.image.Image.{Image as ProgramImage}
-use Rattle.replay_session.specs.Served.{ServedAll, ServedRead, StoppedBy}
+use Rattle.line_server.specs.Answers.{Relation}
+use Rattle.line_server.specs.Served.{ServedAll, ServedRead, StoppedBy}
 use Rattle.scenario.specs.Limits.{longest_input}
-use Rattle.replay_session.specs.Stages.{Stage, fresh}
+use Rattle.replay_session.specs.Replies.{Answers}
+use Rattle.replay_session.specs.Stages.{fresh}
 use Rattle.replay_session.specs.Turns.{opening}
-use Rattle.replay_session.specs.declared.serving.ServeFault.TheVariants.{ReadFailed, WriteFailed}
+use Rattle.line_server.specs.declared.fault.ServeFault.TheVariants.{ReadFailed, WriteFailed}
+use Rattle.looks.specs.Views.{ViewsLines}
 use Rattle.driver.specs.Once.{IsReportOnce, WritesReport, StopsBy}
+use Rattle.driver.specs.declared.carrying.Action.{Action}
+use Rattle.driver.specs.declared.carrying.Action.TheVariants.{Report, Session, Look}
 use Rattle.driver.specs.declared.ends.End.{End}
 use Rattle.driver.specs.declared.ends.End.TheVariants.{Done, CannotRead, CannotReadInput, CannotWrite, Image, Suppressions, SuppressionsTooLong, InputTooLarge, NoMemory}
 use Rattle.driver.specs.declared.reporting.RunFault.TheVariants.{WriteFailed as ReportCut}
@@ -95,34 +100,37 @@ Reports is_report old new CannotWrite = (sent : ℕ) × StopsBy (ReportCut sent)
 Reports is_report old new NoMemory = Appends old new []
 Reports is_report old new end = ⊥
 
--- a session was served to its end; or up to where a read failed or found no end, or a write failed; or not at all, for want of memory
-abbrev pub Serves : Stage → Streams → Streams → End → Type 0
-Serves stage old new Done = ServedAll stage old.left old.held new.held × ServedRead stage old.left new.left old.held new.held
-Serves stage old new CannotReadInput = (replies : ℕ) × (bytes : ℕ) × StoppedBy (ReadFailed replies bytes) stage old.left new.left old.held new.held
-Serves stage old new CannotWrite = (replies : ℕ) × (bytes : ℕ) × StoppedBy (WriteFailed replies bytes) stage old.left new.left old.held new.held
-Serves stage old new NoMemory = Untouched old new
-Serves stage old new end = ⊥
+-- lines were answered to their end; or up to where a read failed or found no end, or a write failed; or not at all, for want of memory
+abbrev pub Serves : Relation → Streams → Streams → End → Type 0
+Serves AreReplies old new Done = ServedAll AreReplies old.left old.held new.held × ServedRead AreReplies old.left new.left old.held new.held
+Serves AreReplies old new CannotReadInput =
+    (replies : ℕ) × (bytes : ℕ) × StoppedBy (ReadFailed replies bytes) AreReplies old.left new.left old.held new.held
+Serves AreReplies old new CannotWrite =
+    (replies : ℕ) × (bytes : ℕ) × StoppedBy (WriteFailed replies bytes) AreReplies old.left new.left old.held new.held
+Serves AreReplies old new NoMemory = Untouched old new
+Serves AreReplies old new end = ⊥
 
--- what is asked for was done with a program, its suppressions and its input: the report of a step, or a session
-abbrev pub Does : Option ℕ → ProgramImage → List Rule → List ℕ → Streams → Streams → End → Type 0
-Does (Some step) image list input old new end = Consumes old.left new.left [] × Reports (IsReportOnce image input list step) old.held new.held end
-Does None image list input old new end = Serves (fresh (opening image input list)) old new end
+-- what is asked for was done with a program, its suppressions and its input: the report of a step, a session, or one that can be looked at
+abbrev pub Does : Action → ProgramImage → List Rule → List ℕ → Streams → Streams → End → Type 0
+Does (Report step) image list input old new end = Consumes old.left new.left [] × Reports (IsReportOnce image input list step) old.held new.held end
+Does Session image list input old new end = Serves (Answers (fresh (opening image input list))) old new end
+Does Look image list input old new end = Serves (ViewsLines (fresh (opening image input list))) old new end
 
 -- with the program and its suppressions: the input is read, and what is asked for done, or the input ends the program
-abbrev pub CarriedWithRules : Giving → Order → Option ℕ → ProgramImage → List Rule → Streams → Streams → End → Type 0
-CarriedWithRules gives order step image list old new end =
+abbrev pub CarriedWithRules : Giving → Order → Action → ProgramImage → List Rule → Streams → Streams → End → Type 0
+CarriedWithRules gives order action image list old new end =
     (NoInput gives (input_path order) end × Untouched old new)
-    ⊎ ((input : List ℕ) × HasInput gives (input_path order) input × Does step image list input old new end)
+    ⊎ ((input : List ℕ) × HasInput gives (input_path order) input × Does action image list input old new end)
 
 -- with the program: the suppressions are read, and then the input, or the suppressions end the program
-abbrev pub CarriedWithImage : Giving → Order → Option ℕ → ProgramImage → Streams → Streams → End → Type 0
-CarriedWithImage gives order step image old new end =
+abbrev pub CarriedWithImage : Giving → Order → Action → ProgramImage → Streams → Streams → End → Type 0
+CarriedWithImage gives order action image old new end =
     (NoRules gives (rules_path order) end × Untouched old new)
-    ⊎ ((list : List Rule) × HasRules gives (rules_path order) list × CarriedWithRules gives order step image list old new end)
+    ⊎ ((list : List Rule) × HasRules gives (rules_path order) list × CarriedWithRules gives order action image list old new end)
 
--- an order for the report of a step, or a session, was carried out: the program is read, and then its suppressions and its input, or the
+-- an order for the report of a step, or for a session, was carried out: the program is read, and then its suppressions and its input, or the
 -- program's file ends the program
-abbrev pub Carried : Giving → Order → Option ℕ → Streams → Streams → End → Type 0
-Carried gives order step old new end =
+abbrev pub Carried : Giving → Order → Action → Streams → Streams → End → Type 0
+Carried gives order action old new end =
     (NoImage gives order.file.now end × Untouched old new)
-    ⊎ ((image : ProgramImage) × HasImage gives order.file.now image × CarriedWithImage gives order step image old new end)
+    ⊎ ((image : ProgramImage) × HasImage gives order.file.now image × CarriedWithImage gives order action image old new end)

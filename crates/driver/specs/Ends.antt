@@ -11,8 +11,8 @@ use Rattle.driver.specs.declared.ends.SweepOption.{SweepOption}
 use Rattle.driver.specs.declared.ends.SweepOption.TheVariants as Sweep
 use Rattle.replay_session.specs.declared.fault.BeginFault.{BeginFault}
 use Rattle.replay_session.specs.declared.fault.BeginFault.TheVariants as Begin
-use Rattle.replay_session.specs.declared.serving.ServeFault.{ServeFault}
-use Rattle.replay_session.specs.declared.serving.ServeFault.TheVariants as Serve
+use Rattle.line_server.specs.declared.fault.ServeFault.{ServeFault}
+use Rattle.line_server.specs.declared.fault.ServeFault.TheVariants as Serve
 use Rattle.driver.specs.declared.reporting.RunFault.{RunFault}
 use Rattle.driver.specs.declared.reporting.RunFault.TheVariants as Run
 use Rattle.suppressions.specs.declared.fault.SuppFault.TheVariants as Supp

@@ -6,7 +6,7 @@ use Rattle.command_line.specs.Orders.{input_path, rules_path}
 use Rattle.command_line.specs.declared.order.Order.{Order}
 use Rattle.command_line.specs.declared.order.SweepWords.{SweepWords}
 use Rattle.command_line.specs.declared.order.Task.{Task}
-use Rattle.command_line.specs.declared.order.Task.TheVariants.{Report, Session, Sweep}
+use Rattle.command_line.specs.declared.order.Task.TheVariants.{Report, Session, Look, Sweep}
 use Rattle.guest_elf.specs.File.{IsImageOf}
 use Rattle.guest_elf.specs.declared.image.Image.{Image as ProgramImage}
 use Rattle.scenario.specs.Limits.{longest_input, most_steps}
@@ -15,6 +15,7 @@ use Rattle.suppressions.specs.Rules.{Rule}
 use Rattle.suppressions.specs.Texts.{faults, rules, IsLeast}
 use Rattle.suppressions.specs.declared.fault.SuppFault.TheVariants as Supp
 use Rattle.sweeps.specs.declared.plan.Plan.{Plan}
+use Rattle.driver.specs.declared.carrying.Action.TheVariants as Action
 use Rattle.driver.specs.Carried.{Carried, Giving, HasInput, IsFront, NoBytes, NoImage, NoInput, Streams, longest_text, most_judged}
 use Rattle.driver.specs.Planned.{IsNoRequest, IsPlanOf, IsRequestOf, bytes_meant, part_from, part_to, words_by}
 use Rattle.driver.specs.Swept.{Case, Writes, head_text}
@@ -117,6 +118,7 @@ CarriedSweep gives order words old held end =
 
 -- an order was carried out
 abbrev pub CarriedOut : Giving → Order → Task → Streams → Streams → End → Type 0
-CarriedOut gives order (Report step) old new end = Carried gives order (Some step) old new end
-CarriedOut gives order Session old new end = Carried gives order None old new end
+CarriedOut gives order (Report step) old new end = Carried gives order (Action.Report step) old new end
+CarriedOut gives order Session old new end = Carried gives order Action.Session old new end
+CarriedOut gives order Look old new end = Carried gives order Action.Look old new end
 CarriedOut gives order (Sweep words) old new end = CarriedSweep gives order words old new.held end

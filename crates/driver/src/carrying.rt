@@ -1,7 +1,9 @@
 //! A command on a program is carried out: its files are read, and a report printed or a session served.
 ghost use Rattle.std.specs.Prelude.{◌≡◌, ◌≤◌, ◌<◌, ◌^◌, Some, IfOk, IfErr, length, option_map};
+ghost use Rattle.replay_session.specs.Replies.{Answers};
 ghost use Rattle.replay_session.specs.Stages.{fresh};
 ghost use Rattle.replay_session.specs.Turns.{opening};
+ghost use Rattle.looks.specs.Views.{ViewsLines};
 ghost use Rattle.driver.specs.Carried.{Carried, HasInput, HasRules, IsFront, NoBytes, NoInput, NoRules, Reports, Serves, streams};
 ghost use Rattle.driver.specs.Sweeping.{CarriedOut, CarriedSweep, HasStream, HasSweepInput, HasText, is_stream, NoStream, NoSweepInput, NoText};
 ghost use Rattle.driver.specs.Ends.{end_of};
@@ -177,32 +179,61 @@ fn serve_session<'a, R: Read, W: Write>(
     writer: &mut W,
 ) -> Result<(), End<'a>>
     requires { length input.items ≤ longest_input }
-    ensures { Serves (fresh (opening image.entry input.items suppressions.items))
+    ensures { Serves (Answers (fresh (opening image.entry input.items suppressions.items)))
         (streams (R.remaining reader.old) (W.contents writer.old)) (streams (R.remaining reader.new) (W.contents writer.new)) (end_of result) }
 {
     let session = Session::begin(alloc, image, input, suppressions)?;
     Ok(serve(session, reader, writer)?)
 }
 
+/// Serves a session with a program that can also be looked at.
+fn serve_looks<'a, R: Read, W: Write>(
+    alloc: Global,
+    image: Image<'_>,
+    input: Vec<u8>,
+    suppressions: Vec<Suppression>,
+    reader: &mut R,
+    writer: &mut W,
+) -> Result<(), End<'a>>
+    requires { length input.items ≤ longest_input }
+    ensures { Serves (ViewsLines (fresh (opening image.entry input.items suppressions.items)))
+        (streams (R.remaining reader.old) (W.contents writer.old)) (streams (R.remaining reader.new) (W.contents writer.new)) (end_of result) }
+{
+    let session = Session::begin(alloc, image, input, suppressions)?;
+    Ok(looks::serve(session, reader, writer)?)
+}
+
+/// What is done with a program whose files were read.
+#[derive(Clone, Copy)]
+pub(crate) enum Action {
+    /// The report of a step is printed.
+    Report(u32),
+    /// A session is served.
+    Session,
+    /// A session is served that can also be looked at.
+    Look,
+}
+
 /// Follows an order for the report of a step, or for a session: the program is read, then the suppressions, then the input, each judged before the next is read.
 fn follow_order<'a, F: Files, R: Read, W: Write>(
     alloc: Global,
     order: &Order<'a>,
-    step: Option<u32>,
+    action: Action,
     files: &F,
     reader: &mut R,
     writer: &mut W,
 ) -> Result<(), End<'a>>
-    ensures { Carried (F.gives files.now) order.now step
+    ensures { Carried (F.gives files.now) order.now action
         (streams (R.remaining reader.old) (W.contents writer.old)) (streams (R.remaining reader.new) (W.contents writer.new)) (end_of result) }
 {
     let file = read_front(alloc, files, order.file, MOST_READ)?;
     let image = read(alloc, &file)?;
     let suppressions = read_suppressions(alloc, files, order.suppressions)?;
     let input = read_input(alloc, files, order.input)?;
-    match step {
-        Some(step) => print_report(alloc, &image, input, &suppressions, step, writer),
-        None => serve_session(alloc, image, input, suppressions, reader, writer),
+    match action {
+        Action::Report(step) => print_report(alloc, &image, input, &suppressions, step, writer),
+        Action::Session => serve_session(alloc, image, input, suppressions, reader, writer),
+        Action::Look => serve_looks(alloc, image, input, suppressions, reader, writer),
     }
 }
 
@@ -261,8 +292,11 @@ pub fn carry_out<'a, F: Files, R: Read, W: Write>(
         (streams (R.remaining reader.old) (W.contents writer.old)) (streams (R.remaining reader.new) (W.contents writer.new)) result }
 {
     match order.task {
-        Task::Report(step) => ended(follow_order(alloc, order, Some(step), files, reader, writer)),
-        Task::Session => ended(follow_order(alloc, order, None, files, reader, writer)),
+        Task::Report(step) => {
+            ended(follow_order(alloc, order, Action::Report(step), files, reader, writer))
+        }
+        Task::Session => ended(follow_order(alloc, order, Action::Session, files, reader, writer)),
+        Task::Look => ended(follow_order(alloc, order, Action::Look, files, reader, writer)),
         Task::Sweep(words) => ended(follow_sweep(alloc, order, &words, files, reader, writer)),
     }
 }

@@ -1,5 +1,7 @@
 -- From what is done to a guest, to the states that it holds.
-use Rattle.std.proofs.Common.{◌≡◌, ℕ, ap, sym, refl, ◌∙◌, ◌+◌, List, [], ◌∷◌, ◌++◌, length, length-append, slice_index_or}
+use Rattle.std.proofs.Common.{◌≡◌, ℕ, suc, ◌<◌, ◌≤◌, Bool, true, false, nat_lt, arith, ap, sym, refl, ◌∙◌, ◌+◌, List, []}
+use Rattle.std.proofs.Common.{◌∷◌, ◌++◌, length, length-append, slice_index_or}
+use Rattle.std.proofs.lemmas.Bool.Decides.{nat_tests}
 use Rattle.std.proofs.lemmas.List.FromFn.{length-map-range_with_len}
 use Rattle.guest_machine.specs.State.{State}
 use Rattle.guest_machine.specs.Registers.{known}
@@ -8,24 +10,48 @@ use Rattle.shadow_memory.specs.Shadows.{made_so}
 use Rattle.shadow_memory.specs.Ranges.{written, byte_of}
 use Rattle.shadow_memory.specs.Memories.{bytes_in, shadows_in}
 use Rattle.guest_heap.specs.Heaps.{blocks_of}
-use Rattle.guest_machine.specs.Exec.{exec, uses_at, effect_at, touches, touched_at, has_touched, written_to, counted, is_heap_deed, deed_at, seen_also, intake_at}
+use Rattle.guest_machine.specs.Exec.{exec, uses_at, effect_at, touched_at, touched_of, written_to, counted, is_heap_deed, deed_at}
+use Rattle.guest_machine.specs.Exec.{seen_also, intake_at}
 use Rattle.guest_machine.specs.Run.{marked, poked}
 use Rattle.error_events.specs.Adding.{add_event, add_events, GroupsGrowBy}
 use Rattle.error_events.specs.declared.event.Event.{Event}
 use Rattle.error_events.specs.declared.event.Group.{Group}
 use Rattle.guest_machine.specs.Shows.{core_of, bytes_of, Holds}
-use Rattle.guest_machine.specs.Doing.{touched_by, DoesStep}
+use Rattle.guest_machine.specs.Doing.{noted_of, note_events, touched_by, DoesStep}
 use Rattle.shadow_memory.specs.declared.memory.Memory.{Memory}
 use Rattle.guest_machine.specs.declared.machine.Guest.{Guest}
 use Rattle.guest_machine.specs.declared.setup.Setup.{Setup}
 use Rattle.guest_machine.specs.declared.setup.Mark.{Mark}
 use Rattle.guest_machine.specs.declared.setup.Touched.{Touched}
 
--- errors added one list after the other
-pub add_events_append : (gs : List Group) (ds es : List Event) → add_events gs (ds ++ es) ≡ add_events (add_events gs ds) es
-unfolding add_events
-add_events_append gs [] es = refl
-add_events_append gs (d ∷ ds) es = add_events_append (add_event gs d) ds es
+is-less : (m n : ℕ) → m < n → nat_lt m n ≡ true
+is-less m n h = grind (arith, nat_tests)
+
+is-not-less : (m n : ℕ) → n ≤ m → nat_lt m n ≡ false
+is-not-less m n h = grind (arith, nat_tests)
+
+-- errors noted one list after the other
+pub note_events_append : (noted : List Group × Bool) (ds es : List Event)
+    → note_events noted (ds ++ es) ≡ note_events (note_events noted ds) es
+unfolding note_events
+note_events_append noted [] es = refl
+note_events_append noted (d ∷ ds) es = note_events_append (add_event noted.0 d, true) ds es
+
+-- their groups, and whether there is one
+noted-groups : (noted : List Group × Bool) (es : List Event) → (note_events noted es).0 ≡ add_events noted.0 es
+unfolding note_events add_events
+noted-groups noted [] = refl
+noted-groups noted (e ∷ es) = noted-groups (add_event noted.0 e, true) es
+
+stays-raised : (gs : List Group) (es : List Event) → (note_events (gs, true) es).1 ≡ true
+unfolding note_events
+stays-raised gs [] = refl
+stays-raised gs (e ∷ es) = stays-raised (add_event gs e) es
+
+noted-raised : (gs : List Group) (es : List Event) (n : ℕ) → (note_events (gs, false) es).1 ≡ nat_lt n (n + length es)
+unfolding note_events
+noted-raised gs [] n = sym (is-not-less n (n + 0) (omega arith))
+noted-raised gs (e ∷ es) n = stays-raised (add_event gs e) es ∙ sym (is-less n (n + suc (length es)) (omega arith))
 
 -- the bytes that are written out are as many as are taken
 pub length_taken : (taken : ℕ → ℕ) (n : ℕ) → length (bytes_taken taken n) ≡ n
@@ -60,15 +86,30 @@ holds_exec grow old new setup d s h =
       output = d.output ∙ (λ i. h.output i + length (effects i).output) ∙ sym (length-append s.output (effect_at s.core s.bytes s.position (length s.output) setup).output);
       heap_calls = d.heap_calls ∙ (λ i. counted (h.heap_calls i) (is_heap_deed (h.core i) (deed_at (h.core i) (h.bytes i) setup.hooks)));
       groups =
-          d.groups
+          ap (λ (noted : List Group × Bool). noted.0) d.noted
+          ∙ noted-groups (noted_of old.noted) effect.raised
           ∙ (λ i. add_events (h.groups i) (effects i).raised)
           ∙ sym (grow s.events (effect_at s.core s.bytes s.position (length s.output) setup).raised);
     }
 
--- and what it touched is what the state's step touches
-pub touched_exec : (old : Guest) (setup : Setup) (t : Touched) → t ≡ touched_by old setup → (s : State) → Holds old s → has_touched t ≡ touches s setup
-unfolding touches
-touched_exec old setup t e s h = ap has_touched e ∙ (λ i. has_touched (touched_at (h.core i) (h.bytes i) (h.position i) (h.output i) setup))
+-- it raised an error if it notes one and none was noted before
+pub raised_exec : (old new : Guest) (setup : Setup) → DoesStep old new setup → old.noted.raised ≡ false → (s : State) → Holds old s
+    → new.noted.raised ≡ nat_lt (length s.events) (length (exec s setup).events)
+unfolding exec
+raised_exec old new setup d fresh s h =
+    let effect = effect_at (core_of old) (bytes_of old) old.progress.position old.progress.output_len setup in
+    let effects : effect ≡ effect_at s.core s.bytes s.position (length s.output) setup =
+    λ i. effect_at (h.core i) (h.bytes i) (h.position i) (h.output i) setup in
+    ap (λ (noted : List Group × Bool). noted.1) d.noted
+    ∙ ap (λ (b : Bool). (note_events ((noted_of old.noted).0, b) effect.raised).1) fresh
+    ∙ noted-raised (noted_of old.noted).0 effect.raised (length s.events)
+    ∙ (λ i. nat_lt (length s.events) (length s.events + length (effects i).raised))
+    ∙ ap (nat_lt (length s.events)) (sym (length-append s.events (effect_at s.core s.bytes s.position (length s.output) setup).raised))
+
+-- and the ranges that it touched are those that the state's step touches
+pub touched_exec : (old : Guest) (setup : Setup) (t : Touched) → t ≡ touched_by old setup
+    → (s : State) → Holds old s → t ≡ touched_of s setup
+touched_exec old setup t e s h = e ∙ (λ i. touched_at (h.core i) (h.bytes i) (h.position i) (h.output i) setup)
 
 -- a guest with a range made so
 pub holds-marked : (m : Guest) (memory : Memory) (mark : Mark) → bytes_in memory ≡ bytes_in m.memory → shadows_in memory ≡ made_so (shadows_in m.memory) mark.addr mark.len mark.kind

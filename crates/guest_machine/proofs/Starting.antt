@@ -40,7 +40,7 @@ pub holds-start : (alloc : Global) (image : Image) (fresh loaded memory : Memory
       frames = frames;
       heap = heap;
       progress = record { position = 0; end_seen = false; output_len = 0; heap_calls = 0 };
-      groups = groups;
+      noted = record { groups = groups; raised = false };
       zero = zero;
     })
     (start_state image)

@@ -1,5 +1,5 @@
 -- What the machine's private functions do to the parts that it shows.
-use Rattle.std.specs.Prelude.{◌≡◌, ℕ, ◌+◌, true, false, Bool, length, List, Option, None}
+use Rattle.std.specs.Prelude.{◌≡◌, ℕ, ◌+◌, true, false, Bool, length, List, [], ◌∷◌, Option, None}
 use Rattle.guest_machine.specs.State.{Core}
 use Rattle.guest_machine.specs.Effects.{Effect}
 use Rattle.guest_machine.specs.Calls.{read_call, write_call}
@@ -7,20 +7,31 @@ use Rattle.guest_machine.specs.HeapCalls.{Resizing, heap_work, heap_call}
 use Rattle.guest_machine.specs.NamedCalls.{returns, named_call}
 use Rattle.guest_machine.specs.Exec.{Uses, Terms, Intake, no_intake, intake_of, intake_at, seen_also, left_at, row_asks, call_asks, counted, written_to, row_uses, row_effect, rounded, calls_heap, read_uses, write_uses, work_uses, heap_uses, named_uses, moved_from, moved_into, terms_of, given_at, taken_from, is_heap_deed, deed_at, uses_at, effect_at, touched_at}
 use Rattle.guest_machine.specs.Shows.{core_of, bytes_of}
-use Rattle.error_events.specs.Adding.{add_events}
+use Rattle.error_events.specs.Adding.{add_event}
 use Rattle.error_events.specs.Shown.{groups_of}
 use Rattle.error_events.specs.declared.event.Event.{Event}
+use Rattle.error_events.specs.declared.event.Group.{Group}
 use Rattle.guest_elf.specs.declared.hook.Hook.{Hook}
 use Rattle.guest_machine.specs.declared.environment_call.EnvironmentCall.TheVariants.{Read}
 use Rattle.guest_machine.specs.declared.instruction.Instruction.{Instruction}
 use Rattle.guest_machine.specs.declared.machine.Guest.{Guest}
+use Rattle.guest_machine.specs.declared.machine.Noted.{Noted}
 use Rattle.guest_machine.specs.declared.machine.step.Used.{Used}
 use Rattle.guest_machine.specs.declared.setup.Setup.{Setup}
 use Rattle.guest_machine.specs.declared.setup.Touched.{Touched}
 
--- the errors are grouped after the earlier ones
+-- the groups of the errors so far, and whether one was raised in this step
+abbrev pub noted_of : Noted → List Group × Bool
+noted_of noted = (groups_of noted.groups, noted.raised)
+
+-- these errors noted, one after the other
+unfoldable pub note_events : List Group × Bool → List Event → List Group × Bool
+note_events noted [] = noted
+note_events noted (e ∷ es) = note_events (add_event noted.0 e, true) es
+
+-- the errors are noted after the earlier ones
 abbrev pub Raises : Guest → Guest → List Event → Type 0
-Raises old new events = groups_of new.groups ≡ add_events (groups_of old.groups) events
+Raises old new events = noted_of new.noted ≡ note_events (noted_of old.noted) events
 
 -- registers, pc, status and frames are set so, and nothing else is changed
 pub record Sets (old new : Guest) (made : Core) : Type 0 where
@@ -28,7 +39,7 @@ pub record Sets (old new : Guest) (made : Core) : Type 0 where
   pub memory : new.memory ≡ old.memory
   pub progress : new.progress ≡ old.progress
   pub heap : new.heap ≡ old.heap
-  pub groups : new.groups ≡ old.groups
+  pub noted : new.noted ≡ old.noted
 
 -- and these errors are noted
 pub record Notes (old new : Guest) (made : Core) (events : List Event) : Type 0 where
@@ -36,14 +47,14 @@ pub record Notes (old new : Guest) (made : Core) (events : List Event) : Type 0 
   pub memory : new.memory ≡ old.memory
   pub progress : new.progress ≡ old.progress
   pub heap : new.heap ≡ old.heap
-  pub groups : Raises old new events
+  pub noted : Raises old new events
 
 -- memory, registers, frames and blocks are changed to these, and nothing else is
 pub record Changes (old new : Guest) (made : Core) (stored : ℕ → ℕ) : Type 0 where
   pub core : core_of new ≡ made
   pub bytes : bytes_of new ≡ stored
   pub progress : new.progress ≡ old.progress
-  pub groups : new.groups ≡ old.groups
+  pub noted : new.noted ≡ old.noted
 
 -- new is old after this effect, with these uses; a heap call is counted, and so is what is given of the input
 pub record Does (old new : Guest) (effect : Effect) (uses : Uses) (heap : Bool) (intake : Intake) : Type 0 where
@@ -53,7 +64,7 @@ pub record Does (old new : Guest) (effect : Effect) (uses : Uses) (heap : Bool) 
   pub end_seen : new.progress.end_seen ≡ seen_also old.progress.end_seen intake.ends
   pub output : new.progress.output_len ≡ old.progress.output_len + length effect.output
   pub heap_calls : new.progress.heap_calls ≡ counted old.progress.heap_calls heap
-  pub groups : Raises old new effect.raised
+  pub noted : Raises old new effect.raised
 
 -- uses, as the code has them
 abbrev pub used_of : Uses → Used

@@ -368,6 +368,10 @@ touched_at core bytes position written setup =
 abbrev pub has_touched : Touched → ℕ → Bool
 has_touched t a = covers t.fetch a || (covers t.reads a || covers t.writes a)
 
--- does a step take or write the byte at an address?
+-- those of the step of a state
+abbrev pub touched_of : State → Setup → Touched
+touched_of s setup = touched_at s.core s.bytes s.position (length s.output) setup
+
+-- does the step of a state take or write the byte at an address?
 unfoldable pub touches : State → Setup → ℕ → Bool
-touches s setup = has_touched (touched_at s.core s.bytes s.position (length s.output) setup)
+touches s setup = has_touched (touched_of s setup)

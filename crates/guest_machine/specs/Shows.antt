@@ -1,5 +1,5 @@
 -- The state that a machine shows.
-use Rattle.std.specs.Prelude.{◌≡◌, ℕ, length}
+use Rattle.std.specs.Prelude.{◌≡◌, ℕ, Bool, length}
 use Rattle.shadow_memory.specs.Memories.{bytes_in, shadows_in}
 use Rattle.guest_heap.specs.Heaps.{blocks_of}
 use Rattle.guest_machine.specs.State.{Core, State}
@@ -24,8 +24,12 @@ pub record Holds (g : Guest) (s : State) : Type 0 where
   pub end_seen : g.progress.end_seen ≡ s.end_seen
   pub output : g.progress.output_len ≡ length s.output
   pub heap_calls : g.progress.heap_calls ≡ s.heap_calls
-  pub groups : groups_of g.groups ≡ grouped s.events
+  pub groups : groups_of g.noted.groups ≡ grouped s.events
 
 -- the machine shows the state
 unfoldable pub Shows : Machine → State → Type 0
 Shows m s = Holds m.guest.value s
+
+-- what a machine tells: did its last step raise an error?
+unfoldable pub has_raised : Machine → Bool
+has_raised m = m.guest.value.noted.raised

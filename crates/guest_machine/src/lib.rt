@@ -13,7 +13,7 @@
 //! | Call | What it answers |
 //! |---|---|
 //! | [`Machine::start`] | the machine before the first step of an image |
-//! | [`Machine::step`] | the machine after one step, and the addresses whose bytes it took or wrote |
+//! | [`Machine::step`] | the machine after one step, and the ranges whose bytes it took or wrote |
 //! | [`Machine::rest`] | nothing: it makes steps of a halted machine, which stays as it is, on the meter |
 //! | [`Machine::mark`] | the machine with a range made inaccessible, undefined or defined |
 //! | [`Machine::poke_word`] | the machine with the four bytes at an address changed |
@@ -21,6 +21,7 @@
 //! | [`Machine::status`], [`Machine::pc`], [`Machine::register`] | whether it runs, and its registers |
 //! | [`Machine::position`], [`Machine::end_seen`] | how much of the input was read so far, and whether its end was seen |
 //! | [`Machine::output_len`], [`Machine::heap_calls`] | what was written and called so far |
+//! | [`Machine::has_raised`] | whether the last step raised an error |
 //! | [`Machine::memory`], [`Machine::heap`] | the bytes with what is known of them, and the blocks of the heap |
 //! | [`Machine::groups`] | the errors so far, in order of first occurrence |
 //! | [`Hooks::new`], [`Hooks::at`] | the functions of the heap that are called by name, from a list in order of address; the one that begins at an address |
@@ -42,13 +43,14 @@
 //! state that it shows,
 //!
 //! - `shows`: the machine after the step shows `exec` of that state and the setup;
-//! - `touched`: an address is in the spans answered just where the step `touches` it;
+//! - `touched`: the spans answered are those that the step touches (`touched_of`): its word's, what it reads beside that, what it writes;
+//! - `raised`: the machine after the step tells, by `has_raised`, whether the step's errors are more than those before it;
 //! - `meter`: the meter has risen by one, up to the greatest `u64`;
 //! - `unmoved`: where memory failed, the meter stands where it stood.
 //!
 //! The calls between steps have the same form: `start` shows `start_state`, `mark` goes from a state to `marked`, `poke_word`
-//! to `poked`, `share` to the same state, and each observer answers a field of it. So a run of any length is the definition
-//! `pre` or `post`, by as many calls. The laws let a caller replay less after an edit: a step is the same if the edit changed
+//! to `poked`, `share` to the same state, and each observer but `has_raised` answers a field of it. So a run of any length is the
+//! definition `pre` or `post`, by as many calls. The laws let a caller replay less after an edit: a step is the same if the edit changed
 //! only a word that it doesn't touch, input that it hasn't come to, or, where it is no heap call, the heap's options; a word
 //! that it doesn't touch may as well be poked after it; and a step of a halted machine need not be made.
 //!
@@ -57,8 +59,8 @@
 //! In `specs/`, from the outside in:
 //!
 //! - `Run`: the state at the start, marks, pokes, and the states before and after the marks of each step.
-//! - `Exec`: one step (`exec`) and what it touches (`touches`), in three parts: what the step does (`deed_at`: it takes the word at
-//!   pc, calls a function by name, or neither), what it uses, and what it leaves. No other byte and no other part of the setup
+//! - `Exec`: one step (`exec`) and what it touches (`touched_of`, `touches`), in three parts: what the step does (`deed_at`: it takes
+//!   the word at pc, calls a function by name, or neither), what it uses, and what it leaves. No other byte and no other part of the setup
 //!   enters; the laws follow from this form.
 //! - `Effects` and `Calls`: what each class of instruction and each call of the environment leaves; `Alu`: what instructions
 //!   compute; `Instructions`: the class of each row of the instruction table; `Widths`: of accesses.

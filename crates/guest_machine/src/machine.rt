@@ -17,10 +17,10 @@ mod step;
 use crate::status::Status;
 use call_stacks::CallStack;
 use definedness::Bits;
-use error_events::Groups;
+use error_events::{Event, Groups};
 use guest_heap::Heap;
 use shadow_memory::Memory;
-use std::alloc::Global;
+use std::alloc::{AllocError, Global};
 
 /// The bytes of output that there is room for.
 const OUTPUT_ROOM: u64 = 65_536;
@@ -71,13 +71,35 @@ impl Progress {
     }
 }
 
+/// The errors so far, counted by kind and trace, and whether one was raised since the last step began.
+#[derive(Drop)]
+pub(crate) struct Noted {
+    groups: Groups,
+    raised: bool,
+}
+
+impl Noted {
+    ghost use Rattle.std.specs.Prelude.{◌∷◌, [], OnOk};
+    ghost use Rattle.guest_machine.specs.Doing.{noted_of, note_events};
+
+    /// One error more.
+    #[tactic(auto, unfolding(crate::specs::Doing::note_events))]
+    fn add(&mut self, event: Event) -> Result<(), AllocError>
+        ensures { OnOk result (noted_of self.new ≡ note_events (noted_of self.old) (event ∷ [])) }
+    {
+        self.groups.add(event)?;
+        self.raised = true;
+        Ok(())
+    }
+}
+
 /// A guest machine between two steps. What it holds stands on the heap, so that a step moves one pointer.
 #[derive(Drop)]
 pub struct Machine {
     guest: Box<Guest>,
 }
 
-/// What a machine holds: memory, registers, pc, status, calls, heap, progress and the groups of its errors.
+/// What a machine holds: memory, registers, pc, status, calls, heap, progress and its errors.
 #[derive(Drop)]
 pub(crate) struct Guest {
     alloc: Global,
@@ -88,7 +110,7 @@ pub(crate) struct Guest {
     frames: CallStack,
     heap: Heap,
     progress: Progress,
-    groups: Groups,
+    noted: Noted,
     // x0 is 0, so that a read tests nothing.
     ghost zero: { slice_index_or registers 0 (known 0) ≡ known 0 },
 }

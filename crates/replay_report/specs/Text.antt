@@ -11,6 +11,10 @@ hex_digit n k = digit_glyph false (n / 16 ^ k % 16)
 unfoldable pub address_text : ℕ → List ℕ
 address_text a = codes "0x" ++ map (hex_digit a) (7 ∷ 6 ∷ 5 ∷ 4 ∷ 3 ∷ 2 ∷ 1 ∷ 0 ∷ [])
 
+-- a byte: two hexadecimal digits
+unfoldable pub byte_text : ℕ → List ℕ
+byte_text b = map (hex_digit b) (1 ∷ 0 ∷ [])
+
 -- a byte of a name: `?` for one that is no printable ASCII character, or is a space
 abbrev pub shown_byte : ℕ → ℕ
 shown_byte b = if nat_le 0x21 b && nat_le b 0x7E then b else 0x3F

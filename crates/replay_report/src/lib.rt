@@ -7,7 +7,8 @@
 //! |---|---|
 //! | [`render`] | appends a report to a vector of bytes, or refuses for want of memory |
 //! | [`outline`] | makes an outline, or refuses for want of memory |
-//! | [`push_number`], [`push_address`] | append a number, decimal, and an address |
+//! | [`push_text`], [`push_number`], [`push_address`], [`push_byte`] | append bytes, a number, decimal, an address, and a byte, hexadecimal |
+//! | [`push_state`] | appends the line of a report that tells whether the machine runs |
 //! | [`laws::report_is_one`], [`laws::outline_is_one`] | nothing: their contracts say that a state has one report and one outline |
 //! | [`Options::default`] | what a user has who chooses nothing: 12 addresses of a trace, definite and possible leaks |
 //!
@@ -59,7 +60,7 @@
 //! - `Leaks`: the same of leaked blocks, with their groups and sums.
 //! - `Lines` and `LeakLines`: each line, from `step_line` to `summary_line`.
 //! - `Laws`: a state has one report and one outline.
-//! - `Text`: an address, a byte of a name, and the end of a line. Decimal numbers are std's `decimal`.
+//! - `Text`: an address, a byte, a byte of a name, and the end of a line. Decimal numbers are std's `decimal`.
 //!
 //! Source: Memcheck manual (Valgrind 3), sections 2.5 and 4.2: how errors, traces, notes and the summary are worded.
 #![tactic(auto)]
@@ -74,7 +75,8 @@ mod outlining;
 mod rendering;
 mod text;
 
+pub use lines::push_state;
 pub use options::Options;
 pub use outlining::outline;
 pub use rendering::render;
-pub use text::{push_address, push_number};
+pub use text::{push_address, push_byte, push_number, push_text};

@@ -66,9 +66,9 @@ fn push_stopped(out: &mut Vec<u8>, stop: Stop, pc: u32) -> Result<(), AllocError
     push_text(out, b"\n")
 }
 
-/// `state running A`, `state exited C` or `state stopped W A`, where A is pc.
+/// Appends the line `state running A`, `state exited C` or `state stopped W A`, where A is pc.
 #[tactic(auto, unfolding(crate::specs::Lines::state_line))]
-pub(crate) fn push_state(out: &mut Vec<u8>, status: Status, pc: u32) -> Result<(), AllocError>
+pub fn push_state(out: &mut Vec<u8>, status: Status, pc: u32) -> Result<(), AllocError>
     ensures { OnOk result (out.new.items ≡ out.old.items ++ state_line status pc) }
 {
     match status {

@@ -1,13 +1,13 @@
 //! The pieces of a report's lines.
 ghost use Rattle.std.specs.Prelude.{◌≡◌, ◌++◌, ◌/◌, ◌%◌, ◌^◌, ◌<◌, ◌≤◌, OnOk, OnErr, false, map};
 ghost use Rattle.std.specs.Fmt.{decimal, digit_glyph};
-ghost use Rattle.replay_report.specs.Text.{address_text, shown_byte, shown_name};
+ghost use Rattle.replay_report.specs.Text.{address_text, byte_text, shown_byte, shown_name};
 
 use itoa::Buffer;
 use std::alloc::AllocError;
 
-/// Bytes put at the end.
-pub(crate) fn push_text(out: &mut Vec<u8>, text: &[u8]) -> Result<(), AllocError>
+/// Appends bytes.
+pub fn push_text(out: &mut Vec<u8>, text: &[u8]) -> Result<(), AllocError>
     ensures { OnOk result (out.new.items ≡ out.old.items ++ text.now) }
 {
     out.extend_from_slice(text)?;
@@ -49,6 +49,15 @@ pub fn push_address(out: &mut Vec<u8>, a: u32) -> Result<(), AllocError>
         hex_glyph(a % 16),
     ];
     push_text(out, &text)
+}
+
+/// Appends a byte: two hexadecimal digits.
+#[tactic(auto, unfolding(crate::specs::Text::byte_text))]
+pub fn push_byte(out: &mut Vec<u8>, b: u8) -> Result<(), AllocError>
+    ensures { OnOk result (out.new.items ≡ out.old.items ++ byte_text b) }
+{
+    let b = u32::from(b);
+    push_text(out, &[hex_glyph((b >> 4) % 16), hex_glyph(b % 16)])
 }
 
 /// A byte of a name.

@@ -1,10 +1,7 @@
 pub mod NumberSteps
 pub mod SessionSteps
-pub mod Known
-pub mod LineSteps
 pub mod ReplySteps
-pub mod ServeSteps
-pub mod ServedSteps
+pub mod StageSteps
 pub mod WorkSteps
 pub mod LeastSteps
 pub mod LawSteps

@@ -1,5 +1,5 @@
 -- What each part of a line does to what was said to a session.
-use Rattle.std.proofs.Common.{◌≡◌, Bool, true, false, ap, sym, ◌∙◌, Result, Ok, Err}
+use Rattle.std.proofs.Common.{◌≡◌, false, ap, sym, ◌∙◌, Result, Ok, Err}
 use Rattle.std.proofs.Math.Path.{transport}
 use Rattle.std.proofs.lemmas.Bool.{false≢true}
 use Rattle.std.specs.Prelude.{OnOk, is_err, is_some}

@@ -2,10 +2,10 @@ pub mod Commands
 pub mod Faults
 pub mod Turns
 pub mod Session
-pub mod Lines
 pub mod Stages
 pub mod Replies
-pub mod Serving
+pub mod Texts
+pub mod LongLines
 pub mod Served
 pub mod Work
 pub mod LinesWork

@@ -1,6 +1,6 @@
 -- What is written for a line, and for one line after another.
-use Rattle.std.specs.Prelude.{ℕ, ◌≡◌, ◌⊎◌, ◌++◌, List, [], ◌∷◌, Bool, false, Result, Ok, Err, IsOkAnd, MatchBool, codes, decimal, nat_le}
-use Rattle.std.specs.List.{flat_map}
+use Rattle.std.specs.Prelude.{ℕ, ◌≡◌, ◌⊎◌, ◌++◌, List, [], ◌∷◌, Bool, false, Result, Ok, Err, IsOkAnd, codes, decimal, nat_le}
+use Rattle.line_server.specs.Answers.{AnswersBy, Relation}
 use Rattle.replay_session.specs.Faults.{number_of}
 use Rattle.scenario.specs.Scenario.{Scenario, IsReportOf}
 use Rattle.replay_session.specs.Turns.{Turn, accepted, applied, passed, most_lines}
@@ -65,15 +65,8 @@ abbrev pub is_over : Turn → Bool
 is_over turn = nat_le most_lines turn.lines
 
 -- one reply for each line, up to the first that is told that there were too many; the next line meets the stage after it
-abbrev pub Answers : Stage → List (List ℕ) → List (List ℕ) → Type 0
-Answers stage [] replies = replies ≡ []
-Answers stage (line ∷ lines) [] = ⊥
-Answers stage (line ∷ lines) (reply ∷ replies) =
-    (after : Stage) × Replies stage line reply after × MatchBool (is_over stage.turn) (replies ≡ []) (Answers after lines replies)
-
--- replies, one after another
-abbrev pub joined : List (List ℕ) → List ℕ
-joined replies = flat_map (λ reply. reply) replies
+abbrev pub Answers : Stage → Relation
+Answers = AnswersBy Replies (λ stage. is_over stage.turn)
 
 -- what a reply is written as, but for a report
 abbrev pub short_text : Result Reply Fault → List ℕ

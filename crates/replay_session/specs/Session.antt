@@ -1,10 +1,12 @@
 -- How a session keeps what was said to it, and what one line does to it.
 use Rattle.std.specs.Prelude.{◌≡◌, ◌⊎◌, ℕ, List, true, Result, Ok, Err, IsOkAnd}
+use Rattle.checkpoints.specs.Searches.{Hits}
 use Rattle.checkpoints.specs.Trails.{meter_of}
+use Rattle.checkpoints.specs.declared.searches.Sought.{Sought}
 use Rattle.checkpoints.specs.declared.trail.Trail.{Trail}
 use Rattle.replay_report.specs.Report.{AppendsReport}
 use Rattle.scenario.specs.Edits.{row}
-use Rattle.scenario.specs.Scenario.{Scenario, IsReportOf}
+use Rattle.scenario.specs.Scenario.{Scenario, IsReportOf, first_state}
 use Rattle.replay_session.specs.Turns.{Turn, accepted, applied, changed, passed}
 use Rattle.replay_session.specs.declared.session.Session.{Session}
 use Rattle.replay_session.specs.declared.fault.Fault.{Fault}
@@ -29,6 +31,10 @@ trail_of session = session.trail
 -- how many steps were made for its reports
 unfoldable pub work_of : Session → ℕ
 work_of session = meter_of session.trail
+
+-- the steps of a scenario's run that do what is sought
+abbrev pub Finds : Scenario → Sought → ℕ → Type 0
+Finds sc sought = Hits sought (first_state sc) sc.setup sc.marks
 
 -- memory may be wanting at a report, and at an edit whose row says so
 abbrev pub TakesMemory : Scenario → Command → Type 0

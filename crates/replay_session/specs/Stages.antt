@@ -26,3 +26,7 @@ pub record HasStage (session : Session) (stage : Stage) : Type 0 where
 -- what holds of each stage that the session has
 abbrev pub ForEachStage : Session → (Stage → Type 0) → Type 0
 ForEachStage session P = (stage : Stage) → HasStage session stage → P stage
+
+-- which is one alone
+abbrev pub stage_of : Session → Stage
+stage_of session = record { turn = turn_of session; work = work_on (trail_of session); short = is_short (trail_of session) }

@@ -1,6 +1,7 @@
 -- Whose turn it is: the scenario that a line meets, and how many lines were given before it. Which command a line is, and what it leaves.
 use Rattle.std.specs.Prelude.{ℕ, ◌+◌, nat_le, nat_lt, if◌then◌else◌, List, length, Option, Some, None, option_map, Result, Ok, Err}
 use Rattle.guest_elf.specs.declared.image.Image.{Image}
+use Rattle.line_server.specs.Lines.{longest_line}
 use Rattle.suppressions.specs.Rules.{Rule}
 use Rattle.scenario.specs.Edits.{row}
 use Rattle.scenario.specs.Limits.{most_steps}
@@ -20,10 +21,6 @@ pub record Turn : Type 0 where
 -- how many lines are answered
 abbrev pub most_lines : ℕ
 most_lines = 100000
-
--- how many bytes a line may have
-abbrev pub longest_line : ℕ
-longest_line = 4096
 
 -- why a command is refused, if it is: a step above the limit, and an edit as its row says
 abbrev pub command_refusal : Scenario → Command → Option Fault

@@ -9,8 +9,11 @@
 //! |---|---|
 //! | [`Session::begin`] | a session of a program with an input and suppressions, or a [`BeginFault`] |
 //! | [`Session::command`] | answers one line: a [`Reply`], or a [`Fault`] with its number; appends the bytes of a report |
+//! | [`Session::is_over`] | whether all lines were given that are answered |
+//! | [`Session::allocator`] | where its memory comes from |
 //! | [`Session::trail`] | the machines that are held, on whose meter each step of a report was made |
 //! | [`serve`] | answers each line of any reader to any writer, or stops with a [`ServeFault`] |
+//! | [`Texts`] | the texts of a session's replies: answers a line of it by one |
 //! | [`setup_with`] | an input, Memcheck's settings of the heap, and the functions of the heap that a program has by name |
 //! | [`send`] | writes all of some bytes and flushes; a [`Sent`] says how many were taken |
 //! | [`laws::work_of_lines`] | nothing: its contract says what any lines cost in steps |
@@ -53,6 +56,7 @@
 //!   only counts (`Wanting`). A refused line changes the number of lines alone.
 //!   What the line costs in steps is that of its command by its first effect (`WorksLine`), as long as the trail isn't short; no line but
 //!   a patch makes it short.
+//! - [`Texts::answer`]: the reply to a line, from the stage that the session had to the one that it has (`Replies`).
 //! - [`laws::work_of_lines`]: if each of any lines costs that, then after them machines are held at just the steps that the list of lines
 //!   says (`IsHeldAfter`), and the steps made are the one sum that it says (`AddUp`). Neither speaks of a trail.
 //! - [`serve`]: to the end, what was written is the replies to the lines of all bytes read, up to and with the first `refused 12`, and
@@ -70,10 +74,10 @@
 //! - `Turns`: which lines are refused, and what an accepted command leaves, over the scenario and the table of edits of the crate `scenario`.
 //! - `Session`: what was said to a session, and one line of it.
 //! - `Work`: how a line moves the last held step and the number of steps made; `Stages`: what the lines so far have left.
-//! - `Replies`: the text of each reply, and the replies to one line after another (`Answers`).
+//! - `Replies`: the text of each reply, and the replies to one line after another (`Answers`, over `line_server::specs::Answers`).
 //! - `LinesWork`: what any lines cost in steps, said of their list alone, and that `worked` tells it.
-//! - `Served`, over `Lines`: what was written for the bytes read.
-//! - `Serving` is for this crate's proofs.
+//! - `Served`: what was written for the bytes read, by the words of `line_server`.
+//! - `LongLines` is a lemma for the server of lines.
 //!
 //! Sources: the Memcheck manual, section 4.3 (options), and Valgrind's user manual, section 2.5 (suppressions); the language of the lines
 //! and the limits are this project's.
@@ -90,9 +94,10 @@ mod serving;
 mod session;
 
 pub use fault::{BeginFault, Fault};
+pub use line_server::{READS, Sent, ServeFault, send};
 pub use numbers::number;
 pub use reply::Reply;
 pub use scenario::{LONGEST_INPUT, MOST_STEPS, setup_with};
-pub use serving::send::{Sent, send};
-pub use serving::{READS, ServeFault, serve};
+pub use serving::serve;
+pub use serving::texts::Texts;
 pub use session::Session;

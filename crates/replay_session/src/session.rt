@@ -9,9 +9,11 @@ use crate::command::Command;
 use crate::fault::{BeginFault, Fault};
 use crate::parsing::parse;
 use crate::reply::Reply;
-use checkpoints::Trail;
+use checkpoints::{Sought, Trail};
 use checkpoints::laws::keeps_lower;
 use guest_elf::Image;
+use guest_machine::{Machine, Meter};
+use line_server::LONGEST_LINE;
 use scenario::laws::edits_follow;
 use scenario::{Edit, LONGEST_INPUT, MOST_STEPS, Scenario};
 use std::alloc::{AllocError, Global};
@@ -19,8 +21,6 @@ use suppressions::Suppression;
 
 /// How many lines are answered.
 const MOST_LINES: u32 = 100_000;
-/// How many bytes a line may have.
-pub(crate) const LONGEST_LINE: usize = 4096;
 
 /// What the accepted lines leave, the machines that are held of its run, and how many lines were given.
 #[derive(Drop)]
@@ -35,14 +35,16 @@ pub struct Session<'a> {
 
 impl<'a> Session<'a> {
     ghost use Rattle.std.specs.Prelude.{◌≡◌, ◌<◌, ◌↔◌, false, true, IfOk, IfErr, IfNone, OnOk, OnErr, length};
+    ghost use Rattle.checkpoints.specs.Searches.{IsLast, IsNext};
     ghost use Rattle.checkpoints.specs.Trails.{is_short};
     ghost use Rattle.replay_report.specs.Report.{AppendsReport};
     ghost use Rattle.scenario.specs.Edits.{row, IsTaken};
     ghost use Rattle.scenario.specs.Limits.{longest_input};
-    ghost use Rattle.scenario.specs.Scenario.{IsReportOf};
+    ghost use Rattle.guest_machine.specs.Shows.{Shows};
+    ghost use Rattle.scenario.specs.Scenario.{IsReportOf, chosen_state};
     ghost use Rattle.replay_session.specs.Commands.{Reads};
     ghost use Rattle.replay_session.specs.Replies.{is_over};
-    ghost use Rattle.replay_session.specs.Session.{Carried, Meets, scenario_of, turn_of, trail_of, work_of};
+    ghost use Rattle.replay_session.specs.Session.{Carried, Finds, Meets, scenario_of, turn_of, trail_of, work_of};
     ghost use Rattle.replay_session.specs.Turns.{accepted, changed, command_refusal, counted, opening, passed};
     ghost use Rattle.replay_session.specs.Work.{MayShorten, MovesWork, Works, WorksLine, work_on, no_work};
 
@@ -90,13 +92,13 @@ impl<'a> Session<'a> {
     }
 
     /// Where the session's memory comes from.
-    pub(crate) fn allocator(&self) -> Global {
+    pub fn allocator(&self) -> Global {
         self.alloc
     }
 
-    /// Whether all lines were given that are answered.
+    /// Whether all lines were given that are answered. One more is answered, by `refused 12`.
     #[tactic(auto, unfolding(crate::specs::Session::turn_of))]
-    pub(crate) fn is_over(&self) -> bool
+    pub fn is_over(&self) -> bool
         ensures { result ≡ is_over (turn_of self.now) }
     {
         self.lines >= MOST_LINES
@@ -182,6 +184,57 @@ impl<'a> Session<'a> {
         Ok(())
     }
 
+    /// The machine at the chosen step. The trail is moved as by a report.
+    #[tactic(auto, unfolding(crate::specs::Session::turn_of, crate::specs::Session::trail_of))]
+    pub fn machine(&mut self) -> Result<Machine, AllocError>
+        ensures turn { turn_of self.new ≡ turn_of self.old }
+        ensures shows { IfOk result (λ machine. Shows machine (chosen_state (scenario_of self.old))) }
+        ensures work { OnOk result (MovesWork (scenario_of self.old) Command.Report (work_on (trail_of self.old)) (work_on (trail_of self.new))) }
+        ensures short { is_short (trail_of self.new) ≡ is_short (trail_of self.old) }
+    {
+        self.trail.at(
+            self.scenario.step(),
+            self.scenario.setup(),
+            self.scenario.marks(),
+        )
+    }
+
+    /// The first step, from the chosen one on and below another, that does what is sought. The trail is moved as by a report.
+    #[tactic(auto, unfolding(crate::specs::Session::turn_of, crate::specs::Session::trail_of))]
+    pub fn next(&mut self, sought: Sought, end: u32) -> Result<Option<u32>, AllocError>
+        ensures turn { turn_of self.new ≡ turn_of self.old }
+        ensures found { IfOk result (λ found. IsNext (Finds (scenario_of self.old) sought) (scenario_of self.old).step end found) }
+        ensures work { OnOk result (MovesWork (scenario_of self.old) Command.Report (work_on (trail_of self.old)) (work_on (trail_of self.new))) }
+        ensures short { is_short (trail_of self.new) ≡ is_short (trail_of self.old) }
+    {
+        self.trail.next(
+            sought,
+            self.scenario.step(),
+            end,
+            self.scenario.setup(),
+            self.scenario.marks(),
+            &mut Meter::new(),
+        )
+    }
+
+    /// The last step, before the chosen one and from another on, that does what is sought. The trail is moved as by a report.
+    #[tactic(auto, unfolding(crate::specs::Session::turn_of, crate::specs::Session::trail_of))]
+    pub fn last(&mut self, sought: Sought, from: u32) -> Result<Option<u32>, AllocError>
+        ensures turn { turn_of self.new ≡ turn_of self.old }
+        ensures found { IfOk result (λ found. IsLast (Finds (scenario_of self.old) sought) from (scenario_of self.old).step found) }
+        ensures work { OnOk result (MovesWork (scenario_of self.old) Command.Report (work_on (trail_of self.old)) (work_on (trail_of self.new))) }
+        ensures short { is_short (trail_of self.new) ≡ is_short (trail_of self.old) }
+    {
+        self.trail.last(
+            sought,
+            from,
+            self.scenario.step(),
+            self.scenario.setup(),
+            self.scenario.marks(),
+            &mut Meter::new(),
+        )
+    }
+
     /// Appends the report at the chosen step.
     #[tactic(auto, unfolding(crate::specs::Session::turn_of, crate::specs::Session::trail_of))]
     fn report(&mut self, out: &mut Vec<u8>) -> Result<(), AllocError>
@@ -191,11 +244,7 @@ impl<'a> Session<'a> {
         ensures work { OnOk result (MovesWork (scenario_of self.old) Command.Report (work_on (trail_of self.old)) (work_on (trail_of self.new))) }
         ensures short { is_short (trail_of self.new) ≡ is_short (trail_of self.old) }
     {
-        let machine = self.trail.at(
-            self.scenario.step(),
-            self.scenario.setup(),
-            self.scenario.marks(),
-        )?;
+        let machine = self.machine()?;
         self.scenario.render(&machine, out)
     }
 

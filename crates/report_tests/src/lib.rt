@@ -1,4 +1,4 @@
-//! Tests of reports, of outlines and of held machines, by the public calls of their crates.
+//! Tests of reports, of outlines, of held machines and of searches, by the public calls of their crates.
 //!
 //! They stand apart from the crates that they test, since a crate with tests is proved a second time with them.
 #![tactic(auto)]
@@ -7,5 +7,7 @@
 mod outlines;
 #[cfg(test)]
 mod reports;
+#[cfg(test)]
+mod searches;
 #[cfg(test)]
 mod trails;

@@ -12,7 +12,7 @@ use std::test::Fail;
 
 /// `lui x5, 0x10; lw x6, 20(x5); addi x5, x5, 4; beq x6, x0, -8; ebreak`: the words from 0x10014 on are read until one isn't 0,
 /// word i of them in step 1 + 3i.
-const READS_ON: [u32; 5] = [
+pub(crate) const READS_ON: [u32; 5] = [
     0x0001_02B7,
     0x0142_A303,
     0x0042_8293,
@@ -21,7 +21,7 @@ const READS_ON: [u32; 5] = [
 ];
 
 /// `read(0, x2, 4)` in step 5, and an exit with the second byte.
-const EXITS_WITH_INPUT: [u32; 10] = [
+pub(crate) const EXITS_WITH_INPUT: [u32; 10] = [
     0x03F0_0893,
     0x0000_0513,
     0xFF01_0113,
@@ -286,7 +286,7 @@ const CASES: [Case; 8] = [
 ];
 
 /// Memcheck's red zone and volume of freed blocks, and an input.
-fn setup(alloc: Global, input: &[u8]) -> Result<Setup, AllocError> {
+pub(crate) fn setup(alloc: Global, input: &[u8]) -> Result<Setup, AllocError> {
     let input = Input::new(input.to_vec(alloc)?);
     Ok(Setup {
         input,

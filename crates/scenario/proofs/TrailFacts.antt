@@ -62,10 +62,16 @@ moved sc setup marks old new given marked right h =
     transport (λ i. IsRightFor new (first_state sc) (given i) (marked i))
     (right (first_state sc) (transport (λ i. IsRightFor old (first_state sc) (sym given i) (sym marked i)) h))
 
+-- what a trail that is right for a run tells of it, told of the run of a scenario
+pub told : (sc : Scenario) (setup : Setup) (marks : List Mark) (step : ℕ) (old : Trail) (P : State → Setup → List Mark → ℕ → Type 0)
+    → setup ≡ sc.setup → marks ≡ sc.marks → step ≡ sc.step → ((start : State) → IsRightFor old start setup marks → P start setup marks step)
+    → IsRightForRun old (run_of sc) → P (first_state sc) sc.setup sc.marks sc.step
+told sc setup marks step old P given marked chosen tells h =
+    transport (λ i. P (first_state sc) (given i) (marked i) (chosen i))
+    (tells (first_state sc) (transport (λ i. IsRightFor old (first_state sc) (sym given i) (sym marked i)) h))
+
 -- the machine that a trail has at the chosen step
 pub shown : (sc : Scenario) (setup : Setup) (marks : List Mark) (step : ℕ) (old : Trail) (machine : Machine) → setup ≡ sc.setup → marks ≡ sc.marks → step ≡ sc.step
     → ((start : State) → IsRightFor old start setup marks → Shows machine (post start setup marks step)) → IsRightForRun old (run_of sc) → Shows machine (chosen_state sc)
 unfolding chosen_state
-shown sc setup marks step old machine given marked chosen shows h =
-    transport (λ i. Shows machine (post (first_state sc) (given i) (marked i) (chosen i)))
-    (shows (first_state sc) (transport (λ i. IsRightFor old (first_state sc) (sym given i) (sym marked i)) h))
+shown sc setup marks step old machine = told sc setup marks step old (λ start setup marks step. Shows machine (post start setup marks step))

@@ -3,16 +3,8 @@ ghost use Rattle.std.specs.Prelude.{◌≡◌, ◌++◌, [], OnOk, if◌then◌e
 ghost use Rattle.sweeps.specs.Tables.{change_text, change_row, outcome_lines, first_lines, tally_line, tally_lines, end_line};
 
 use crate::change::Change;
-use replay_report::{push_address, push_number};
+use replay_report::{push_address, push_number, push_text};
 use std::alloc::AllocError;
-
-/// Bytes put at the end.
-fn push_text(out: &mut Vec<u8>, text: &[u8]) -> Result<(), AllocError>
-    ensures { OnOk result (out.new.items ≡ out.old.items ++ text.now) }
-{
-    out.extend_from_slice(text)?;
-    Ok(())
-}
 
 /// A change, as a line of a session makes it.
 #[tactic(auto, unfolding(crate::specs::Tables::change_text), using(std::proofs::Common::append_assoc))]

@@ -46,10 +46,10 @@ def path_of(path):
 
 
 class Session:
-    """A session on a program's file with its input and its suppressions."""
+    """A session on a program's file with its input and its suppressions, or what another command that answers lines does there."""
 
-    def __init__(self, file, given=None, supp=None, keeps_status=False, lends=()):
-        words = [program(), "session"]
+    def __init__(self, file, given=None, supp=None, keeps_status=False, lends=(), command="session"):
+        words = [program(), command]
         words += ["--input", path_of(given)] if given is not None else []
         words += ["--supp", path_of(supp)] if supp is not None else []
         self.keeps_status = keeps_status

@@ -7,7 +7,7 @@ ghost use Rattle.driver.specs.Swept.{bytes_line, file_line, file_lines, head_tex
 
 use crate::sweeping::request::{Part, Range};
 use command_line::SweepWords;
-use replay_report::{push_address, push_number};
+use replay_report::{push_address, push_number, push_text};
 use sha2::{Digest, Sha256};
 use std::alloc::{AllocError, Global};
 use sweeps::Places;
@@ -18,14 +18,6 @@ pub(crate) struct Sources<'a> {
     pub(crate) program: &'a [u8],
     pub(crate) input: &'a [u8],
     pub(crate) suppressions: &'a [u8],
-}
-
-/// Bytes put at the end.
-fn push_text(out: &mut Vec<u8>, text: &[u8]) -> Result<(), AllocError>
-    ensures { OnOk result (out.new.items ≡ out.old.items ++ text.now) }
-{
-    out.extend_from_slice(text)?;
-    Ok(())
 }
 
 /// The SHA-256 of bytes, in hexadecimal digits.

@@ -7,7 +7,7 @@ ghost use Rattle.guest_machine.specs.Run.{start_state, marked, poked};
 ghost use Rattle.guest_machine.specs.Shows.{Holds, Shows};
 
 use crate::machine::registers::known;
-use crate::machine::{Guest, Machine, Progress};
+use crate::machine::{Guest, Machine, Noted, Progress};
 use crate::setup::Mark;
 use crate::status::Status;
 use call_stacks::CallStack;
@@ -45,7 +45,10 @@ impl Guest {
                 output_len: 0,
                 heap_calls: 0,
             },
-            groups: Groups::new(alloc),
+            noted: Noted {
+                groups: Groups::new(alloc),
+                raised: false,
+            },
         })
     }
 
@@ -75,7 +78,10 @@ impl Guest {
             frames: self.frames.share()?,
             heap: self.heap.share()?,
             progress: self.progress,
-            groups: self.groups.share()?,
+            noted: Noted {
+                groups: self.noted.groups.share()?,
+                raised: self.noted.raised,
+            },
         })
     }
 }

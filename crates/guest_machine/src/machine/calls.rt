@@ -72,7 +72,7 @@ impl Guest {
     }
 
     /// Tests a call's number, and then its parameters in order.
-    #[tactic(auto, unfolding(error_events::specs::Adding::add_events), using(crate::proofs::Showing::add_events_append))]
+    #[tactic(auto, unfolding(crate::specs::Doing::note_events), using(crate::proofs::Showing::note_events_append))]
     pub(super) fn test_call(&mut self, call: EnvironmentCall) -> Result<(), AllocError>
         ensures { OnOk result (Notes self.old self.new (call_tested (core_of self.old) call) (call_errors (core_of self.old) call)) }
     {
@@ -82,7 +82,7 @@ impl Guest {
     }
 
     /// A call that only answers.
-    #[tactic(auto, unfolding(error_events::specs::Adding::add_events))]
+    #[tactic(auto, unfolding(crate::specs::Doing::note_events))]
     fn test_and_answer(&mut self, call: EnvironmentCall, n: u32) -> Result<Used, AllocError>
         ensures does { OnOk result (Does self.old self.new (answers (core_of self.old) call n) nothing false no_intake) }
         ensures uses { IfOk result (λ used. used ≡ used_of nothing) }
@@ -104,7 +104,7 @@ impl Guest {
     }
 
     /// Notes the first of n bytes that may not be accessed or, where its value is asked for, has an undefined bit.
-    #[tactic(auto, unfolding(crate::specs::Errors::buffer_event, error_events::specs::Adding::add_events))]
+    #[tactic(auto, unfolding(crate::specs::Errors::buffer_event, crate::specs::Doing::note_events))]
     fn test_buffer(
         &mut self,
         parameter: Parameter,
@@ -132,7 +132,7 @@ impl Guest {
         Ok(NOTHING)
     }
 
-    #[tactic(auto, unfolding(crate::specs::Calls::read_call, crate::specs::Exec::call_asks, error_events::specs::Adding::add_events), using(crate::proofs::Showing::add_events_append))]
+    #[tactic(auto, unfolding(crate::specs::Calls::read_call, crate::specs::Exec::call_asks, crate::specs::Doing::note_events), using(crate::proofs::Showing::note_events_append))]
     fn read_call(&mut self, setup: &Setup) -> Result<Used, AllocError>
         ensures does { OnOk result (DoesRead self.old self.new setup.now) }
         ensures uses { IfOk result (λ used. used ≡ used_of (read_uses (core_of self.old) (read_intake self.old setup.now).count)) }
@@ -156,7 +156,7 @@ impl Guest {
         })
     }
 
-    #[tactic(auto, unfolding(crate::specs::Calls::write_call, crate::specs::Calls::appends, error_events::specs::Adding::add_events), using(crate::proofs::Showing::add_events_append, crate::proofs::Showing::length_taken))]
+    #[tactic(auto, unfolding(crate::specs::Calls::write_call, crate::specs::Calls::appends, crate::specs::Doing::note_events), using(crate::proofs::Showing::note_events_append, crate::proofs::Showing::length_taken))]
     fn write_call(&mut self) -> Result<Used, AllocError>
         ensures does { OnOk result (DoesWrite self.old self.new) }
         ensures uses { IfOk result (λ used. used ≡ used_of (write_uses (core_of self.old) self.old.progress.output_len)) }

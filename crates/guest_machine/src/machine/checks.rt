@@ -40,18 +40,18 @@ impl Guest {
     /// Records an error at this instruction.
     #[cold]
     #[inline(never)]
-    #[tactic(auto, unfolding(error_events::specs::Adding::add_events))]
+    #[tactic(auto, unfolding(crate::specs::Doing::note_events))]
     pub(super) fn raise(&mut self, kind: Kind, note: Note) -> Result<(), AllocError>
         ensures { OnOk result (Notes self.old self.new (core_of self.old) (event_of (here (core_of self.old)) kind note ∷ [])) }
     {
         let trace = self.frames.trace(self.pc);
-        self.groups.add(Event { kind, trace, note })
+        self.noted.add(Event { kind, trace, note })
     }
 
     /// Records that a word with undefined bits is carried out. Out of line, as it has no place in the code of a step.
     #[cold]
     #[inline(never)]
-    #[tactic(auto, unfolding(crate::specs::Errors::event_unless, error_events::specs::Adding::add_events))]
+    #[tactic(auto, unfolding(crate::specs::Errors::event_unless, crate::specs::Doing::note_events))]
     fn raise_value(&mut self) -> Result<(), AllocError>
         ensures { OnOk result (Notes self.old self.new (core_of self.old) (event_unless false (here (core_of self.old)) Kind.Value)) }
     {
@@ -60,7 +60,7 @@ impl Guest {
 
     /// Tests the undefined bits of a word that is to be carried out.
     #[inline(always)]
-    #[tactic(auto, unfolding(crate::specs::Errors::event_unless, error_events::specs::Adding::add_events))]
+    #[tactic(auto, unfolding(crate::specs::Errors::event_unless, crate::specs::Doing::note_events))]
     pub(super) fn test_word(&mut self, undef: u32) -> Result<(), AllocError>
         ensures { OnOk result (Notes self.old self.new (core_of self.old) (event_unless (undef == 0) (here (core_of self.old)) Kind.Value)) }
     {
@@ -73,7 +73,7 @@ impl Guest {
     /// Records the error of an address at fault, if there is one.
     #[cold]
     #[inline(never)]
-    #[tactic(auto, unfolding(crate::specs::Errors::event_about, error_events::specs::Adding::add_events))]
+    #[tactic(auto, unfolding(crate::specs::Errors::event_about, crate::specs::Doing::note_events))]
     pub(super) fn raise_about(&mut self, kind: Kind, fault: Option<u32>) -> Result<(), AllocError>
         ensures { OnOk result (Notes self.old self.new (core_of self.old) (event_about (core_of self.old).blocks (here (core_of self.old)) kind fault)) }
     {
@@ -86,7 +86,7 @@ impl Guest {
 
     /// Records the first inaccessible byte of a load of so many, if there is one.
     #[inline(always)]
-    #[tactic(auto, unfolding(crate::specs::Errors::event_about, error_events::specs::Adding::add_events))]
+    #[tactic(auto, unfolding(crate::specs::Errors::event_about, crate::specs::Doing::note_events))]
     pub(super) fn test_load(&mut self, len: u8, bad: Option<u32>) -> Result<(), AllocError>
         ensures { OnOk result (Notes self.old self.new (core_of self.old) (event_about (core_of self.old).blocks (here (core_of self.old)) (Kind.Read len) bad)) }
     {
@@ -98,7 +98,7 @@ impl Guest {
 
     /// Records the first inaccessible byte of a store of so many, if there is one.
     #[inline(always)]
-    #[tactic(auto, unfolding(crate::specs::Errors::event_about, error_events::specs::Adding::add_events))]
+    #[tactic(auto, unfolding(crate::specs::Errors::event_about, crate::specs::Doing::note_events))]
     pub(super) fn test_store(&mut self, len: u8, bad: Option<u32>) -> Result<(), AllocError>
         ensures { OnOk result (Notes self.old self.new (core_of self.old) (event_about (core_of self.old).blocks (here (core_of self.old)) (Kind.Write len) bad)) }
     {
@@ -111,7 +111,7 @@ impl Guest {
     /// Tests that a register is defined, and makes it so.
     #[cold]
     #[inline(never)]
-    #[tactic(auto, unfolding(crate::specs::Registers::tested, crate::specs::Errors::event_unless, error_events::specs::Adding::add_events))]
+    #[tactic(auto, unfolding(crate::specs::Registers::tested, crate::specs::Errors::event_unless, crate::specs::Doing::note_events))]
     pub(super) fn test(&mut self, r: Register, kind: Kind) -> Result<(), AllocError>
         ensures { OnOk result (Notes self.old self.new (tested (core_of self.old) r) (register_errors (core_of self.old) r kind)) }
     {
@@ -124,7 +124,7 @@ impl Guest {
 
     /// Tests a register from which an address or a jump's target is computed.
     #[inline(always)]
-    #[tactic(auto, unfolding(crate::specs::Registers::tested, crate::specs::Errors::event_unless, error_events::specs::Adding::add_events))]
+    #[tactic(auto, unfolding(crate::specs::Registers::tested, crate::specs::Errors::event_unless, crate::specs::Doing::note_events))]
     pub(super) fn test_value(&mut self, r: Register) -> Result<(), AllocError>
         ensures { OnOk result (Notes self.old self.new (tested (core_of self.old) r) (value_errors (core_of self.old) r)) }
     {
@@ -137,7 +137,7 @@ impl Guest {
     /// Records that a branch depends on undefined bits, and makes its registers defined.
     #[cold]
     #[inline(never)]
-    #[tactic(auto, unfolding(crate::specs::Errors::event_unless, error_events::specs::Adding::add_events))]
+    #[tactic(auto, unfolding(crate::specs::Errors::event_unless, crate::specs::Doing::note_events))]
     fn raise_branch(&mut self, rs1: Register, rs2: Register) -> Result<(), AllocError>
         ensures { OnOk result (Notes self.old self.new (defined (defined (core_of self.old) rs1) rs2) (event_unless false (here (core_of self.old)) Kind.Cond)) }
     {
@@ -149,7 +149,7 @@ impl Guest {
 
     /// Tests that a branch doesn't depend on undefined bits; if it does, its registers are made defined.
     #[inline(always)]
-    #[tactic(auto, unfolding(crate::specs::Effects::branch_tested, crate::specs::Errors::event_unless, error_events::specs::Adding::add_events))]
+    #[tactic(auto, unfolding(crate::specs::Effects::branch_tested, crate::specs::Errors::event_unless, crate::specs::Doing::note_events))]
     pub(super) fn test_branch(
         &mut self,
         comparison: Comparison,

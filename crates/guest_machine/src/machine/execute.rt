@@ -40,7 +40,7 @@ fn put(memory: &mut Memory, start: u32, width: Width, bits: Bits) -> Result<Opti
 impl Guest {
     /// Writes rd and goes on.
     #[inline(always)]
-    #[tactic(auto, unfolding(error_events::specs::Adding::add_events))]
+    #[tactic(auto, unfolding(crate::specs::Doing::note_events))]
     pub(super) fn result_in(&mut self, rd: Register, bits: Bits)
         ensures { Does self.old self.new (results_in (core_of self.old) rd bits) nothing false no_intake }
     {
@@ -83,7 +83,7 @@ impl Guest {
     }
 
     #[inline(always)]
-    #[tactic(auto, unfolding(error_events::specs::Adding::add_events), using(crate::proofs::Showing::add_events_append))]
+    #[tactic(auto, unfolding(crate::specs::Doing::note_events), using(crate::proofs::Showing::note_events_append))]
     pub(super) fn load(
         &mut self,
         width: Width,
@@ -109,7 +109,7 @@ impl Guest {
     }
 
     #[inline(always)]
-    #[tactic(auto, unfolding(error_events::specs::Adding::add_events), using(crate::proofs::Showing::add_events_append))]
+    #[tactic(auto, unfolding(crate::specs::Doing::note_events), using(crate::proofs::Showing::note_events_append))]
     pub(super) fn store(
         &mut self,
         width: Width,
@@ -159,14 +159,14 @@ impl Guest {
     }
 
     #[inline(always)]
-    #[tactic(auto, unfolding(error_events::specs::Adding::add_events))]
+    #[tactic(auto, unfolding(crate::specs::Doing::note_events))]
     pub(super) fn jump_and_link(&mut self, rd: Register, imm: u32)
         ensures { Does self.old self.new (jump (core_of self.old) rd imm) nothing false no_intake }
     {
         self.linked_jump(StackHint::of_jal(rd), rd, self.pc.wrapping_add(imm));
     }
 
-    #[tactic(auto, unfolding(error_events::specs::Adding::add_events))]
+    #[tactic(auto, unfolding(crate::specs::Doing::note_events))]
     pub(super) fn jump_register(
         &mut self,
         rd: Register,

@@ -37,7 +37,7 @@ impl Guest {
         ensures apart { IfOk result (λ found. IfSome found (IsClearOf (core_of self.old).blocks size redzone)) }
         ensures memory { self.new.memory ≡ self.old.memory }
         ensures progress { self.new.progress ≡ self.old.progress }
-        ensures groups { self.new.groups ≡ self.old.groups }
+        ensures noted { self.new.noted ≡ self.old.noted }
     {
         let trace = self.frames.trace(self.pc);
         self.heap.allocate(self.alloc, size, trace, redzone)
@@ -164,7 +164,7 @@ impl Guest {
     }
 
     /// Frees the block at an address, or notes that there is none.
-    #[tactic(auto, unfolding(crate::specs::HeapCalls::freed, crate::specs::HeapCalls::free_errors, error_events::specs::Adding::add_events))]
+    #[tactic(auto, unfolding(crate::specs::HeapCalls::freed, crate::specs::HeapCalls::free_errors, crate::specs::Doing::note_events))]
     fn free(&mut self, p: u32, volume: u32) -> Result<(), AllocError>
         ensures core { OnOk result (core_of self.new ≡ answered (freed (core_of self.old) (released_here (core_of self.old) p) volume) 0) }
         ensures bytes { OnOk result (bytes_of self.new ≡ bytes_of self.old) }
@@ -237,7 +237,7 @@ impl Guest {
     }
 
     /// Gives what is at an address another size.
-    #[tactic(auto, unfolding(crate::specs::HeapCalls::resizing, crate::specs::HeapCalls::resized, crate::specs::HeapCalls::resize_errors, error_events::specs::Adding::add_events))]
+    #[tactic(auto, unfolding(crate::specs::HeapCalls::resizing, crate::specs::HeapCalls::resized, crate::specs::HeapCalls::resize_errors, crate::specs::Doing::note_events))]
     fn resize(&mut self, p: u32, size: u32, redzone: u32, volume: u32) -> Result<Used, AllocError>
         ensures core { OnOk result (core_of self.new ≡ resized (core_of self.old) p size redzone volume (resizing (core_of self.old).blocks p size redzone)) }
         ensures uses { IfOk result (λ used. used ≡ used_in_move (resizing (core_of self.old).blocks p size redzone) p size) }
@@ -264,7 +264,7 @@ impl Guest {
 
     /// Does what a heap call does, with the values of a0 and a1, and says which bytes it took and which it wrote. It is counted; its
     /// answer is in a0.
-    #[tactic(auto, unfolding(crate::specs::HeapCalls::heap_work, crate::specs::Exec::work_uses, error_events::specs::Adding::add_events))]
+    #[tactic(auto, unfolding(crate::specs::HeapCalls::heap_work, crate::specs::Exec::work_uses, crate::specs::Doing::note_events))]
     pub(super) fn heap_work(
         &mut self,
         function: Hook,
@@ -297,7 +297,7 @@ impl Guest {
     }
 
     /// A heap call by number.
-    #[tactic(auto, using(crate::proofs::Showing::add_events_append))]
+    #[tactic(auto, using(crate::proofs::Showing::note_events_append))]
     pub(super) fn heap_call(&mut self, function: Hook, setup: &Setup) -> Result<Used, AllocError>
         ensures does { OnOk result (DoesHeapCall self.old self.new function setup.now) }
         ensures uses { IfOk result (λ used. used ≡ used_of (heap_uses function (core_of self.old) setup.now.redzone)) }

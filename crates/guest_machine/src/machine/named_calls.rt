@@ -18,7 +18,7 @@ impl Guest {
     /// Does the heap call in place of a function, and returns to its caller; says which bytes it took and which it wrote.
     #[cold]
     #[inline(never)]
-    #[tactic(auto, unfolding(crate::specs::NamedCalls::named_by, crate::specs::Exec::named_uses_by, error_events::specs::Adding::add_events), using(crate::proofs::Showing::add_events_append))]
+    #[tactic(auto, unfolding(crate::specs::NamedCalls::named_by, crate::specs::Exec::named_uses_by, crate::specs::Doing::note_events), using(crate::proofs::Showing::note_events_append))]
     pub(super) fn call_by_name(&mut self, function: Hook, setup: &Setup) -> Result<Used, AllocError>
         ensures does { OnOk result (DoesNamed self.old self.new function setup.now) }
         ensures uses { IfOk result (λ used. used ≡ used_of (uses_by_name self.old function setup.now)) }

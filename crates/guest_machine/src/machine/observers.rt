@@ -6,7 +6,7 @@ ghost use Rattle.shadow_memory.specs.Memories.{bytes_in, shadows_in};
 ghost use Rattle.guest_heap.specs.Heaps.{blocks_of};
 ghost use Rattle.error_events.specs.Groups.{grouped};
 ghost use Rattle.error_events.specs.Shown.{groups_of};
-ghost use Rattle.guest_machine.specs.Shows.{Shows};
+ghost use Rattle.guest_machine.specs.Shows.{Shows, has_raised};
 
 use crate::machine::Machine;
 use crate::register::Register;
@@ -67,6 +67,14 @@ impl Machine {
         self.guest.read_register(register)
     }
 
+    /// Whether the last step raised an error.
+    #[tactic(auto, unfolding(crate::specs::Shows::has_raised))]
+    pub fn has_raised(&self) -> bool
+        ensures { result ≡ has_raised self.now }
+    {
+        self.guest.noted.raised
+    }
+
     /// The memory: each byte, and what is known of it.
     pub fn memory(&self) -> &Memory
         ensures bytes { (s : State) → Shows self.now s → bytes_in result.now ≡ s.bytes }
@@ -86,6 +94,6 @@ impl Machine {
     pub fn groups(&self) -> &Groups
         ensures { (s : State) → Shows self.now s → groups_of result.now ≡ grouped s.events }
     {
-        &self.guest.groups
+        &self.guest.noted.groups
     }
 }

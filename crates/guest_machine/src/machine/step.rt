@@ -1,10 +1,11 @@
 //! One step.
-ghost use Rattle.std.specs.Prelude.{◌≡◌, ◌+◌, ◌&&◌, ◌≤◌, min, false, Option, Some, None, IfOk, IfSome, IfNone, OnErr, OnOk};
+ghost use Rattle.std.specs.Prelude.{◌≡◌, ◌+◌, ◌&&◌, ◌≤◌, min, length, nat_lt, false, Option, Some, None, IfOk, IfSome, IfNone, OnErr, OnOk};
 ghost use Rattle.guest_machine.specs.State.{State};
 ghost use Rattle.guest_machine.specs.Errors.{fetch_undef};
 ghost use Rattle.guest_machine.specs.Instructions.{row_of};
-ghost use Rattle.guest_machine.specs.Exec.{no_intake, nothing, is_running, is_aligned, called_here, fetches, unfetched, jump_fault, exec, touches, has_touched, IsFetched};
-ghost use Rattle.guest_machine.specs.Shows.{core_of, bytes_of, Holds, Shows};
+ghost use Rattle.guest_machine.specs.Exec.{no_intake, nothing, is_running, is_aligned, called_here, fetches, unfetched, jump_fault};
+ghost use Rattle.guest_machine.specs.Exec.{exec, touched_of, IsFetched};
+ghost use Rattle.guest_machine.specs.Shows.{core_of, bytes_of, Holds, Shows, has_raised};
 ghost use Rattle.guest_machine.specs.Doing.{used_of, uses_by, touched_by, Does, DoesRow, DoesRound, DoesStep};
 
 use crate::alu::computed;
@@ -51,7 +52,7 @@ impl Used {
 
 impl Guest {
     /// Carries an instruction out, and notes which bytes it took and which it wrote.
-    #[tactic(auto, unfolding(crate::specs::Exec::row_effect, crate::specs::Exec::row_uses, crate::specs::Exec::calls_heap, crate::specs::Exec::row_asks, crate::specs::Exec::call_asks, error_events::specs::Adding::add_events))]
+    #[tactic(auto, unfolding(crate::specs::Exec::row_effect, crate::specs::Exec::row_uses, crate::specs::Exec::calls_heap, crate::specs::Exec::row_asks, crate::specs::Exec::call_asks, crate::specs::Doing::note_events))]
     fn carry_out(
         &mut self,
         setup: &Setup,
@@ -180,7 +181,7 @@ impl Guest {
     /// A fetch that meets an inaccessible byte.
     #[cold]
     #[inline(never)]
-    #[tactic(auto, unfolding(crate::specs::Errors::event_about, error_events::specs::Adding::add_events))]
+    #[tactic(auto, unfolding(crate::specs::Errors::event_about, crate::specs::Doing::note_events))]
     fn jump_fault(&mut self, fault: Option<u32>) -> Result<(), AllocError>
         ensures { OnOk result (Does self.old self.new (jump_fault (core_of self.old) fault) nothing false no_intake) }
     {
@@ -193,7 +194,7 @@ impl Guest {
 
     /// A step that takes no word and calls no function by name.
     #[inline(always)]
-    #[tactic(auto, unfolding(crate::specs::Exec::unfetched, error_events::specs::Adding::add_events))]
+    #[tactic(auto, unfolding(crate::specs::Exec::unfetched, crate::specs::Doing::note_events))]
     fn halt(&mut self) -> Result<(), AllocError>
         ensures { OnOk result (Does self.old self.new (unfetched (core_of self.old)) nothing false no_intake) }
     {
@@ -210,7 +211,7 @@ impl Guest {
 
     /// Carries a word out, between the test of the word and the stack pointer rule.
     #[inline(never)]
-    #[tactic(auto, using(crate::proofs::Showing::add_events_append))]
+    #[tactic(auto, using(crate::proofs::Showing::note_events_append))]
     fn round(&mut self, setup: &Setup, word: Bits, used: &mut Used) -> Result<(), AllocError>
         requires undef { word.undef ≡ fetch_undef (core_of self.old) }
         requires unused { used.old ≡ used_of nothing }
@@ -248,25 +249,40 @@ impl Guest {
         }
     }
 
-    /// The same, said of each state that is held.
+    /// Forgets that the step before raised an error.
+    #[inline(always)]
+    fn begin_step(&mut self)
+        ensures holds { (s : State) → Holds self.old s → Holds self.new s }
+        ensures none { self.new.noted.raised ≡ false }
+    {
+        self.noted.raised = false;
+    }
+
+    /// What [`Guest::perform`] does, said of each state that is held, and whether an error was raised.
     #[inline(always)]
     fn step(&mut self, setup: &Setup) -> Result<Touched, AllocError>
         ensures holds { OnOk result ((s : State) → Holds self.old s → Holds self.new (exec s setup.now)) }
-        ensures touched { IfOk result (λ t. (s : State) → Holds self.old s → has_touched t ≡ touches s setup.now) }
+        ensures touched { IfOk result (λ t. (s : State) → Holds self.old s → t ≡ touched_of s setup.now) }
+        ensures raised { OnOk result ((s : State) → Holds self.old s
+            → self.new.noted.raised ≡ nat_lt (length s.events) (length (exec s setup.now).events)) }
     {
         groups_grow();
+        self.begin_step();
         self.perform(setup)
     }
 }
 
 impl Machine {
-    /// One step, and the addresses whose bytes it took or wrote. The meter rises by one. A machine for which memory fails is
+    /// One step, and the ranges whose bytes it took or wrote. The meter rises by one. [`Machine::has_raised`] then tells
+    /// whether the step raised an error. A machine for which memory fails is
     /// dropped, and the meter stays.
     #[inline(always)]
-    #[tactic(auto, unfolding(crate::specs::Shows::Shows))]
+    #[tactic(auto, unfolding(crate::specs::Shows::Shows, crate::specs::Shows::has_raised))]
     pub fn step(self, setup: &Setup, meter: &mut Meter) -> Result<(Machine, Touched), AllocError>
         ensures shows { IfOk result (λ r. (s : State) → Shows self s → Shows r.0 (exec s setup.now)) }
-        ensures touched { IfOk result (λ r. (s : State) → Shows self s → has_touched r.1 ≡ touches s setup.now) }
+        ensures touched { IfOk result (λ r. (s : State) → Shows self s → r.1 ≡ touched_of s setup.now) }
+        ensures raised { IfOk result (λ r. (s : State) → Shows self s
+            → has_raised r.0 ≡ nat_lt (length s.events) (length (exec s setup.now).events)) }
         ensures meter { OnOk result (meter.new ≡ min (meter.old + 1) u64.MAX) }
         ensures unmoved { OnErr result (meter.new ≡ meter.old) }
     {

@@ -1,9 +1,10 @@
 //! The texts of replies.
 ghost use Rattle.std.specs.Prelude.{◌≡◌, ◌≤◌, length, vec_capacity};
-ghost use Rattle.replay_session.specs.Replies.{number_line, short_text, text_of};
+ghost use Rattle.replay_session.specs.Replies.{number_line, short_text};
 
 use crate::fault::Fault;
 use crate::reply::Reply;
+use crate::session::Session;
 use itoa::Buffer;
 use std::alloc::{AllocError, Global};
 
@@ -16,12 +17,15 @@ const WORKED: &[u8] = b"worked ";
 
 const REFUSED: &[u8] = b"refused ";
 
-/// The bytes of a report, and those of another reply, whose room is taken once.
+/// The texts of a session's replies: the bytes of a report, and those of another reply, whose room is taken once. So the text of a reply
+/// never wants memory, but for a report.
 #[derive(Drop)]
-pub(crate) struct Texts {
-    pub(crate) report: Vec<u8>,
+pub struct Texts {
+    report: Vec<u8>,
     short: Vec<u8>,
+    outcome: Result<Reply, Fault>,
     ghost roomy: { 64 ≤ vec_capacity short },
+    ghost written: { short.items ≡ short_text outcome },
 }
 
 /// Writes a word, a number and a newline in room for them.
@@ -66,29 +70,45 @@ fn put_short(text: &mut Vec<u8>, outcome: Result<Reply, Fault>)
 
 impl Texts {
     ghost use Rattle.std.specs.Prelude.{◌≡◌};
-    ghost use Rattle.replay_session.specs.Replies.{short_text, text_of};
+    ghost use Rattle.replay_session.specs.Replies.{text_of, Replies};
+    ghost use Rattle.replay_session.specs.Stages.{stage_of};
+    ghost use Rattle.replay_session.specs.Texts.{last_text, report_in};
 
-    pub(crate) fn new(alloc: Global) -> Result<Self, AllocError> {
+    /// Room for texts, with an empty report.
+    pub fn new(alloc: Global) -> Result<Self, AllocError> {
         Ok(Texts {
             report: Vec::new(alloc),
             short: Vec::with_capacity(alloc, SHORT)?,
+            outcome: Ok(Reply::Report),
         })
     }
 
-    /// Writes a reply, if it is no report.
-    pub(crate) fn put(&mut self, outcome: Result<Reply, Fault>)
-        ensures text { self.new.short.items ≡ short_text outcome }
-        ensures report { self.new.report ≡ self.old.report }
+    /// Puts a reply in: its text, or that it is the report.
+    #[tactic(auto, unfolding(crate::specs::Texts::last_text, crate::specs::Texts::report_in))]
+    pub fn put(&mut self, outcome: Result<Reply, Fault>)
+        ensures text { last_text self.new ≡ text_of outcome (report_in self.old) }
+        ensures report { report_in self.new ≡ report_in self.old }
     {
         put_short(&mut self.short, outcome);
+        self.outcome = outcome;
     }
 
-    /// The bytes of a reply that was written, or those of the report.
-    pub(crate) fn text(&self, outcome: Result<Reply, Fault>) -> &[u8]
-        requires { self.now.short.items ≡ short_text outcome }
-        ensures { result.now ≡ text_of outcome self.now.report.items }
+    /// Answers a line of a session, and puts the reply in.
+    #[tactic(auto, unfolding(crate::specs::Texts::last_text, crate::specs::Texts::report_in))]
+    pub fn answer(&mut self, session: &mut Session<'_>, line: &[u8])
+        ensures { Replies (stage_of session.old) line.now (last_text self.new) (stage_of session.new) }
     {
-        match outcome {
+        self.report.clear();
+        let outcome = session.command(line, &mut self.report);
+        self.put(outcome);
+    }
+
+    /// The text of the reply that was put in last.
+    #[tactic(auto, unfolding(crate::specs::Texts::last_text))]
+    pub fn text(&self) -> &[u8]
+        ensures { result.now ≡ last_text self.now }
+    {
+        match self.outcome {
             Ok(Reply::Report) => &self.report,
             Ok(Reply::Done) | Ok(Reply::Work(_)) | Err(_) => &self.short,
         }

@@ -6,5 +6,8 @@ returns-in-Report g c = rw (c.in-Report.is, c.ended.ensures) c.follow_order.ensu
 pub returns-in-Session : goal.returns-in-Session
 returns-in-Session g c = rw (c.in-Session.is, c.ended-in-Session.ensures) c.follow_order-in-Session.ensures
 
+pub returns-in-Look : goal.returns-in-Look
+returns-in-Look g c = rw (c.in-Look.is, c.ended-in-Look.ensures) c.follow_order-in-Look.ensures
+
 pub returns-in-Sweep : goal.returns-in-Sweep
 returns-in-Sweep g c = rw (c.in-Sweep.is, c.ended-in-Sweep.ensures) c.follow_sweep.ensures

@@ -1,8 +1,9 @@
 use Rattle.std.proofs.Common.{inl, inr, List, subst}
-use Rattle.driver.proofs.Stages.{does-report, does-session, no-image, passed-on, untouched, with-all, with-image}
+use Rattle.driver.proofs.Stages.{does-report, does-same, no-image, passed-on, untouched, with-all, with-image}
 use Rattle.driver.specs.Carried.{Reports}
 use Rattle.driver.specs.Ends.{end_of}
 use Rattle.driver.specs.Once.{IsReportOnce}
+use Rattle.driver.specs.declared.carrying.Action.TheVariants.{Session, Look}
 use Rattle.suppressions.specs.Rules.{Rule}
 use Rattle.driver.proofs.carrying.follow_order.Goals as goal
 
@@ -16,24 +17,29 @@ returns-in_err-image g c =
 pub returns-in_err-suppressions : goal.returns-in_err-suppressions
 returns-in_err-suppressions g c =
     rw (passed-on c.from_residual-in_err-suppressions.result _ c.from_residual-in_err-suppressions.ensures.1)
-    (with-image (g.F.Files.gives c.args.files.now) c.args.order.now c.args.step _ _ _ _ _ _ c.in_ok-file.ensures.ok c.deref.ensures.value c.in_ok-image.ensures.image
+    (with-image (g.F.Files.gives c.args.files.now) c.args.order.now c.args.action _ _ _ _ _ _ c.in_ok-file.ensures.ok c.deref.ensures.value c.in_ok-image.ensures.image
     (inl (c.in_err-suppressions.ensures.err, untouched _ _)))
 
 pub returns-in_err-input : goal.returns-in_err-input
 returns-in_err-input g c =
     rw (passed-on c.from_residual-in_err-input.result _ c.from_residual-in_err-input.ensures.1)
-    (with-image (g.F.Files.gives c.args.files.now) c.args.order.now c.args.step _ _ _ _ _ _ c.in_ok-file.ensures.ok c.deref.ensures.value c.in_ok-image.ensures.image
+    (with-image (g.F.Files.gives c.args.files.now) c.args.order.now c.args.action _ _ _ _ _ _ c.in_ok-file.ensures.ok c.deref.ensures.value c.in_ok-image.ensures.image
     (inr (c.in_ok-suppressions.suppressions.items, c.in_ok-suppressions.ensures.ok, inl (c.in_err-input.ensures.err, untouched _ _))))
 
-pub returns-in-Some : goal.returns-in-Some
-returns-in-Some g c =
-    let told = subst (λ (list : List Rule). Reports (IsReportOnce c.in_ok-image.image c.in_ok-input.input.items list c.in-Some.step)
+pub returns-in-Report : goal.returns-in-Report
+returns-in-Report g c =
+    let told = subst (λ (list : List Rule). Reports (IsReportOnce c.in_ok-image.image c.in_ok-input.input.items list c.in-Report.step)
     (g.W.Write.contents c.args.writer.now) (g.W.Write.contents c.print_report.new.writer) (end_of c.print_report.result))
-    c.deref-in-Some.ensures.value c.print_report.ensures in
-    with-all (g.F.Files.gives c.args.files.now) c.args.order.now c.args.step _ _ _ _ _ _ _ _ c.in_ok-file.ensures.ok c.deref.ensures.value c.in_ok-image.ensures.image
-    c.in_ok-suppressions.ensures.ok c.in_ok-input.ensures.ok (does-report _ c.in-Some.step _ _ _ _ _ _ _ c.in-Some.is told)
+    c.deref-in-Report.ensures.value c.print_report.ensures in
+    with-all (g.F.Files.gives c.args.files.now) c.args.order.now c.args.action _ _ _ _ _ _ _ _ c.in_ok-file.ensures.ok c.deref.ensures.value c.in_ok-image.ensures.image
+    c.in_ok-suppressions.ensures.ok c.in_ok-input.ensures.ok (does-report _ c.in-Report.step _ _ _ _ _ _ _ c.in-Report.is told)
 
-pub returns : goal.returns
-returns g c =
-    with-all (g.F.Files.gives c.args.files.now) c.args.order.now c.args.step _ _ _ _ _ _ _ _ c.in_ok-file.ensures.ok c.deref.ensures.value c.in_ok-image.ensures.image
-    c.in_ok-suppressions.ensures.ok c.in_ok-input.ensures.ok (does-session _ _ _ _ _ _ _ c.in-None.is c.serve_session.ensures)
+pub returns-in-Session : goal.returns-in-Session
+returns-in-Session g c =
+    with-all (g.F.Files.gives c.args.files.now) c.args.order.now c.args.action _ _ _ _ _ _ _ _ c.in_ok-file.ensures.ok c.deref.ensures.value c.in_ok-image.ensures.image
+    c.in_ok-suppressions.ensures.ok c.in_ok-input.ensures.ok (does-same _ Session _ _ _ _ _ _ c.in-Session.is c.serve_session.ensures)
+
+pub returns-in-Look : goal.returns-in-Look
+returns-in-Look g c =
+    with-all (g.F.Files.gives c.args.files.now) c.args.order.now c.args.action _ _ _ _ _ _ _ _ c.in_ok-file.ensures.ok c.deref.ensures.value c.in_ok-image.ensures.image
+    c.in_ok-suppressions.ensures.ok c.in_ok-input.ensures.ok (does-same _ Look _ _ _ _ _ _ c.in-Look.is c.serve_looks.ensures)

@@ -1,6 +1,6 @@
 use Rattle.std.proofs.Common.{◌≤◌, ◌∙◌, length, arith}
-use Rattle.error_events.specs.Shown.{groups_of}
 use Rattle.error_events.specs.declared.parameter.Parameter.TheVariants.{SyscallNumber}
+use Rattle.guest_machine.specs.Doing.{noted_of}
 use Rattle.guest_machine.specs.Shows.{core_of}
 use Rattle.guest_machine.proofs.TestSteps.{tested-step, errors-step, tested-end, errors-end}
 use Rattle.guest_machine.proofs.machine.Guest.test_parameters.Goals as goal
@@ -18,9 +18,9 @@ loop-parameter-preserved c =
     record {
       number = omega (arith, inv.number);
       core = tested-step (core_of loop.self) (core_of after) r loop.r i SyscallNumber ps more c.new.ensures made.core ∙ inv.core;
-      groups =
-          errors-step (core_of loop.self) (core_of after) (groups_of loop.self.groups) (groups_of after.groups) r loop.r i _ ps more c.new.ensures made.core made.groups
-          ∙ inv.groups;
+      noted =
+          errors-step (core_of loop.self) (core_of after) (noted_of loop.self.noted) (noted_of after.noted) r loop.r i _ ps more c.new.ensures made.core made.noted
+          ∙ inv.noted;
       memory = made.memory ∙ inv.memory;
       progress = made.progress ∙ inv.progress;
       heap = made.heap ∙ inv.heap;
@@ -37,5 +37,5 @@ returns c =
       memory = inv.memory;
       progress = inv.progress;
       heap = inv.heap;
-      groups = errors-end (core_of loop.self) (groups_of loop.self.groups) loop.r loop.parameter-index ps past ∙ inv.groups;
+      noted = errors-end (core_of loop.self) (noted_of loop.self.noted) loop.r loop.parameter-index ps past ∙ inv.noted;
     }

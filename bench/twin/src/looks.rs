@@ -1,0 +1,97 @@
+//! Looks at a run: lines as `replaycheck look` takes them, each with the step before it, are answered in its words. Every look goes
+//! through the run from its start, one step after another.
+
+use crate::machine::{Machine, Status};
+use std::fmt::Write;
+
+const REGISTERS: usize = 32;
+
+/// What a step does with memory beside taking its word.
+#[derive(Clone, Copy, PartialEq, Eq)]
+pub enum Access {
+    Read,
+    Write,
+}
+
+/// The answer to a line: a step, and a look.
+pub fn answer(start: impl Fn() -> Machine, line: &str) -> Option<String> {
+    let words: Vec<&str> = line.split_whitespace().collect();
+    let step: u64 = words.first()?.parse().ok()?;
+    match words[1..] {
+        ["look", "registers"] => Some(registers(&after(&start, step))),
+        ["look", "memory", addr, len] => Some(memory(&after(&start, step), number(addr)?, number(len)?)),
+        ["look", "next", kind, addr, len, end] => {
+            let found = (step..end.parse().ok()?).find(|k| does(&after(&start, *k), kind, (number(addr), number(len))));
+            Some(told(found))
+        }
+        ["look", "last", kind, addr, len, from] => {
+            let found = (from.parse().ok()?..step).rev().find(|k| does(&after(&start, *k), kind, (number(addr), number(len))));
+            Some(told(found))
+        }
+        _ => None,
+    }
+}
+
+fn number(word: &str) -> Option<u32> {
+    match word.strip_prefix("0x") {
+        Some(digits) => u32::from_str_radix(digits, 16).ok(),
+        None => word.parse().ok(),
+    }
+}
+
+fn told(found: Option<u64>) -> String {
+    found.map_or("none".to_string(), |step| format!("step {step}"))
+}
+
+/// The machine after so many steps.
+fn after(start: &impl Fn() -> Machine, steps: u64) -> Machine {
+    let mut machine = start();
+    for _ in 0..steps {
+        if machine.status == Status::Running {
+            machine.step();
+        }
+    }
+    machine
+}
+
+fn registers(machine: &Machine) -> String {
+    let pc = machine.pc;
+    let mut text = match machine.status {
+        Status::Running => format!("state running {pc:#010x}"),
+        Status::Exited(status) => format!("state exited {status}"),
+        stop => format!("state stopped {} {pc:#010x}", format!("{stop:?}").to_lowercase()),
+    };
+    for (r, bits) in machine.registers.iter().enumerate().take(REGISTERS).skip(1) {
+        write!(text, "\nx{r} {:#010x} {:#010x}", bits.value, bits.undef).expect("a string takes all");
+    }
+    text
+}
+
+fn memory(machine: &Machine, addr: u32, len: u32) -> String {
+    let (mut bytes, mut undefined) = ("bytes ".to_string(), "undef ".to_string());
+    for i in 0..len {
+        let loaded = machine.memory.load::<1>(addr + i);
+        write!(bytes, "{:02x}", loaded.value).expect("a string takes all");
+        match loaded.bad {
+            None => write!(undefined, "{:02x}", loaded.undef).expect("a string takes all"),
+            Some(_) => undefined.push_str("__"),
+        }
+    }
+    bytes + "\n" + &undefined
+}
+
+/// Whether the next step of a machine does something with a range.
+fn does(machine: &Machine, kind: &str, range: (Option<u32>, Option<u32>)) -> bool {
+    let (Some(start), Some(len)) = range else { return false };
+    let is_in = |addr: u32| addr.wrapping_sub(start) < len;
+    if machine.status != Status::Running {
+        return false;
+    }
+    match (kind, machine.access()) {
+        ("run", _) => is_in(machine.pc),
+        ("read", Some((Access::Read, addr, n))) | ("write", Some((Access::Write, addr, n))) => {
+            (0..n).any(|i| is_in(addr.wrapping_add(i)))
+        }
+        _ => false,
+    }
+}

@@ -1,0 +1,61 @@
+-- What was written for the bytes that were read, over any relation between lines and their replies.
+use Rattle.std.specs.Prelude.{ℕ, ◌≡◌, ◌+◌, ◌-◌, ◌^◌, ◌≤◌, ◌==◌, ◌⊎◌, List, [], ◌∷◌, ◌++◌, Option, IfSome, length, take, min}
+use Rattle.std.specs.Prelude.{if◌then◌else◌}
+use Rattle.std.specs.Io.KnownBytes.{Appends, Consumes, IsAtEnd}
+use Rattle.std.specs.Str.Lines.{lines}
+use Rattle.line_server.specs.Answers.{Relation, joined}
+use Rattle.line_server.specs.Lines.{closed_lines}
+use Rattle.line_server.specs.declared.fault.ServeFault.{ServeFault}
+use Rattle.line_server.specs.declared.fault.ServeFault.TheVariants.{ReadFailed, WriteFailed, NoMemory, Endless}
+
+-- a count from 0 to the greatest u64, where it stands still
+abbrev pub standing : ℕ → ℕ
+standing n = min n (2 ^ 64 - 1)
+
+-- the replies to the lines of some bytes were written, and nothing else
+abbrev pub Served : Relation → List ℕ → Option (List ℕ) → Option (List ℕ) → Type 0
+Served AreReplies input held-old held-new =
+    (replies : List (List ℕ)) × AreReplies (lines input) replies × Appends held-old held-new (joined replies)
+
+-- the same of all bytes that a reader had, if it tells them
+abbrev pub ServedAll : Relation → Option (List ℕ) → Option (List ℕ) → Option (List ℕ) → Type 0
+ServedAll AreReplies left held-old held-new = IfSome left (λ input. Served AreReplies input held-old held-new)
+
+-- the same of the bytes that were read
+abbrev pub ServedRead : Relation → Option (List ℕ) → Option (List ℕ) → Option (List ℕ) → Option (List ℕ) → Type 0
+ServedRead AreReplies left-old left-new held-old held-new =
+    (seen : List ℕ) × Consumes left-old left-new seen × Served AreReplies seen held-old held-new
+
+-- the whole replies to all lines whose newline was read were written, this many and of this many bytes
+pub record WholeReplies (AreReplies : Relation) (seen : List ℕ) (held-old held-new : Option (List ℕ)) (count bytes : ℕ) : Type 0 where
+  pub replies : List (List ℕ)
+  pub answers : AreReplies (closed_lines seen) replies
+  pub appended : Appends held-old held-new (joined replies)
+  pub count_is : count ≡ standing (length replies)
+  pub bytes_is : bytes ≡ standing (length (joined replies))
+
+-- whole replies to the first lines were written, and a front of the reply to the next, this many whole ones and bytes
+pub record CutReplies (AreReplies : Relation) (lines : List (List ℕ)) (held-old held-new : Option (List ℕ)) (count bytes : ℕ) : Type 0 where
+  pub whole : List (List ℕ)
+  pub next : List ℕ
+  pub sent : ℕ
+  pub within : sent ≤ length next
+  pub answers : AreReplies (take (length whole + 1) lines) (whole ++ next ∷ [])
+  pub appended : Appends held-old held-new (joined whole ++ take sent next)
+  pub count_is : count ≡ standing (length whole + (if sent == length next then 1 else 0))
+  pub bytes_is : bytes ≡ standing (length (joined whole) + sent)
+
+-- what each fault says of the bytes that were read and of those that are left: bytes after the last newline are a line at the end alone
+abbrev pub StopsBy : ServeFault → Relation → List ℕ → Option (List ℕ) → Option (List ℕ) → Option (List ℕ) → Type 0
+StopsBy (ReadFailed count bytes) AreReplies seen left held-old held-new = WholeReplies AreReplies seen held-old held-new count bytes
+StopsBy (Endless count bytes) AreReplies seen left held-old held-new = WholeReplies AreReplies seen held-old held-new count bytes
+StopsBy (WriteFailed count bytes) AreReplies seen left held-old held-new =
+    CutReplies AreReplies (closed_lines seen) held-old held-new count bytes
+    ⊎ (IsAtEnd left × CutReplies AreReplies (lines seen) held-old held-new count bytes)
+StopsBy (NoMemory count bytes) AreReplies seen left held-old held-new =
+    (seen ≡ []) × WholeReplies AreReplies seen held-old held-new count bytes
+
+-- some bytes were read, and what a fault says of them holds
+abbrev pub StoppedBy : ServeFault → Relation → Option (List ℕ) → Option (List ℕ) → Option (List ℕ) → Option (List ℕ) → Type 0
+StoppedBy fault AreReplies left-old left-new held-old held-new =
+    (seen : List ℕ) × Consumes left-old left-new seen × StopsBy fault AreReplies seen left-new held-old held-new

@@ -1,0 +1,4 @@
+pub mod LongLines
+pub mod Looks
+pub mod Texts
+pub mod Views

@@ -1,0 +1,40 @@
+//! A session whose run can be looked at: its lines, and others that show registers, memory, and which step runs, reads or writes something.
+//!
+//! | Item | What it is |
+//! |---|---|
+//! | [`serve`] | answers each line of any reader to any writer, or stops with a fault |
+//!
+//! # The lines
+//!
+//! Those of a session (the crate `replay_session`), and these, for the chosen step of the run with all edits. They change nothing and aren't counted.
+//!
+//! | Line | What it is answered |
+//! |---|---|
+//! | `look registers` | the line of a report that says whether the program runs; of x1 to x31 the value and the undefined bits, a line each |
+//! | `look memory ADDR LEN` | `bytes` and 1 to 4,096 bytes; `undef` and below each its undefined bits, `__` where there is no access |
+//! | `look next KIND ADDR LEN END` | `step N`, the first from the chosen one on and below END that does it, or `none` |
+//! | `look last KIND ADDR LEN FROM` | `step N`, the last before the chosen one and from FROM on that does it, or `none` |
+//!
+//! KIND: `run`, the program runs and pc is in the range; `read`, a byte of it is read, beside the step's own word; `write`, one is written.
+//! Refused are, by the first that holds: 2 no look, 5 END or FROM above 4,194,304, 6 a range of no bytes, one that ends above
+//! 2^32, or of memory one of more than 4,096 bytes; 1 stands for want of memory. A line of more than 4,096 bytes is none of these, nor is one after
+//! 100,000 lines of a session: it is answered as in a session.
+//!
+//! # What a caller relies on
+//!
+//! [`serve`]: what was written is the replies to the lines of all bytes read (`ViewsLines`). A line that looks is told what holds at the
+//! chosen step of **one run from step zero of the edited program** (`Tells`), and leaves what was said as it is; the work is moved as by a
+//! report there. Any other line is answered as in a session (`Replies`).
+//!
+//! In `specs/`: `Looks`, the lines; `Texts`, what they are told; `Views`, the reply to any line.
+//!
+//! Source of `__`: Valgrind's gdbserver, `monitor get_vbits` (Memcheck manual, section 4.6).
+#![tactic(auto)]
+
+mod look;
+mod parsing;
+mod serving;
+mod texts;
+mod viewer;
+
+pub use serving::serve;

@@ -1,0 +1,38 @@
+//! A session that can be looked at, over any reader and any writer.
+ghost use Rattle.std.specs.Prelude.{IfErr, OnOk};
+ghost use Rattle.line_server.specs.Served.{ServedAll, ServedRead, StoppedBy};
+ghost use Rattle.replay_session.specs.Stages.{stage_of};
+ghost use Rattle.looks.specs.Views.{ViewsLines};
+
+use crate::viewer::Viewer;
+use line_server::ServeFault;
+use replay_session::Session;
+use std::io::{Read, Write};
+
+/// Answers each line of a reader to a writer as [`replay_session::serve`] does, and those that look at the run of the session by what
+/// they ask for. These change nothing, and aren't counted.
+pub fn serve<R: Read, W: Write>(
+    session: Session<'_>,
+    reader: &mut R,
+    writer: &mut W,
+) -> Result<(), ServeFault>
+    // To the end, the replies to the lines of all bytes were written, and nothing else.
+    ensures ok { OnOk result (ServedAll (ViewsLines (stage_of session.entry)) (R.remaining reader.old) (W.contents writer.old) (W.contents writer.new)) }
+
+    // Of a reader that doesn't tell its bytes: these are the replies to the lines of some bytes.
+    ensures read { OnOk result (ServedRead (ViewsLines (stage_of session.entry)) (R.remaining reader.old) (R.remaining reader.new)
+        (W.contents writer.old) (W.contents writer.new)) }
+
+    // Some bytes were read and the others stay, and the fault says what was written for those.
+    ensures fault { IfErr result (λ fault. StoppedBy fault (ViewsLines (stage_of session.entry)) (R.remaining reader.old) (R.remaining reader.new)
+        (W.contents writer.old) (W.contents writer.new)) }
+{
+    let alloc = session.allocator();
+    let Ok(mut viewer) = Viewer::new(session) else {
+        return Err(ServeFault::NoMemory {
+            replies: 0,
+            bytes: 0,
+        });
+    };
+    line_server::serve(alloc, &mut viewer, reader, writer)
+}

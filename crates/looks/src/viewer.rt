@@ -1,0 +1,154 @@
+//! A session that lines are given to one after another, of which some look at its run.
+ghost use Rattle.std.specs.Prelude.{◌≡◌, [], None, OnOk, true};
+ghost use Rattle.checkpoints.specs.Trails.{is_short};
+ghost use Rattle.checkpoints.specs.Work.{ReportMoves};
+ghost use Rattle.replay_session.specs.Session.{scenario_of, trail_of, turn_of};
+ghost use Rattle.replay_session.specs.Work.{work_on};
+ghost use Rattle.looks.specs.Looks.{look_refusal, looks};
+ghost use Rattle.looks.specs.Texts.{Tells};
+
+use crate::look::Look;
+use crate::parsing::asked;
+use crate::texts::{push_memory, push_registers, push_step};
+use line_server::{LONGEST_LINE, Listener};
+use replay_session::{Fault, Session, Texts};
+use std::alloc::AllocError;
+
+/// Whether a line looks at the run of a session.
+#[tactic(auto, unfolding(crate::specs::Looks::looks))]
+fn looks(session: &Session<'_>, line: &[u8]) -> bool
+    ensures { result ≡ looks (turn_of session.now) line.now }
+{
+    line.starts_with(b"look ") && !session.is_over() && line.len() <= LONGEST_LINE
+}
+
+/// Puts what a look tells into an empty text.
+fn show(session: &mut Session<'_>, look: Look, text: &mut Vec<u8>) -> Result<(), AllocError>
+    requires taken { look_refusal look ≡ None }
+    requires empty { text.old.items ≡ [] }
+    ensures tells { OnOk result (Tells (scenario_of session.old) look text.new.items) }
+    ensures turn { turn_of session.new ≡ turn_of session.old }
+    ensures work { OnOk result (ReportMoves (scenario_of session.old).step (work_on (trail_of session.old)) (work_on (trail_of session.new))) }
+    ensures short { is_short (trail_of session.new) ≡ is_short (trail_of session.old) }
+{
+    match look {
+        Look::Registers => {
+            let machine = session.machine()?;
+            push_registers(text, &machine)
+        }
+        Look::Memory(range) => {
+            let machine = session.machine()?;
+            push_memory(text, &machine, range)
+        }
+        Look::Next(search) => {
+            let found = session.next(search.sought, search.bound)?;
+            push_step(text, found)
+        }
+        Look::Last(search) => {
+            let found = session.last(search.sought, search.bound)?;
+            push_step(text, found)
+        }
+    }
+}
+
+/// A session, the texts of its replies, and what a look showed.
+#[derive(Drop)]
+pub struct Viewer<'a> {
+    session: Session<'a>,
+    texts: Texts,
+    shown: Vec<u8>,
+    /// Whether the last reply is what a look showed.
+    is_shown: bool,
+}
+
+impl<'a> Viewer<'a> {
+    ghost use Rattle.std.specs.Prelude.{◌≡◌, IfOk, None, Ok};
+    ghost use Rattle.replay_session.specs.Replies.{refused_line};
+    ghost use Rattle.replay_session.specs.Stages.{stage_of};
+    ghost use Rattle.looks.specs.Looks.{asked, look_refusal};
+    ghost use Rattle.looks.specs.Views.{Looked, reply_of};
+
+    pub(crate) fn new(session: Session<'a>) -> Result<Self, AllocError>
+        ensures { IfOk result (λ viewer. viewer.session ≡ session.entry) }
+    {
+        let alloc = session.allocator();
+        let texts = Texts::new(alloc)?;
+        Ok(Viewer {
+            session,
+            texts,
+            shown: Vec::new(alloc),
+            is_shown: false,
+        })
+    }
+
+    /// Tells why a line is refused.
+    #[tactic(auto, unfolding(crate::specs::Views::reply_of))]
+    fn refuse(&mut self, fault: Fault)
+        ensures reply { reply_of self.new ≡ refused_line fault }
+        ensures session { self.new.session ≡ self.old.session }
+    {
+        self.texts.put(Err(fault));
+        self.is_shown = false;
+    }
+
+    /// Shows what a look tells.
+    #[tactic(auto, unfolding(crate::specs::Views::reply_of))]
+    fn show(&mut self, look: Look)
+        requires { look_refusal look ≡ None }
+        ensures { Looked (stage_of self.old.session) (Ok look) (reply_of self.new) (stage_of self.new.session) }
+    {
+        self.shown.clear();
+        match show(&mut self.session, look, &mut self.shown) {
+            Ok(()) => self.is_shown = true,
+            Err(_) => self.refuse(Fault::Memory),
+        }
+    }
+
+    /// Answers a line that looks.
+    fn look(&mut self, line: &[u8])
+        ensures { Looked (stage_of self.old.session) (asked line.now) (reply_of self.new) (stage_of self.new.session) }
+    {
+        match asked(line) {
+            Ok(look) => self.show(look),
+            Err(fault) => self.refuse(fault),
+        }
+    }
+}
+
+impl Listener for Viewer<'_> {
+    ghost use Rattle.replay_session.specs.Replies.{is_over};
+    ghost use Rattle.replay_session.specs.Session.{turn_of};
+    ghost use Rattle.replay_session.specs.Stages.{stage_of};
+    ghost use Rattle.looks.specs.LongLines.{long_alike};
+    ghost use Rattle.looks.specs.Views.{Views, reply_of};
+
+    ghost answers = { λ old line new. Views (stage_of old.session) line (reply_of new) (stage_of new.session) };
+
+    ghost reply = { reply_of };
+
+    ghost over = { λ viewer. is_over (turn_of viewer.session) };
+
+    fn is_over(&self) -> bool {
+        self.session.is_over()
+    }
+
+    fn answer(&mut self, line: &[u8]) {
+        if looks(&self.session, line) {
+            self.look(line);
+        } else {
+            self.texts.answer(&mut self.session, line);
+            self.is_shown = false;
+        }
+    }
+
+    fn reply(&self) -> &[u8] {
+        if self.is_shown {
+            &self.shown
+        } else {
+            self.texts.text()
+        }
+    }
+
+    ghost long_alike = { λ old new a b longer longer' views.
+        long_alike (stage_of old.session) (stage_of new.session) a b (reply_of new) longer longer' views };
+}

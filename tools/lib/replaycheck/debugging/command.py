@@ -1,0 +1,37 @@
+"""The command line of `replaycheck gdb`."""
+from replaycheck.endings import write
+from replaycheck.options import Reader
+
+from .packets import Packets
+from .run import Run
+from .stub import Stub
+
+COMMANDS = """# Has gdb read anew what a line of monitor may have changed, and wait for long searches.
+define hookpost-monitor
+  maintenance flush register-cache
+  maintenance flush dcache
+end
+set remotetimeout 120
+"""
+
+
+def options_of(page):
+    reader = Reader(page)
+    reader.add_argument("file", nargs="?")
+    reader.option("--input")
+    reader.option("--supp")
+    reader.option("--commands", is_flag=True)
+    options = reader.read()
+    if options.commands == (options.file is not None):
+        reader.error("FILE is wanted, or --commands alone")
+    return options
+
+
+def debug(options):
+    if options.commands:
+        write(COMMANDS)
+        return 0
+    run = Run(options.file, options.input, options.supp)
+    run.registers()  # what keeps the program from its work is told before gdb is answered
+    Stub(Packets(), run, options.file, options.input, options.supp).serve()
+    return 0

@@ -1,0 +1,47 @@
+"""The registers that gdb is told of, and their description (gdb's manual, appendix G, RISC-V features)."""
+
+NAMES = ("zero ra sp gp tp t0 t1 t2 fp s1 a0 a1 a2 a3 a4 a5 a6 a7 s2 s3 s4 s5 s6 s7 s8 s9 s10 s11 "
+         "t3 t4 t5 t6").split()
+POINTERS = {"sp", "gp", "tp", "fp"}
+PC = len(NAMES)
+STEP = PC + 1
+SHADOWS = STEP + 1  # the undefined bits of each, under Valgrind's names: a0s1 of a0
+
+HEAD = """<?xml version="1.0"?>
+<!DOCTYPE target SYSTEM "gdb-target.dtd">
+<target version="1.0">
+<architecture>riscv:rv32</architecture>
+"""
+
+
+def register(name, number, kind, group=""):
+    return f'<reg name="{name}" bitsize="32" regnum="{number}" type="{kind}"{group and f" group={chr(34)}{group}{chr(34)}"}/>\n'
+
+
+def feature(name, registers):
+    return f'<feature name="{name}">\n{"".join(registers)}</feature>\n'
+
+
+def description():
+    """What gdb is told of the registers."""
+    plain = [register(it, number, "data_ptr" if it in POINTERS else "int") for number, it in enumerate(NAMES)]
+    plain.append(register("pc", PC, "code_ptr"))
+    own = [register("step", STEP, "uint32", "general")]
+    own += [register(it + "s1", SHADOWS + number, "uint32", "shadow") for number, it in enumerate(NAMES)]
+    return HEAD + feature("org.gnu.gdb.riscv.cpu", plain) + feature("org.replaycheck.run", own) + "</target>\n"
+
+
+def in_hexadecimal(value):
+    """A register, the lowest byte first."""
+    return value.to_bytes(4, "little").hex()
+
+
+def value_of(number, seen, step):
+    """The value of a register by its number, where there is one, in what was seen at a step."""
+    if number < PC:
+        return seen.values[number]
+    if number == PC:
+        return seen.pc
+    if number == STEP:
+        return step
+    return seen.undefined[number - SHADOWS] if number < SHADOWS + len(NAMES) else None
