@@ -4,7 +4,9 @@ ghost use Rattle.clap.specs.Words.{FailsBy, app_of, fault_of, found_of, kind_of,
 ghost use Rattle.clap.specs.declared.builder.command.Command.TheViews.{out-Command};
 ghost use Rattle.command_line.specs.Orders.{IsOrderFor, IsOrderOf, IsStepOf, IsSweepOf, IsTaskOf, command_line, default_option, file_argument, option, output_flag, program_command, run_command, step_option, sweep_command, sweep_of_bytes, with_look, with_run, with_session};
 
-use crate::help::{ABOUT, AFTER_LOOK, AFTER_RUN, AFTER_SESSION, AFTER_SWEEP, LOOK, RUN, SESSION, SWEEP};
+use crate::help::{
+    ABOUT, AFTER_LOOK, AFTER_RUN, AFTER_SESSION, AFTER_SWEEP, LOOK, RUN, SESSION, SWEEP,
+};
 use crate::order::{Order, SweepWords, Task};
 use clap::error::ErrorKind;
 use clap::{Arg, ArgAction, ArgMatches, Command, Error, value_parser};
