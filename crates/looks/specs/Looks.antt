@@ -4,7 +4,7 @@ use Rattle.std.specs.List.{starts_with}
 use Rattle.std.specs.Str.{bytes_eq}
 use Rattle.checkpoints.specs.declared.searches.Sought.{Sought}
 use Rattle.checkpoints.specs.declared.searches.Watch.{Watch}
-use Rattle.checkpoints.specs.declared.searches.Watch.TheVariants.{Run, Read, Write}
+use Rattle.checkpoints.specs.declared.searches.Watch.TheVariants.{Run, Read, Write, Error}
 use Rattle.guest_machine.specs.declared.span.Span.{Span}
 use Rattle.scenario.specs.Limits.{most_steps}
 use Rattle.replay_session.specs.Commands.{fields, number}
@@ -32,6 +32,7 @@ watch_of word =
     if bytes_eq word (codes "run") then Some Run
     else if bytes_eq word (codes "read") then Some Read
     else if bytes_eq word (codes "write") then Some Write
+    else if bytes_eq word (codes "error") then Some Error
     else None
 
 -- `KIND ADDR LEN`

@@ -15,6 +15,8 @@ const READ: &[u8] = b"read";
 
 const WRITE: &[u8] = b"write";
 
+const ERROR: &[u8] = b"error";
+
 const REGISTERS: &[u8] = b"registers";
 
 const MEMORY: &[u8] = b"memory";
@@ -46,6 +48,8 @@ fn watch_of(word: &[u8]) -> Option<Watch>
         Some(Watch::Read)
     } else if word == WRITE {
         Some(Watch::Write)
+    } else if word == ERROR {
+        Some(Watch::Error)
     } else {
         None
     }
