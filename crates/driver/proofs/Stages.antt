@@ -1,5 +1,5 @@
 -- The stages of a command on a program.
-use Rattle.std.proofs.Common.{◌≡◌, ◌⊎◌, ℕ, List, [], Option, Some, Result, Ok, Err, IfErr, IsErrAnd, inr, sym, subst}
+use Rattle.std.proofs.Common.{◌≡◌, ◌⊎◌, ◌∙◌, ℕ, List, [], Bool, false, Option, Some, Result, Ok, Err, IfErr, IsErrAnd, ap, inr, sym, subst}
 use Rattle.std.proofs.KnownBytes.{Appends-nil, Consumes-nil}
 use Rattle.std.specs.Io.KnownBytes.{Appends, Consumes}
 use Rattle.command_line.specs.Orders.{input_path, rules_path}
@@ -21,6 +21,13 @@ use Rattle.driver.specs.declared.carrying.Action.{Action}
 use Rattle.driver.specs.declared.carrying.Action.TheVariants.{Report}
 use Rattle.driver.specs.declared.ends.End.{End}
 use Rattle.driver.specs.declared.ends.End.TheVariants.{Image}
+use Rattle.checkpoints.specs.Trails.{is_short}
+use Rattle.checkpoints.specs.Work.{Work}
+use Rattle.replay_session.specs.Session.{turn_of, trail_of}
+use Rattle.replay_session.specs.Stages.{Stage, fresh, stage_of}
+use Rattle.replay_session.specs.Turns.{Turn}
+use Rattle.replay_session.specs.Work.{no_work, work_on}
+use Rattle.replay_session.specs.declared.session.Session.{Session}
 use Rattle.suppressions.specs.Rules.{Rule}
 
 pub untouched : (left held : Option (List ℕ)) → Untouched (streams left held) (streams left held)
@@ -82,3 +89,13 @@ serves-fault AreReplies none-of (ServedNoMemory replies bytes) left-old left-new
       subst (Consumes left-old left-new) none used,
       subst (λ (rs : List (List ℕ)). Appends held-old held-new (joined rs)) no-replies whole.appended,
     )
+
+-- a session to which nothing was said but what opened it, and of whose run nothing was made, has a fresh stage
+stage-with : Turn → Work → Bool → Stage
+stage-with turn work short = record { turn = turn; work = work; short = short }
+
+pub begins-fresh : (session : Session) (turn : Turn) → turn_of session ≡ turn → work_on (trail_of session) ≡ no_work → is_short (trail_of session) ≡ false
+    → stage_of session ≡ fresh turn
+begins-fresh session turn said work whole =
+    ap (λ (t : Turn). stage-with t (work_on (trail_of session)) (is_short (trail_of session))) said
+    ∙ ap (λ (w : Work). stage-with turn w (is_short (trail_of session))) work ∙ ap (λ (b : Bool). stage-with turn no_work b) whole
