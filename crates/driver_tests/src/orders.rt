@@ -22,6 +22,7 @@ fn text_of(alloc: Global, order: &Order<'_>) -> Result<String, Fail> {
     let task = match order.task {
         Task::Report(step) => format!(in alloc; "{step}")?,
         Task::Session => format!(in alloc; "session")?,
+        Task::Look => format!(in alloc; "look")?,
         Task::Sweep(asked) => {
             let (step, part, output) = (asked.step, asked.part, asked.with_output);
             let (bytes, byte_values) = (asked.bytes.unwrap_or("-"), asked.byte_values);
@@ -51,6 +52,11 @@ fn lines_give_orders(rt: HostRuntime) -> Result<(), Fail> {
             "a session with files",
             ["session", "f", "--supp", "s", "--input=i"].as_slice(),
             "f i s session",
+        ),
+        (
+            "one that looks",
+            ["look", "f", "--input", "i"].as_slice(),
+            "f i - look",
         ),
         (
             "a sweep of all bytes",
