@@ -109,7 +109,8 @@ and don't count. Each is answered for the chosen step of the run with all edits:
   look last KIND ADDR LEN FROM  the last step, before the chosen one and not before FROM, that does
 
 KIND is what a step does with the LEN bytes at ADDR: `run` where its pc is among them and the
-program runs, `read` where it reads some of them beside its own word, `write` where it writes some.
+program runs, `error` where it then raises an error, `read` where it reads some of them beside its
+own word, `write` where it writes some.
 The answer is `step N`, or `none`. Refused are, beside want of memory (1):
   2   no look, or a field that is missing, too many, empty or of the wrong form
   5   END or FROM above 4194304
