@@ -1,5 +1,6 @@
 -- Lines that are too long are answered alike: a lemma for the server of lines, which keeps a front of such a line.
-use Rattle.std.proofs.Common.{◌≡◌, ◌<◌, ◌&&◌, ◌∙◌, ℕ, List, Bool, true, false, ap, refl, subst, sym, length, nat_le, nat_lt, lt-ltb}
+use Rattle.std.proofs.Common.{◌≡◌, ◌<◌, ◌&&◌, ℕ, List, Bool, true, false, refl, subst, sym, length, nat_le}
+use Rattle.std.proofs.lemmas.Bool.{lt-leb}
 use Rattle.std.specs.Prelude.{codes, nat_eq, not}
 use Rattle.std.specs.Bool.{MatchBool}
 use Rattle.std.specs.List.{starts_with}
@@ -19,9 +20,16 @@ last-fails false b c h = refl
 
 too-long : (turn : Turn) (line : List ℕ) → longest_line < length line → looks turn line ≡ false
 unfolding looks
-too-long turn line h = last-fails _ _ _ (Prim.search (lt-ltb longest_line (length line) h))
+too-long turn line h = last-fails (starts_with nat_eq line (codes "look ")) (not (is_over turn)) _ (lt-leb (length line) longest_line h)
+
+-- a line that doesn't look is answered as in a session
+module _ (old new : Stage) (line text : List ℕ) (no : looks old.turn line ≡ false) where
+  pub as_in_session : Replies old line text new → Views old line text new
+  as_in_session h = subst (λ (t : Bool). MatchBool t (Looked old (asked line) text new) (Replies old line text new)) (sym no) h
+
+  in-session : Views old line text new → Replies old line text new
+  in-session h = subst (λ (t : Bool). MatchBool t (Looked old (asked line) text new) (Replies old line text new)) no h
 
 pub long_alike : (old new : Stage) (a b text : List ℕ) → longest_line < length a → longest_line < length b → Views old a text new → Views old b text new
 long_alike old new a b text f g views =
-    subst (λ (t : Bool). MatchBool t (Looked old (asked b) text new) (Replies old b text new)) (sym (too-long old.turn b g))
-    (session_alike old new a b text f g (subst (λ (t : Bool). MatchBool t (Looked old (asked a) text new) (Replies old a text new)) (too-long old.turn a f) views))
+    as_in_session old new b text (too-long old.turn b g) (session_alike old new a b text f g (in-session old new a text (too-long old.turn a f) views))

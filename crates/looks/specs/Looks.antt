@@ -6,10 +6,11 @@ use Rattle.checkpoints.specs.declared.searches.Sought.{Sought}
 use Rattle.checkpoints.specs.declared.searches.Watch.{Watch}
 use Rattle.checkpoints.specs.declared.searches.Watch.TheVariants.{Run, Read, Write, Error}
 use Rattle.guest_machine.specs.declared.span.Span.{Span}
+use Rattle.line_server.specs.Lines.{longest_line}
 use Rattle.scenario.specs.Limits.{most_steps}
 use Rattle.replay_session.specs.Commands.{fields, number}
 use Rattle.replay_session.specs.Replies.{is_over}
-use Rattle.replay_session.specs.Turns.{Turn, longest_line}
+use Rattle.replay_session.specs.Turns.{Turn}
 use Rattle.replay_session.specs.declared.fault.Fault.{Fault}
 use Rattle.replay_session.specs.declared.fault.Fault.TheVariants.{BadCommand, BadRange, StepLimit}
 use Rattle.looks.specs.declared.look.Look.{Look}

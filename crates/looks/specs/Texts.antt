@@ -1,5 +1,5 @@
 -- What a look tells of a state.
-use Rattle.std.specs.Prelude.{ℕ, zero, suc, ◌+◌, if◌then◌else◌, List, [], ◌++◌, Option, Some, None, codes, decimal}
+use Rattle.std.specs.Prelude.{◌≡◌, ℕ, zero, suc, ◌+◌, if◌then◌else◌, List, [], ◌++◌, Option, Some, None, codes, decimal}
 use Rattle.definedness.specs.declared.Bits.{Bits}
 use Rattle.checkpoints.specs.Searches.{IsNext, IsLast}
 use Rattle.guest_machine.specs.Registers.{register}

@@ -132,6 +132,7 @@ impl Listener for Viewer<'_> {
         self.session.is_over()
     }
 
+    #[tactic(auto, unfolding(crate::specs::Views::reply_of))]
     fn answer(&mut self, line: &[u8]) {
         if looks(&self.session, line) {
             self.look(line);
@@ -141,6 +142,7 @@ impl Listener for Viewer<'_> {
         }
     }
 
+    #[tactic(auto, unfolding(crate::specs::Views::reply_of))]
     fn reply(&self) -> &[u8] {
         if self.is_shown {
             &self.shown
