@@ -28,6 +28,7 @@ use Rattle.replay_session.specs.Stages.{Stage, fresh, stage_of}
 use Rattle.replay_session.specs.Turns.{Turn}
 use Rattle.replay_session.specs.Work.{no_work, work_on}
 use Rattle.replay_session.specs.declared.session.Session.{Session}
+use Rattle.looks.specs.Views.{ViewsLines}
 use Rattle.suppressions.specs.Rules.{Rule}
 
 pub untouched : (left held : Option (List ℕ)) → Untouched (streams left held) (streams left held)
@@ -90,12 +91,20 @@ serves-fault AreReplies none-of (ServedNoMemory replies bytes) left-old left-new
       subst (λ (rs : List (List ℕ)). Appends held-old held-new (joined rs)) no-replies whole.appended,
     )
 
--- a session to which nothing was said but what opened it, and of whose run nothing was made, has a fresh stage
-stage-with : Turn → Work → Bool → Stage
+-- a session to which nothing was said but what opened it, and of whose run nothing was made, has a fresh stage; so a fault of
+-- what was served of its stage is one of that
+abbrev stage-with : Turn → Work → Bool → Stage
 stage-with turn work short = record { turn = turn; work = work; short = short }
 
-pub begins-fresh : (session : Session) (turn : Turn) → turn_of session ≡ turn → work_on (trail_of session) ≡ no_work → is_short (trail_of session) ≡ false
-    → stage_of session ≡ fresh turn
-begins-fresh session turn said work whole =
-    ap (λ (t : Turn). stage-with t (work_on (trail_of session)) (is_short (trail_of session))) said
-    ∙ ap (λ (w : Work). stage-with turn w (is_short (trail_of session))) work ∙ ap (λ (b : Bool). stage-with turn no_work b) whole
+module _ (session : Session) (turn : Turn) (said : turn_of session ≡ turn) (work : work_on (trail_of session) ≡ no_work) (whole : is_short (trail_of session) ≡ false)
+    (left-old left-new held-old held-new : Option (List ℕ)) where
+  begins-fresh : stage_of session ≡ fresh turn
+  begins-fresh =
+      ap (λ (t : Turn). stage-with t (work_on (trail_of session)) (is_short (trail_of session))) said
+      ∙ ap (λ (w : Work). stage-with turn w (is_short (trail_of session))) work ∙ ap (λ (b : Bool). stage-with turn no_work b) whole
+
+  pub viewed-fault : (fault : ServeFault) → StoppedBy fault (ViewsLines (stage_of session)) left-old left-new held-old held-new
+      → Serves (ViewsLines (fresh turn)) (streams left-old held-old) (streams left-new held-new) (end_of_serve fault)
+  viewed-fault fault stopped =
+      serves-fault (ViewsLines (fresh turn)) (λ replies none. none) fault left-old left-new held-old held-new
+      (subst (λ (stage : Stage). StoppedBy fault (ViewsLines stage) left-old left-new held-old held-new) begins-fresh stopped)

@@ -39,7 +39,7 @@ returns-in-Session g c =
     with-all (g.F.Files.gives c.args.files.now) c.args.order.now c.args.action _ _ _ _ _ _ _ _ c.in_ok-file.ensures.ok c.deref.ensures.value c.in_ok-image.ensures.image
     c.in_ok-suppressions.ensures.ok c.in_ok-input.ensures.ok (does-same _ Session _ _ _ _ _ _ c.in-Session.is c.serve_session.ensures)
 
-pub returns-in-Look : goal.returns-in-Look
-returns-in-Look g c =
+pub returns : goal.returns
+returns g c =
     with-all (g.F.Files.gives c.args.files.now) c.args.order.now c.args.action _ _ _ _ _ _ _ _ c.in_ok-file.ensures.ok c.deref.ensures.value c.in_ok-image.ensures.image
     c.in_ok-suppressions.ensures.ok c.in_ok-input.ensures.ok (does-same _ Look _ _ _ _ _ _ c.in-Look.is c.serve_looks.ensures)
