@@ -161,7 +161,8 @@ impl FirstUses {
         }
     }
 
-    /// Puts a step at a place.
+    /// Puts a step at a place. Out of line, since most steps touch words that were touched before.
+    #[inline(never)]
     #[tactic(auto, unfolding(crate::specs::Entries::ranges_of))]
     fn put(&mut self, place: usize, step: u32)
         requires within { place < words_of (ranges_of self.old) }
@@ -176,6 +177,7 @@ impl FirstUses {
     }
 
     /// Enters a step for each word that a range meets.
+    #[inline(always)]
     fn enter_span(&mut self, span: Option<Span>, step: u32)
         ensures ranges { ranges_of self.new ≡ ranges_of self.old }
         ensures entries { EntersAt step (covers span) self.old self.new }
