@@ -234,16 +234,22 @@ fn forget_groups(steps: &mut [u32], bounds: &mut [u32], from: u32)
     }
 }
 
-/// Drops the steps from one on in a group.
+/// Drops the steps from one on in a group. Out of line, so that a group which is passed over costs one comparison.
+#[inline(never)]
 fn forget_group(steps: &mut [u32], group: usize, from: u32)
     requires { 64 * group ≤ length steps.old }
     ensures { DropsAt (is_in_group group) from steps.old steps.new }
 {
     for place in GROUP * group..group_end(group, steps.len()) {
-        if steps[place] >= from {
-            steps[place] = NEVER;
-        }
+        steps[place] = kept_below(from, steps[place]);
     }
+}
+
+/// A step, or none where it doesn't lie below another.
+fn kept_below(from: u32, step: u32) -> u32
+    ensures { result ≡ kept_below from step }
+{
+    if step < from { step } else { NEVER }
 }
 
 /// One past the last place of a group, in a table of some places.
