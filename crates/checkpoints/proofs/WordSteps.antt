@@ -1,7 +1,7 @@
 -- Places of words in a table, and the words that a range meets.
 use Rattle.std.proofs.Common.{◌≡◌, ℕ, zero, suc, ◌+◌, ◌-◌, ◌*◌, ◌/◌, ◌%◌, ◌^◌, ◌<◌, ◌≤◌, ◌||◌, nat_lt, Bool, true, false, cond, List, [], ◌∷◌, refl, ap, sym, add-zero}
-use Rattle.std.proofs.Common.{◌++◌, ◌⊎◌, ◌∙◌, inl, inr, arith, min, map, subst, length, get_or}
-use Rattle.std.proofs.Math.ListN.{set, get_or-map}
+use Rattle.std.proofs.Common.{◌++◌, ◌⊎◌, ◌∙◌, inl, inr, arith, min, length, get_or}
+use Rattle.std.proofs.Math.ListN.{set}
 use Rattle.std.proofs.lemmas.Bool.{cases_eq, cases_lt, false≢true}
 use Rattle.std.proofs.lemmas.Bool.Decides.{nat_tests}
 use Rattle.std.proofs.lemmas.List.{get_or-set_other, get_or-set_same}
@@ -10,7 +10,7 @@ use Rattle.guest_machine.specs.Spans.{covers}
 use Rattle.guest_machine.specs.declared.span.Span.{Span}
 use Rattle.guest_machine.specs.declared.setup.Touched.{Touched}
 use Rattle.guest_machine.specs.Exec.{has_touched}
-use Rattle.checkpoints.specs.Words.{meets, has_address, is_among, is_from, IsWordIn, words_in, words_of, has_word, place_in, IsPlaced, never, AreBelow}
+use Rattle.checkpoints.specs.Words.{meets, has_address, is_among, is_from, IsWordIn, words_in, words_of, has_word, place_in, IsPlaced}
 
 -- words in and out of a range
 inside : (r : Span) (w : ℕ) → has_word r w ≡ true → (r.start / 4 ≤ w) × (w < r.start / 4 + words_in r)
@@ -215,35 +215,3 @@ pub words-more : (rs : List Span) (r : Span) → words_of (rs ++ r ∷ []) ≡ w
 unfolding words_of
 words-more [] r = omega arith
 words-more (x ∷ rs) r = omega (arith, words-more rs r)
-
--- and as those from one on are dropped
-either-never : (b : Bool) → cond b never never ≡ never
-either-never true = refl
-either-never false = refl
-
-left-low : (x n : ℕ) → (cond (nat_lt x n) x never ≡ never → ⊥) → cond (nat_lt x n) x never < n
-left-low x n h = go (nat_lt x n) refl h
-  where
-    go : (b : Bool) → nat_lt x n ≡ b → (cond b x never ≡ never → ⊥) → cond b x never < n
-    go true e k = grind (arith, nat_tests)
-    go false e k = absurd (k refl)
-
-pub forgotten-early : (ss : List ℕ) (n : ℕ) → AreBelow (map (λ x. cond (nat_lt x n) x never) ss) n
-forgotten-early ss n k h =
-    let f : ℕ → ℕ = λ x. cond (nat_lt x n) x never in
-    let now : get_or (map f ss) k never ≡ f (get_or ss k never) = ap (get_or (map f ss) k) (sym (either-never (nat_lt never n))) ∙ get_or-map f ss k never in
-    let P : ℕ → Type 0 = λ x. (x ≡ never → ⊥) → x < n in
-    subst P (sym now) (left-low (get_or ss k never) n) h
-
-pub still-early : (ss : List ℕ) (n step place : ℕ) → AreBelow ss n → n ≤ step → get_or ss place never ≡ cond (nat_lt (get_or ss place never) step) (get_or ss place never) never
-still-early ss n step place b l = elim (cases_eq (get_or ss place never) never) [
-  | inl none ↦ (none ∙ sym (ap (λ x. cond (nat_lt (get_or ss place never) step) x never) none ∙ same (nat_lt (get_or ss place never) step)))
-  | inr some ↦ (let low = b place some in sym (ap (λ t. cond t (get_or ss place never) never) (is-below (get_or ss place never) step (omega arith))))
-]
-  where
-    same : (t : Bool) → cond t never never ≡ never
-    same true = refl
-    same false = refl
-
-    is-below : (x y : ℕ) → x < y → nat_lt x y ≡ true
-    is-below x y h = grind (arith, nat_tests)

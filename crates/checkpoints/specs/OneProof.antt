@@ -1,16 +1,12 @@
 -- That a trail is right for a run has one proof at most, so that a type can keep it as a ghost field.
-use Rattle.std.specs.Prelude.{◌≡◌, ℕ, ◌<◌, Bool, true, false, List, Option, Some, None, length, slice_index_or}
+use Rattle.std.specs.Prelude.{ℕ, Bool, Option, Some, None}
 use Rattle.std.proofs.Props.{props}
 use Rattle.guest_machine.specs.State.{State}
-use Rattle.guest_machine.specs.Run.{pre}
 use Rattle.guest_machine.specs.Shows.{Shows}
 use Rattle.guest_machine.specs.declared.machine.Machine.{Machine}
-use Rattle.guest_machine.specs.declared.setup.Setup.{Setup}
-use Rattle.guest_machine.specs.declared.setup.Mark.{Mark}
 use Rattle.checkpoints.specs.Edits.{IsRightForRun}
 use Rattle.checkpoints.specs.Effects.{Run}
 use Rattle.checkpoints.specs.FirstUses.{IsFirstBelow}
-use Rattle.checkpoints.specs.Trails.{IsRightFor}
 use Rattle.checkpoints.specs.declared.trail.Trail.{Trail}
 
 pub shows-prop : (machine : Machine) (s : State) → IsProp (Shows machine s)

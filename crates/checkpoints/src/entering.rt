@@ -1,5 +1,5 @@
 //! How first uses are entered, looked up and forgotten.
-ghost use Rattle.std.specs.Prelude.{◌≡◌, ℕ, ◌+◌, ◌-◌, ◌*◌, ◌/◌, ◌%◌, ◌^◌, ◌<◌, ◌≤◌, ◌==◌, slice_index_or, nat_lt, if◌then◌else◌, map, min, max, length, IfOk};
+ghost use Rattle.std.specs.Prelude.{◌≡◌, ℕ, ◌+◌, ◌-◌, ◌*◌, ◌/◌, ◌%◌, ◌^◌, ◌<◌, ◌≤◌, slice_index_or, slice_set, if◌then◌else◌, true, map, min, max, length, IfOk};
 ghost use Rattle.std.specs.List.{list_any};
 ghost use Rattle.std.specs.List.Sorted.{IsNonDecreasingBy};
 ghost use Rattle.guest_machine.specs.declared.span.Span.{Span as SpanOf};
@@ -9,10 +9,11 @@ ghost use Rattle.guest_machine.specs.Exec.{has_touched};
 ghost use Rattle.guest_machine.specs.Spans.{span_at};
 ghost use Rattle.guest_machine.specs.Spans.{covers};
 ghost use Rattle.guest_elf.specs.declared.segment.Segment.{Segment as SegmentOf};
-ghost use Rattle.checkpoints.specs.Words.{meets, is_among, is_from, words_in, word_end, IsPlaced, IsPlace, never};
+ghost use Rattle.checkpoints.specs.Words.{meets, is_among, is_from, words_in, word_end, words_of, IsPlaced, IsPlace, never, kept_below, AreBelowBounds, DropsAt, is_in_group};
 ghost use Rattle.checkpoints.specs.Entries.{ranges_of, entry_of, below, EntersAt};
 
-use crate::uses::{FirstUses, Place, Row};
+use crate::searches::later;
+use crate::uses::{FirstUses, GROUP, Place, Row};
 use guest_elf::Segment;
 use guest_machine::{Span, Touched};
 use std::alloc::{AllocError, Global};
@@ -98,10 +99,13 @@ impl FirstUses {
             })?;
             steps.resize(steps.len() + words_in(*range), NEVER)?;
         }
+        let mut bounds = Vec::new(alloc);
+        bounds.resize(steps.len() / GROUP + 1, 0)?;
         Ok(FirstUses {
             ranges,
             rows,
             steps,
+            bounds,
             entered: 0,
         })
     }
@@ -149,8 +153,7 @@ impl FirstUses {
         match self.place_of(word) {
             Place::At(place) => {
                 if step < self.steps[place] {
-                    self.entered = self.entered.max(step.saturating_add(1));
-                    self.steps[place] = step;
+                    self.put(place, step);
                 }
                 1
             }
@@ -158,7 +161,23 @@ impl FirstUses {
         }
     }
 
+    /// Puts a step at a place. Out of line, since most steps touch words that were touched before.
+    #[inline(never)]
+    #[tactic(auto, unfolding(crate::specs::Entries::ranges_of))]
+    fn put(&mut self, place: usize, step: u32)
+        requires within { place < words_of (ranges_of self.old) }
+        requires step { step < never }
+        ensures ranges { ranges_of self.new ≡ ranges_of self.old }
+        ensures steps { self.new.steps.items ≡ slice_set self.old.steps.items place step }
+    {
+        let group = place / GROUP;
+        self.entered = later(self.entered, step + 1);
+        self.bounds[group] = later(self.bounds[group], step + 1);
+        self.steps[place] = step;
+    }
+
     /// Enters a step for each word that a range meets.
+    #[inline(always)]
     fn enter_span(&mut self, span: Option<Span>, step: u32)
         ensures ranges { ranges_of self.new ≡ ranges_of self.old }
         ensures entries { EntersAt step (covers span) self.old self.new }
@@ -191,22 +210,57 @@ impl FirstUses {
     #[tactic(auto, unfolding(crate::specs::Entries::ranges_of, crate::specs::Entries::entry_of))]
     pub(crate) fn forget_from(&mut self, step: u32)
         ensures ranges { ranges_of self.new ≡ ranges_of self.old }
-        ensures entries { (w : ℕ) → entry_of self.new w ≡ (if nat_lt (entry_of self.old w) step then entry_of self.old w else never) }
+        ensures entries { (w : ℕ) → entry_of self.new w ≡ kept_below step (entry_of self.old w) }
     {
         if self.entered > step {
-            forget_each(&mut self.steps, step);
+            forget_groups(&mut self.steps, &mut self.bounds, step);
             self.entered = step;
         }
     }
 }
 
-/// Drops the steps from one on.
-fn forget_each(steps: &mut [u32], from: u32)
-    ensures { steps.new ≡ map (λ step. if nat_lt step from then step else never) steps.old }
+/// Drops the steps from one on. Groups whose bound doesn't lie above it have none of them, and are passed over.
+fn forget_groups(steps: &mut [u32], bounds: &mut [u32], from: u32)
+    requires grouped { length bounds.old ≡ length steps.old / 64 + 1 }
+    requires bounded { AreBelowBounds steps.old bounds.old }
+    ensures steps { DropsAt (λ place. true) from steps.old steps.new }
+    ensures bounded { AreBelowBounds steps.new bounds.new }
 {
-    for step in steps.iter_mut() {
-        if *step >= from {
-            *step = NEVER;
+    for group in 0..bounds.len() {
+        if bounds[group] > from {
+            forget_group(steps, group, from);
+            bounds[group] = from;
         }
+    }
+}
+
+/// Drops the steps from one on in a group. Out of line, so that a group which is passed over costs one comparison.
+#[inline(never)]
+fn forget_group(steps: &mut [u32], group: usize, from: u32)
+    requires { 64 * group ≤ length steps.old }
+    ensures { DropsAt (is_in_group group) from steps.old steps.new }
+{
+    for place in GROUP * group..group_end(group, steps.len()) {
+        steps[place] = kept_below(from, steps[place]);
+    }
+}
+
+/// A step, or none where it doesn't lie below another.
+fn kept_below(from: u32, step: u32) -> u32
+    ensures { result ≡ kept_below from step }
+{
+    if step < from { step } else { NEVER }
+}
+
+/// One past the last place of a group, in a table of some places.
+fn group_end(group: usize, places: usize) -> usize
+    requires { 64 * group ≤ places }
+    ensures { result ≡ min places (64 * group + 64) }
+{
+    let first = GROUP * group;
+    if places - first < GROUP {
+        places
+    } else {
+        first + GROUP
     }
 }

@@ -151,7 +151,7 @@ impl Trail {
 }
 
 /// The later of two steps.
-fn later(x: u32, y: u32) -> u32
+pub(crate) fn later(x: u32, y: u32) -> u32
     ensures { result ≡ max x y }
 {
     if x < y { y } else { x }
