@@ -9,7 +9,7 @@ ghost use Rattle.guest_machine.specs.Exec.{has_touched};
 ghost use Rattle.guest_machine.specs.Spans.{span_at};
 ghost use Rattle.guest_machine.specs.Spans.{covers};
 ghost use Rattle.guest_elf.specs.declared.segment.Segment.{Segment as SegmentOf};
-ghost use Rattle.checkpoints.specs.Words.{meets, is_among, is_from, words_in, word_end, words_of, IsPlaced, IsPlace, never, kept_below, AreBelowBounds, DropsAt, is_in_group};
+ghost use Rattle.checkpoints.specs.Words.{meets, is_among, is_from, words_in, word_end, words_of, IsPlaced, IsPlace, never, kept_below, group_size, AreBelowBounds, DropsAt, is_in_group};
 ghost use Rattle.checkpoints.specs.Entries.{ranges_of, entry_of, below, EntersAt};
 
 use crate::searches::later;
@@ -221,7 +221,7 @@ impl FirstUses {
 
 /// Drops the steps from one on. Groups whose bound doesn't lie above it have none of them, and are passed over.
 fn forget_groups(steps: &mut [u32], bounds: &mut [u32], from: u32)
-    requires grouped { length bounds.old ≡ length steps.old / 64 + 1 }
+    requires grouped { length bounds.old ≡ length steps.old / group_size + 1 }
     requires bounded { AreBelowBounds steps.old bounds.old }
     ensures steps { DropsAt (λ place. true) from steps.old steps.new }
     ensures bounded { AreBelowBounds steps.new bounds.new }
@@ -237,7 +237,7 @@ fn forget_groups(steps: &mut [u32], bounds: &mut [u32], from: u32)
 /// Drops the steps from one on in a group. Out of line, so that a group which is passed over costs one comparison.
 #[inline(never)]
 fn forget_group(steps: &mut [u32], group: usize, from: u32)
-    requires { 64 * group ≤ length steps.old }
+    requires { group_size * group ≤ length steps.old }
     ensures { DropsAt (is_in_group group) from steps.old steps.new }
 {
     for place in GROUP * group..group_end(group, steps.len()) {
@@ -254,8 +254,8 @@ fn kept_below(from: u32, step: u32) -> u32
 
 /// One past the last place of a group, in a table of some places.
 fn group_end(group: usize, places: usize) -> usize
-    requires { 64 * group ≤ places }
-    ensures { result ≡ min places (64 * group + 64) }
+    requires { group_size * group ≤ places }
+    ensures { result ≡ min places (group_size * group + group_size) }
 {
     let first = GROUP * group;
     if places - first < GROUP {
