@@ -1,12 +1,12 @@
 -- What each part of a line does to what was said to a session.
-use Rattle.std.proofs.Common.{◌≡◌, false, ap, sym, ◌∙◌, Result, Ok, Err}
+use Rattle.std.proofs.Common.{◌≡◌, ◌-◌, true, false, ap, sym, ◌∙◌, Result, Ok, Err, length, take}
 use Rattle.std.proofs.Math.Path.{transport}
 use Rattle.std.proofs.lemmas.Bool.{false≢true}
-use Rattle.std.specs.Prelude.{OnOk, is_err, is_some}
+use Rattle.std.specs.Prelude.{OnErr, OnOk, is_err, is_some}
 use Rattle.guest_elf.specs.Images.{loaded_at}
 use Rattle.guest_elf.specs.declared.image.Image.{Image}
 use Rattle.checkpoints.specs.Edits.{IsRightForLed, IsRightForRun}
-use Rattle.checkpoints.specs.Effects.{LeadsTo}
+use Rattle.checkpoints.specs.Effects.{IsWrite, LeadsTo}
 use Rattle.checkpoints.specs.Trails.{LoadsAs, loaded_of}
 use Rattle.checkpoints.specs.Words.{is_among}
 use Rattle.checkpoints.specs.declared.effect.Effect.{Effect}
@@ -14,7 +14,8 @@ use Rattle.checkpoints.specs.declared.trail.Trail.{Trail}
 use Rattle.scenario.specs.Edits.{Follows, IsTaken, row}
 use Rattle.scenario.specs.Scenario.{Scenario, run_of}
 use Rattle.scenario.specs.declared.edit.Edit.{Edit as AnEdit}
-use Rattle.scenario.proofs.EditLaws.{image_kept}
+use Rattle.scenario.specs.declared.edit.Edit.TheVariants.{Input, Append, Cut, Patch, Mark, Unmark, Switch, Add, Callers, Redzone, Queue, Show}
+use Rattle.scenario.proofs.EditLaws.{cut-appended, image_kept}
 
 -- ---- edits
 
@@ -33,3 +34,24 @@ loads-followed sc after edit old new left same loads a =
 pub no-error : {T E P : Type 0} (r : Result T E) → is_err r ≡ false → OnOk r P → P
 no-error (Ok x) h p = p
 no-error (Err e) h p = absurd (false≢true (sym h))
+
+-- and of one that is
+pub an-error : {T E P : Type 0} (r : Result T E) → is_err r ≡ true → OnErr r P → P
+an-error (Ok x) h p = absurd (false≢true h)
+an-error (Err e) h p = p
+
+-- a word that is written and taken off again leaves what was said
+pub word-dropped : (sc : Scenario) (edit : AnEdit) → IsWrite (row sc edit).effect
+    → record (row sc edit).after { words = take (length (row sc edit).after.words - 1) (row sc edit).after.words } ≡ sc
+word-dropped sc (Patch addr word) h = ap (λ ws. record sc { words = ws }) (cut-appended sc.words (record { addr = addr; word = word }))
+word-dropped sc (Input offset byte) h = absurd h
+word-dropped sc (Append byte) h = absurd h
+word-dropped sc Cut h = absurd h
+word-dropped sc (Mark mark) h = absurd h
+word-dropped sc (Unmark i) h = absurd h
+word-dropped sc (Switch i on) h = absurd h
+word-dropped sc (Add rule) h = absurd h
+word-dropped sc (Callers n) h = absurd h
+word-dropped sc (Redzone n) h = absurd h
+word-dropped sc (Queue n) h = absurd h
+word-dropped sc (Show kinds) h = absurd h

@@ -1,12 +1,12 @@
-use Rattle.std.proofs.Common.{sym, subst, ◌∙◌}
-use Rattle.checkpoints.specs.Effects.{EffectShows}
+use Rattle.std.proofs.Common.{◌≡◌, ◌-◌, ap, length, sym, subst, take, ◌∙◌}
+use Rattle.checkpoints.specs.Effects.{EffectShows, IsWrite}
 use Rattle.checkpoints.specs.Work.{EditMoves}
 use Rattle.checkpoints.specs.declared.effect.Effect.{Effect}
-use Rattle.scenario.specs.Scenario.{first_state}
+use Rattle.scenario.specs.Scenario.{Scenario, first_state}
 use Rattle.replay_session.specs.Session.{turn_of, trail_of}
 use Rattle.replay_session.specs.Work.{work_on}
 use Rattle.scenario.proofs.TrailFacts.{within}
-use Rattle.replay_session.proofs.SessionSteps.{followed, loads-followed, no-error}
+use Rattle.replay_session.proofs.SessionSteps.{an-error, followed, loads-followed, no-error, word-dropped}
 use Rattle.replay_session.proofs.WorkSteps.{moves-followed}
 use Rattle.replay_session.proofs.session.Session.edit.Goals as goal
 
@@ -21,6 +21,19 @@ invariant_of-self-else-is_err c = record {
   right = followed c.edits_follow.ensures c.args.self.now.scenario _ c.args.edit _ _ _ c.requires c.effect-effect.ensures.effect c.in_ok-edit.ensures.ok
       (no-error c.follow.result (sym c.is_err.ensures.value ∙ c.if-is_err.false) c.follow.ensures.right) c.args.self.now.right;
 }
+
+pub invariant_of-self-then-is_err : goal.invariant_of-self-then-is_err
+unfolding turn_of
+invariant_of-self-then-is_err c =
+    let (write, same) = an-error c.follow.result (sym c.is_err.ensures.value ∙ c.if-is_err.true) c.follow.ensures.same in
+    let sc = c.args.self.now.scenario in
+    let drop : Scenario → Scenario = λ after. record after { words = take (length after.words - 1) after.words } in
+    let back : c.drop_word.new.self ≡ sc =
+    c.drop_word.ensures ∙ ap drop c.in_ok-edit.ensures.ok ∙ word-dropped sc c.args.edit (subst IsWrite c.effect-effect.ensures.effect write) in
+    record {
+      loads = rw (same, back) c.args.self.now.loads;
+      right = rw (same, back) c.args.self.now.right;
+    }
 
 pub returns-clause-moves : goal.returns-clause-moves
 unfolding turn_of trail_of
