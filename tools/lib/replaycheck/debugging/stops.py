@@ -85,7 +85,8 @@ class Goer:
         return self.stopped(stop or Stop(0, BEGIN))
 
     def first(self, here, edge, within):
-        """The first stop before a step."""
+        """The first stop before a step. An error at a stop of another kind is told when it goes on from there: gdb itself has points for
+        single steps, and says nothing of those."""
         found = None
         for point in self.points:
             for kind in KINDS[point.sort]:
@@ -95,20 +96,21 @@ class Goer:
             step = self.run.search("next", "run", span, here + 1, found.step if found else edge)
             found = found if step is None else Stop(step)
         if self.at_errors:
-            step = self.run.next_error(here + (here == self.erring), found.step + 1 if found else min(edge, self.run.end()))
-            found = found if step is None else with_error(step, found)
+            step = self.run.next_error(here + (here == self.erring), found.step if found else min(edge, self.run.end()))
+            found = found if step is None else Stop(step, errs=True)
         return found
 
     def last(self, here, edge):
-        """The last stop from a step on."""
+        """The last stop from a step on. A breakpoint comes before an access behind which it stands: gdb then asks for one step back."""
         found = None
         for point in self.points:
             for kind in KINDS[point.sort]:
-                step = self.run.search("last", kind, point.span, here, max(0, (found.step if found else edge) - point.is_watched))
+                begin = found.step if found else max(0, edge - point.is_watched)
+                step = self.run.search("last", kind, point.span, here, begin)
                 found = found if step is None else Stop(step + point.is_watched, point.word)
         if self.at_errors:
             step = self.run.last_error(found.step if found else edge, here)
-            found = found if step is None else with_error(step, found)
+            found = found if step is None else Stop(step, found.word if found and found.step == step else "", True)
         return found
 
     def step(self):
@@ -136,8 +138,3 @@ class Goer:
 def outside(within):
     """The ranges around one."""
     return [] if within is None else [(0, within[0]), (within[1], TOP - within[1])]
-
-
-def with_error(step, stop):
-    """The stop at a step that makes an error, where it may be the one that was found for another reason."""
-    return Stop(step, stop.word if stop and stop.step == step else "", True)
