@@ -232,22 +232,25 @@ def editor(port):
         ("-var-create - * unit", None, ('name="var1"', "value=\"99 'c'\"")), ("-var-create - * station", None, ('name="var2"', 'numchild="6"')),
         ("-var-list-children --simple-values var2", None, ('exp="name"', 'exp="levels"', 'exp="count"')),
         ("-data-evaluate-expression $step", None, ('value="686"',)), ("-data-list-register-names", None, ('"zero"', '"pc"', '"step"', '"a0s1"')),
-        ("-data-list-register-values x 2 33", None, ('number="33",value="0x2ae"',)),
-        ("-data-read-memory-bytes 0x20000 4", None, ('contents="01074861"',)), ("-data-disassemble -s $pc -e $pc+8 -- 0", None, ("asm_insns=",)),
+        ("-data-list-register-values x 2", None, ('number="2",value="0x7fffffc0"',)),
+        ("-data-read-memory-bytes 0x20000 4", None, ('contents="01076861"',)), ("-data-disassemble -s $pc -e $pc+8 -- 0", None, ("asm_insns=",)),
+        ("-stack-select-frame 0", None, ("^done",)), ("-exec-next", "*stopped", ('reason="end-stepping-range"', 'line="107"')),
+        ("-exec-finish", "*stopped", ('reason="function-finished"', 'func="main"')),
         (f"-break-watch {json.dumps(UNIT)}", None, ('^done,wpt={number="2"',)),
+        ("-exec-continue --reverse", "*stopped", ('reason="breakpoint-hit"', 'bkptno="1"')),
         ("-exec-continue --reverse", "*stopped", ('reason="watchpoint-trigger"', 'old="99', 'new="0', 'line="97"')),
         ("-exec-next-instruction", "*stopped", ('reason="watchpoint-trigger"',)), ("-exec-step-instruction --reverse", "*stopped", ("*stopped",)),
         ('-interpreter-exec console "monitor input 37 5"', None, ('@"ok\\n', "^done")), ("-data-evaluate-expression $pc", None, ("0x1049c",)),
-        ("-exec-next", "*stopped", ('reason="end-stepping-range"',)), ("-exec-finish", "*stopped", ('reason="function-finished"', 'func="main"')),
+        ("-exec-next", "*stopped", ('reason="end-stepping-range"', 'func="main"')),
         ("-exec-continue", "*stopped", ('func="show"', "*stopped")), ("-break-delete 1 2", None, ("^done",)),
-        ("-exec-continue", "*stopped", ('reason="no-history"',)), ("-var-update --all-values *", None, ("^done",)),
+        ("-exec-continue", "*stopped", ("[exited 0 at step 875]", NO_MORE, "*stopped")), ("-var-update --all-values *", None, ("^done",)),
         ("-gdb-set var $a0=1", None, ("^error", REFUSED)), ("-target-detach", None, ("^done",)),
     ]
 
 
 # ---- random stops
 
-LAST = 2000  # steps of a random program
+LAST = 4000  # steps in which the random programs of the first seeds have ended
 
 
 def points(dice, count):

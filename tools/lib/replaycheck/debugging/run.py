@@ -144,6 +144,10 @@ class Run:
             self.last_step = 0 if last is None else last + 1
         return self.last_step
 
+    def known_end(self):
+        """A step up to which it can be looked for something: the end of the program, where that was looked for already."""
+        return LAST_STEP if self.last_step is None else self.last_step
+
     def runs_at(self, step):
         return self.search("next", "run", ALL, step, step + 1) is not None
 

@@ -70,7 +70,7 @@ class Goer:
         for reach in REACHES:
             edge = min(LAST_STEP, here + reach)
             stop = self.first(here, edge, within)
-            if stop or edge == LAST_STEP:
+            if stop or edge >= self.run.known_end():
                 break
         return self.stopped(stop or Stop(max(here, self.run.end()), END))
 
