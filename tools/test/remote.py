@@ -1,4 +1,4 @@
-"""gdb's side of its serial protocol, and of its machine interface, for tools/test/test-gdb and bench/gdb: no more than what is sent, what comes
+"""The other side of gdb's serial protocol, and of its machine interface, for tools/test/test-gdb and bench/gdb: what is sent, what comes
 back, and a limit of time."""
 import subprocess
 import threading
