@@ -271,13 +271,12 @@ LAST = 4000  # steps in which the random programs of the first seeds have ended
 
 
 def points(dice, count):
-    """Some points: sort, address and length."""
-    found = []
-    for _ in range(dice.randrange(1, 5)):
-        sort = dice.choice((0, 2, 3, 4))
-        near = dice.choice((ENTRY + DATA, 0x7FFFFFF0, 0x7FFFFFB0)) + dice.randrange(-8, 48)
-        found.append((sort, ENTRY + 4 * dice.randrange(count), 4) if sort == 0 else (sort, near, dice.choice((1, 2, 4, 9, 40))))
-    return found
+    """Breakpoints and watched ranges of the data and the stack: sort, address and length."""
+    found = [(0, ENTRY + 4 * dice.randrange(count), 4) for _ in range(dice.randrange(1, 3))]
+    for _ in range(dice.randrange(1, 4)):
+        near = dice.choice((ENTRY + DATA, 0x7FFFFFB0)) + dice.randrange(-8, 72)
+        found.append((dice.choice((2, 3, 4)), near, dice.choice((1, 4, 9, 40))))
+    return dice.sample(found, len(found))
 
 
 def arrival(packet, here, points, end):
