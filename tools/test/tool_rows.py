@@ -15,6 +15,7 @@ SLOW = [
     ("compare", ["compare", "three-words.elf", "input 0 1"], ["REPLAYCHECK"]),
     ("run", ["run", "three-words.elf", "--error-exitcode=1"], ["REPLAYCHECK"]),
     ("origin", ["origin", "three-words.elf"], ["REPLAYCHECK"]),
+    ("gdb", ["gdb", "three-words.elf"], ["REPLAYCHECK"]),
     ("word", ["word", "nop"], ["AS", "OBJDUMP"]),
 ]
 

@@ -1,8 +1,9 @@
 //! Looks at a run: lines as `replaycheck look` takes them, each with the step before it, are answered in its words. Every look goes
-//! through the run from its start, one step after another.
+//! through the run from its start, one step after another, and keeps nothing of the looks before it.
 
 use crate::machine::{Machine, Status};
 use std::fmt::Write;
+use std::ops::Range;
 
 const REGISTERS: usize = 32;
 
@@ -21,12 +22,12 @@ pub fn answer(start: impl Fn() -> Machine, line: &str) -> Option<String> {
         ["look", "registers"] => Some(registers(&after(&start, step))),
         ["look", "memory", addr, len] => Some(memory(&after(&start, step), number(addr)?, number(len)?)),
         ["look", "next", kind, addr, len, end] => {
-            let found = (step..end.parse().ok()?).find(|k| does(&after(&start, *k), kind, (number(addr), number(len))));
-            Some(told(found))
+            let range = (number(addr)?, number(len)?);
+            Some(told(those_that_do(start(), kind, range, step..end.parse().ok()?).first()))
         }
         ["look", "last", kind, addr, len, from] => {
-            let found = (from.parse().ok()?..step).rev().find(|k| does(&after(&start, *k), kind, (number(addr), number(len))));
-            Some(told(found))
+            let range = (number(addr)?, number(len)?);
+            Some(told(those_that_do(start(), kind, range, from.parse().ok()?..step).last()))
         }
         _ => None,
     }
@@ -39,19 +40,36 @@ fn number(word: &str) -> Option<u32> {
     }
 }
 
-fn told(found: Option<u64>) -> String {
+fn told(found: Option<&u64>) -> String {
     found.map_or("none".to_string(), |step| format!("step {step}"))
+}
+
+/// Makes a step, where the machine runs.
+fn go_on(machine: &mut Machine) {
+    if machine.status == Status::Running {
+        machine.step();
+    }
 }
 
 /// The machine after so many steps.
 fn after(start: &impl Fn() -> Machine, steps: u64) -> Machine {
     let mut machine = start();
     for _ in 0..steps {
-        if machine.status == Status::Running {
-            machine.step();
-        }
+        go_on(&mut machine);
     }
     machine
+}
+
+/// The steps that do something with a range, in order, among some of a run.
+fn those_that_do(mut machine: Machine, kind: &str, range: (u32, u32), steps: Range<u64>) -> Vec<u64> {
+    let mut found = Vec::new();
+    for step in 0..steps.end {
+        if steps.contains(&step) && does(&machine, kind, range) {
+            found.push(step);
+        }
+        go_on(&mut machine);
+    }
+    found
 }
 
 fn registers(machine: &Machine) -> String {
@@ -81,8 +99,7 @@ fn memory(machine: &Machine, addr: u32, len: u32) -> String {
 }
 
 /// Whether the next step of a machine does something with a range.
-fn does(machine: &Machine, kind: &str, range: (Option<u32>, Option<u32>)) -> bool {
-    let (Some(start), Some(len)) = range else { return false };
+fn does(machine: &Machine, kind: &str, (start, len): (u32, u32)) -> bool {
     let is_in = |addr: u32| addr.wrapping_sub(start) < len;
     if machine.status != Status::Running {
         return false;

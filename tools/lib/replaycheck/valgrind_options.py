@@ -40,7 +40,7 @@ HERE = {
     "--demangle": "names are those of the symbol table; c++filt reads a report",
     "--trace-children": "a program has no children",
     "--track-fds": "",
-    "--vgdb": "`replaycheck session` asks for any step, before or after an edit",
+    "--vgdb": "`replaycheck gdb` lets gdb go through the run, forwards and backwards",
     "--vgdb-error": "`replaycheck when` finds the step of an error",
     "--time-stamp": "",
     "--quiet": "the report has no more lines than are needed",

@@ -1,9 +1,12 @@
 """The command line of `replaycheck gdb`."""
 from replaycheck.endings import write
-from replaycheck.options import Reader
+from replaycheck.options import Reader, number
 
+from .connections import Pipes, Port
+from .monitor import Monitor
 from .packets import Packets
 from .run import Run
+from .stops import Goer
 from .stub import Stub
 
 COMMANDS = """# Has gdb read anew what a line of monitor may have changed, and wait for long searches.
@@ -20,6 +23,7 @@ def options_of(page):
     reader.add_argument("file", nargs="?")
     reader.option("--input")
     reader.option("--supp")
+    reader.option("--port", type=number(0, 65535))
     reader.option("--commands", is_flag=True)
     options = reader.read()
     if options.commands == (options.file is not None):
@@ -33,5 +37,8 @@ def debug(options):
         return 0
     run = Run(options.file, options.input, options.supp)
     run.registers()  # what keeps the program from its work is told before gdb is answered
-    Stub(Packets(), run, options.file, options.input, options.supp).serve()
+    goer = Goer(run)
+    monitor = Monitor(run, goer)
+    connection = Pipes() if options.port is None else Port(options.port)
+    Stub(Packets(connection), run, goer, monitor).serve()
     return 0

@@ -1,16 +1,21 @@
 """Lines of `monitor`: those of Valgrind's gdbserver where it has them (Memcheck's manual, section 4.6), lines of a session, and the
 step."""
+import argparse
 import os
+import re
 import subprocess
 
+from replaycheck import options
 from replaycheck.adopting.elf import Elf
 from replaycheck.endings import Fault, start
 from replaycheck.guest_files import TOP
-from replaycheck.options import LAST_STEP, NUMBER
+from replaycheck.options import LAST_STEP
 from replaycheck.origins.image import HEAP, LONGEST_FILE, STACK, STACK_TOP
+from replaycheck.reports import SUMS
 from replaycheck.sessions import path_of
 
 from .registers import NAMES
+from .run import DEFINED, NO_ACCESS
 
 HELP = """step                              which step this is, and where the program is
 goto N | end                      goes to a step, or to the end of the program
@@ -19,7 +24,7 @@ get_vbits ADDR [LEN]              undefined bits of bytes, four a word; __ where
 check_memory addressable|defined ADDR [LEN]
 who_points_at ADDR [LEN]          registers and aligned words that point there
 block_list                        the blocks of the heap that are in use: where bytes of it may be accessed
-stop_at_errors on|off             continue and reverse-continue stop before each step that makes an error
+stop_at_errors on|off             continue and reverse-continue stop before each step that makes an error that isn't suppressed
 origin [N]                        where the undefined bits came from on which the Nth error so far hangs
 make_memory noaccess|undefined|defined ADDR [LEN]     a mark at this step
 input .. | patch .. | mark .. | unmark .. | option .. | supp ..     edits the run, as a line of a session does;
@@ -30,15 +35,18 @@ EDITS = ("input", "patch", "mark", "unmark", "option", "supp")
 KINDS = ("noaccess", "undefined", "defined")
 MOST = 1 << 20  # bytes of memory that one line asks about
 HEAP_SEEN = 1 << 24  # bytes of the heap that are looked at for blocks
+PART = 4096  # so many of them at a time
+WORD = 4
+ACCESSIBLE = re.compile("(?:[0-9a-f]{2})+")
 
 
 class Monitor:
     """Answers lines of `monitor` over a run."""
 
-    def __init__(self, run, goer, file, given, supp):
-        self.run, self.goer, self.files = run, goer, (file, given, supp)
-        with open(file, "rb") as read:
-            self.loads = [(it.vaddr, it.vaddr + it.memsz) for it in Elf(read.read(LONGEST_FILE)).loads if it.memsz]
+    def __init__(self, run, goer):
+        self.run, self.goer = run, goer
+        with open(run.files[0], "rb") as file:
+            self.loads = [(it.vaddr, it.vaddr + it.memsz) for it in Elf(file.read(LONGEST_FILE)).loads if it.memsz]
         self.by_word = {
             "help": self.help, "step": self.where, "goto": self.goto, "end": self.end, "report": self.report,
             "errors": self.report, "leak_check": self.report, "get_vbits": self.get_vbits,
@@ -67,10 +75,7 @@ class Monitor:
 
     def goto(self, word, *words):
         taken(words, 1, 1, word)
-        step = number(words[0])
-        if step > LAST_STEP:
-            raise Fault(f"a step above {LAST_STEP}")
-        self.run.step = step
+        self.run.step = number(words[0], LAST_STEP)
         return self.where()
 
     def end(self, word, *words):
@@ -82,55 +87,54 @@ class Monitor:
 
     def report(self, word, *words):
         taken(words, 0, 0, word)
-        rows = self.run.report(self.run.step)
-        leaks = next(i for i, row in enumerate(rows) if row.startswith(("leak ", "definitely lost:")))
-        shown = {"report": rows, "errors": rows[4:leaks] + rows[-1:], "leak_check": rows[leaks:-1]}[word]
-        return "".join(row + "\n" for row in shown)
+        rows = str(self.run.report(self.run.step)).splitlines(True)
+        leaks = next(i for i, row in enumerate(rows) if row.startswith(("leak ", f"{SUMS[0]}:")))
+        return "".join({"report": rows, "errors": rows[4:leaks] + rows[-1:], "leak_check": rows[leaks:-1]}[word])
 
     def worked(self, word, *words):
         taken(words, 0, 0, word)
-        return self.run.session.ask("worked")[0] + "\n"
+        return self.run.ask("worked")[0] + "\n"
 
     def stop_at_errors(self, word, *words):
         taken(words, 1, 1, word)
         if words[0] not in ("on", "off"):
             raise Fault("stop_at_errors on, or off")
-        self.goer.at_errors = words[0] == "on"
+        self.goer.stop_at_errors(words[0] == "on")
         return f"stop_at_errors {words[0]}\n"
 
     def origin(self, word, *words):
         taken(words, 0, 1, word)
-        file, given, supp = self.files
-        options = ["--input", path_of(given)] if given is not None else []
-        options += ["--supp", path_of(supp)] if supp is not None else []
-        options += [it for line in self.run.edits for it in ("--line", line)]
-        last = min(self.run.step + 1, LAST_STEP)
-        child = start([str(TOP / "tools" / "bin" / "replaycheck-origin"), path_of(file), *options, f"--last={last}",
-                       f"--error={number(words[0]) if words else 1}"], stdin=subprocess.DEVNULL, stdout=subprocess.PIPE,
-                      stderr=subprocess.STDOUT, env={**os.environ, "COLUMNS": "100"})
+        file, given, supp = self.run.files
+        asked = ["--input", path_of(given)] if given is not None else []
+        asked += ["--supp", path_of(supp)] if supp is not None else []
+        asked += [it for line in self.run.edits for it in ("--line", line)]
+        asked += [f"--last={min(self.run.step + 1, LAST_STEP)}", f"--error={number(words[0]) if words else 1}"]
+        child = start([str(TOP / "tools" / "bin" / "replaycheck-origin"), path_of(file), *asked], stdin=subprocess.DEVNULL,
+                      stdout=subprocess.PIPE, stderr=subprocess.STDOUT, env={**os.environ, "COLUMNS": "100"})
         return child.communicate()[0].decode("utf-8", "surrogateescape")
 
     # ---- memory
 
     def get_vbits(self, word, *words):
-        cells = self.cells(word, words)[2]
-        shown = ["__" if it.undefined is None else f"{it.undefined:02x}" for it in cells]
-        rows = [" ".join("".join(shown[i:i + 4]) for i in range(j, min(j + 32, len(shown)), 4))
-                for j in range(0, len(shown), 32)]
-        return "".join(row + "\n" for row in rows)
+        undefined = self.run.memory(*self.span(word, words)).undefined
+        row, width = 16 * WORD, 2 * WORD  # digits
+        return "".join(" ".join(undefined[i:min(i + width, begin + row)] for i in range(begin, min(begin + row, len(undefined)), width))
+                       + "\n" for begin in range(0, len(undefined), row))
 
     def check_memory(self, word, *words):
         if not words or words[0] not in ("addressable", "defined"):
             raise Fault("check_memory addressable, or defined, and then ADDR [LEN]")
-        address, length, cells = self.cells(word, words[1:])
-        for offset, cell in enumerate(cells):
-            if cell.undefined is None or cell.undefined and words[0] == "defined":
-                what = "not addressable" if cell.undefined is None else "not defined"
+        address, length = self.span(word, words[1:])
+        undefined = self.run.memory(address, length).undefined
+        for offset in range(length):
+            bits = undefined[2 * offset:2 * offset + 2]
+            if bits == NO_ACCESS or bits != DEFINED and words[0] == "defined":
+                what = "not addressable" if bits == NO_ACCESS else "not defined"
                 return f"Address 0x{address:08x} len {length} {what}:\nbad address 0x{address + offset:08x}\n"
         return f"Address 0x{address:08x} len {length} {words[0]}\n"
 
     def who_points_at(self, word, *words):
-        address, length, _ = self.cells(word, words, looks=False)
+        address, length = self.span(word, words)
         seen, found = self.run.registers(), []
         for name, value, undefined in zip(NAMES, seen.values, seen.undefined):
             if not undefined and address <= value < address + length:
@@ -141,12 +145,11 @@ class Monitor:
 
     def words_in(self, begin, end, address, length):
         """The aligned words of a range that are defined and point into another one."""
-        cells = self.run.memory(begin, end - begin)
-        for i in range(0, len(cells) - 3, 4):
-            if all(it.undefined == 0 for it in cells[i:i + 4]):
-                value = int.from_bytes(bytes(it.byte for it in cells[i:i + 4]), "little")
-                if address <= value < address + length:
-                    yield f"word at 0x{begin + i:08x} points {value - address} bytes inside\n"
+        seen = self.run.memory(begin, end - begin)
+        for i in range(0, len(seen.data) - WORD + 1, WORD):
+            value = int.from_bytes(seen.data[i:i + WORD], "little")
+            if address <= value < address + length and seen.undefined[2 * i:2 * (i + WORD)] == DEFINED * WORD:
+                yield f"word at 0x{begin + i:08x} points {value - address} bytes inside\n"
 
     def searched(self, seen):
         """Where pointers are looked for: what is loaded, the blocks of the heap, and the stack."""
@@ -163,37 +166,35 @@ class Monitor:
 
     def blocks(self):
         """Ranges of the heap whose bytes may be accessed, in order: as many bytes as the report counts."""
-        wanted = sum(int(row.split()[2]) for row in self.run.report(self.run.step) if " lost: " in row or "reachable: " in row)
-        found, begin = [], None
-        for address in range(HEAP, HEAP + HEAP_SEEN, MOST // 256):
-            if wanted <= 0 and begin is None:
+        wanted, found = sum(it.size for it in self.run.report(self.run.step).sums.values()), []
+        for address in range(HEAP, HEAP + HEAP_SEEN, PART):
+            if wanted <= 0:
                 break
-            for offset, cell in enumerate(self.run.memory(address, MOST // 256)):
-                if cell.undefined is not None:
-                    begin = address + offset if begin is None else begin
-                    wanted -= 1
-                elif begin is not None:
-                    found.append((begin, address + offset))
-                    begin = None
+            for it in ACCESSIBLE.finditer(self.run.memory(address, PART).undefined):
+                begin, end = (address + place // 2 for place in it.span())
+                wanted -= end - begin
+                if found and found[-1][1] == begin:
+                    begin = found.pop()[0]
+                found.append((begin, end))
         return found
 
     def make_memory(self, word, *words):
         if not words or words[0].lower() not in KINDS:
             raise Fault("make_memory noaccess, undefined or defined, and then ADDR [LEN]")
-        address, length, _ = self.cells(word, words[1:], looks=False)
+        address, length = self.span(word, words[1:])
         return self.edit("mark", str(self.run.step), f"0x{address:x}", str(length), words[0].lower())
 
     def edit(self, *words):
         reply = self.run.edit(" ".join(words))
         return reply + "\n" + (self.where() if reply == "ok" else "")
 
-    def cells(self, word, words, looks=True):
-        """An address, a length and the bytes there, of the words of a line."""
+    def span(self, word, words):
+        """The range that the words of a line have: ADDR [LEN]."""
         taken(words, 1, 2, f"{word}: ADDR [LEN]")
         address, length = number(words[0]), number(words[1]) if len(words) > 1 else 1
         if not 0 < length <= MOST or address + length > 1 << 32:
             raise Fault(f"1 to {MOST} bytes, that end at 2^32 or below")
-        return address, length, self.run.memory(address, length) if looks else []
+        return address, length
 
 
 def taken(words, least, most, what):
@@ -201,7 +202,8 @@ def taken(words, least, most, what):
         raise Fault(f"too {'few' if len(words) < least else 'many'} words: {what}")
 
 
-def number(text):
-    if not NUMBER.fullmatch(text) or int(text, 0 if text[:2].lower() == "0x" else 10) >= 1 << 32:
-        raise Fault(f"no number: {text}")
-    return int(text, 0 if text[:2].lower() == "0x" else 10)
+def number(text, greatest=(1 << 32) - 1):
+    try:
+        return options.number(0, greatest)(text)
+    except argparse.ArgumentTypeError as fault:
+        raise Fault(str(fault)) from None

@@ -1,25 +1,30 @@
-"""Packets of gdb's serial protocol, over standard input and output (gdb's manual, appendix E)."""
-import sys
+"""Packets of gdb's serial protocol (gdb's manual, appendix E)."""
+import re
 
-from replaycheck.endings import Fault, put
+from replaycheck.endings import Fault
+
+from .connections import Closed
 
 MOST = 0x3FFF  # bytes of a packet, which the other side is told
 ESCAPE = 0x7D
+DIGITS = re.compile(r"[0-9a-fA-F]{1,16}")
 
 
-class Closed(Exception):
-    """The other side has closed the connection."""
+class Misread(Fault):
+    """A packet isn't what its first letters say."""
+
+    def __init__(self):
+        super().__init__("a packet of gdb can't be read")
 
 
 class Packets:
     """Reads packets, and sends replies. Each is acknowledged until the other side asks for none of that."""
 
-    def __init__(self):
-        self.reader, self.writer = sys.stdin.buffer, sys.stdout.buffer
-        self.acknowledges, self.last = True, b""
+    def __init__(self, connection):
+        self.connection, self.acknowledges, self.last = connection, True, b""
 
     def byte(self):
-        byte = self.reader.read(1)
+        byte = self.connection.byte()
         if not byte:
             raise Closed
         return byte
@@ -30,43 +35,39 @@ class Packets:
         while True:
             byte = self.byte()
             if byte == b"-" and self.acknowledges:
-                self.put(self.last)
+                self.connection.write(self.last)
             if byte == b"$":
                 body = self.body()
                 if body is not None:
                     return unescaped(body).decode("latin-1")
 
     def body(self):
-        """What stands up to the checksum; none where that is wrong, which the other side is told."""
-        body = bytearray()
+        """What stands up to the checksum; none where that is wrong, which the other side is told. Nothing is kept of a packet that is
+        longer than it was told: it is none that is known."""
+        body, total, length = bytearray(), 0, 0
         while (byte := self.byte()) != b"#":
             if byte == b"$":  # another packet has begun: the first was cut
-                body.clear()
+                body, total, length = bytearray(), 0, 0
             else:
-                body += byte
+                total, length = total + byte[0], length + 1
+                body = body + byte if length <= MOST else bytearray()
         told = self.byte() + self.byte()
         if not self.acknowledges:
             return body
-        is_right = told.lower() == b"%02x" % (sum(body) & 255)
-        self.put(b"+" if is_right else b"-")
+        is_right = told.lower() == b"%02x" % (total & 255)
+        self.connection.write(b"+" if is_right else b"-")
         return body if is_right else None
 
     def send(self, text):
         body = escaped(text.encode("latin-1"))
         self.last = b"$" + body + b"#%02x" % (sum(body) & 255)
-        self.put(self.last)
+        self.connection.write(self.last)
 
     def say(self, text):
         """Has the other side show a text, while it waits for a reply."""
         data = text.encode("utf-8", "surrogateescape")
         for at in range(0, len(data), MOST // 4):
             self.send("O" + data[at:at + MOST // 4].hex())
-
-    def put(self, data):
-        def written():
-            self.writer.write(data)
-            self.writer.flush()
-        put(written)
 
 
 def escaped(data):
@@ -86,16 +87,9 @@ def unescaped(data):
     return bytes(found)
 
 
-def numbers(text, separator=","):
-    """The hexadecimal numbers of a packet."""
-    try:
-        return [int(it, 16) for it in text.split(separator)]
-    except ValueError:
-        raise Misread from None
-
-
-class Misread(Fault):
-    """A packet isn't what its first letters say."""
-
-    def __init__(self):
-        super().__init__("a packet of gdb can't be read")
+def numbers(text, count):
+    """So many hexadecimal numbers of a packet, with commas between."""
+    words = text.split(",")
+    if len(words) != count or not all(map(DIGITS.fullmatch, words)):
+        raise Misread
+    return [int(it, 16) for it in words]

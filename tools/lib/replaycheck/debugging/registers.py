@@ -15,7 +15,8 @@ HEAD = """<?xml version="1.0"?>
 
 
 def register(name, number, kind, group=""):
-    return f'<reg name="{name}" bitsize="32" regnum="{number}" type="{kind}"{group and f" group={chr(34)}{group}{chr(34)}"}/>\n'
+    belongs = f' group="{group}"' if group else ""
+    return f'<reg name="{name}" bitsize="32" regnum="{number}" type="{kind}"{belongs}/>\n'
 
 
 def feature(name, registers):

@@ -1,13 +1,18 @@
 """A run that is looked at: the step where it is, what holds there, and which other step does something."""
 from dataclasses import dataclass
+from typing import List
 
 from replaycheck.options import LAST_STEP
 from replaycheck.refusals import with_words
+from replaycheck.reports import reports_in
 from replaycheck.sessions import Refused, Session
 
 MOST_SEEN = 4096  # bytes of one look at memory
+MOST_LINES = 90000  # lines of one session, which takes 100,000
+REACHES = (4096, 65536, LAST_STEP)  # what is near is found without a look at what is far off
 ALL = (0, 0xFFFFFFFF)  # a range with nearly all addresses
-NO_ACCESS = "__"
+TOP = 1 << 32
+NO_ACCESS, DEFINED = "__", "00"
 
 
 @dataclass(frozen=True)
@@ -16,8 +21,8 @@ class Seen:
 
     state: str  # `running`, `exited 0`, `stopped jump`
     pc: int
-    values: list
-    undefined: list
+    values: List[int]
+    undefined: List[int]
 
     @property
     def runs(self):
@@ -25,73 +30,102 @@ class Seen:
 
 
 @dataclass(frozen=True)
-class Cell:
-    """A byte of memory, and its undefined bits; none where there is no access."""
+class Bytes:
+    """Bytes of memory, and two digits for the undefined bits of each: NO_ACCESS where there is none."""
 
-    byte: int
-    undefined: int | None
+    data: bytes
+    undefined: str
 
 
 class Run:
     """The lines of `replaycheck look` on a program, and the step that is looked at."""
 
     def __init__(self, file, given, supp):
-        self.session = Session(file, given, supp, command="look")
-        self.step, self.chosen, self.edits = 0, 0, []
+        self.files, self.edits = (file, given, supp), []
+        self.step = self.chosen = 0
+        self.open()
         self.forget()
 
     def forget(self):
         """Forgets what was seen, as an edit may have changed it."""
-        self.seen, self.cells, self.last_step, self.totals = {}, {}, None, {}
+        self.seen_at, self.seen, self.last_step, self.totals = None, None, None, {}
 
-    def at(self, step):
-        if step != self.chosen:
-            self.session.accepted(f"goto {step}")
-            self.chosen = step
+    # ---- lines
 
-    def rows(self, line, count):
-        """The reply to a look, which has so many lines."""
-        self.session.send([line])
+    def open(self):
+        """Begins a session, with the edits and the chosen step of the one before it."""
+        lines = [*self.edits, f"goto {self.chosen}"]
+        self.session, self.lines = Session(*self.files, command="look"), len(lines)
+        self.session.accept_all(lines)
+
+    def ask(self, line):
+        """The reply to a line of a session. Another one takes the place of a session that has had its lines."""
+        if self.lines >= MOST_LINES:
+            self.session.end()
+            self.open()
+        self.lines += 1
+        return self.session.ask(line)
+
+    def accepted(self, line):
+        """The reply to a line of a session that must not be refused."""
+        rows = self.ask(line)
+        if rows[0].startswith("refused "):
+            raise Refused(line, rows[0])
+        return rows
+
+    def look(self, line, count):
+        """The reply to a look, which has so many lines. A session doesn't count it."""
+        self.session.send([f"look {line}"])
         rows = [self.session.read()]
         if rows[0].startswith("refused "):
             raise Refused(line, rows[0])
         return rows + [self.session.read() for _ in range(count - 1)]
 
+    def at(self, step):
+        if step != self.chosen:
+            self.accepted(f"goto {step}")
+            self.chosen = step
+
+    def edit(self, line):
+        """Gives a line of a session that edits the run. Gives what it is answered, in words."""
+        reply = self.ask(line)[0]
+        if reply != "ok":
+            return with_words(reply)
+        self.edits.append(line)
+        self.forget()
+        return reply
+
+    # ---- what holds at the step
+
     def registers(self):
-        if self.step not in self.seen:
+        if self.step != self.seen_at:
             self.at(self.step)
-            state, *rows = self.rows("look registers", 32)
+            state, *rows = self.look("registers", 32)
             words = state.split()[1:]
             pairs = [(0, 0)] + [tuple(int(it, 16) for it in row.split()[1:]) for row in rows]
-            pc = int(words.pop(), 16) if words[0] != "exited" else self.last_pc()
-            self.seen[self.step] = Seen(" ".join(words), pc, *([pair[i] for pair in pairs] for i in (0, 1)))
-        return self.seen[self.step]
+            pc = self.last_pc() if words[0] == "exited" else int(words.pop(), 16)
+            self.seen = Seen(" ".join(words), pc, *([pair[i] for pair in pairs] for i in (0, 1)))
+            self.seen_at = self.step
+        return self.seen
 
     def last_pc(self):
         """pc of a program that has exited: its call of the environment."""
-        last = self.search("last", "run", ALL, LAST_STEP, 0)
-        step, self.step = self.step, last or 0
-        try:
-            return 0 if last is None else self.registers().pc
-        finally:
-            self.step = step
+        self.at(max(0, self.end() - 1))
+        state = self.look("registers", 32)[0]
+        return int(state.split()[2], 16)
 
     def memory(self, address, length):
-        """The bytes of a range, which ends at 2^32."""
-        found = []
-        for begin in range(address, min(address + length, 1 << 32), MOST_SEEN):
-            found += self.view(begin, min(MOST_SEEN, address + length - begin, (1 << 32) - begin))
-        return found
+        """The bytes of a range, up to 2^32."""
+        end = min(address + length, TOP)
+        seen = [self.view(begin, min(MOST_SEEN, end - begin)) for begin in range(address, end, MOST_SEEN)]
+        return Bytes(b"".join(it.data for it in seen), "".join(it.undefined for it in seen))
 
     def view(self, address, length):
-        key = (self.step, address, length)
-        if key not in self.cells:
-            self.at(self.step)
-            rows = self.rows(f"look memory 0x{address:x} {length}", 2)
-            data, undefined = (row.split()[1] for row in rows)
-            pairs = [(data[i:i + 2], undefined[i:i + 2]) for i in range(0, 2 * length, 2)]
-            self.cells[key] = [Cell(int(a, 16), None if b == NO_ACCESS else int(b, 16)) for a, b in pairs]
-        return self.cells[key]
+        self.at(self.step)
+        data, undefined = (row.split()[1] for row in self.look(f"memory 0x{address:x} {length}", 2))
+        return Bytes(bytes.fromhex(data), undefined)
+
+    # ---- which step does something
 
     def search(self, way, kind, span, start, bound):
         """The first step from one on and below the bound, or the last one before it and from the bound on, that does this in a
@@ -99,53 +133,64 @@ class Run:
         if span[1] <= 0 or (bound <= start if way == "next" else bound >= start):
             return None
         self.at(start)
-        word, *step = self.rows(f"look {way} {kind} 0x{span[0]:x} {span[1]} {bound}", 1)[0].split()
+        word, *step = self.look(f"{way} {kind} 0x{span[0]:x} {span[1]} {bound}", 1)[0].split()
         return int(step[0]) if word == "step" else None
 
     def end(self):
         """The step at which the program runs no more, or the last that there is."""
         if self.last_step is None:
-            last = self.search("last", "run", ALL, LAST_STEP, 0)
+            edge = next((it for it in REACHES[:-1] if not self.runs_at(it)), LAST_STEP)
+            last = self.search("last", "run", ALL, edge, 0)
             self.last_step = 0 if last is None else last + 1
         return self.last_step
 
+    def known_end(self):
+        """A step up to which it can be looked for something: the end of the program, where that was looked for already."""
+        return LAST_STEP if self.last_step is None else self.last_step
+
+    def runs_at(self, step):
+        return self.search("next", "run", ALL, step, step + 1) is not None
+
     def report(self, step):
+        """The report at a step."""
         self.at(step)
-        return self.session.accepted("report")
+        return next(reports_in(self.accepted("report")))
+
+    # ---- errors
 
     def total(self, step):
-        """How many errors were made before a step."""
+        """How many errors were made before a step, without those that are suppressed. It never falls from one step to the next."""
         if step not in self.totals:
-            words = self.report(step)[-1].split()
-            self.totals[step] = int(words[2]) + int(words[8])
+            self.totals[step] = self.report(step).happened
         return self.totals[step]
 
     def next_error(self, start, end):
-        """The first step from one on and below another that makes an error, if there is one. The total of errors never falls."""
+        """The first step from one on and below another that makes an error, if there is one."""
         if end <= start or self.total(end) == self.total(start):
             return None
-        low, high = start, end
-        while high - low > 1:
-            middle = (low + high) // 2
-            low, high = (middle, high) if self.total(middle) == self.total(start) else (low, middle)
-        return low
+        return last_that(start, end, lambda step: self.total(step) == self.total(start))
 
     def last_error(self, start, end):
         """The last step from one on and below another that makes an error, if there is one."""
         if end <= start or self.total(end) == self.total(start):
             return None
-        low, high = start, end
-        while high - low > 1:
-            middle = (low + high) // 2
-            low, high = (low, middle) if self.total(middle) == self.total(end) else (middle, high)
-        return low
+        return last_that(start, end, lambda step: self.total(step) < self.total(end))
 
-    def edit(self, line):
-        """Gives a line of a session that edits the run. Gives what it is answered, in words."""
-        self.session.send([line])
-        reply = self.session.read()
-        if reply != "ok":
-            return with_words(reply)
-        self.edits.append(line)
-        self.forget()
-        return reply
+    def errors_of(self, step):
+        """The errors that a step makes, in words."""
+        before, after = (errors_by_trace(self.report(it)) for it in (step, step + 1))
+        return [trace[0] for trace, count in after.items() if count > before.get(trace, 0)]
+
+
+def last_that(low, high, holds):
+    """The last step from one on and below another for which something holds that holds for the first and, once it doesn't, for none
+    behind."""
+    while high - low > 1:
+        middle = (low + high) // 2
+        low, high = (middle, high) if holds(middle) else (low, middle)
+    return low
+
+
+def errors_by_trace(report):
+    """How often a report has each error: its text, and its trace."""
+    return {(it.text, *(frame.address for frame in it.trace)): it.count for it in report.errors}

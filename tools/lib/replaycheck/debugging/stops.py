@@ -3,11 +3,12 @@ from dataclasses import dataclass
 
 from replaycheck.options import LAST_STEP
 
-REACHES = (4096, 65536, LAST_STEP)  # a stop that is near is found without a look at what is far off
-TOP = 1 << 32
+from .run import REACHES, TOP
+
 SOFTWARE, HARDWARE, WRITE, READ, ACCESS = range(5)  # the sorts of points, by their numbers in packets
 KINDS = {SOFTWARE: ("run",), HARDWARE: ("run",), WRITE: ("write",), READ: ("read",), ACCESS: ("write", "read")}
 WORDS = {SOFTWARE: "swbreak:;", HARDWARE: "hwbreak:;", WRITE: "watch:{:x};", READ: "rwatch:{:x};", ACCESS: "awatch:{:x};"}
+BEGIN, END = "replaylog:begin;", "replaylog:end;"
 
 
 @dataclass(frozen=True)
@@ -18,9 +19,15 @@ class Point:
     address: int
     length: int
 
-    def span(self):
-        return self.address, 1 if self.sort in (SOFTWARE, HARDWARE) else min(self.length, TOP - self.address)
+    @property
+    def is_watched(self):
+        return self.sort in (WRITE, READ, ACCESS)
 
+    @property
+    def span(self):
+        return self.address, min(self.length, TOP - self.address) if self.is_watched else 1
+
+    @property
     def word(self):
         return WORDS[self.sort].format(self.address)
 
@@ -31,13 +38,16 @@ class Stop:
 
     step: int
     word: str = ""
+    errs: bool = False  # whether it is told that the step makes an error
 
 
 class Goer:
-    """Goes on and back in a run."""
+    """Goes on and back in a run. gdb holds that RISC-V stops before a watched access, and makes that step itself, with the points
+    taken out: so the run stops at an access that it is to make, and going back at the step after it."""
 
     def __init__(self, run):
         self.run, self.points, self.at_errors = run, [], False
+        self.erring = None  # the step of which it was last told that it makes an error
 
     def add(self, point):
         if point not in self.points:
@@ -47,16 +57,22 @@ class Goer:
         if point in self.points:
             self.points.remove(point)
 
+    def stop_at_errors(self, is_on):
+        self.at_errors, self.erring = is_on, None
+
+    def stopped(self, stop):
+        self.run.step, self.erring = stop.step, stop.step if stop.errs else None
+        return stop
+
     def forward(self, within=None):
         """Goes on to the first stop: within a range of addresses, to the first step outside of it."""
         here = self.run.step
         for reach in REACHES:
             edge = min(LAST_STEP, here + reach)
             stop = self.first(here, edge, within)
-            if stop or edge == LAST_STEP:
+            if stop or edge >= self.run.known_end():
                 break
-        self.run.step = stop.step if stop else max(here, self.run.end())
-        return stop or Stop(self.run.step, "replaylog:end;")
+        return self.stopped(stop or Stop(max(here, self.run.end()), END))
 
     def back(self):
         """Goes back to the last stop."""
@@ -66,51 +82,57 @@ class Goer:
             stop = self.last(here, edge)
             if stop or edge == 0:
                 break
-        self.run.step = stop.step if stop else 0
-        return stop or Stop(0, "replaylog:begin;")
+        return self.stopped(stop or Stop(0, BEGIN))
 
     def first(self, here, edge, within):
-        """The first stop before a step. A watched access is stopped at before it is made: so gdb takes RISC-V to do, and makes
-        the step itself."""
+        """The first stop before a step. An error at a stop of another kind is told when it goes on from there: gdb itself has points for
+        single steps, and says nothing of those."""
         found = None
         for point in self.points:
             for kind in KINDS[point.sort]:
-                step = self.run.search("next", kind, point.span(), here, found.step if found else edge)
-                found = found if step is None else Stop(step, point.word())
-        for span in outside(within):
-            step = self.run.search("next", "run", span, here, found.step if found else edge)
+                step = self.run.search("next", kind, point.span, here, found.step if found else edge)
+                found = found if step is None else Stop(step, point.word)
+        for span in outside(within):  # the step itself is made, wherever it is
+            step = self.run.search("next", "run", span, here + 1, found.step if found else edge)
             found = found if step is None else Stop(step)
         if self.at_errors:
-            step = self.run.next_error(here + 1, found.step if found else edge)
-            found = found if step is None else Stop(step)
+            step = self.run.next_error(here + (here == self.erring), found.step if found else min(edge, self.run.end()))
+            found = found if step is None else Stop(step, errs=True)
         return found
 
     def last(self, here, edge):
-        """The last stop from a step on. An access is stopped at after it: going back, gdb makes that step itself."""
-        found, begin = None, edge
+        """The last stop from a step on. A breakpoint comes before an access behind which it stands: gdb then asks for one step back."""
+        found = None
         for point in self.points:
             for kind in KINDS[point.sort]:
-                step = self.run.search("last", kind, point.span(), here, begin)
-                if step is not None:
-                    found, begin = Stop(step + (kind != "run"), point.word()), step
+                begin = found.step if found else max(0, edge - point.is_watched)
+                step = self.run.search("last", kind, point.span, here, begin)
+                found = found if step is None else Stop(step + point.is_watched, point.word)
         if self.at_errors:
-            step = self.run.last_error(begin, here)
-            found = found if step is None else Stop(step)
+            step = self.run.last_error(found.step if found else edge, here)
+            found = found if step is None else Stop(step, found.word if found and found.step == step else "", True)
         return found
 
     def step(self):
         """One step on."""
-        if not self.run.registers().runs or self.run.step == LAST_STEP:
-            return Stop(self.run.step, "replaylog:end;")
-        self.run.step += 1
-        return Stop(self.run.step)
+        here = self.run.step
+        if not self.run.registers().runs or here == LAST_STEP:
+            return self.stopped(Stop(here, END))
+        point = self.accessed_in(here)
+        return self.stopped(Stop(here, point.word) if point else Stop(here + 1))
 
     def step_back(self):
         """One step back; from behind the end of the program, to its last step."""
-        if self.run.step == 0:
-            return Stop(0, "replaylog:begin;")
-        self.run.step = (self.run.step if self.run.registers().runs else min(self.run.step, self.run.end())) - 1
-        return Stop(self.run.step)
+        here = self.run.step if self.run.registers().runs else min(self.run.step, self.run.end())
+        if here == 0:
+            return self.stopped(Stop(0, BEGIN))
+        point = self.accessed_in(here - 1)
+        return self.stopped(Stop(here, point.word) if point else Stop(here - 1))
+
+    def accessed_in(self, step):
+        """A watched point of which a step makes an access, if there is one."""
+        return next((point for point in self.points if point.is_watched and any(
+            self.run.search("next", kind, point.span, step, step + 1) is not None for kind in KINDS[point.sort])), None)
 
 
 def outside(within):

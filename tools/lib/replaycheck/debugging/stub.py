@@ -1,40 +1,47 @@
 """What gdb's packets are answered."""
+import sys
+
 from replaycheck.endings import Fault
+from replaycheck.sessions import Refused
 
-from .monitor import Monitor
-from .packets import MOST, Closed, Misread, numbers
+from .connections import Closed
+from .packets import MOST, Misread, numbers
 from .registers import PC, description, in_hexadecimal, value_of
-from .stops import ACCESS, Goer, Point
+from .stops import ACCESS, END, Point
+from .run import TOP
 
-REFUSED = "E.no value changes in the midst of a run: edit it, by monitor input, patch, mark or option"
+REFUSED = "no value changes in the midst of a run: edit it, by monitor input, patch, mark or option"
 SUPPORTED = (f"PacketSize={MOST:x};qXfer:features:read+;ReverseStep+;ReverseContinue+;swbreak+;hwbreak+;"
              "QStartNoAckMode+;vContSupported+")
 TARGET = "qXfer:features:read:target.xml:"
 FIXED = {"qC": "QC1", "qfThreadInfo": "m1", "qsThreadInfo": "l", "qAttached": "1", "vCont?": "vCont;c;C;s;S;r",
-         "qSymbol::": "OK"}
+         "qSymbol::": "OK", "QStartNoAckMode": "OK"}
 
 
 class Stub:
     """Answers packets, one after another, over a run."""
 
-    def __init__(self, packets, run, file, given, supp):
-        self.packets, self.run = packets, run
-        self.goer = Goer(run)
-        self.monitor = Monitor(run, self.goer, file, given, supp)
-        self.by_letter = {"g": self.all_registers, "p": self.one_register, "m": self.memory, "Z": lambda it: self.point(it, self.goer.add), "z": lambda it: self.point(it, self.goer.remove),
-                          "H": lambda _: "OK", "T": lambda _: "OK", "?": lambda _: self.stopped(),
-                          "c": lambda _: self.told(self.goer.forward()), "C": lambda _: self.told(self.goer.forward()),
-                          "s": lambda _: self.told(self.goer.step()), "S": lambda _: self.told(self.goer.step())}
+    def __init__(self, packets, run, goer, monitor):
+        self.packets, self.run, self.goer, self.monitor = packets, run, goer, monitor
+        self.by_name = {"bc": goer.back, "bs": goer.step_back, "c": goer.forward, "s": goer.step}
+        self.by_letter = {
+            "g": self.all_registers, "p": self.one_register, "m": self.memory,
+            "Z": lambda text: self.point(text, goer.add), "z": lambda text: self.point(text, goer.remove),
+            "M": self.write, "X": self.write, "P": self.refuse, "G": self.refuse, "c": self.refuse, "s": self.refuse,
+            "C": lambda text: self.go("c", text), "S": lambda text: self.go("s", text),
+            "H": lambda _: "OK", "T": lambda _: "OK", "D": lambda _: "OK", "?": lambda _: self.stopped()}
+        self.by_words = {"qSupported": lambda _: SUPPORTED, TARGET: lambda text: part(description(), text),
+                         "vCont;": self.continued, "qRcmd,": self.command}
 
     def serve(self):
         """Answers packets until the other side has closed, or is done."""
         try:
             while True:
                 packet = self.packets.packet()
-                if packet.startswith("k") or packet.startswith("vKill"):
+                if packet.startswith("k"):
                     return
                 self.packets.send(self.answer(packet))
-                if packet.startswith("QStartNoAckMode"):
+                if packet == "QStartNoAckMode":
                     self.packets.acknowledges = False
                 if packet.startswith("D"):
                     return
@@ -44,33 +51,77 @@ class Stub:
     def answer(self, packet):
         try:
             return self.reply(packet)
-        except Misread as fault:
+        except (Misread, Refused) as fault:
             return f"E.{fault}"
 
     def reply(self, packet):
-        if packet.startswith("qSupported"):
-            return SUPPORTED
-        if packet.startswith(TARGET):
-            return part(description(), packet[len(TARGET):])
+        """The answer to a packet; an empty one to a packet that isn't known."""
         if packet in FIXED:
             return FIXED[packet]
-        if packet in ("bc", "bs"):
-            return self.told(self.goer.back() if packet == "bc" else self.goer.step_back())
-        if packet.startswith("vCont;"):
-            return self.go(packet[6:].split(";")[0].split(":")[0])
-        if packet.startswith("qRcmd,"):
-            return self.command(packet[6:])
-        if packet.startswith("QStartNoAckMode") or packet.startswith("D"):
-            return "OK"
-        if packet[:1] in ("M", "X", "P", "G"):
-            return REFUSED
+        if packet in self.by_name:
+            return self.told(self.by_name[packet]())
+        for words, does in self.by_words.items():
+            if packet.startswith(words):
+                return does(packet[len(words):])
         return self.by_letter.get(packet[:1], lambda _: "")(packet[1:])
 
-    def go(self, action):
+    # ---- going on
+
+    def go(self, name, text):
+        """Goes on by a packet with a signal, which has no effect, and not from another address."""
+        return self.refuse() if ";" in text else self.told(self.by_name[name]())
+
+    def continued(self, text):
+        """Goes on by the first of the actions that a packet has for threads: there is one thread."""
+        action = text.split(";")[0].split(":")[0]
         if action[:1] == "r":
-            low, high = so_many(2, numbers(action[1:]))
-            return self.told(self.goer.forward((low, high)))
-        return self.told(self.goer.forward() if action[:1] in ("c", "C") else self.goer.step())
+            low, high = numbers(action[1:], 2)
+            return self.told(self.goer.forward((low, min(high, TOP))))
+        if action[:1].lower() not in ("c", "s"):
+            raise Misread
+        return self.told(self.by_name[action[0].lower()]())
+
+    def stopped(self, word=""):
+        return f"T05{word}thread:1;"
+
+    def told(self, stop):
+        """That the run has stopped; at its end, and at an error, in words too."""
+        if stop.word == END:
+            self.packets.say(f"[{self.run.registers().state} at step {stop.step}]\n")
+        if stop.errs:
+            self.packets.say("".join(f"[step {stop.step} makes an error: {it}]\n" for it in self.run.errors_of(stop.step)))
+        return self.stopped(stop.word)
+
+    def point(self, text, does):
+        sort, address, length = numbers(text.split(";")[0], 3)
+        if sort > ACCESS or address >= TOP:
+            return ""
+        does(Point(sort, address, max(1, length)))
+        return "OK"
+
+    # ---- what there is
+
+    def all_registers(self, _):
+        seen = self.run.registers()
+        return "".join(in_hexadecimal(value_of(it, seen, self.run.step)) for it in range(PC + 1))
+
+    def one_register(self, text):
+        value = value_of(numbers(text, 1)[0], self.run.registers(), self.run.step)
+        return "E01" if value is None else in_hexadecimal(value)
+
+    def memory(self, text):
+        address, length = numbers(text, 2)
+        return self.run.memory(address, min(length, MOST // 2)).data.hex() or "E01"
+
+    def refuse(self, _=""):
+        return f"E.{REFUSED}"
+
+    def write(self, text):
+        """Refuses to write memory. gdb tells no reason of that, but shows what comes on standard error; it asks without bytes whether
+        it may."""
+        if not text.partition(":")[0].endswith(",0"):
+            print(f"replaycheck gdb: {REFUSED}", file=sys.stderr, flush=True)
+        return self.refuse()
 
     def command(self, text):
         """A line of `monitor`."""
@@ -88,43 +139,8 @@ class Stub:
             self.packets.say(said)
         return "OK"
 
-    def stopped(self, word=""):
-        return f"T05{word}thread:1;"
-
-    def told(self, stop):
-        """That the run has stopped; at its end, in words too."""
-        if stop.word == "replaylog:end;":
-            self.packets.say(f"[{self.run.registers().state} at step {stop.step}]\n")
-        return self.stopped(stop.word)
-
-    def all_registers(self, _):
-        seen = self.run.registers()
-        return "".join(in_hexadecimal(value_of(it, seen, self.run.step)) for it in range(PC + 1))
-
-    def one_register(self, text):
-        value = value_of(numbers(text)[0], self.run.registers(), self.run.step)
-        return "E01" if value is None else in_hexadecimal(value)
-
-    def memory(self, text):
-        address, length = so_many(2, numbers(text))
-        cells = self.run.memory(address, min(length, MOST // 2))
-        return "".join(f"{it.byte:02x}" for it in cells) if cells else "E01"
-
-    def point(self, text, does):
-        sort, address, length = so_many(3, numbers(text.split(";")[0]))
-        if sort > ACCESS or address >= 1 << 32:
-            return ""
-        does(Point(sort, address, max(1, length)))
-        return "OK"
-
 
 def part(text, asked):
     """A part of a text, after `l` where it is the last."""
-    begin, length = so_many(2, numbers(asked))
+    begin, length = numbers(asked, 2)
     return ("m" if begin + length < len(text) else "l") + text[begin:begin + length]
-
-
-def so_many(count, found):
-    if len(found) != count:
-        raise Misread
-    return found
