@@ -1,6 +1,6 @@
 // Plain sentences for what goes wrong, each with what to do.
 import { REFUSALS } from './facts.js';
-import { size } from './dom.js';
+import { size } from './numbers.js';
 import { NoEdit } from './scenario.js';
 import { Ended, Refused, Stopped, TooManyLines } from './sessions.js';
 
@@ -19,7 +19,13 @@ const DAMAGED = 'The file is damaged, or a tool has rewritten it: link it anew.'
 const WHAT = { image: 'The program', input: 'The input', suppressions: 'The suppressions' };
 const NO_MEMORY = 'Take a shorter run or fewer edits, or close other pages.';
 
-export const NEEDS = 'This page needs WebAssembly with 64-bit memory, which this browser lacks: take a current Chromium.';
+const NEEDS = 'This page needs WebAssembly with 64-bit memory, which this browser lacks: take a current Chromium.';
+const NO_MODULE = 'The program’s module could not be loaded from beside the page. Load the page again, or take the page of one file.';
+
+// What to say where the program's module can't be had.
+export function notLoaded(fault) {
+  return `${fault instanceof WebAssembly.CompileError ? NEEDS : NO_MODULE} (${fault.message})`;
+}
 
 function refusedFile(said) {
   const found = /^replaycheck: (image|input|suppressions) refused (\d+)(?: at line (\d+))?/.exec(said);

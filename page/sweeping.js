@@ -5,6 +5,11 @@ import { Helper, Stopped } from './sessions.js';
 const PARTS_EACH = 4;  // so that no worker waits long for the last one
 const MOST_PARTS = 1000;
 
+// How many bytes or words are swept, how many values each has at most, and how many edits that are.
+export const placesOf = ({ kind, first, last }) => (kind === 'bytes' ? last - first + 1 : (last - first) / 4 + 1);
+export const valuesOf = ({ kind, values }) => ({ all: 255, edges: 7, skip: 1, flips: kind === 'bytes' ? 8 : 32 })[values];
+export const mostEditsOf = (asked) => placesOf(asked) * valuesOf(asked);
+
 const partsOf = (places, workers) => (workers === 1 ? 1 : Math.max(1, Math.min(places, workers * PARTS_EACH, MOST_PARTS)));
 
 // So many edits are made at most, as all are held.
@@ -63,8 +68,7 @@ export class Sweep {
   }
 
   async run(workers) {
-    const { kind, first, last } = this.asked;
-    const parts = partsOf(kind === 'bytes' ? last - first + 1 : (last - first) / 4 + 1, workers);
+    const parts = partsOf(placesOf(this.asked), workers);
     let next = 1;
     const work = async () => {
       const helper = new Helper(this.program.makeWorker);
@@ -82,7 +86,6 @@ export class Sweep {
     }
     this.swept.time = performance.now() - begun;
     this.swept.isWhole = !this.isStopped;
-    return this.swept;
   }
 
   async part(helper, number, count) {

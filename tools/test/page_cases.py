@@ -11,7 +11,7 @@ from page_bench import EXAMPLES, Wrong, expect, same, words_of
 from replaycheck.guest_files import DATA, TOP, Worked, elf
 
 STATION = words_of("station")
-FINAL = "replaycheck.sweeping?.swept.isWhole"
+FINAL = "replaycheck.sweeps.sweep?.swept.isWhole"
 
 
 # ---- the program in the page
@@ -250,7 +250,7 @@ def link_of_own_files(bench):
 def swept(bench, page, words, options, want_edits):
     """Whether the page's sweep comes to the program's table, edit by edit."""
     page.until(FINAL, 120)
-    told = page.run("""(() => { const { places, outcomes } = replaycheck.sweeping.swept;
+    told = page.run("""(() => { const { places, outcomes } = replaycheck.sweeps.sweep.swept;
       return [...places].flatMap(([at, it]) => it.values.map((value, index) => [at, value, outcomes[it.outcomes[index]]])); })()""")
     want = bench.table(words, *options)
     same("edits", len(told), want_edits)
@@ -267,7 +267,7 @@ def picture_of_bytes(bench):
         same("counts in the legend", counts, ["7", "3", "2", "1", "1", "261", "12", "2,636", "7,532"])
         page.run("document.getElementById('picture').scrollIntoView()")
         for at, value in ((1, 8), (37, 250), (15, 255)):
-            x, y = page.run(f"""(() => {{ const it = document.getElementById('picture').getBoundingClientRect(), p = replaycheck.picture;
+            x, y = page.run(f"""(() => {{ const it = document.getElementById('picture').getBoundingClientRect(), p = replaycheck.sweeps.picture;
               const [left, top, wide, tall] = p.box({at} * p.rows + {value}); return [it.left + left + wide / 2, it.top + top + tall / 2]; }})()""")
             page.run("replaycheck.use('')")
             bench.settle(page)
@@ -281,8 +281,8 @@ def picture_least(bench):
     """In the picture a new error is at least three pixels high, and the legend takes an outcome out."""
     with bench.open(words="") as page:
         page.until(FINAL, 120)
-        page.run("replaycheck.picture.draw()")
-        count = """(() => { const p = replaycheck.picture, on = p.canvas.getContext('2d'), index = 27 * p.rows + 2, [x, y, w, h] = p.box(index);
+        page.run("replaycheck.sweeps.picture.draw()")
+        count = """(() => { const p = replaycheck.sweeps.picture, on = p.canvas.getContext('2d'), index = 27 * p.rows + 2, [x, y, w, h] = p.box(index);
           on.fillStyle = p.colours[p.cells[index].number]; const want = on.fillStyle; let tall = 0;
           for (let at = Math.max(0, Math.floor(y) - 4); at < y + h + 4; at++) {
             const [r, g, b] = on.getImageData(Math.floor(x + w / 2), at, 1, 1).data;
@@ -297,7 +297,7 @@ def picture_least(bench):
 def picture_of_words(bench):
     """Every bit of a function's words, and an edited scenario: the table of the files that it stands for."""
     with bench.open("boot") as page:
-        page.run("replaycheck.sweeping?.stop()")
+        page.run("replaycheck.sweeps.sweep?.stop()")
         begin, size = page.run("(() => { const it = replaycheck.program.elf.functions.find((f) => f.name === 'verify'); replaycheck.code.visit(it.address); return [it.address, it.size]; })()")
         page.run("""(() => { const it = document.getElementById('sweep-what'); it.value = 'words'; it.dispatchEvent(new Event('change'));
           document.getElementById('sweep-values').value = 'flips'; document.getElementById('sweep').click(); })()""")
@@ -367,14 +367,14 @@ def picture_stopped(bench):
         bench.give(page, {"program": (TOP / "examples/firmware/station.elf").read_bytes(), "input": bytes(4000)})
         bench.settle(page)
         page.run("document.getElementById('sweep').click()")
-        page.until("replaycheck.sweeping && replaycheck.sweeping.swept.edits > 0")
+        page.until("replaycheck.sweeps.sweep && replaycheck.sweeps.sweep.swept.edits > 0")
         page.run("document.getElementById('stop').click()")
         page.until("document.getElementById('stop').disabled", 3)
-        edits = page.run("replaycheck.sweeping.swept.edits")
+        edits = page.run("replaycheck.sweeps.sweep.swept.edits")
         expect(0 < edits < 4000 * 255 and "stopped after" in page.text("sweep-told"), f"{edits} edits: {page.text('sweep-told')}")
         page.run("replaycheck.use('input 1 8')")
         bench.settle(page)
-        same("edits after the stop", page.run("replaycheck.sweeping.swept.edits"), edits)
+        same("edits after the stop", page.run("replaycheck.sweeps.sweep.swept.edits"), edits)
 
 
 # ---- what a user may meet
@@ -462,7 +462,7 @@ def memory_short(bench):
 def no_memory64(bench):
     """A browser without 64-bit memory is told what it lacks."""
     with bench.page() as page:
-        page.run("WebAssembly.compileStreaming = () => Promise.reject(new Error('invalid memory limits flags'))")
+        page.run("WebAssembly.compileStreaming = () => Promise.reject(new WebAssembly.CompileError('invalid memory limits flags'))")
         page.run("replaycheck.opening.choose('station')")
         expect("64-bit memory" in page.text("notice"), f"it says {page.text('notice')!r}")
 
@@ -507,6 +507,6 @@ def one_file(bench):
         page.press("ArrowRight", "0", "8")
         bench.same_report(page, STATION, "a byte in the page of one file")
         page.until(FINAL, 120)
-        same("edits", page.run("replaycheck.sweeping.swept.edits"), 10455)
+        same("edits", page.run("replaycheck.sweeps.sweep.swept.edits"), 10455)
         page.until("document.getElementById('sweep-told').textContent.includes('287 of them')")
         same("complaints", page.complaints(), [])

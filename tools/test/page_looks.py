@@ -34,7 +34,7 @@ def opened(bench, **shape):
     page.run(f"replaycheck.use({json.dumps(WORK)})")
     bench.settle(page)
     page.run("[...document.querySelectorAll('details')].forEach((it) => { it.open = true; })")
-    page.until("replaycheck.sweeping?.swept.isWhole", 120)
+    page.until("replaycheck.sweeps.sweep?.swept.isWhole", 120)
     return page
 
 
@@ -151,7 +151,7 @@ def plain(text):
 def picture_file(bench, path):
     """Writes the picture of README: the firmware's example with one byte edited, and its picture."""
     with bench.open(words="", width=1180, height=900) as page:
-        page.until("replaycheck.sweeping?.swept.isWhole", 120)
+        page.until("replaycheck.sweeps.sweep?.swept.isWhole", 120)
         page.focus("bytes")
         page.press("ArrowRight", "0", "8")
         bench.settle(page)
