@@ -98,7 +98,9 @@ export class Code {
     const word = this.scenario.patches.get(address) ?? this.elf.loaded(address);
     const key = (event) => {
       if (event.key === 'Escape') this.write(null);
-      if (event.key === 'Enter') this.set(address, event.target.value.trim());
+      else if (event.key === 'Enter') this.set(address, event.target.value.trim());
+      else return;
+      event.preventDefault();  // or Enter would press the button that has the focus now
     };
     const made = element('input', { id: 'new-word', value: hexWord(word), onkeydown: key, spellcheck: false,
       'aria-label': `new word at ${hexWord(address)}, Enter sets it` });

@@ -67,9 +67,6 @@ def write_folder(folder, module):
         files[name] = (SOURCES / name).read_bytes()
     files["replaycheck.wasm"] = module
     folder.mkdir(parents=True, exist_ok=True)
-    for path in folder.iterdir():
-        if path.name not in files and path.is_file():
-            path.unlink()
     for name, content in files.items():
         (folder / name).write_bytes(content)
 
