@@ -20,6 +20,7 @@ import { SweepPart } from './sweep-part.js';
 
 const words = new URLSearchParams(location.search);
 const LIMIT = Number(words.get('memory')) || 1 << 30;  // bytes that a session may take
+const WORKERS = Number(words.get('workers')) || navigator.hardwareConcurrency || 2;
 const SHORT_RUN = 100000;  // steps of a run whose edits are all made as it is opened
 const QUIET = 300;  // milliseconds after an edit, before landmarks are searched and the link is changed
 const BEYOND = 4096;  // steps behind the end of the unedited run, and three times as many as it has
@@ -45,7 +46,7 @@ class App {
       link: async () => new URL(await this.opening.link(this.lines), location.href).href, text: () => `${this.lines.join('\n')}\n` });
     const state = () => ({ program: this.program, scenario: this.scenario, step: this.step, range: this.code.range, lineOf: this.lineOf });
     this.sweeps = new SweepPart({ state, make, refuse, fail: (fault) => this.notice(sentence(fault, LIMIT)),
-      told: () => this.bytes.tellOf(this.bytes.here), workers: Number(words.get('workers')) || navigator.hardwareConcurrency || 2 });
+      told: () => this.bytes.tellOf(this.bytes.here), makeWorker, workers: WORKERS });
     this.listen();
     say('sum', `The program’s module: SHA-256 ${MODULE_SUM}`);
     $('unstarted').remove();

@@ -3,7 +3,7 @@ import { $, element, say } from './dom.js';
 import { grouped, hexWord, many, milliseconds, size } from './numbers.js';
 import { Picture } from './picture.js';
 import { editsOf } from './scenario.js';
-import { MOST_EDITS, Sweep, mostEditsOf } from './sweeping.js';
+import { Idle, MOST_EDITS, Sweep, mostEditsOf } from './sweeping.js';
 
 const VALUES = {
   bytes: { all: 'all 255 others', flips: 'one bit turned', edges: '0, 1, 0x7f, 0x80, 0xff, ±1' },
@@ -37,8 +37,8 @@ export function filesOf(scenario, { files, elf }) {
 export class SweepPart {
   // `state` gives what is swept: the program, the scenario, the step and the function that is shown; `make` makes an edit;
   // `refuse` takes a sentence, `fail` a fault; `told` is called when more is known of the edits.
-  constructor({ state, make, refuse, fail, told, workers }) {
-    Object.assign(this, { state, refuse, fail, told, workers, sweep: null });
+  constructor({ state, make, refuse, fail, told, makeWorker, workers }) {
+    Object.assign(this, { state, refuse, fail, told, workers, sweep: null, idle: new Idle(makeWorker) });
     this.picture = new Picture({ make });
     $('sweep').addEventListener('click', () => this.begin());
     $('stop').addEventListener('click', () => this.sweep?.stop());
@@ -89,7 +89,7 @@ export class SweepPart {
         + ' Choose fewer values, or use `replaycheck sweep`.');
     }
     const { files, left } = filesOf(scenario, program);
-    const sweep = this.sweep = new Sweep(program, files, asked, () => this.goesOn(sweep));
+    const sweep = this.sweep = new Sweep(program, files, asked, this.idle, () => this.goesOn(sweep));
     const word = (at) => scenario.patches.get(at) ?? program.elf.loaded(at) ?? 0;
     this.picture.begin(sweep.swept, asked.kind === 'bytes' ? (at) => scenario.byte(at) : word, lineOf);
     this.show(true);

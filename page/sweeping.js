@@ -50,10 +50,20 @@ export class Swept {
   }
 }
 
+// Workers that have nothing to do and are kept for the next sweep, since it takes a while to start one.
+export class Idle {
+  constructor(makeWorker) {
+    Object.assign(this, { makeWorker, helpers: [] });
+  }
+
+  take() { return this.helpers.pop() ?? new Helper(this.makeWorker); }
+  give(helper) { this.helpers.push(helper); }
+}
+
 export class Sweep {
   // `asked` has the kind, the first and the last place, the values and the step; `told` is called while it goes on.
-  constructor(program, files, asked, told) {
-    Object.assign(this, { program, files, asked, told, swept: new Swept(asked), helpers: [], memory: 0, isStopped: false });
+  constructor(program, files, asked, idle, told) {
+    Object.assign(this, { program, files, asked, idle, told, swept: new Swept(asked), helpers: new Set(), memory: 0, isStopped: false });
   }
 
   get words() {
@@ -71,10 +81,10 @@ export class Sweep {
     const parts = partsOf(placesOf(this.asked), workers);
     let next = 1;
     const work = async () => {
-      const helper = new Helper(this.program.makeWorker);
-      this.helpers.push(helper);
+      const helper = this.idle.take();
+      this.helpers.add(helper);
       while (next <= parts && !this.isStopped) await this.part(helper, next++, parts);
-      helper.stop();
+      if (!this.isStopped && this.helpers.delete(helper)) this.idle.give(helper);
     };
     const begun = performance.now();
     try {

@@ -87,8 +87,9 @@ class Bench:
         """Opens files as a user's: bytes by their roles."""
         told = {role: {"name": name if role == "program" else f"{role}.bin", "text": base64.b64encode(content).decode()}
                 for role, content in files.items()}
-        page.run("(async (files) => { for (const it of Object.values(files)) it.bytes = Uint8Array.from(atob(it.text), (c) => c.charCodeAt(0));"
-                 f" await replaycheck.opening.take(files); }})({json.dumps(told)})")
+        page.run("""(async (files) => {
+          for (const it of Object.values(files)) it.bytes = Uint8Array.from(atob(it.text), (c) => c.charCodeAt(0));
+          await replaycheck.opening.take(files); })""" + f"({json.dumps(told)})")
 
     def same_report(self, page, words, what):
         """Whether the page shows the report that the program writes after the same lines."""
