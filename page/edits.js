@@ -7,11 +7,11 @@ const SHOWN = ['definite', 'indirect', 'possible', 'reachable'];
 const MOST_CHIPS = 200;
 
 export class Edits {
-  // `edit` takes a scenario; `use` the lines of a text; `refuse` and `tell` a sentence; `link` promises the page's address with
-  // the scenario; `text` gives its lines.
-  constructor({ edit, use, refuse, tell, link, text }) {
+  // `edit` takes a scenario, and `clear` takes all edits off; `use` takes the lines of a text, `refuse` and `tell` a sentence;
+  // `link` promises the page's address with the scenario, and `text` gives its lines.
+  constructor({ edit, clear, use, refuse, tell, link, text }) {
     Object.assign(this, { edit, use, refuse, tell, link, text });
-    $('none').addEventListener('click', () => this.use(''));
+    $('none').addEventListener('click', clear);
     $('mark-form').addEventListener('submit', (event) => this.submit(event, () => this.mark()));
     $('option-form').addEventListener('submit', (event) => this.submit(event, () => this.options()));
     $('append-form').addEventListener('submit', (event) => this.submit(event, () => this.append()));

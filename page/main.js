@@ -42,7 +42,8 @@ class App {
     this.reports = new Reports({ lineOf: (address) => this.lineOf(address), visit: (address) => this.code.visit(address),
       suppress: (text) => this.edit(this.scenario.withSuppression(text)), kinds: { errors: ERROR_KINDS, leaks: LEAK_KINDS } });
     this.steps = new Steps({ go: (step) => this.go(step), most: LAST_STEP });
-    this.edits = new Edits({ edit, use: (text) => this.use(text), refuse, tell: (text) => this.notice(text, 'good'),
+    this.edits = new Edits({ edit, clear: () => this.edit(this.plain), use: (text) => this.use(text), refuse,
+      tell: (text) => this.notice(text, 'good'),
       link: async () => new URL(await this.opening.link(this.lines), location.href).href, text: () => `${this.lines.join('\n')}\n` });
     const state = () => ({ program: this.program, scenario: this.scenario, step: this.step, range: this.code.range, lineOf: this.lineOf });
     this.sweeps = new SweepPart({ state, make, refuse, fail: (fault) => this.notice(sentence(fault, LIMIT)),
@@ -179,9 +180,17 @@ class App {
 
   show(scenario) {
     this.scenario = scenario;
-    this.bytes.show(scenario, this.shown?.report.read ?? 0);
-    this.showTravel();
+    this.showScenario();
     this.refresh();
+  }
+
+  // Has the parts show what they edit, before there is a report of it.
+  showScenario() {
+    const { scenario } = this;
+    this.bytes.show(scenario, this.shown?.report.read ?? 0);
+    this.code.show(scenario);
+    this.edits.show(scenario, Math.min(this.step, this.last));
+    this.showTravel();
   }
 
   showTravel() {
@@ -248,14 +257,19 @@ class App {
   // Shows the report of what is wanted last: of what is wanted meanwhile, all but the last is left out.
   refresh() {
     this.isWanted = true;
-    this.isBusy ??= this.answer().finally(() => { this.isBusy = null; });
+    this.isBusy ??= this.answer();
     return this.isBusy;
   }
 
   async answer() {
-    while (this.isWanted) {
-      this.isWanted = false;
-      if (this.scenario) await this.ask();
+    await null;  // so that `isBusy` is set before this ends
+    try {
+      while (this.isWanted) {
+        this.isWanted = false;
+        if (this.scenario) await this.ask();
+      }
+    } finally {
+      this.isBusy = null;
     }
   }
 
@@ -289,14 +303,11 @@ class App {
   }
 
   display() {
-    const { scenario, step, report, unedited, time } = this.shown;
+    const { step, report, unedited, time } = this.shown;
     const isEnd = step === this.follow && !report.state.startsWith('running');
     this.reports.show(report, unedited, { time, where: isEnd ? 'at the end of the run' : `at step ${grouped(report.step)}` });
-    this.bytes.show(this.scenario, report.read);
-    this.code.show(scenario);
+    this.showScenario();
     this.lookAtNew();
-    this.edits.show(this.scenario, Math.min(step, this.last));
-    this.showTravel();
     clearTimeout(this.timer);
     this.timer = setTimeout(() => this.settle(), QUIET);
   }

@@ -5,7 +5,7 @@ import { Table } from './tables.js';
 
 const encoder = new TextEncoder();
 const decoder = new TextDecoder();
-const POST_EVERY = 50;  // milliseconds
+const POST_EVERY = 100;  // milliseconds
 let session = null;
 
 class Fault extends Error {

@@ -193,6 +193,21 @@ def undone_as_one(bench):
         same("a digit behind one that was undone", page.run("replaycheck.scenario.lines"), ["input 2 88"])
 
 
+def edits_at_once(bench):
+    """Edits that are made before the report of the one before is there: none is lost, and the step stays when all are taken off."""
+    with bench.open() as page:
+        page.run("replaycheck.go(500)")
+        page.run("""(() => { const click = (selector, index = 0) => document.querySelectorAll(selector)[index].click();
+          click('#append-form button'); click('#append-form button'); click('#append-form button'); click('#cut');
+          click('#code-rows tr:nth-child(1) button'); click('#code-rows tr:nth-child(2) button'); click('#chips button', 1); })()""")
+        bench.same_report(page, STATION, "edits at once")
+        begin = page.run("replaycheck.code.range.begin")
+        same("lines", page.run("replaycheck.lines"), ["goto 500", f"patch 0x{begin:08x} 0x00000013", "input append 0", "input append 0"])
+        page.click_on("#none")
+        bench.same_report(page, STATION, "all taken off")
+        same("lines then", page.run("replaycheck.lines"), ["goto 500"])
+
+
 def marks_taken_off(bench):
     """Marks that are taken off in any order leave the others."""
     marks = ["mark 55 0x20011 2 undefined", "mark 100 0x20010 1 noaccess", "mark 300 0x20014 4 undefined", "mark 0 0x7fffffc7 1 defined"]

@@ -26,10 +26,7 @@ STACK, MOST_MEMORY = 4 << 20, 4 << 30
 LAYOUT = re.compile(r"^target datalayout = .*\n", re.M)
 TRIPLE = re.compile(r'^target triple = ".*"$', re.M)
 ATTRIBUTES = re.compile(r' "(?:probe-stack|stack-probe-size|target-cpu|target-features|tune-cpu|frame-pointer)"="[^"]*"')
-# A constant offset from an address, which wraps around no 64 bits where memory has 4 GiB: the compiler is told so, and puts it
-# into the access. Accesses to the parts of one thing then have one address, which the browser tests once.
-OFFSET = re.compile(r"getelementptr (?=i8, ptr [^,\n]+, i64 [0-9]+\b)")
-SIMD = "-msimd128"  # which each browser with 64-bit memory has: two words are moved at once
+SIMD = "-msimd128"  # two words are moved at once; each browser with 64-bit memory has it
 PARTS = ("src", "specs", "proofs", "args", "stdin", "stdout", "status", "data")
 
 
@@ -131,7 +128,7 @@ def take_text(kit, tools, room):
 def for_pages(text):
     """The intermediate text for another processor, whose addresses have 64 bits too."""
     text = TRIPLE.sub(f'target triple = "{kits.TARGET}"', LAYOUT.sub("", text))
-    return OFFSET.sub("getelementptr nuw ", ATTRIBUTES.sub("", text))
+    return ATTRIBUTES.sub("", text)
 
 
 def compile_module(tools, room):
