@@ -76,17 +76,19 @@ class App {
 
   // ---- opening
 
+  // Opens a program with its files, and uses lines of a session. Another one may be opened meanwhile: then this one isn't shown.
   async open(files, lines = []) {
     const turn = this.close();
+    let module;
     try {
-      const module = await loadModule();
-      if (turn !== this.turn) return;
-      this.take(files, module);
+      module = await loadModule();
     } catch (fault) {
       if (turn === this.turn) this.failed(notLoaded(fault));
       return;
     }
+    if (turn !== this.turn) return;
     try {
+      this.take(files, module);
       const isRunning = async (step) => (await this.reportBefore(step)).state.startsWith('running');
       const last = await this.told('The program runs', endOf(isRunning, LAST_STEP));
       if (turn === this.turn) await this.begin(files, lines, last);

@@ -94,8 +94,9 @@ export class Opening {
     const wanted = lines ?? (this.wanted && this.files[this.wanted.last] ? this.wanted.lines : undefined);
     const notice = this.wanted && wanted ? await this.differing() : '';
     if (wanted) this.wanted = null;
-    await this.open(this.files, wanted);
-    if (notice) this.refuse(notice);
+    const { files } = this;
+    await this.open(files, wanted);
+    if (notice && files === this.files) this.refuse(notice);
   }
 
   // ---- links

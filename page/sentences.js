@@ -37,7 +37,7 @@ function refusedFile(said) {
 // What to say of a fault.
 export function sentence(fault, limit) {
   if (fault instanceof NoEdit) return `“${fault.message}” is no line that edits a run. ${REFUSALS[2]}.`;
-  if (fault instanceof Stopped) return 'Stopped. The page shows the report before.';
+  if (fault instanceof Stopped) return 'Stopped.';
   if (fault instanceof TooManyLines) return 'These are more edits than a session takes. Change the input’s file instead.';
   const memory = `this page takes ${size(limit)} at most. ${NO_MEMORY}`;
   if (fault instanceof Refused && fault.number === 1) return `Memory ran out at “${fault.line}”; ${memory}`;
