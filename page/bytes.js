@@ -52,7 +52,7 @@ export class Bytes {
     this.render();
     this.tellOf(this.here);
     const has = scenario.length > 0;
-    $('value').disabled = !has;
+    for (const it of ['input-help', 'bytes', 'value-row']) $(it).hidden = !has;
     $('cut').disabled = !has;
     say('input-told', `${grouped(read)} of ${many(scenario.length, 'byte')} read`);
   }
@@ -113,8 +113,6 @@ export class Bytes {
   tellOf(at) {
     if (!this.scenario?.length) {
       say('byte-told', 'No input: append a byte, or open a file.');
-      say('value-label', 'byte');
-      say('value-told', '');
       return;
     }
     say('byte-told', this.tell(at));

@@ -40,6 +40,6 @@ export class Legend {
     if (button) button.dataset.held = `first ${number}`;
     const cell = (className, ...children) => element('td', { role: 'cell', className }, ...children);
     return element('tr', { role: 'row' }, cell('shows', element('label', {}, box, swatch)), cell('number', grouped(tallies[number])),
-      cell('outcome', told), cell('first', button));
+      cell('outcome', element('div', { title: told }, told)), cell('first', button));
   }
 }

@@ -27,6 +27,7 @@ export class Reports {
     const groups = this.groups = compared(report, unedited);
     const hidden = groups.length - MOST_GROUPS;
     $('report').replaceChildren(
+      ...(groups.length ? [] : [element('p', {}, 'No errors, and no leaks that are listed.')]),
       ...groups.slice(0, MOST_GROUPS).map((it) => this.group(it)),
       ...(hidden > 0 ? [element('p', { className: 'quiet' }, `${many(hidden, 'more group')} in the text below`)] : []),
       this.sums(report, unedited));
