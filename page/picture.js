@@ -32,7 +32,8 @@ export class Picture {
   }
 
   clear() {
-    Object.assign(this, { swept: null, cells: [], here: { column: 0, row: 0 } });
+    clearTimeout(this.timer);
+    Object.assign(this, { swept: null, cells: [], here: { column: 0, row: 0 }, timer: null });
     this.legend.clear();
     say('picture-told', '');
     $('picture-parts').hidden = true;
@@ -42,7 +43,7 @@ export class Picture {
   begin(swept, before, lineOf) {
     this.clear();
     const count = placesOf(swept.asked), rows = swept.asked.values === 'all' ? 256 : valuesOf(swept.asked);
-    Object.assign(this, { swept, before, count, rows, columns: Math.min(count, MOST_COLUMNS), taken: new Map(), lastDrawn: 0 });
+    Object.assign(this, { swept, before, count, rows, columns: Math.min(count, MOST_COLUMNS), taken: new Map() });
     this.outcomes = new Outcomes(swept, lineOf);
     this.cells = Array.from({ length: this.columns * rows }, () => null);
     $('picture-parts').hidden = false;
@@ -67,7 +68,7 @@ export class Picture {
     return Math.floor(index * this.columns / this.count);
   }
 
-  // Takes what the sweep has more of, and draws it now and then.
+  // Takes what the sweep has more of, and draws it a moment later, at the end at once.
   more(isLast = false) {
     for (const [at, { values, outcomes }] of this.swept.places) {
       const taken = this.taken.get(at) ?? 0;
@@ -75,10 +76,8 @@ export class Picture {
       for (let i = taken; i < values.length; i++) this.take(at, values[i], outcomes[i]);
       this.taken.set(at, values.length);
     }
-    if (!isLast && performance.now() - this.lastDrawn < DRAW_EVERY) return;
-    this.lastDrawn = performance.now();
-    this.show();
-    this.tell();
+    if (isLast) this.show();
+    else this.timer ??= setTimeout(() => this.show(), DRAW_EVERY);
   }
 
   take(at, value, number) {
@@ -89,9 +88,12 @@ export class Picture {
   // ---- drawing
 
   show() {
+    clearTimeout(this.timer);
+    this.timer = null;
     if (!this.swept?.outcomes.length) return;
     this.draw();
     this.legend.show(this.outcomes, this.colours);
+    this.tell();
   }
 
   draw() {
