@@ -164,12 +164,12 @@ def picture_file(bench, path):
     """Writes the picture of README: the firmware's example with one byte edited, and its picture."""
     with bench.open(words="", width=1280, height=2000) as page:
         page.until(SWEPT, 120)
+        page.run("document.getElementById('code').style.maxHeight = '12rem'")
         page.focus("bytes")
         page.press("ArrowRight", "0", "8")
         bench.settle(page)
-        page.until("replaycheck.steps.landmarks.some((it) => it.kinds.includes('end'))")
-        page.run("""(() => { replaycheck.bytes.pick(1); document.activeElement.blur();
-          document.getElementById('code').style.maxHeight = '12rem'; })()""")
+        page.until("['error', 'end'].every((kind) => replaycheck.steps.landmarks.some((it) => it.kinds.includes(kind)))")
+        page.run("(() => { replaycheck.bytes.pick(1); document.activeElement.blur(); })()")
         below = page.run("document.getElementById('legend-rows').children[4].getBoundingClientRect().bottom + scrollY")
         path.write_bytes(page.picture(below, 0.7))
 
