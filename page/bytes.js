@@ -1,15 +1,16 @@
 // The input as bytes that are edited in place. Only the rows in view are elements, so that long inputs scroll.
-import { $, element, hexByte, letter, say, grouped } from './dom.js';
+import { $, element, say } from './dom.js';
+import { grouped, hexByte, letter, many } from './numbers.js';
 
 const BESIDE = 8;  // rows that are made above and below the view
-const NARROW = matchMedia('(max-width: 30rem)');
+const WIDE = 16, NARROW = 8;  // bytes of a row
+const TALL = 21;  // pixels of a row, until one is measured
 const HEX = /^[0-9a-fA-F]$/;
 
 export class Bytes {
-  // `edit` takes the scenario after an edit, and whether it goes on with the edit before it; `tell` gives what is said of
-  // a byte.
+  // `edit` takes the scenario after an edit, and its series; `tell` gives what is said of a byte.
   constructor({ edit, tell }) {
-    Object.assign(this, { edit, tell, here: 0, digit: null, read: 0, scenario: null });
+    Object.assign(this, { edit, tell, here: 0, read: 0, scenario: null, wide: WIDE, tall: TALL });
     this.grid = $('bytes');
     this.rows = element('div', { role: 'rowgroup' });
     this.grid.append(this.rows);
@@ -18,13 +19,31 @@ export class Bytes {
     this.grid.addEventListener('pointerdown', (event) => this.point(event, true));
     this.grid.addEventListener('pointermove', (event) => this.point(event, false));
     this.grid.addEventListener('pointerleave', () => this.tellOf(this.here));
-    $('value').addEventListener('input', () => this.set(Number($('value').value), this.isSliding));
-    $('value').addEventListener('input', () => { this.isSliding = true; });
-    $('value').addEventListener('change', () => { this.isSliding = false; });
-    NARROW.addEventListener('change', () => this.scenario && this.render());
+    $('value').addEventListener('input', () => this.set(Number($('value').value)));
+    $('value').addEventListener('change', () => this.beginSeries());
+    new ResizeObserver(() => this.fit()).observe(this.grid);
+    this.beginSeries();
   }
 
-  get wide() { return NARROW.matches ? 8 : 16; }
+  // What is changed from here on is undone as one: the digits of a byte, the values of the slider until it is let go.
+  beginSeries() {
+    this.series = Symbol('series');
+    this.digit = null;
+  }
+
+  // As many bytes in a row as there is room for.
+  fit() {
+    const [row] = this.rows.children;
+    if (!row) return;
+    this.tall = row.getBoundingClientRect().height || TALL;
+    const [offset, cell, letters] = [row.firstElementChild, row.children[1], row.lastElementChild]
+      .map((it) => it.getBoundingClientRect().width);
+    const each = cell + letters / (row.children.length - 2);
+    const wide = offset + WIDE * each <= this.grid.clientWidth ? WIDE : NARROW;
+    if (wide === this.wide) return;
+    this.wide = wide;
+    this.pick(this.here);
+  }
 
   show(scenario, read) {
     if (scenario === this.scenario && read === this.read) return;
@@ -33,15 +52,9 @@ export class Bytes {
     this.render();
     this.tellOf(this.here);
     const has = scenario.length > 0;
-    $('value').disabled = !has;
+    for (const it of ['input-help', 'bytes', 'value-row']) $(it).hidden = !has;
     $('cut').disabled = !has;
-    say('input-told', `${grouped(read)} of ${grouped(scenario.length)} bytes read`);
-  }
-
-  // The height of a row, in pixels.
-  get tall() {
-    this.measured ??= this.rows.firstElementChild?.getBoundingClientRect().height;
-    return this.measured || 21;
+    say('input-told', `${grouped(read)} of ${many(scenario.length, 'byte')} read`);
   }
 
   render() {
@@ -64,7 +77,7 @@ export class Bytes {
     const letters = cells.map((_, i) => letter(this.scenario.byte(begin + i))).join('');
     return element('div', { role: 'row', 'aria-rowindex': number + 1 },
       element('span', { className: 'offset', role: 'rowheader' }, begin.toString(16).padStart(5, '0')), ...cells,
-      element('span', { className: 'letters', 'aria-hidden': 'true', hidden: NARROW.matches }, letters));
+      element('span', { className: 'letters', 'aria-hidden': 'true' }, letters));
   }
 
   cell(at) {
@@ -81,7 +94,7 @@ export class Bytes {
   pick(at) {
     if (!this.scenario.length) return;
     this.here = Math.max(0, Math.min(this.scenario.length - 1, at));
-    this.digit = null;
+    this.beginSeries();
     const top = Math.floor(this.here / this.wide) * this.tall;
     if (top < this.grid.scrollTop) this.grid.scrollTop = top;
     const below = top + this.tall - this.grid.clientHeight;
@@ -100,8 +113,6 @@ export class Bytes {
   tellOf(at) {
     if (!this.scenario?.length) {
       say('byte-told', 'No input: append a byte, or open a file.');
-      say('value-label', 'byte');
-      say('value-told', '');
       return;
     }
     say('byte-told', this.tell(at));
@@ -111,18 +122,18 @@ export class Bytes {
     say('value-told', `${hexByte(value)} ${value} ‘${letter(value)}’`);
   }
 
-  set(value, goesOn = false) {
-    if (value === this.scenario.byte(this.here)) return;
-    this.edit(this.scenario.withByte(this.here, value), goesOn && `byte ${this.here}`);
+  set(value) {
+    if (value !== this.scenario.byte(this.here)) this.edit(this.scenario.withByte(this.here, value), this.series);
   }
 
   type(digit) {
-    const value = this.scenario.byte(this.here);
-    if (this.digit === null) {
-      this.set(digit << 4 | (value & 15));
+    const { digit: high } = this;
+    if (high === null) {
+      this.beginSeries();
+      this.set(digit << 4 | (this.scenario.byte(this.here) & 15));
       this.digit = digit;
     } else {
-      this.set(this.digit << 4 | digit, true);
+      this.set(high << 4 | digit);
       this.pick(this.here + 1);
     }
   }
@@ -135,10 +146,12 @@ export class Bytes {
     const value = this.scenario.byte(this.here);
     if (event.key in moves) this.pick(this.here + moves[event.key]);
     else if (HEX.test(event.key)) this.type(parseInt(event.key, 16));
-    else if (event.key === '+') this.set((value + 1) & 255, true);
-    else if (event.key === '-') this.set((value + 255) & 255, true);
-    else if (event.key === 'Delete' && this.here < this.scenario.kept) this.set(this.scenario.base[this.here]);
-    else return;
+    else if (event.key === '+') this.set((value + 1) & 255);
+    else if (event.key === '-') this.set((value + 255) & 255);
+    else if (event.key === 'Delete' && this.here < this.scenario.kept) {
+      this.beginSeries();
+      this.set(this.scenario.base[this.here]);
+    } else return;
     event.preventDefault();
   }
 }

@@ -1,28 +1,34 @@
 // A function's instructions, of which each can be skipped or made another word.
-import { $, element, say } from './dom.js';
+import { $, element } from './dom.js';
 import { disassembled, targetOf, NOTHING } from './instructions.js';
-import { hexWord } from './scenario.js';
+import { hexWord, numberOf } from './numbers.js';
 
 const MOST_ROWS = 1500;
-const WORD = /^(?:0[xX][0-9a-fA-F]{1,8}|[0-9]{1,10})$/;
 
 export class Code {
+  // `edit` takes the scenario after an edit; `refuse` a sentence.
   constructor({ edit, refuse }) {
     Object.assign(this, { edit, refuse, shown: null, at: null, writing: null });
     $('function').addEventListener('change', () => this.visit(Number($('function').value)));
   }
 
-  open(elf, lineOf) {
-    Object.assign(this, { elf, lineOf, shown: null, at: null, writing: null });
+  // Shows `main` of a program, or its first function.
+  open(elf, lineOf, scenario) {
+    Object.assign(this, { elf, lineOf, scenario, shown: null, at: null, writing: null });
     $('function').replaceChildren(...elf.functions.map((it) => element('option', { value: it.address }, it.name)));
+    $('code-rows').replaceChildren();
+    const first = elf.functions.find((it) => it.name === 'main') ?? elf.functions[0];
+    if (first) this.visit(first.address, false);
   }
 
-  // Shows the function that has an address, with that row in view.
+  // Shows the function that has an address, with that row in view; `scrolls` where one asked for it.
   visit(address, scrolls = true) {
-    this.at = address;
-    this.writing = null;
-    this.shown = this.elf.functionAt(address);
-    if (!this.shown) return;
+    const found = this.elf.functionAt(address);
+    if (!found) {
+      if (scrolls) this.refuse(`The program has no code at ${hexWord(address)}.`);
+      return;
+    }
+    Object.assign(this, { at: address, writing: null, shown: found });
     $('function').value = this.shown.address;
     this.render();
     if (scrolls) $('code-part').scrollIntoView({ block: 'nearest' });
@@ -30,7 +36,9 @@ export class Code {
     if (row) $('code').scrollTop = row.offsetTop - $('code').clientHeight / 2;
   }
 
+  // The words that are shown, null where no function is.
   get range() {
+    if (!this.shown) return null;
     const begin = this.shown.address & ~3;
     return { begin: begin >>> 0, count: Math.min(MOST_ROWS, Math.ceil(this.shown.size / 4)) };
   }
@@ -61,36 +69,52 @@ export class Code {
   }
 
   instruction(text) {
-    const target = targetOf(text), there = target === null ? null : this.elf.functions.find((it) => it.address === target);
-    return `${text ?? 'no instruction of RV32IM'}${there ? ` <${there.name}>` : ''}`;
+    const there = this.elf.nameAt(targetOf(text));
+    return `${text ?? 'no instruction of RV32IM'}${there ? ` <${there}>` : ''}`;
   }
 
   edits(address, patched) {
-    const button = (what, told, does) => {
+    // The name by which focus comes back to the button when the rows are made anew.
+    const button = (held, what, told, does) => {
       const made = element('button', { onclick: does, 'aria-label': `${told} ${hexWord(address)}` }, what);
-      made.dataset.held = `${what} ${address}`;
+      made.dataset.held = `${held} ${address}`;
       return made;
     };
+    if (this.writing === address) return [this.field(address)];
     const set = (word) => this.edit(this.scenario.withPatch(address, word));
-    if (this.writing === address) return [this.field(address, set)];
-    const write = () => { this.writing = address; this.render(); $('new-word').focus(); };
-    const first = patched === undefined ? button('skip', 'skip the instruction at', () => set(NOTHING))
-      : button('put back', 'put back the word at', () => set(null));
-    return [first, ' ', button('word…', 'another word at', write)];
+    const first = patched === undefined ? button('first', 'skip', 'skip the instruction at', () => set(NOTHING))
+      : button('first', 'put back', 'put back the word at', () => set(null));
+    return [first, ' ', button('word', 'word…', 'another word at', () => this.write(address))];
   }
 
-  field(address, set) {
+  // Has a field for the word at an address, or none.
+  write(address) {
+    this.writing = address;
+    this.render();
+    $('new-word')?.select();
+  }
+
+  field(address) {
     const word = this.scenario.patches.get(address) ?? this.elf.loaded(address);
-    const close = () => { this.writing = null; this.render(); };
     const key = (event) => {
-      if (event.key === 'Escape') close();
-      if (event.key !== 'Enter') return;
-      const text = event.target.value.trim();
-      this.writing = null;
-      if (WORD.test(text)) set(Number(text));
-      else this.refuse(`A word is a number such as 0x00000013, and not “${text}”. \`replaycheck word\` prints an instruction’s.`);
+      if (event.key === 'Escape') this.write(null);
+      else if (event.key === 'Enter') this.set(address, event.target.value.trim());
+      else return;
+      event.preventDefault();  // or Enter would press the button that has the focus now
     };
-    return element('input', { id: 'new-word', value: hexWord(word), onkeydown: key, spellcheck: false,
+    const made = element('input', { id: 'new-word', value: hexWord(word), onkeydown: key, spellcheck: false,
       'aria-label': `new word at ${hexWord(address)}, Enter sets it` });
+    made.dataset.held = `word ${address}`;
+    return made;
+  }
+
+  set(address, text) {
+    const word = numberOf(text);
+    if (word === null) {
+      this.refuse(`A word is a number such as 0x00000013, and not “${text}”. \`replaycheck word\` prints an instruction’s.`);
+      return;
+    }
+    this.write(null);
+    this.edit(this.scenario.withPatch(address, word));
   }
 }

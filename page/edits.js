@@ -1,23 +1,24 @@
 // The edits that stand, as chips and as lines, and the forms that make some.
-import { $, element, say, many } from './dom.js';
+import { $, element, say } from './dom.js';
+import { many, numberOf } from './numbers.js';
 import { OPTIONS, editsOf } from './scenario.js';
 
 const SHOWN = ['definite', 'indirect', 'possible', 'reachable'];
 const MOST_CHIPS = 200;
-const NUMBER = /^(?:[0-9]{1,10}|0[xX][0-9a-fA-F]{1,8})$/;
 
 export class Edits {
-  // `edit` takes a scenario; `use` the lines of a text; `refuse` a sentence; `link` gives the page's address with the scenario.
-  constructor({ edit, use, refuse, link, text }) {
-    Object.assign(this, { edit, use, refuse, link, text });
-    $('none').addEventListener('click', () => this.use(''));
+  // `edit` takes a scenario, and `clear` takes all edits off; `use` takes the lines of a text, `refuse` and `tell` a sentence;
+  // `link` promises the page's address with the scenario, and `text` gives its lines.
+  constructor({ edit, clear, use, refuse, tell, link, text }) {
+    Object.assign(this, { edit, use, refuse, tell, link, text });
+    $('none').addEventListener('click', clear);
     $('mark-form').addEventListener('submit', (event) => this.submit(event, () => this.mark()));
     $('option-form').addEventListener('submit', (event) => this.submit(event, () => this.options()));
     $('append-form').addEventListener('submit', (event) => this.submit(event, () => this.append()));
     $('cut').addEventListener('click', () => this.edit(this.scenario.withCut()));
     $('use-lines').addEventListener('click', () => this.use($('lines').value));
-    $('copy-lines').addEventListener('click', () => this.copy($('lines').value));
-    $('copy-link').addEventListener('click', () => this.copy(this.link()));
+    $('copy-lines').addEventListener('click', () => this.copy($('lines').value, 'The lines are copied.'));
+    $('copy-link').addEventListener('click', async () => this.copy(await this.link(), 'The link is copied.'));
     $('save-lines').addEventListener('click', () => this.save());
   }
 
@@ -63,24 +64,22 @@ export class Edits {
   }
 
   mark() {
-    const at = $('mark-at').value.trim();
-    if (!NUMBER.test(at)) return this.refuse(`An address is a number such as 0x7fffffc7, and not “${at}”.`);
+    const text = $('mark-at').value.trim(), at = numberOf(text);
+    if (at === null) return this.refuse(`An address is a number such as 0x7fffffc7, and not “${text}”.`);
     const [step, length] = ['mark-step', 'mark-length'].map((it) => Number($(it).value));
-    return this.edit(this.scenario.withMark({ step, at: Number(at), length, kind: $('mark-kind').value }));
+    return this.edit(this.scenario.withMark({ step, at, length, kind: $('mark-kind').value }));
   }
 
   append() {
-    const value = $('append-value').value.trim();
-    if (!NUMBER.test(value) || Number(value) > 255) {
-      return this.refuse(`A byte is a number from 0 to 255, such as 0x41, and not “${value}”.`);
-    }
-    return this.edit(this.scenario.withAppended(Number(value)));
+    const text = $('append-value').value.trim(), value = numberOf(text);
+    if (value === null || value > 255) return this.refuse(`A byte is a number from 0 to 255, such as 0x41, and not “${text}”.`);
+    return this.edit(this.scenario.withAppended(value));
   }
 
-  async copy(text) {
+  async copy(text, told) {
     try {
       await navigator.clipboard.writeText(text);
-      this.refuse('Copied.');
+      this.tell(told);
     } catch {
       $('lines-part').open = true;
       $('lines').value = text;

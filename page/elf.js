@@ -5,6 +5,7 @@ const SYMBOL_TABLE = 2;
 const FUNCTION = 2;
 const LOADED = 1;
 const EXECUTED = 1;
+const LONGEST_NAME = 4096, MOST_NAMED = 1 << 26;  // bytes of one name, and of all
 const decoder = new TextDecoder();
 
 export class Elf {
@@ -14,20 +15,26 @@ export class Elf {
     this.segments = [];
     this.sections = [];
     this.functions = [];
+    this.left = MOST_NAMED;
     try {
       this.read();
     } catch (fault) {
       if (!(fault instanceof RangeError)) throw fault;  // a damaged file: what was read until there
     }
+    this.functions.sort((a, b) => a.address - b.address);
+    this.names = new Map(this.functions.map((it) => [it.address, it.name]));
   }
 
   half(at) { return this.view.getUint16(at, true); }
   word(at) { return this.view.getUint32(at, true); }
 
+  // The text at a place, up to its zero. A file whose texts are longer than any program's is read no further.
   string(at) {
-    if (at >= this.bytes.length) return '';
-    const end = this.bytes.indexOf(0, at);
-    return decoder.decode(this.bytes.slice(at, end < 0 ? this.bytes.length : end));
+    const bytes = this.bytes.subarray(at, at + LONGEST_NAME), end = bytes.indexOf(0);
+    const text = end < 0 ? bytes : bytes.subarray(0, end);
+    this.left -= text.length;
+    if (this.left < 0) throw new RangeError('names without an end');
+    return decoder.decode(text);
   }
 
   read() {
@@ -42,8 +49,8 @@ export class Elf {
     }
     const strings = this.sections[names]?.begin ?? this.bytes.length;
     for (const it of this.sections) it.name = this.string(strings + it.name);
-    this.sections.filter((it) => it.kind === SYMBOL_TABLE).forEach((it) => this.readSymbols(it));
-    this.functions.sort((a, b) => a.address - b.address);
+    const symbols = this.sections.find((it) => it.kind === SYMBOL_TABLE);
+    if (symbols) this.readSymbols(symbols);
   }
 
   readSegment(at) {
@@ -61,6 +68,9 @@ export class Elf {
       this.functions.push({ name: this.string(strings + name), address, size });
     }
   }
+
+  // The name of the function that begins at an address.
+  nameAt(address) { return this.names.get(address); }
 
   section(name) { return this.sections.find((it) => it.name === name); }
 

@@ -1,4 +1,6 @@
 // Instructions of RV32IM as text, in the words of an assembler.
+import { hexadecimal, hexWord } from './numbers.js';
+
 const REGISTERS = ['zero', 'ra', 'sp', 'gp', 'tp', 't0', 't1', 't2', 's0', 's1', 'a0', 'a1', 'a2', 'a3', 'a4', 'a5', 'a6', 'a7',
   's2', 's3', 's4', 's5', 's6', 's7', 's8', 's9', 's10', 's11', 't3', 't4', 't5', 't6'];
 const LOADS = { 0: 'lb', 1: 'lh', 2: 'lw', 4: 'lbu', 5: 'lhu' };
@@ -10,7 +12,7 @@ const OTHER = { 0: 'sub', 5: 'sra' };
 const PRODUCTS = ['mul', 'mulh', 'mulhsu', 'mulhu', 'div', 'divu', 'rem', 'remu'];
 export const NOTHING = 0x13;  // the instruction that does nothing
 
-export const hexadecimal = (number, digits = 8) => `0x${(number >>> 0).toString(16).padStart(digits, '0')}`;
+const place = (address) => hexWord(address >>> 0);
 const signed = (number, bits) => (number << (32 - bits)) >> (32 - bits);
 
 function shift(word, rd, rs1) {
@@ -37,13 +39,13 @@ function immediate(word, rd, rs1) {
 function branch(word, rs1, rs2, address) {
   const name = BRANCHES[word >>> 12 & 7];
   const distance = signed(word >>> 31 << 12 | (word >>> 7 & 1) << 11 | (word >>> 25 & 63) << 5 | (word >>> 8 & 15) << 1, 13);
-  return name && `${name} ${rs1},${rs2},${hexadecimal(address + distance)}`;
+  return name && `${name} ${rs1},${rs2},${place(address + distance)}`;
 }
 
 function jump(word, rd, address) {
   const high = word >>> 31 << 20 | (word >>> 12 & 255) << 12;
   const distance = signed(high | (word >>> 20 & 1) << 11 | (word >>> 21 & 1023) << 1, 21);
-  const target = hexadecimal(address + distance);
+  const target = place(address + distance);
   return { zero: `j ${target}`, ra: `jal ${target}` }[rd] ?? `jal ${rd},${target}`;
 }
 
@@ -63,8 +65,8 @@ export function disassembled(word, address) {
     case 0x23: return STORES[kind] ? `${STORES[kind]} ${rs2},${toStore}(${rs1})` : null;
     case 0x13: return immediate(word, rd, rs1) ?? null;
     case 0x33: return between(word, rd, rs1, rs2) ?? null;
-    case 0x37: return `lui ${rd},${hexadecimal(word >>> 12, 1)}`;
-    case 0x17: return `auipc ${rd},${hexadecimal(word >>> 12, 1)}`;
+    case 0x37: return `lui ${rd},${hexadecimal(word >>> 12)}`;
+    case 0x17: return `auipc ${rd},${hexadecimal(word >>> 12)}`;
     case 0x63: return branch(word, rs1, rs2, address) ?? null;
     case 0x6f: return jump(word, rd, address);
     case 0x67: return jumpBy(word, rd, rs1);

@@ -2,6 +2,7 @@
 const COPY = 1, ADVANCE_PC = 2, ADVANCE_LINE = 3, SET_FILE = 4, CONST_ADD_PC = 8, FIXED_ADVANCE_PC = 9;
 const END_SEQUENCE = 1, SET_ADDRESS = 2;
 const PATH = 1;
+const MOST_ROWS = 2000000;
 const FORM = { string: 0x08, line_strp: 0x1f, strp: 0x0e, data1: 0x0b, data2: 0x05, udata: 0x0f, data16: 0x1e };
 
 class Unknown extends Error {}
@@ -61,6 +62,7 @@ class Reader {
   // A table of folders or files, as version 5 has it: the paths.
   paths() {
     const kinds = Array.from({ length: this.byte() }, () => [this.unsigned(), this.unsigned()]);
+    if (!kinds.length) throw new Unknown('paths of no form');
     return Array.from({ length: this.unsigned() }, () => {
       let path = '?';
       for (const [kind, form] of kinds) {
@@ -136,8 +138,10 @@ function allRows(elf) {
   try {
     while (reader.at < section.begin + section.size) {
       const it = head(reader);
-      rows.push(...rowsOf(reader, it));
-      if (it.end <= reader.at - 1) break;
+      for (const row of rowsOf(reader, it)) {
+        if (rows.push(row) > MOST_ROWS) throw new RangeError('more rows than any program has');
+      }
+      if (it.end < reader.at) break;
       reader.at = it.end;
     }
   } catch (fault) {

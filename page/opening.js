@@ -1,9 +1,12 @@
 // The files that are given: from the disk, dropped, from an example, or named by a link.
-import { EXAMPLES } from './examples.js';
 import { $, element } from './dom.js';
+import { EXAMPLES } from './examples.js';
+import { many, size } from './numbers.js';
 
 const ELF = [0x7f, 0x45, 0x4c, 0x46];
+const ROLES = ['program', 'input', 'supp'];
 const SUM_DIGITS = 16;
+const LARGEST = 1 << 26;  // bytes, far more than the program takes of any file
 
 const bytesOf = (text) => Uint8Array.from(atob(text), (it) => it.charCodeAt(0));
 const isElf = (bytes) => ELF.every((it, index) => bytes[index] === it);
@@ -18,42 +21,52 @@ async function sumOf(bytes) {
   return [...sum].map((it) => it.toString(16).padStart(2, '0')).join('').slice(0, SUM_DIGITS);
 }
 
+const hasFiles = (event) => event.dataTransfer?.types.includes('Files');
+
 export class Opening {
   // `open` takes files by their roles, each with a name and bytes; `refuse` a sentence.
   constructor({ open, refuse }) {
     Object.assign(this, { open, refuse, files: {}, example: null });
-    for (const role of ['program', 'input', 'supp']) {
+    for (const role of ROLES) {
       $(`open-${role}`).addEventListener('change', (event) => this.chosen(role, event.target));
     }
     $('example').append(...EXAMPLES.map((it) => element('option', { value: it.name }, it.name)));
     $('example').addEventListener('change', () => $('example').value && this.choose($('example').value));
     $('examples').append(...EXAMPLES.map((it) => element('button', { onclick: () => this.choose(it.name) },
       element('strong', {}, it.name), element('span', {}, it.about))));
-    addEventListener('dragover', (event) => { event.preventDefault(); document.body.classList.add('over'); });
-    addEventListener('dragleave', () => document.body.classList.remove('over'));
-    addEventListener('drop', (event) => this.dropped(event));
+    const over = (is) => document.body.classList.toggle('over', is);
+    addEventListener('dragover', (event) => { if (hasFiles(event)) { event.preventDefault(); over(true); } });
+    addEventListener('dragleave', (event) => { if (!event.relatedTarget) over(false); });
+    addEventListener('drop', (event) => { over(false); if (hasFiles(event)) this.dropped(event); });
   }
 
   async chosen(role, field) {
-    const [file] = field.files;
-    if (file) await this.take({ [role]: await this.read(file) });
+    const files = [...field.files];
     field.value = '';
-  }
-
-  async read(file) {
-    return { name: file.name, bytes: new Uint8Array(await file.arrayBuffer()) };
+    await this.takeRead(files, () => role);
   }
 
   async dropped(event) {
     event.preventDefault();
-    document.body.classList.remove('over');
+    await this.takeRead([...event.dataTransfer.files], ({ name, bytes }) => {
+      if (isElf(bytes)) return 'program';
+      return isSuppressions(name, bytes) ? 'supp' : 'input';
+    });
+  }
+
+  // Reads files and takes each in its role.
+  async takeRead(files, roleOf) {
     const found = {};
-    for (const file of event.dataTransfer.files) {
-      const it = await this.read(file);
-      const role = isElf(it.bytes) ? 'program' : isSuppressions(it.name, it.bytes) ? 'supp' : 'input';
-      found[role] = it;
+    for (const file of files) {
+      if (file.size > LARGEST) return this.refuse(`“${file.name}” has ${size(file.size)}, which is too much for any file here.`);
+      try {
+        const it = { name: file.name, bytes: new Uint8Array(await file.arrayBuffer()) };
+        found[roleOf(it)] = it;
+      } catch (fault) {
+        return this.refuse(`“${file.name}” can’t be read (${fault.message}). Is it a folder?`);
+      }
     }
-    if (Object.keys(found).length) await this.take(found);
+    return files.length ? this.take(found) : undefined;
   }
 
   // Takes files beside those that are there. Another program begins without the old one's input and suppressions.
@@ -81,8 +94,9 @@ export class Opening {
     const wanted = lines ?? (this.wanted && this.files[this.wanted.last] ? this.wanted.lines : undefined);
     const notice = this.wanted && wanted ? await this.differing() : '';
     if (wanted) this.wanted = null;
-    await this.open(this.files, wanted);
-    if (notice) this.refuse(notice);
+    const { files } = this;
+    await this.open(files, wanted);
+    if (notice && files === this.files) this.refuse(notice);
   }
 
   // ---- links
@@ -100,7 +114,7 @@ export class Opening {
     return `#${words}`;
   }
 
-  // Opens what a link names, or asks for its files. Whether it names something.
+  // Opens what a link names, or asks for its files.
   async follow(hash) {
     const words = new URLSearchParams(hash.slice(1));
     const lines = (words.get('lines') ?? '').split('\n').filter(Boolean);
@@ -109,13 +123,13 @@ export class Opening {
       if (EXAMPLES.some((it) => it.name === example)) await this.choose(example, lines);
       else this.refuse(`There is no example “${example}” here.`);
     } else if (words.get('program')) {
-      const roles = ['program', 'input', 'supp'].filter((it) => words.has(it));
+      const roles = ROLES.filter((it) => words.has(it));
       this.wanted = { lines, roles, last: roles.at(-1), sums: roles.map((it) => words.get(`${it}-sum`)) };
       const names = roles.map((it) => `“${words.get(it)}”`).join(' with ');
       const what = roles.length > 1 ? 'these files' : 'this file';
-      this.refuse(`This link is about ${names}. Open ${what}, and its ${lines.length} lines are used.`);
+      const then = lines.length ? `, and its ${many(lines.length, 'line')} ${lines.length === 1 ? 'is' : 'are'} used` : '';
+      this.refuse(`This link is about ${names}. Open ${what}${then}.`);
     }
-    return Boolean(example || words.get('program'));
   }
 
   // What to say where a file isn't the one that a link was made with.

@@ -1,20 +1,21 @@
-// What an outcome of a sweep says: its state, its errors and leaks in one line each, and which the unedited run has not.
-import { BADNESS, FRAMES_TOLD, RUNNING } from './facts.js';
-
-const FRAME = /^ {3}(?:at|by) (0x[0-9a-f]{8}): (.*)$/;
+// What comes of the edits of a sweep: each outcome's state, its errors and leaks in one line each, and which of them the run
+// that is swept has not.
+import { BADNESS, FRAMES_TOLD, NEW, NOT_NEW, OTHER, OTHER_NEW, RUNNING, UNEDITED } from './facts.js';
+import { frameOf } from './report.js';
+import { hexWord } from './numbers.js';
 
 function partOf(text, trace, lineOf) {
-  const frames = trace.slice(0, FRAMES_TOLD).map((line) => FRAME.exec(line)).map((it) => ({ address: it[1], name: it[2] }));
+  const frames = trace.slice(0, FRAMES_TOLD).map(frameOf);
   if (!frames.length) return { text, told: text };
-  const line = lineOf(Number(frames[0].address));
-  const names = frames.slice(1).map((it) => (it.name === '???' ? it.address : it.name));
-  const key = [`${text} at ${frames[0].address}: ${frames[0].name}`, ...names].join(', by ');
+  const line = lineOf(frames[0].address);
+  const names = frames.slice(1).map((it) => (it.name === '???' ? hexWord(it.address) : it.name));
+  const key = [`${text} at ${hexWord(frames[0].address)}: ${frames[0].name}`, ...names].join(', by ');
   return { text: key, told: line ? key.replace(frames[0].name, () => `${frames[0].name} (${line})`) : key };
 }
 
 const badnessOf = (text) => BADNESS.find(([begin]) => text.startsWith(begin))?.[1] ?? 0;
 
-export class Outcome {
+class Outcome {
   constructor(text, lineOf) {
     const lines = text.split('\n');
     this.state = lines[0];
@@ -28,17 +29,70 @@ export class Outcome {
     }
   }
 
-  // The errors, leaks and stops that the unedited run has not, the worst first.
-  news(unedited) {
+  // Finds the errors, leaks and stops that another run has not, the worst first, and how bad they are.
+  compare(unedited) {
     const had = new Set([...unedited.parts.map((it) => it.text), unedited.state]);
     const stop = { text: this.state, told: this.state };
-    const found = [stop, ...this.parts].filter((it) => badnessOf(it.text) && !had.has(it.text));
-    return found.sort((a, b) => badnessOf(b.text) - badnessOf(a.text));
+    this.fresh = [stop, ...this.parts].filter((it) => badnessOf(it.text) && !had.has(it.text))
+      .sort((a, b) => badnessOf(b.text) - badnessOf(a.text));
+    const runsOn = this.state.startsWith('running') && !unedited.state.startsWith('running');
+    this.bad = this.fresh.length ? badnessOf(this.fresh[0].text) : this === unedited ? -1 : runsOn ? RUNNING : 0;
   }
 
-  badness(unedited) {
-    const [worst] = this.news(unedited);
-    if (worst) return badnessOf(worst.text);
-    return this.state.startsWith('running') && !unedited.state.startsWith('running') ? RUNNING : 0;
+  get isNew() { return this.fresh.length > 0; }
+}
+
+// The outcomes of a sweep, by their numbers, of which 0 is that of the run that is swept.
+export class Outcomes {
+  constructor(swept, lineOf) {
+    Object.assign(this, { swept, lineOf, made: [] });
+  }
+
+  at(number) {
+    while (this.made.length < this.swept.outcomes.length) {
+      const made = new Outcome(this.swept.outcomes[this.made.length], this.lineOf);
+      this.made.push(made);
+      made.compare(this.made[0]);
+    }
+    return this.made[number];
+  }
+
+  get numbers() { return [...this.swept.outcomes.keys()]; }
+
+  // How many edits make something new.
+  get fresh() {
+    return this.swept.tallies.reduce((sum, count, number) => sum + (this.at(number).isNew ? count : 0), 0);
+  }
+
+  // What is new in an outcome, or how the run ended.
+  told(number) {
+    const { state, fresh } = this.at(number);
+    if (!number) return `as unedited: ${state}`;
+    return [state, ...fresh.filter((it) => it.text !== state).map((it) => it.told)].join('; ');
+  }
+
+  // Those that are else alike come in the order of their first edits, since their numbers depend on which part came first.
+  byFirst(a, b) {
+    const [one, other] = [a, b].map((it) => this.swept.firsts[it] ?? [0, 0]);
+    return one[0] - other[0] || one[1] - other[1];
+  }
+
+  // The worst first, and last that of the run itself.
+  get inOrder() {
+    const { tallies } = this.swept, bad = (number) => this.at(number).bad;
+    return this.numbers.sort((a, b) => (a === 0) - (b === 0) || bad(b) - bad(a) || tallies[b] - tallies[a] || this.byFirst(a, b));
+  }
+
+  // The colour of each, for a light ground or a dark one: those of the most edits have colours of their own.
+  colours(isDark) {
+    const pick = isDark ? 1 : 0, { tallies } = this.swept;
+    const order = this.numbers.slice(1).sort((a, b) => tallies[b] - tallies[a] || this.byFirst(a, b));
+    const found = [UNEDITED[pick]];
+    for (const [isNew, colours, other] of [[true, NEW, OTHER_NEW], [false, NOT_NEW, OTHER]]) {
+      order.filter((it) => this.at(it).isNew === isNew).forEach((number, place) => {
+        found[number] = (colours[place] ?? other)[pick];
+      });
+    }
+    return found;
   }
 }

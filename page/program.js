@@ -52,7 +52,7 @@ export class Run {
 
   write(file, at, length) {
     const bytes = this.bytes(at, length);
-    if (file === 2) this.said += decoder.decode(bytes.slice());
+    if (file === 2) this.said += decoder.decode(bytes);
     else this.tell(bytes);
     return length;
   }

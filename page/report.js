@@ -6,7 +6,7 @@ const NOTE = /^ Address (0x[0-9a-f]{8}) is (.*)$/;
 const SUM = /^([a-z ]+): (\d+) bytes in (\d+) blocks$/;
 const SUMMARY = /^ERROR SUMMARY: (\d+) errors from (\d+) contexts \(suppressed: (\d+) from (\d+)\)$/;
 
-const frameOf = (line) => {
+export const frameOf = (line) => {
   const found = FRAME.exec(line);
   return found && { address: Number(found[1]), name: found[2] };
 };

@@ -1,7 +1,7 @@
 // The report in place: what is new against the unedited run first, with source lines behind the frames.
-import { $, element, say, many, grouped, milliseconds } from './dom.js';
+import { $, element, say } from './dom.js';
+import { grouped, hexWord, many, milliseconds } from './numbers.js';
 import { compared, stateOf, suppressionOf } from './report.js';
-import { hexWord } from './scenario.js';
 
 const BADGES = { new: 'new', changed: 'changed', gone: 'gone' };
 const STATES = {
@@ -10,43 +10,47 @@ const STATES = {
 };
 const MOST_GROUPS = 200;
 
+function stateWords({ name, rest, address }) {
+  if (name === 'exited') return `exited with ${rest}`;
+  if (name === 'running') return `running at ${rest}`;
+  return `stopped: ${STATES[rest.split(' ')[0]] ?? rest}, at ${hexWord(address)}`;
+}
+
 export class Reports {
   // `lineOf` tells the source line of an address; `visit` shows its code; `suppress` takes a suppression's text.
   constructor({ lineOf, visit, suppress, kinds }) {
     Object.assign(this, { lineOf, visit, suppress, kinds });
   }
 
-  show(report, unedited, time) {
+  // `where` tells where in the run the reports are, its own and that of the unedited run.
+  show(report, unedited, { time, where }) {
     const groups = this.groups = compared(report, unedited);
     const hidden = groups.length - MOST_GROUPS;
     $('report').replaceChildren(
+      ...(groups.length ? [] : [element('p', {}, 'No errors, and no leaks that are listed.')]),
       ...groups.slice(0, MOST_GROUPS).map((it) => this.group(it)),
       ...(hidden > 0 ? [element('p', { className: 'quiet' }, `${many(hidden, 'more group')} in the text below`)] : []),
       this.sums(report, unedited));
     say('report-text', report.text);
-    say('report-told', `at step ${grouped(report.step)}`);
+    say('report-told', where);
     say('time', `answered in ${milliseconds(time)}`);
-    this.verdict(report, groups);
+    const fresh = groups.filter((it) => it.how === 'new').length;
+    const [now, before] = [report, unedited].map((it) => this.inShort(it));
+    say('verdict', fresh ? `${now} · ${grouped(fresh)} new` : now);
+    say('before', before === now ? '' : `unedited: ${before}`);
+    $('verdict').className = report.errors || report.sums['definitely lost'].bytes || stateOf(report).name === 'stopped' ? 'bad' : 'good';
   }
 
-  verdict(report, groups) {
+  // How the run stands, in one line.
+  inShort(report) {
     const state = stateOf(report), line = state.address === null ? null : this.lineOf(state.address);
     const lost = report.sums['definitely lost'].bytes;
-    const fresh = groups.filter((it) => it.how === 'new').length;
     const words = [
-      this.stateWords(state) + (line ? ` (${line})` : ''),
+      stateWords(state) + (line ? ` (${line})` : ''),
       report.errors ? `${many(report.errors, 'error')} in ${many(report.contexts, 'place')}` : 'no errors',
       lost ? `${many(lost, 'byte')} lost` : '',
-      fresh ? `${grouped(fresh)} new` : '',
     ];
-    say('verdict', words.filter(Boolean).join(' · '));
-    $('verdict').className = report.errors || lost || state.name === 'stopped' ? 'bad' : 'good';
-  }
-
-  stateWords({ name, rest, address }) {
-    if (name === 'exited') return `exited with ${rest}`;
-    if (name === 'running') return `running at ${rest}`;
-    return `stopped: ${STATES[rest.split(' ')[0]] ?? rest}, at ${hexWord(address)}`;
+    return words.filter(Boolean).join(' · ');
   }
 
   group({ group, how, was }) {
@@ -78,14 +82,14 @@ export class Reports {
       const was = unedited.sums[name];
       const differs = was.bytes !== bytes || was.blocks !== blocks;
       const before = differs ? `was ${many(was.bytes, 'byte')} in ${many(was.blocks, 'block')}` : '';
-      return element('tr', {}, element('th', { scope: 'row' }, name),
+      return element('tr', { className: bytes ? '' : 'zero' }, element('th', { scope: 'row' }, name),
         element('td', {}, `${many(bytes, 'byte')} in ${many(blocks, 'block')}`),
         element('td', { className: 'quiet' }, before));
     });
     const written = unedited.written === report.written ? '' : `was ${many(unedited.written, 'byte')}`;
     rows.push(element('tr', {}, element('th', { scope: 'row' }, 'output'), element('td', {}, many(report.written, 'byte')),
       element('td', { className: 'quiet' }, written)));
-    const caption = element('caption', { className: 'hidden' }, 'blocks that are left, and output');
+    const caption = element('caption', { className: 'unseen' }, 'blocks that are left, and output');
     return element('table', { className: 'sums' }, caption, element('tbody', {}, ...rows));
   }
 }

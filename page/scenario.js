@@ -1,11 +1,10 @@
 // The edits that stand, as a value that is never changed: how it looks as lines of a session, what lines lead from one to
 // another, and what is left of it without one of its edits. Whether an edit may be made, the program says.
 import { NOTHING } from './instructions.js';
+import { hexByte, hexWord, numberOf } from './numbers.js';
 
-const NUMBER = /^(?:[0-9]{1,10}|0[xX][0-9a-fA-F]{1,8})$/;
 const KINDS = ['defined', 'undefined', 'noaccess'];
 export const OPTIONS = { redzone: '16', queue: '20000000', callers: '12', show: 'definite,possible' };
-export const hexWord = (number) => `0x${number.toString(16).padStart(8, '0')}`;
 
 // A line that is no edit, in words.
 export class NoEdit extends Error {}
@@ -79,13 +78,10 @@ export class Scenario {
     ];
   }
 
-  get isEmpty() { return this.lines.length === 0; }
-
-  // The scenario after a line. `goto`, `report` and the like change nothing here.
+  // The scenario after a line that edits.
   after(line) {
-    const words = line.split(' ');
-    const way = AFTER[words[0] === 'input' && words[1] in AFTER ? words[1] : words[0]];
-    const found = way?.(this, words.slice(words[0] === 'input' && words[1] in AFTER ? 2 : 1));
+    const [first, ...words] = line.split(' ');
+    const found = AFTER.get(`${first} ${words[0]}`)?.(this, words.slice(1)) ?? AFTER.get(first)?.(this, words);
     if (!found) throw new NoEdit(line);
     return found;
   }
@@ -98,37 +94,34 @@ function changed(map, key, value) {
   return copy;
 }
 
-export const inputLine = (at, value) => `input ${at} ${value}`;
-export const patchLine = (at, word) => `patch ${hexWord(at)} ${hexWord(word)}`;
-export const markLine = (it) => `mark ${it.step} ${hexWord(it.at)} ${it.length} ${it.kind}`;
+const inputLine = (at, value) => `input ${at} ${value}`;
+const patchLine = (at, word) => `patch ${hexWord(at)} ${hexWord(word)}`;
+const markLine = (it) => `mark ${it.step} ${hexWord(it.at)} ${it.length} ${it.kind}`;
 
-function numbers(words, count) {
-  return words.length === count && words.every((it) => NUMBER.test(it)) ? words.map(Number) : null;
-}
+// The line that makes an edit of a sweep.
+export const editLine = (kind, at, value) => (kind === 'bytes' ? inputLine : patchLine)(at, value);
 
-function supp(scenario, [how, ...rest]) {
-  if (how === 'add' && rest.length) return scenario.withSuppression(rest.join(' '));
-  const index = numbers(rest, 1);
-  return index && (how === 'on' || how === 'off') && scenario.with({ switched: changed(scenario.switched, index[0], how) });
-}
-
-const AFTER = {
-  input: (it, words) => { const found = numbers(words, 2); return found && it.withByte(...found); },
-  append: (it, words) => { const found = numbers(words, 1); return found && it.withAppended(found[0]); },
-  cut: (it, words) => !words.length && it.length > 0 && it.withCut(),
-  patch: (it, words) => { const found = numbers(words, 2); return found && it.withPatch(...found); },
-  mark: (it, [kind, ...words]) => {
-    const found = numbers([kind, ...words].slice(0, 3), 3), name = words[2];
-    const isKnown = found && words.length === 3 && KINDS.includes(name);
-    return isKnown && it.withMark({ step: found[0], at: found[1], length: found[2], kind: name });
-  },
-  unmark: (it, words) => {
-    const found = numbers(words, 1);
-    return found && found[0] < it.marks.length && it.withoutMark(found[0]);
-  },
-  option: (it, words) => words.length === 2 && words[0] in OPTIONS && it.withOption(...words),
-  supp,
+// What a line does to a scenario, by its first words; null where the others aren't what it takes.
+const AFTER = new Map();
+const withNumbers = (count, does) => (it, words) => {
+  const numbers = words.map(numberOf);
+  return numbers.length === count && !numbers.includes(null) ? does(it, ...numbers) : null;
 };
+const switched = (how) => withNumbers(1, (it, index) => it.with({ switched: changed(it.switched, index, how) }));
+AFTER.set('input', withNumbers(2, (it, at, value) => it.withByte(at, value)));
+AFTER.set('input append', withNumbers(1, (it, value) => it.withAppended(value)));
+AFTER.set('input cut', withNumbers(0, (it) => (it.length ? it.withCut() : null)));
+AFTER.set('patch', withNumbers(2, (it, at, word) => it.withPatch(at, word)));
+AFTER.set('mark', (it, words) => {
+  const [step, at, length] = words.slice(0, 3).map(numberOf), [, , , kind] = words;
+  const isMark = words.length === 4 && KINDS.includes(kind) && ![step, at, length].includes(null);
+  return isMark ? it.withMark({ step, at, length, kind }) : null;
+});
+AFTER.set('unmark', withNumbers(1, (it, index) => (index < it.marks.length ? it.withoutMark(index) : null)));
+AFTER.set('option', (it, words) => (words.length === 2 && Object.hasOwn(OPTIONS, words[0]) ? it.withOption(...words) : null));
+AFTER.set('supp add', (it, words) => (words.length ? it.withSuppression(words.join(' ')) : null));
+AFTER.set('supp on', switched('on'));
+AFTER.set('supp off', switched('off'));
 
 // ---- from one scenario to another
 
@@ -197,8 +190,6 @@ export function linesBetween(a, b, loaded) {
 
 // ---- chips
 
-const hexByte = (value) => `0x${value.toString(16).padStart(2, '0')}`;
-
 // The edits one by one: what each is called, its lines, and the scenario without it.
 export function editsOf(it) {
   const edits = [];
@@ -207,7 +198,7 @@ export function editsOf(it) {
     add(`${name} ${value}`, [`option ${name} ${value}`], it.withOption(name, OPTIONS[name]));
   }
   it.added.forEach((text, index) => {
-    // (the numbers of those behind it change, so that none is switched by its number any more)
+    // The numbers of those behind it change, so none is switched by its number any more.
     add(`suppressed: ${text}`, [`supp add ${text}`], it.with({ added: it.added.toSpliced(index, 1), switched: new Map() }));
   });
   for (const [index, how] of it.switched) {

@@ -1,6 +1,6 @@
 // Plain sentences for what goes wrong, each with what to do.
 import { REFUSALS } from './facts.js';
-import { size } from './dom.js';
+import { size } from './numbers.js';
 import { NoEdit } from './scenario.js';
 import { Ended, Refused, Stopped, TooManyLines } from './sessions.js';
 
@@ -19,7 +19,13 @@ const DAMAGED = 'The file is damaged, or a tool has rewritten it: link it anew.'
 const WHAT = { image: 'The program', input: 'The input', suppressions: 'The suppressions' };
 const NO_MEMORY = 'Take a shorter run or fewer edits, or close other pages.';
 
-export const NEEDS = 'This page needs WebAssembly with 64-bit memory, which this browser lacks: take a current Chromium.';
+const NEEDS = 'This page needs WebAssembly with 64-bit memory, which this browser lacks: take a current Chromium.';
+const NO_MODULE = 'The program’s module could not be loaded from beside the page. Load the page again, or take the page of one file.';
+
+// What to say where the program's module can't be had.
+export function notLoaded(fault) {
+  return `${fault instanceof WebAssembly.CompileError ? NEEDS : NO_MODULE} (${fault.message})`;
+}
 
 function refusedFile(said) {
   const found = /^replaycheck: (image|input|suppressions) refused (\d+)(?: at line (\d+))?/.exec(said);
@@ -31,7 +37,7 @@ function refusedFile(said) {
 // What to say of a fault.
 export function sentence(fault, limit) {
   if (fault instanceof NoEdit) return `“${fault.message}” is no line that edits a run. ${REFUSALS[2]}.`;
-  if (fault instanceof Stopped) return 'Stopped. The page shows the report before.';
+  if (fault instanceof Stopped) return 'Stopped.';
   if (fault instanceof TooManyLines) return 'These are more edits than a session takes. Change the input’s file instead.';
   const memory = `this page takes ${size(limit)} at most. ${NO_MEMORY}`;
   if (fault instanceof Refused && fault.number === 1) return `Memory ran out at “${fault.line}”; ${memory}`;

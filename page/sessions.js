@@ -67,12 +67,18 @@ export class Helper {
 // A session that is asked for the report of a scenario at a step, and keeps what it was led to.
 export class Session {
   constructor(program, mostLines = MOST_LINES) {
-    Object.assign(this, { program, mostLines, helper: null, memory: 0, sessions: 0, busy: Promise.resolve() });
+    Object.assign(this, { program, mostLines, helper: null, isClosed: false, memory: 0, sessions: 0, busy: Promise.resolve() });
   }
 
   stop() {
     this.helper?.stop();
     this.helper = null;
+  }
+
+  // Ends it for good: what still waits to be asked is not asked any more.
+  close() {
+    this.isClosed = true;
+    this.stop();
   }
 
   async begin() {
@@ -82,11 +88,20 @@ export class Session {
     this.said = 0;
     this.sessions++;
     this.at = { scenario: new Scenario(this.program.base), step: 0 };
-    const { waits } = await this.helper.ask('begin', { module, files, limit, again });
-    this.waits = waits;
+    await this.ask('begin', { module, files, limit, again });
   }
 
-  // The replies to lines that lead to a scenario and a step, and then to `report`.
+  // Asks the worker; one that fails is left.
+  async ask(does, given) {
+    try {
+      return await this.helper.ask(does, given);
+    } catch (fault) {
+      this.stop();
+      throw fault;
+    }
+  }
+
+  // The report of a scenario at a step, as the program writes it.
   report(scenario, step) {
     const answer = this.busy.then(() => this.lead(scenario, step));
     this.busy = answer.catch(() => {});
@@ -94,7 +109,7 @@ export class Session {
   }
 
   async lead(scenario, step) {
-    const begun = performance.now();
+    if (this.isClosed) throw new Stopped();
     let lines = this.helper && linesBetween(this.at.scenario, scenario, this.program.loaded);
     if (!lines || this.said + lines.length + 2 > this.mostLines) {
       await this.begin();
@@ -104,19 +119,13 @@ export class Session {
     if (step !== this.at.step) lines = [...lines, `goto ${step}`];
     const report = await this.say([...lines, 'report']);
     this.at = { scenario, step };
-    return { text: report, time: performance.now() - begun };
+    return report;
   }
 
   // The last reply. Where a line is refused the next report is that of a new session.
   async say(lines) {
     this.said += lines.length;
-    let answer;
-    try {
-      answer = await this.helper.ask('ask', { lines });
-    } catch (fault) {
-      this.stop();
-      throw fault;
-    }
+    const answer = await this.ask('ask', { lines });
     this.memory = answer.memory;
     const refused = answer.replies.findIndex((it) => it.startsWith('refused '));
     if (refused < 0) return answer.replies.at(-1);

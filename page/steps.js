@@ -1,20 +1,34 @@
 // The step slider, with the landmarks of the run: the first step at which a report has read more, has other blocks, has one
 // more error, has ended.
-import { $, element, say, grouped, many } from './dom.js';
+import { $, element, say } from './dom.js';
+import { grouped, many } from './numbers.js';
 import { parseReport } from './report.js';
 
 const LEAST_GAP = 16, GRID = 160;
 const MOST_LANDMARKS = 120;
 const MOST_TIME = 4000;  // milliseconds
+const LOOK_FIRST = 1024;
 const NAMES = { read: 'input is read', heap: 'blocks of the heap change', error: 'an error', end: 'the end' };
-
-class Stale extends Error {}
+const ABOVE = ['heap', 'read', 'error', 'end'];  // which landmarks lie over which, where they meet
 
 // What tells landmarks apart in a report.
 function signature(report) {
   const blocks = Object.values(report.sums).map(({ bytes, blocks }) => [bytes, blocks]);
   const total = [0, 1].map((i) => blocks.reduce((sum, it) => sum + it[i], 0)).join();
   return { read: report.read, heap: total, error: report.errors, end: !report.state.startsWith('running') };
+}
+
+// The first step at which a run has ended, or `most`. `isRunning` tells whether it runs at a step.
+export async function endOf(isRunning, most) {
+  let low = -1, high = LOOK_FIRST;
+  while (high < most && await isRunning(high)) [low, high] = [high, Math.min(most, high * 4)];
+  if (high === most && await isRunning(most)) return most;
+  while (high - low > 1) {
+    const middle = (low + high) >> 1;
+    if (await isRunning(middle)) low = middle;
+    else high = middle;
+  }
+  return high;
 }
 
 const differing = (a, b) => Object.keys(NAMES).filter((it) => a[it] !== b[it]);
@@ -26,10 +40,9 @@ export class Search {
   }
 
   async at(step) {
-    if (this.isStale()) throw new Stale();
+    if (this.isStale()) throw new Error('nobody wants it any more');
     if (!this.known.has(step)) {
-      const { text } = await this.session.report(this.scenario, step);
-      this.known.set(step, signature(parseReport(text)));
+      this.known.set(step, signature(parseReport(await this.session.report(this.scenario, step))));
     }
     return this.known.get(step);
   }
@@ -49,17 +62,15 @@ export class Search {
     await this.between(middle, high);
   }
 
-  // Whether all were found.
+  // Ends with all that were found in time, or where nobody wants them any more.
   async run(last) {
     const gap = Math.max(LEAST_GAP, Math.ceil(last / GRID));
     try {
       await this.at(last);
       for (let low = 0; low < last && !this.isOver; low += gap) await this.between(low, Math.min(last, low + gap));
     } catch (fault) {
-      if (fault instanceof Stale) return false;
-      throw fault;
+      if (!this.isStale()) throw fault;
     }
-    return !this.isOver;
   }
 }
 
@@ -115,18 +126,23 @@ export class Steps {
   }
 
   draw() {
-    const order = ['heap', 'read', 'error', 'end'];
     const marks = this.landmarks.flatMap(({ step, kinds }) => kinds.map((kind) => ({ step, kind })))
-      .sort((a, b) => order.indexOf(a.kind) - order.indexOf(b.kind));
+      .sort((a, b) => ABOVE.indexOf(a.kind) - ABOVE.indexOf(b.kind));
     $('landmarks').replaceChildren(...marks.map(({ step, kind }) => {
       const told = `step ${grouped(step)}: ${NAMES[kind]}`;
-      const made = element('button', { className: kind, title: told, 'aria-label': told, onclick: () => this.choose(step) });
+      const made = element('button', { className: `landmark ${kind}`, title: told, 'aria-label': told, onclick: () => this.choose(step) });
       made.tabIndex = kind === 'error' ? 0 : -1;
       made.style.left = `${100 * Math.min(1, step / Math.max(1, this.last))}%`;
       return made;
     }));
-    const counts = Object.entries(NAMES).map(([kind, name]) => [marks.filter((it) => it.kind === kind).length, name]);
-    const told = counts.filter(([count]) => count).map(([count, name]) => `${name}: ${count}`);
-    say('landmark-key', told.length ? `Landmarks — ${told.join(' · ')}` : '');
+    this.explain(marks);
+  }
+
+  // What the landmarks are, and how many of each.
+  explain(marks) {
+    const counts = Object.entries(NAMES).map(([kind, name]) => [kind, name, marks.filter((it) => it.kind === kind).length]);
+    $('landmark-key').replaceChildren(...counts.filter(([, , count]) => count).map(([kind, name, count]) => element('li', {},
+      element('span', { className: `landmark ${kind}` }), `${name}${count > 1 ? ` (${count})` : ''}`)));
+    for (const it of ['landmark-back', 'landmark-on']) $(it).disabled = !marks.length;
   }
 }

@@ -5,6 +5,11 @@ import { Helper, Stopped } from './sessions.js';
 const PARTS_EACH = 4;  // so that no worker waits long for the last one
 const MOST_PARTS = 1000;
 
+// How many bytes or words are swept, how many values each has at most, and how many edits that are.
+export const placesOf = ({ kind, first, last }) => (kind === 'bytes' ? last - first + 1 : (last - first) / 4 + 1);
+export const valuesOf = ({ kind, values }) => ({ all: 255, edges: 7, skip: 1, flips: kind === 'bytes' ? 8 : 32 })[values];
+export const mostEditsOf = (asked) => placesOf(asked) * valuesOf(asked);
+
 const partsOf = (places, workers) => (workers === 1 ? 1 : Math.max(1, Math.min(places, workers * PARTS_EACH, MOST_PARTS)));
 
 // So many edits are made at most, as all are held.
@@ -45,10 +50,20 @@ export class Swept {
   }
 }
 
+// Workers that have nothing to do and are kept for the next sweep, since it takes a while to start one.
+export class Idle {
+  constructor(makeWorker) {
+    Object.assign(this, { makeWorker, helpers: [] });
+  }
+
+  take() { return this.helpers.pop() ?? new Helper(this.makeWorker); }
+  give(helper) { this.helpers.push(helper); }
+}
+
 export class Sweep {
   // `asked` has the kind, the first and the last place, the values and the step; `told` is called while it goes on.
-  constructor(program, files, asked, told) {
-    Object.assign(this, { program, files, asked, told, swept: new Swept(asked), helpers: [], memory: 0, isStopped: false });
+  constructor(program, files, asked, idle, told) {
+    Object.assign(this, { program, files, asked, idle, told, swept: new Swept(asked), helpers: new Set(), memory: 0, isStopped: false });
   }
 
   get words() {
@@ -63,14 +78,13 @@ export class Sweep {
   }
 
   async run(workers) {
-    const { kind, first, last } = this.asked;
-    const parts = partsOf(kind === 'bytes' ? last - first + 1 : (last - first) / 4 + 1, workers);
+    const parts = partsOf(placesOf(this.asked), workers);
     let next = 1;
     const work = async () => {
-      const helper = new Helper(this.program.makeWorker);
-      this.helpers.push(helper);
+      const helper = this.idle.take();
+      this.helpers.add(helper);
       while (next <= parts && !this.isStopped) await this.part(helper, next++, parts);
-      helper.stop();
+      if (!this.isStopped && this.helpers.delete(helper)) this.idle.give(helper);
     };
     const begun = performance.now();
     try {
@@ -82,7 +96,6 @@ export class Sweep {
     }
     this.swept.time = performance.now() - begun;
     this.swept.isWhole = !this.isStopped;
-    return this.swept;
   }
 
   async part(helper, number, count) {

@@ -5,7 +5,7 @@ import { Table } from './tables.js';
 
 const encoder = new TextEncoder();
 const decoder = new TextDecoder();
-const POST_EVERY = 50;  // milliseconds
+const POST_EVERY = 100;  // milliseconds
 let session = null;
 
 class Fault extends Error {
@@ -25,7 +25,7 @@ class Waiting {
     this.asked = [];
     this.replies = new Replies();
     const ask = () => this.lines.shift() ?? new Promise((wake) => { this.wake = wake; });
-    const tell = (bytes) => this.told(decoder.decode(bytes.slice()));
+    const tell = (bytes) => this.told(decoder.decode(bytes));
     const words = ['replaycheck', 'session', ...fileWords(files)];
     this.run = new Run(module, { words, files, limit, ask, tell, waits: true });
     this.run.start().then((status) => this.end(new Fault(status, this.run.said, this.run.memory)), (fault) => this.end(fault));
@@ -76,7 +76,7 @@ class Again {
     const written = [];
     let given = text([...this.before, ...lines]);
     const ask = () => [given, given = null][0];
-    const tell = (bytes) => { written.push(...replies.add(decoder.decode(bytes.slice()))); };
+    const tell = (bytes) => { written.push(...replies.add(decoder.decode(bytes))); };
     const run = new Run(module, { words: ['replaycheck', 'session', ...fileWords(files)], files, limit, ask, tell });
     const status = run.start();
     this.memory = run.memory;
@@ -96,7 +96,7 @@ function sweep({ id, module, files, limit, words }) {
     last = performance.now();
   };
   const tell = (bytes) => {
-    table.add(decoder.decode(bytes.slice()));
+    table.add(decoder.decode(bytes));
     if (performance.now() - last >= POST_EVERY) post();
   };
   const all = ['replaycheck', 'sweep', ...fileWords(files), ...words];
@@ -107,24 +107,12 @@ function sweep({ id, module, files, limit, words }) {
   return { memory: run.memory };
 }
 
-// A whole run with its words, as a command line makes it.
-function command({ module, files, limit, words, given }) {
-  const written = [];
-  let left = given;
-  const ask = () => [left, left = null][0];
-  const run = new Run(module, { words, files, limit, ask, tell: (bytes) => { written.push(bytes.slice()); } });
-  const status = run.start();
-  return { status, said: run.said, written, memory: run.memory };
-}
-
 const DOES = {
   begin: (asked) => {
     session = canWait && !asked.again ? new Waiting(asked) : new Again(asked);
-    return { waits: session instanceof Waiting };
   },
   ask: async ({ lines }) => ({ replies: await session.ask(lines), memory: session.memory }),
   sweep,
-  command,
 };
 
 onmessage = async ({ data }) => {

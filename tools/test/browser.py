@@ -100,21 +100,22 @@ class Browser:
             else:
                 self.events.append(message)
 
-    def page(self, address, width=1280, height=900, dark=False):
-        return Page(self, address, width, height, dark)
+    def page(self, address, width=1280, height=900, dark=False, ready="globalThis.replaycheck !== undefined"):
+        return Page(self, address, (width, height, dark), ready)
 
 
 class Page:
-    """A page in a tab of its own."""
+    """A page in a tab of its own, which is there when `ready` is true in it."""
 
-    def __init__(self, browser, address, width, height, dark):
+    def __init__(self, browser, address, shape, ready):
         self.browser = browser
         self.target = browser.call("Target.createTarget", url="about:blank")["targetId"]
         self.session = browser.call("Target.attachToTarget", targetId=self.target, flatten=True)["sessionId"]
         for domain in ("Page", "Runtime", "Log"):
             self.call(f"{domain}.enable")
-        self.shape(width, height, dark)
-        self.go(address)
+        self.shape(*shape)
+        self.call("Page.navigate", url=address)
+        self.until(f"document.readyState === 'complete' && {ready}")
 
     def __enter__(self):
         return self
@@ -128,10 +129,6 @@ class Page:
     def shape(self, width, height, dark=False):
         self.call("Emulation.setDeviceMetricsOverride", width=width, height=height, deviceScaleFactor=1, mobile=False)
         self.call("Emulation.setEmulatedMedia", features=[{"name": "prefers-color-scheme", "value": "dark" if dark else "light"}])
-
-    def go(self, address):
-        self.call("Page.navigate", url=address)
-        self.until("document.readyState === 'complete' && globalThis.replaycheck !== undefined")
 
     def run(self, script):
         """What an expression comes to, a promise too."""
@@ -151,6 +148,15 @@ class Page:
 
     def text(self, identifier):
         return self.run(f"document.getElementById({json.dumps(identifier)}).textContent")
+
+    def click_on(self, selector, index=0):
+        """Clicks an element as a script does, wherever it stands."""
+        self.run(f"document.querySelectorAll({json.dumps(selector)})[{index}].click()")
+
+    def set(self, identifier, value, *events):
+        """Gives a field a value, and then tells it of events."""
+        self.run(f"""(() => {{ const it = document.getElementById({json.dumps(identifier)}); it.value = {json.dumps(value)};
+          for (const event of {json.dumps(events)}) it.dispatchEvent(new Event(event)); }})()""")
 
     def focus(self, identifier):
         self.run(f"document.getElementById({json.dumps(identifier)}).focus()")

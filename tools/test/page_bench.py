@@ -12,6 +12,7 @@ from replaycheck.guest_files import TOP, answered  # noqa: E402
 EXAMPLES = {it["name"]: it for it in json.loads((TOP / "page" / "examples.json").read_text())}
 SETTLED = ("!replaycheck.isBusy && replaycheck.shown && replaycheck.shown.scenario === replaycheck.scenario"
            " && replaycheck.shown.step === replaycheck.step")
+SWEPT = "replaycheck.sweeps.sweep?.swept.isWhole"
 
 
 class Wrong(Exception):
@@ -36,10 +37,11 @@ def words_of(example):
 
 
 class Bench:
-    """The program, a browser, and where the page is: a folder that is served, and a file."""
+    """The program, a browser, and where the page is: the address of the folder that is served, and what was built."""
 
-    def __init__(self, program, browser, address, file):
-        self.program, self.browser, self.address, self.file = program, browser, address, file
+    def __init__(self, program, browser, address, built):
+        self.program, self.browser, self.address = program, browser, address
+        self.folder, self.file = built / "page", (built / "replaycheck.html").as_uri()
 
     def native(self, words, lines):
         """The program's replies to lines of a session."""
@@ -83,9 +85,11 @@ class Bench:
 
     def give(self, page, files, name="program.elf"):
         """Opens files as a user's: bytes by their roles."""
-        told = {role: {"name": name if role == "program" else f"{role}.bin", "text": base64.b64encode(it).decode()} for role, it in files.items()}
-        page.run("(async () => { const files = " + json.dumps(told) + "; for (const it of Object.values(files)) "
-                 "it.bytes = Uint8Array.from(atob(it.text), (c) => c.charCodeAt(0)); await replaycheck.opening.take(files); })()")
+        told = {role: {"name": name if role == "program" else f"{role}.bin", "text": base64.b64encode(content).decode()}
+                for role, content in files.items()}
+        page.run("""(async (files) => {
+          for (const it of Object.values(files)) it.bytes = Uint8Array.from(atob(it.text), (c) => c.charCodeAt(0));
+          await replaycheck.opening.take(files); })""" + f"({json.dumps(told)})")
 
     def same_report(self, page, words, what):
         """Whether the page shows the report that the program writes after the same lines."""

@@ -5,16 +5,18 @@ import shutil
 import struct
 import subprocess
 
-from page_bench import TOP, Wrong, expect, same
+from page_bench import SWEPT, TOP, expect, same
 
 WIDTHS = (360, 1280, 2560)
-USED = {"button", "checkbox", "combobox", "slider", "spinbutton", "textbox", "grid", "gridcell", "application", "disclosuretriangle", "link", "progressbar", "table"}
-LANDMARKS = {"banner", "main", "contentinfo"}
+USED = {"button", "checkbox", "combobox", "slider", "spinbutton", "textbox", "grid", "gridcell", "application", "disclosuretriangle",
+        "link", "progressbar", "table"}
+WANTED = ("application", "banner", "button", "checkbox", "contentinfo", "grid", "gridcell", "main", "slider", "status")
 BINUTILS = "riscv64-unknown-elf-"
 CONTRASTS = """(() => {
   const parts = (text) => (text.match(/[\\d.]+/g) ?? []).map(Number);
   const over = (top, below) => { const [r, g, b, a = 1] = top; return [r, g, b].map((it, i) => it * a + below[i] * (1 - a)); };
-  const light = (it) => it.map((v) => v / 255).map((v) => (v <= .04045 ? v / 12.92 : ((v + .055) / 1.055) ** 2.4)).reduce((sum, v, i) => sum + v * [.2126, .7152, .0722][i], 0);
+  const linear = (v) => (v <= .04045 ? v / 12.92 : ((v + .055) / 1.055) ** 2.4);
+  const light = (it) => it.map((v) => linear(v / 255)).reduce((sum, v, i) => sum + v * [.2126, .7152, .0722][i], 0);
   const ground = (it) => (it ? over(parts(getComputedStyle(it).backgroundColor), ground(it.parentElement)) : [255, 255, 255]);
   const found = [], walk = document.createTreeWalker(document.body, NodeFilter.SHOW_TEXT);
   while (walk.nextNode()) {
@@ -34,7 +36,7 @@ def opened(bench, **shape):
     page.run(f"replaycheck.use({json.dumps(WORK)})")
     bench.settle(page)
     page.run("[...document.querySelectorAll('details')].forEach((it) => { it.open = true; })")
-    page.until("replaycheck.sweeping?.swept.isWhole", 120)
+    page.until(SWEPT, 120)
     return page
 
 
@@ -45,12 +47,14 @@ def names_and_roles(bench):
         roles = [it["role"]["value"].lower() for it in nodes]
         nameless = [role for role, it in zip(roles, nodes) if role in USED and not it.get("name", {}).get("value", "").strip()]
         same("roles of nodes without a name", nameless, [])
-        for wanted in sorted(LANDMARKS | {"grid", "gridcell", "application", "slider", "button", "checkbox", "status", "alert"} - {"alert"}):
+        for wanted in WANTED:
             expect(wanted in roles, f"no {wanted} is among the roles")
         focusable = page.run("""[...document.querySelectorAll('[tabindex="0"], button, input, select, textarea, summary')]
           .filter((it) => it.checkVisibility() && getComputedStyle(it).visibility === 'visible').length""")
         expect(focusable > 30, f"{focusable} elements alone can be focused")
-        same("ids given twice", page.run("(() => { const all = [...document.querySelectorAll('[id]')].map((it) => it.id); return all.filter((it, i) => all.indexOf(it) < i); })()"), [])
+        twice = page.run("""(() => { const all = [...document.querySelectorAll('[id]')].map((it) => it.id);
+          return all.filter((it, i) => all.indexOf(it) < i); })()""")
+        same("ids given twice", twice, [])
 
 
 def contrast(bench):
@@ -64,10 +68,14 @@ def contrast(bench):
 
 
 def widths(bench):
-    """Nothing is wider than the page at each width, but what scrolls by itself."""
+    """Nothing is wider than the page at each width, but what scrolls by itself; and the bytes are in view as a whole."""
     for width in WIDTHS:
+        with bench.page(width=width) as page:
+            same(f"the width at {width}, before a program", page.run("document.documentElement.scrollWidth"), width)
         with opened(bench, width=width) as page:
             same(f"the width at {width}", page.run("document.documentElement.scrollWidth"), width)
+            same(f"bytes beyond their part at {width}", page.run("(({ scrollWidth, clientWidth }) => scrollWidth - clientWidth)"
+                                                                 "(document.getElementById('bytes'))"), 0)
 
 
 def source_lines(bench):
@@ -86,8 +94,8 @@ def source_lines(bench):
 
 # A program of lines with each of its operations, which no assembler for RISC-V uses all of, and what it says of addresses.
 LINE_PROGRAM = bytes([0, 5, 2, 0, 0, 1, 0, 3, 9, 1, 76, 8, 19, 2, 11, 4, 2, 3, 0x7F, 1, 9, 16, 0, 0, 1, 1])
-LINES_TOLD = {0xFFFF: None, 0x10000: "a.c:10", 0x10003: "a.c:10", 0x10004: "a.c:12", 0x10014: "a.c:12", 0x10015: "a.c:13", 0x10020: "b.h:12",
-              0x1002F: "b.h:12", 0x10030: None}
+LINES_TOLD = {0xFFFF: None, 0x10000: "a.c:10", 0x10003: "a.c:10", 0x10004: "a.c:12", 0x10014: "a.c:12", 0x10015: "a.c:13",
+              0x10020: "b.h:12", 0x1002F: "b.h:12", 0x10030: None}
 
 
 def line_operations(bench):
@@ -97,9 +105,11 @@ def line_operations(bench):
     content = struct.pack("<I", len(unit)) + unit
     with bench.page() as page:
         def told(text):
-            return page.run("""(async (bytes, addresses) => { const { Elf } = await import('./elf.js'), { sourceLines } = await import('./lines.js');
-              const elf = new Elf(Uint8Array.from(bytes)); elf.sections = [{ name: '.debug_line', begin: 0, size: bytes.length }];
-              const lineOf = sourceLines(elf); return addresses.map(lineOf); })""" + f"({json.dumps(list(text))}, {json.dumps(list(LINES_TOLD))})")
+            return page.run("""(async (bytes, addresses) => {
+              const { Elf } = await import('./elf.js'), { sourceLines } = await import('./lines.js');
+              const elf = new Elf(Uint8Array.from(bytes));
+              elf.sections = [{ name: '.debug_line', begin: 0, size: bytes.length }];
+              return addresses.map(sourceLines(elf)); })""" + f"({json.dumps(list(text))}, {json.dumps(list(LINES_TOLD))})")
         same("lines", dict(zip(LINES_TOLD, told(content))), LINES_TOLD)
         for at in range(len(content)):
             told(content[:at])
@@ -111,7 +121,8 @@ def instructions(bench):
     tool = BINUTILS + "objdump"
     for name in ("station", "kinds", "boot"):
         with bench.open(name) as page:
-            told = dict(page.run("""(async () => { const { disassembled } = await import('./instructions.js'), { elf } = replaycheck.program;
+            told = dict(page.run("""(async () => {
+              const { disassembled } = await import('./instructions.js'), { elf } = replaycheck.program;
               return elf.functions.flatMap((it) => Array.from({ length: Math.floor(it.size / 4) }, (_, i) => it.address + 4 * i))
                 .map((at) => [at, disassembled(elf.loaded(at), at)]); })()"""))
         path = TOP / "examples/firmware" / f"{name}.elf"
@@ -126,8 +137,9 @@ def instructions(bench):
         same(name, wrong[:5], [])
 
 
-OTHER_NAMES = {"nop": lambda _: ("addi", ["zero", "zero", "0"]), "ret": lambda _: ("jalr", ["zero", "0(ra)"]), "fence": lambda _: ("fence", []),
-               "li": lambda it: ("addi", [it[0], "zero", it[1]]), "mv": lambda it: ("addi", [*it, "0"]), "j": lambda it: ("jal", ["zero", *it]),
+OTHER_NAMES = {"nop": lambda _: ("addi", ["zero", "zero", "0"]), "ret": lambda _: ("jalr", ["zero", "0(ra)"]),
+               "fence": lambda _: ("fence", []), "li": lambda it: ("addi", [it[0], "zero", it[1]]),
+               "mv": lambda it: ("addi", [*it, "0"]), "j": lambda it: ("jal", ["zero", *it]),
                "jal": lambda it: ("jal", it if len(it) == 2 else ["ra", *it])}
 JUMPS = {"jal", "j", "beq", "bne", "blt", "bge", "bltu", "bgeu"}
 
@@ -150,18 +162,17 @@ def plain(text):
 
 def picture_file(bench, path):
     """Writes the picture of README: the firmware's example with one byte edited, and its picture."""
-    with bench.open(words="", width=1180, height=900) as page:
-        page.until("replaycheck.sweeping?.swept.isWhole", 120)
+    with bench.open(words="", width=1280, height=2000) as page:
+        page.until(SWEPT, 120)
+        page.run("document.getElementById('code').style.maxHeight = '12rem'")
         page.focus("bytes")
         page.press("ArrowRight", "0", "8")
         bench.settle(page)
-        page.until("replaycheck.steps.landmarks.some((it) => it.kinds.includes('end'))")
-        page.run("(() => { replaycheck.bytes.pick(1); document.activeElement.blur(); document.getElementById('code').style.maxHeight = '15rem'; })()")
-        path.write_bytes(page.picture(page.run("document.getElementById('legend-rows').children[4].getBoundingClientRect().bottom + scrollY"), 0.7))
+        page.until("['error', 'end'].every((kind) => replaycheck.steps.landmarks.some((it) => it.kinds.includes(kind)))")
+        page.run("(() => { replaycheck.bytes.pick(1); document.activeElement.blur(); })()")
+        below = page.run("document.getElementById('legend-rows').children[4].getBoundingClientRect().bottom + scrollY")
+        path.write_bytes(page.picture(below, 0.7))
 
 
 def has_binutils():
     return all(shutil.which(BINUTILS + it) for it in ("addr2line", "objdump"))
-
-
-__all__ = ["Wrong", "contrast", "has_binutils", "instructions", "line_operations", "names_and_roles", "picture_file", "source_lines", "widths"]

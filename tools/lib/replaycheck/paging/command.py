@@ -1,11 +1,11 @@
 """`replaycheck page`: builds the page."""
 import pathlib
 
-from replaycheck.endings import write
+from replaycheck.endings import Fault, write
 from replaycheck.guest_files import TOP
 from replaycheck.options import Reader
 
-from .folder import one_file, write_folder
+from .folder import SOURCES, one_file, write_folder
 from .module import module
 
 
@@ -22,6 +22,8 @@ def options_of(page):
 
 def build(options):
     out = pathlib.Path(options.output)
+    if (out / "page").resolve() == SOURCES.resolve():
+        raise Fault(f"{out} is this repository, whose folder `page` has its own sources: give another folder")
     made = module(options.anew, options.kept)
     write_folder(out / "page", made)
     page = one_file(made)

@@ -43,7 +43,7 @@ def examples():
     """The examples that the page offers, with their files."""
     made = []
     for it in json.loads((SOURCES / "examples.json").read_text()):
-        example = {"name": it["name"], "about": it["about"]}
+        example = {"name": it["name"], "about": " ".join(it["about"])}
         for role in ("program", "input"):
             if role in it:
                 path = EXAMPLES / it[role]
@@ -67,9 +67,6 @@ def write_folder(folder, module):
         files[name] = (SOURCES / name).read_bytes()
     files["replaycheck.wasm"] = module
     folder.mkdir(parents=True, exist_ok=True)
-    for path in folder.iterdir():
-        if path.name not in files and path.is_file():
-            path.unlink()
     for name, content in files.items():
         (folder / name).write_bytes(content)
 

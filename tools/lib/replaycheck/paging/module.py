@@ -26,6 +26,7 @@ STACK, MOST_MEMORY = 4 << 20, 4 << 30
 LAYOUT = re.compile(r"^target datalayout = .*\n", re.M)
 TRIPLE = re.compile(r'^target triple = ".*"$', re.M)
 ATTRIBUTES = re.compile(r' "(?:probe-stack|stack-probe-size|target-cpu|target-features|tune-cpu|frame-pointer)"="[^"]*"')
+SIMD = "-msimd128"  # two words are moved at once; each browser with 64-bit memory has it
 PARTS = ("src", "specs", "proofs", "args", "stdin", "stdout", "status", "data")
 
 
@@ -134,7 +135,7 @@ def compile_module(tools, room):
     """The module, from what was kept of the text."""
     tell("compiles the program for WebAssembly")
     tools.take_helpers(room)
-    flags = tools.flags()
+    flags = [*tools.flags(), SIMD]
     as_text = ["-S", "-emit-llvm", "-Xclang", "-disable-llvm-passes", "-O1", "-o", "module.ll"]
     kits.run([tools.clang, "-x", "ir", tools.kept / kits.IR, *as_text], room, "reading the program's text")
     text = room / "module.ll"

@@ -1,0 +1,127 @@
+// The part of the page that makes every edit: what is asked for, how far it is, what came of it.
+import { $, element, say } from './dom.js';
+import { grouped, hexWord, many, milliseconds, size } from './numbers.js';
+import { Picture } from './picture.js';
+import { editsOf } from './scenario.js';
+import { Idle, MOST_EDITS, Sweep, mostEditsOf } from './sweeping.js';
+
+const VALUES = {
+  bytes: { all: 'all 255 others', flips: 'one bit turned', edges: '0, 1, 0x7f, 0x80, 0xff, ±1' },
+  words: { skip: 'skipped', flips: 'one bit turned' },
+};
+const AT_ONCE = 25000;  // edits of a sweep that begins by itself
+
+// The files of a program as a scenario has them, and what of it a file can't have.
+export function filesOf(scenario, { files, elf }) {
+  const left = [], swept = { program: files.program.slice() };
+  if (scenario.length || files.input) swept.input = scenario.input;
+  const view = new DataView(swept.program.buffer);
+  for (const [at, word] of scenario.patches) {
+    const offset = elf.offsetOf(at);
+    if (offset < 0) left.push(`the patch at ${hexWord(at)}`);
+    else view.setUint32(offset, word, true);
+  }
+  const blocks = scenario.added.map((it) => `{\nadded\nMemcheck:${it.split(' ').join('\n')}\n}\n`).join('');
+  if (files.supp || blocks) {
+    const given = files.supp ?? new Uint8Array(), added = new TextEncoder().encode(`\n${blocks}`);
+    swept.supp = new Uint8Array(given.length + added.length);
+    swept.supp.set(given);
+    swept.supp.set(added, given.length);
+  }
+  if (scenario.marks.length) left.push('marks');
+  if (scenario.options.has('redzone') || scenario.options.has('queue')) left.push('options of the heap');
+  if (scenario.switched.size) left.push('suppressions that are switched');
+  return { files: swept, left };
+}
+
+export class SweepPart {
+  // `state` gives what is swept: the program, the scenario, the step and the function that is shown; `make` makes an edit;
+  // `refuse` takes a sentence, `fail` a fault; `told` is called when more is known of the edits.
+  constructor({ state, make, refuse, fail, told, makeWorker, workers }) {
+    Object.assign(this, { state, refuse, fail, told, workers, sweep: null, idle: new Idle(makeWorker) });
+    this.picture = new Picture({ make });
+    $('sweep').addEventListener('click', () => this.begin());
+    $('stop').addEventListener('click', () => this.sweep?.stop());
+    $('sweep-what').addEventListener('change', () => this.offer());
+    this.offer();
+  }
+
+  offer() {
+    const options = Object.entries(VALUES[$('sweep-what').value]);
+    $('sweep-values').replaceChildren(...options.map(([value, told]) => element('option', { value }, told)));
+  }
+
+  // Another program is opened.
+  close() {
+    this.sweep?.stop();
+    this.sweep = null;
+    this.show(false);
+    this.picture.clear();
+    say('sweep-told', '');
+  }
+
+  show(isBusy) {
+    $('stop').disabled = !isBusy;
+    $('sweep-done').hidden = !isBusy;
+    $('sweep-done').value = 0;
+  }
+
+  // What is asked for, null where there is nothing of that kind.
+  get asked() {
+    const kind = $('sweep-what').value, values = $('sweep-values').value, { scenario, step, range } = this.state();
+    if (kind === 'bytes') return scenario.length ? { kind, values, step, first: 0, last: scenario.length - 1 } : null;
+    return range && { kind, values, step, first: range.begin, last: range.begin + 4 * (range.count - 1) };
+  }
+
+  // Makes all edits of a short input at once.
+  beginWhereShort() {
+    const { asked } = this;
+    if (asked?.kind === 'bytes' && mostEditsOf(asked) <= AT_ONCE) this.begin();
+  }
+
+  async begin() {
+    const { asked } = this, { program, scenario, lineOf } = this.state();
+    this.sweep?.stop();
+    if (!asked) return this.refuse('There is nothing to sweep: no input, or no function.');
+    this.most = mostEditsOf(asked);
+    if (this.most > MOST_EDITS) {
+      return this.refuse(`These are ${grouped(this.most)} edits, and this page makes ${grouped(MOST_EDITS)} at most.`
+        + ' Choose fewer values, or use `replaycheck sweep`.');
+    }
+    const { files, left } = filesOf(scenario, program);
+    const sweep = this.sweep = new Sweep(program, files, asked, this.idle, () => this.goesOn(sweep));
+    const word = (at) => scenario.patches.get(at) ?? program.elf.loaded(at) ?? 0;
+    this.picture.begin(sweep.swept, asked.kind === 'bytes' ? (at) => scenario.byte(at) : word, lineOf);
+    this.show(true);
+    try {
+      await sweep.run(this.workers);
+      if (sweep === this.sweep) this.end(sweep, scenario, left);
+    } catch (fault) {
+      if (sweep === this.sweep) this.fail(fault);
+    }
+    if (sweep === this.sweep) this.show(false);
+    return undefined;
+  }
+
+  goesOn(sweep) {
+    if (sweep !== this.sweep) return;
+    this.picture.more();
+    $('sweep-done').value = sweep.swept.edits / this.most;
+    if (!sweep.isStopped) say('sweep-told', `${grouped(sweep.swept.edits)} of ${many(this.most, 'edit')}`);
+  }
+
+  end({ swept, memory }, scenario, left) {
+    this.picture.more(true);
+    const rate = Math.round(swept.edits / Math.max(1, swept.time) * 1000);
+    const stood = editsOf(scenario).length;
+    const of = stood ? `the run with ${many(stood, 'edit')}` : 'the unedited run';
+    const parts = [
+      swept.isWhole ? '' : `stopped after ${grouped(swept.edits)} of ${many(this.most, 'edit')}: `,
+      `${many(swept.edits, 'edit')} of ${of} in ${milliseconds(swept.time)} `,
+      `(${grouped(rate)} a second, ${size(memory)} a worker); ${grouped(this.picture.fresh)} of them make something new.`,
+      left.length ? ` Left out: ${left.join(', ')}.` : '',
+    ];
+    say('sweep-told', parts.join(''));
+    this.told();
+  }
+}

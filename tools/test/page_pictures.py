@@ -1,0 +1,135 @@
+"""The cases of test-page about every edit at once: the page's sweeps beside the program's table, and their picture."""
+import json
+import pathlib
+import re
+import struct
+import tempfile
+
+from page_bench import SWEPT, expect, same, words_of
+from replaycheck.guest_files import TOP
+
+STATION = words_of("station")
+
+
+def swept(bench, page, words, options, want_edits):
+    """Whether the page's sweep comes to the program's table, edit by edit."""
+    page.until(SWEPT, 120)
+    told = page.run("""(() => { const { places, outcomes } = replaycheck.sweeps.sweep.swept;
+      return [...places].flatMap(([at, it]) => it.values.map((value, index) => [at, value, outcomes[it.outcomes[index]]])); })()""")
+    want = bench.table(words, *options)
+    same("edits", len(told), want_edits)
+    same("outcomes", {(at, value): text for at, value, text in told}, want)
+
+
+def place_of(page, at, value):
+    """Where the picture has an edit of a byte, in pixels of the page."""
+    return page.run(f"""(() => {{ const {{ picture }} = replaycheck.sweeps, it = picture.canvas.getBoundingClientRect();
+      const [left, top, wide, tall] = picture.box({at} * picture.rows + {value});
+      return [it.left + left + wide / 2, it.top + top + tall / 2]; }})()""")
+
+
+def picture_of_bytes(bench):
+    """Every edit of a byte: the program's own table, its counts in the legend, and a click that makes an edit."""
+    with bench.open(words="") as page:
+        step = page.run("replaycheck.step")
+        swept(bench, page, STATION, [f"--step={step}"], 10455)
+        page.until("document.getElementById('sweep-told').textContent.includes('287 of them')")
+        counts = page.run("[...document.querySelectorAll('#legend-rows .number')].map((it) => it.textContent)")
+        same("counts in the legend", counts, ["7", "3", "2", "1", "1", "261", "12", "2,636", "7,532"])
+        page.run("document.getElementById('picture').scrollIntoView()")
+        for at, value in ((1, 8), (37, 250), (15, 255)):
+            page.run("replaycheck.use('')")
+            bench.settle(page)
+            page.click(*place_of(page, at, value))
+            bench.same_report(page, STATION, "a click on the picture")
+            same("the edit of the click", page.run("replaycheck.scenario.lines"), [f"input {at} {value}"])
+        expect(re.search(r"255 other values", page.run("replaycheck.byteTold(1)")), "nothing is told of a byte's values")
+
+
+def picture_least(bench):
+    """In the picture a new error is at least three pixels high, and the legend takes an outcome out."""
+    with bench.open(words="") as page:
+        page.until(SWEPT, 120)
+        page.run("replaycheck.sweeps.picture.draw()")
+        count = """(() => {
+          const { picture } = replaycheck.sweeps, on = picture.canvas.getContext('2d'), index = 27 * picture.rows + 2;
+          const [x, y, wide, tall] = picture.box(index), want = picture.colours[picture.cells[index].number];
+          const inked = (at) => '#' + [...on.getImageData(Math.floor(x + wide / 2), at, 1, 1).data].slice(0, 3)
+            .map((it) => it.toString(16).padStart(2, '0')).join('') === want;
+          let count = 0;
+          for (let at = Math.max(0, Math.floor(y) - 4); at < y + tall + 4; at++) count += inked(at);
+          return [tall, count]; })()"""
+        cell, tall = page.run(count)
+        expect(cell < 3 <= tall, f"a cell of {cell} pixels is drawn with {tall}")
+        page.click_on("#legend-rows tr:nth-child(4) input")
+        expect(page.run(count)[1] == 0, "an outcome that is taken out is drawn")
+
+
+def picture_of_words(bench):
+    """Every bit of a function's words: the program's table."""
+    with bench.open("boot") as page:
+        begin, size = page.run("""(() => { const it = replaycheck.program.elf.functions.find((it) => it.name === 'verify');
+          replaycheck.code.visit(it.address); return [it.address, it.size]; })()""")
+        page.set("sweep-what", "words", "change")
+        page.set("sweep-values", "flips")
+        page.click_on("#sweep")
+        options = [f"--words={begin}..{begin + size - 4}", "--words-values=flips", f"--step={page.run('replaycheck.step')}"]
+        swept(bench, page, words_of("boot"), options, 32 * size // 4)
+
+
+def picture_of_edits(bench):
+    """The sweep of an edited run is the program's table of the files that the edits make, and what they can't have is told."""
+    lines = ["patch 0x10368 0x00800493", "input 27 2", "input append 7", "supp add Cond fun:show fun:main fun:_start",
+             "supp add Leak match-leak-kinds:definite fun:malloc fun:add_limits"]
+    with bench.open() as page, tempfile.TemporaryDirectory() as folder:
+        page.run(f"replaycheck.use({json.dumps(chr(10).join(lines))})")
+        bench.same_report(page, STATION, "the edited run")
+        program = bytearray((TOP / "examples/firmware/station.elf").read_bytes())
+        offset, at = struct.unpack_from("<II", program, struct.unpack_from("<I", program, 28)[0] + 4)
+        struct.pack_into("<I", program, offset + 0x10368 - at, 0x00800493)
+        given = bytearray((TOP / "examples/firmware/station.input").read_bytes() + b"\7")
+        given[27] = 2
+        supp = (b"{\nknown\nMemcheck:Cond\nfun:show\nfun:main\nfun:_start\n}\n"
+                b"{\nother\nMemcheck:Leak\nmatch-leak-kinds: definite\nfun:malloc\nfun:add_limits\n}\n")
+        paths = [pathlib.Path(folder, it) for it in ("program", "input", "supp")]
+        for path, content in zip(paths, (program, given, supp)):
+            path.write_bytes(content)
+        page.set("sweep-values", "edges")
+        page.click_on("#sweep")
+        words = [str(paths[0]), "--input", str(paths[1]), "--supp", str(paths[2])]
+        options = ["--values=edges", f"--step={page.run('replaycheck.step')}"]
+        swept(bench, page, words, options, len(bench.table(words, *options)))
+        expect("of the run with 5 edits" in page.text("sweep-told"), f"it says {page.text('sweep-told')!r}")
+        page.run("replaycheck.use('mark 55 0x20011 2 undefined\\noption queue 0')")
+        bench.settle(page)
+        page.click_on("#sweep")
+        page.until("document.getElementById('sweep-told').textContent.includes('Left out: marks, options of the heap.')", 120)
+
+
+def picture_stopped(bench):
+    """A long sweep stops when it is told to, and the page answers."""
+    with bench.page() as page:
+        bench.give(page, {"program": (TOP / "examples/firmware/station.elf").read_bytes(), "input": bytes(4000)})
+        bench.settle(page)
+        page.click_on("#sweep")
+        page.until("replaycheck.sweeps.sweep?.swept.edits > 0")
+        page.click_on("#stop")
+        page.until("document.getElementById('stop').disabled", 3)
+        edits = page.run("replaycheck.sweeps.sweep.swept.edits")
+        expect(0 < edits < 4000 * 255 and "stopped after" in page.text("sweep-told"), f"{edits} edits: {page.text('sweep-told')}")
+        page.run("replaycheck.use('input 1 8')")
+        bench.settle(page)
+        same("edits after the stop", page.run("replaycheck.sweeps.sweep.swept.edits"), edits)
+
+
+def too_many(bench):
+    """More edits than the page holds, and a sweep of nothing, are refused in words."""
+    with bench.page() as page:
+        bench.give(page, {"program": (TOP / "examples/firmware/station.elf").read_bytes(), "input": bytes(20000)})
+        bench.settle(page)
+        page.click_on("#sweep")
+        expect("5,100,000 edits" in page.text("notice"), f"it says {page.text('notice')!r}")
+        bench.give(page, {"program": (TOP / "examples/use-after-free.elf").read_bytes()})
+        bench.settle(page)
+        page.click_on("#sweep")
+        expect("nothing to sweep" in page.text("notice"), f"it says {page.text('notice')!r}")
