@@ -1,9 +1,7 @@
 """Man pages and the manual as HTML: Markdown, which lowdown turns into both."""
 import datetime
 import re
-import subprocess
 
-from replaycheck.endings import Fault
 from replaycheck.guest_files import TOP
 from replaycheck.packaging.source import output
 
@@ -30,15 +28,11 @@ td, th { border: 1px solid #8888; padding: .2em .5em; vertical-align: top; text-
 
 def turned(text, to, *words):
     """A page of Markdown as lowdown turns it."""
-    done = subprocess.run(["lowdown", "-s", f"-T{to}", *words], input=text.encode(), stdout=subprocess.PIPE, stderr=subprocess.PIPE)
-    if done.returncode:
-        raise Fault(f"lowdown ended with status {done.returncode}")
-    return done.stdout.decode()
+    return output("lowdown", "-s", f"-T{to}", *words, given=text.encode()).decode()
 
 
 def man_pages(helps, source):
     """A page for the program and one for each tool, by their files' names."""
-    output("lowdown", "--version")
     date = datetime.datetime.fromtimestamp(source.time, datetime.timezone.utc).strftime("%Y-%m-%d")
     tools = [it for it in helps if it.is_tool]
     program, *commands = [it for it in helps if not it.is_tool]

@@ -14,11 +14,11 @@ PROGRAM = TOP / "crates" / "replaycheck" / "out" / "replaycheck"
 PASSED = TOP / "out" / "passed"
 
 
-def output(*words, **how):
-    """What a command prints on standard output."""
+def output(*words, given=b"", **how):
+    """What a command prints on standard output, which is given this on standard input."""
     if not shutil.which(words[0]):
         raise Fault(f"there is no {pathlib.Path(words[0]).name} on the path")
-    done = subprocess.run([str(word) for word in words], stdin=subprocess.DEVNULL, stdout=subprocess.PIPE, stderr=subprocess.PIPE, **how)
+    done = subprocess.run([str(word) for word in words], input=given, stdout=subprocess.PIPE, stderr=subprocess.PIPE, **how)
     if done.returncode:
         last = done.stderr.decode(errors="replace").strip().splitlines()[-1:]
         raise Fault(f"{pathlib.Path(words[0]).name} ended with status {done.returncode}{': ' if last else ''}{''.join(last)}")
