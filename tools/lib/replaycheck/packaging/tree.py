@@ -16,7 +16,7 @@ HOME = "lib/replaycheck"
 EXAMPLES = "share/replaycheck/examples"
 DOC = "share/doc/replaycheck"
 SHIPPED = re.compile(r"replaycheck$|tools/(bin|lib)/(?!README|build-times|replaycheck/(paging|packaging)/|replaycheck-page$)|tools/bin/README\.md$")
-EXAMPLE = re.compile(r"examples/(?!README|guests/|sessions/|[^/]*\.ld$)")
+EXAMPLE = re.compile(r"examples/(?!README|guests/|sessions/|[^/]*\.ld$|firmware/(expected/|check\.sh|\.gitignore))")
 
 
 def put(path, content, runs=False):
