@@ -76,7 +76,7 @@ def make_debian(tree, source, folder):
     control.mkdir()
     size = sum(it.stat().st_size + 1023 for it in files) // 1024
     (control / "control").write_text(CONTROL.format(
-        version=source.version, size=size, libc=newest_libc(source.program), maintainer="The developers of replaycheck <replaycheck@localhost>"))
+        version=source.version, size=size, libc=newest_libc(source.program), maintainer=source.maintainer))
     sums = (f"{hashlib.md5(it.read_bytes()).hexdigest()}  {it.relative_to(tree.parent)}\n" for it in files)
     (control / "md5sums").write_text("".join(sums))
     settle(tree.parent, source.time)

@@ -1,16 +1,15 @@
 """Who holds the rights in what is linked into the program."""
-import re
+import pathlib
 import shutil
 
 from replaycheck.endings import Fault
 from replaycheck.guest_files import TOP
 from replaycheck.packaging.source import output
-import pathlib
 
 HEAD = """\
 replaycheck: Memcheck for static RV32IM programs.
 
-No licence has been chosen for it yet: ask its owner before you pass it on. What follows are the notices of what is linked into
+Copyright: its authors. No licence has been chosen for it yet: ask its owner before you pass it on. What follows are the notices of what is linked into
 the program bin/replaycheck runs, as the toolchain has them.
 """
 
@@ -30,7 +29,9 @@ def notices():
     library = pathlib.Path(output("rt", "doc").decode().strip()).parent / "rattle"
     texts = {}
     for name in crates():
-        for path in sorted((library / name).glob("LICENSE*")):
+        found = sorted((library / name).glob("LICENSE*"))
+        # Of two licences, between which one may choose, the shorter.
+        for path in [it for it in found if it.name == "LICENSE-MIT"] or found:
             texts.setdefault(path.read_text(), []).append(f"{name} ({path.name})")
     parts = [f"{'-' * 72}\n{', '.join(names)}:\n\n{text.strip()}\n" for text, names in texts.items()]
     return "\n".join([HEAD, *parts])

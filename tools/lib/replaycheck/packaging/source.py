@@ -46,7 +46,16 @@ class Source:
         if not found:
             raise Fault(f"{self.program} tells no version")
         self.version = found[1]
+        self.maintainer = maintainer()
         self.files = git("ls-files", "-z").split("\0")[:-1]
+
+
+def maintainer():
+    """Who answers for the package, as Debian's own tools are told."""
+    name, address = os.environ.get("DEBFULLNAME"), os.environ.get("DEBEMAIL")
+    if not name or not address:
+        raise Fault("DEBFULLNAME and DEBEMAIL have to tell the name and the address of the package's maintainer")
+    return f"{name} <{address}>"
 
 
 def passed(commit):

@@ -18,6 +18,17 @@ DOC = "share/doc/replaycheck"
 SHIPPED = re.compile(r"replaycheck$|tools/(bin|lib)/(?!README|build-times|replaycheck/(paging|packaging)/|replaycheck-page$)|tools/bin/README\.md$")
 EXAMPLE = re.compile(r"examples/(?!README|guests/|sessions/|[^/]*\.ld$|firmware/(expected/|check\.sh|\.gitignore))")
 
+# What Debian's checker is told of a package that brings programs for another processor, and whose own has the bytes that were proved.
+OVERRIDES = """\
+# The examples are programs for RISC-V, which the manual runs.
+replaycheck: arch-dependent-file-in-usr-share [usr/share/replaycheck/examples/*]
+replaycheck: binary-from-other-architecture [usr/share/replaycheck/examples/*]
+replaycheck: statically-linked-binary [usr/share/replaycheck/examples/*]
+replaycheck: unstripped-binary-or-object [usr/share/replaycheck/examples/*]
+# The program is the one that the gate has passed, byte for byte.
+replaycheck: unstripped-binary-or-object [usr/lib/replaycheck/crates/replaycheck/out/replaycheck]
+"""
+
 
 def put(path, content, runs=False):
     """Writes a file with its folders."""
@@ -64,3 +75,4 @@ def document(tree, source):
     put(tree / DOC / "changelog.gz", compressed(changes.read_text(), source.time))
     put(tree / DOC / "copyright", notices())
     link(tree / DOC / "examples", tree / EXAMPLES)
+    put(tree / "share/lintian/overrides/replaycheck", OVERRIDES)
