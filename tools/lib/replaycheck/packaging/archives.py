@@ -59,7 +59,7 @@ def make_archive(tree, source, folder):
             with open(path, "rb") if entry.isreg() else io.BytesIO() as content:
                 archive.addfile(entry, content)
     made = folder / f"{name}.tar.gz"
-    made.write_bytes(gzip.compress(held.getvalue(), 9, mtime=source.time))
+    made.write_bytes(gzip.compress(held.getvalue(), 9, mtime=0))
     return made
 
 

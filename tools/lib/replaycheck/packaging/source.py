@@ -51,11 +51,9 @@ class Source:
 
 
 def maintainer():
-    """Who answers for the package, as Debian's own tools are told."""
-    name, address = os.environ.get("DEBFULLNAME"), os.environ.get("DEBEMAIL")
-    if not name or not address:
-        raise Fault("DEBFULLNAME and DEBEMAIL have to tell the name and the address of the package's maintainer")
-    return f"{name} <{address}>"
+    """Who answers for the package: who made the commit, or whom Debian's own tools are told of."""
+    name, address = git("show", "-s", "--format=%an%n%ae", "HEAD").splitlines()
+    return f"{os.environ.get('DEBFULLNAME') or name} <{os.environ.get('DEBEMAIL') or address}>"
 
 
 def passed(commit):

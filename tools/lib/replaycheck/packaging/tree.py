@@ -3,6 +3,7 @@ import gzip
 import os
 import re
 import shutil
+from email.utils import formatdate
 
 from replaycheck.endings import Fault
 from replaycheck.guest_files import TOP
@@ -18,6 +19,14 @@ DOC = "share/doc/replaycheck"
 SHIPPED = re.compile(r"replaycheck$|tools/(bin|lib)/(?!README|build-times|replaycheck/(paging|packaging)/|replaycheck-page$)|tools/bin/README\.md$")
 EXAMPLE = re.compile(r"examples/(?!README|guests/|sessions/|[^/]*\.ld$|firmware/(expected/|check\.sh|\.gitignore))")
 
+# The package's own list of changes, in Debian's form.
+ENTRY = """\
+replaycheck ({version}) unstable; urgency=medium
+
+  * What changed stands in CHANGELOG.md.
+
+ -- {maintainer}  {date}
+"""
 # What Debian's checker is told of a package that brings programs for another processor, and whose own has the bytes that were proved.
 OVERRIDES = """\
 # The examples are programs for RISC-V, which the manual runs.
@@ -42,8 +51,8 @@ def link(path, to):
     path.symlink_to(os.path.relpath(to, path.parent))
 
 
-def compressed(content, time):
-    return gzip.compress(content.encode(), 9, mtime=time)
+def compressed(content):
+    return gzip.compress(content.encode(), 9, mtime=0)
 
 
 def fill(tree, source):
@@ -61,7 +70,7 @@ def fill(tree, source):
     for name, text in completions(told).items():
         put(tree / "share" / name, text)
     for name, text in man_pages(told, source).items():
-        put(tree / "share/man/man1" / f"{name}.gz", compressed(text, source.time))
+        put(tree / "share/man/man1" / f"{name}.gz", compressed(text))
     document(tree, source)
 
 
@@ -72,7 +81,8 @@ def document(tree, source):
     changes = TOP / "CHANGELOG.md"
     if f"## [{source.version}]" not in changes.read_text():
         raise Fault(f"CHANGELOG.md has nothing of version {source.version}")
-    put(tree / DOC / "changelog.gz", compressed(changes.read_text(), source.time))
+    put(tree / DOC / "CHANGELOG.md.gz", compressed(changes.read_text()))
+    put(tree / DOC / "changelog.gz", compressed(ENTRY.format(version=source.version, maintainer=source.maintainer, date=formatdate(source.time))))
     put(tree / DOC / "copyright", notices())
     link(tree / DOC / "examples", tree / EXAMPLES)
     put(tree / "share/lintian/overrides/replaycheck", OVERRIDES)
