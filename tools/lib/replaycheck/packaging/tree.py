@@ -82,7 +82,7 @@ def document(tree, source):
     if f"## [{source.version}]" not in changes.read_text():
         raise Fault(f"CHANGELOG.md has nothing of version {source.version}")
     put(tree / DOC / "CHANGELOG.md.gz", compressed(changes.read_text()))
-    put(tree / DOC / "changelog.gz", compressed(ENTRY.format(version=source.version, maintainer=source.maintainer, date=formatdate(source.time))))
+    put(tree / DOC / "changelog.gz", compressed(ENTRY.format(version=source.version, maintainer=source.maintainer, date=formatdate(source.time).replace("-0000", "+0000"))))
     put(tree / DOC / "copyright", notices())
     link(tree / DOC / "examples", tree / EXAMPLES)
     put(tree / "share/lintian/overrides/replaycheck", OVERRIDES)
