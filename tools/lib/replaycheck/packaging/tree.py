@@ -17,7 +17,7 @@ HOME = "lib/replaycheck"
 EXAMPLES = "share/replaycheck/examples"
 DOC = "share/doc/replaycheck"
 SHIPPED = re.compile(r"replaycheck$|tools/(bin|lib)/(?!README|build-times|replaycheck/(paging|packaging)/|replaycheck-page$)|tools/bin/README\.md$")
-EXAMPLE = re.compile(r"examples/(?!README|guests/|sessions/|[^/]*\.ld$|firmware/(expected/|check\.sh|\.gitignore))")
+EXAMPLE = re.compile(r"examples/(?!README|guests/|sessions/|firmware/(expected/|check\.sh|\.gitignore))")
 
 # The package's own list of changes, in Debian's form.
 ENTRY = """\
