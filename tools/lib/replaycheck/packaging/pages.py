@@ -1,0 +1,76 @@
+"""Man pages and the manual as HTML: Markdown, which lowdown turns into both."""
+import datetime
+import re
+
+from replaycheck.guest_files import TOP
+from replaycheck.packaging.source import output
+
+HEAD = """\
+title: {title}
+section: 1
+date: {date}
+source: replaycheck {version}
+volume: Memcheck for RV32IM
+
+"""
+STYLE = """\
+<style>
+body { max-width: 60em; margin: 2em auto; padding: 0 1em; font: 1em/1.5 system-ui, sans-serif; }
+pre, code { font-family: ui-monospace, monospace; }
+pre { overflow-x: auto; padding: .7em; border: 1px solid #8888; }
+table { border-collapse: collapse; }
+td, th { border: 1px solid #8888; padding: .2em .5em; vertical-align: top; text-align: left; }
+:root { color-scheme: light dark; }
+</style>
+</head>
+"""
+
+
+def turned(text, to, *words):
+    """A page of Markdown as lowdown turns it."""
+    return output("lowdown", "-s", f"-T{to}", *words, given=text.encode()).decode()
+
+
+def man_pages(helps, source):
+    """A page for the program and one for each tool, by their files' names."""
+    date = datetime.datetime.fromtimestamp(source.time, datetime.timezone.utc).strftime("%Y-%m-%d")
+    tools = [it for it in helps if it.is_tool]
+    program, *commands = [it for it in helps if not it.is_tool]
+    pages = {"replaycheck": page("replaycheck", lowered(program.summary), [program, *commands], tools)}
+    pages |= {f"replaycheck-{it.name}": page(f"replaycheck-{it.name}", it.summary, [it], []) for it in tools}
+    return {f"{name}.1": turned(HEAD.format(title=name, date=date, version=source.version) + text, "man") for name, text in pages.items()}
+
+
+def lowered(text):
+    return text[:1].lower() + text[1:]
+
+
+def page(name, summary, told, tools):
+    """A man page's source: what it is, its pages of help, and what else there is."""
+    parts = [f"# NAME\n\n{name} - {summary}\n"]
+    for it in told:
+        title = "DESCRIPTION" if it is told[0] else f"REPLAYCHECK {it.name.upper()}"
+        parts.append(f"# {title}\n\n```\n{it.text.strip()}\n```\n")
+    also = [f"replaycheck-{it.name}" for it in tools] or ["replaycheck"]
+    parts.append("# SEE ALSO\n\n" + ", ".join(f"**{it}**(1)" for it in also) + ", and the manual, */usr/share/doc/replaycheck/manual.html*\n")
+    return "\n".join(parts)
+
+
+def manual():
+    """The manual and the case studies as HTML, with the picture that the manual shows, by their files' names."""
+    sources = {"manual.html": TOP / "docs/manual.md", "case-studies.html": TOP / "docs/case-studies.md"}
+    sources |= {f"case-studies/{it.stem}.html": it for it in sorted((TOP / "docs/case-studies").glob("*.md"))}
+    made = {name: html(path.read_text(), name) for name, path in sources.items()}
+    return made | {"station.svg": (TOP / "examples/firmware/station.svg").read_bytes()}
+
+
+def html(text, name):
+    """A page as HTML, whose links lead to pages of the release, or are none."""
+    title = re.search(r"^# (.+)$", text, re.M)[1]
+    page = turned(text, "html", "-m", f"title={title}")
+    page = page.replace("</head>\n", STYLE, 1)
+    page = re.sub(r'(<h\d id=")([^"]+)(")', lambda it: it[1] + re.sub(r"[^\w-]", "", it[2].lower()) + it[3], page)
+    page = re.sub(r'src="[^"]*station\.svg"', 'src="station.svg"', page)
+    inner = r"manual|case-studies|json|modbus|boot"
+    page = re.sub(rf'href="([^"#:]*\b(?:{inner}))\.md', r'href="\1.html', page)
+    return re.sub(r'<a href="(?!#|https?:|[^"]*\.html)[^"]*">(.*?)</a>', r"\1", page)
