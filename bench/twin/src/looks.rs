@@ -64,12 +64,23 @@ fn after(start: &impl Fn() -> Machine, steps: u64) -> Machine {
 fn those_that_do(mut machine: Machine, kind: &str, range: (u32, u32), steps: Range<u64>) -> Vec<u64> {
     let mut found = Vec::new();
     for step in 0..steps.end {
-        if steps.contains(&step) && does(&machine, kind, range) {
+        let (pc, errors, does) = (machine.pc, raised(&machine), does(&machine, kind, range));
+        go_on(&mut machine);
+        let errs = kind == "error" && is_in(range, pc) && raised(&machine) > errors;
+        if steps.contains(&step) && (does || errs) {
             found.push(step);
         }
-        go_on(&mut machine);
     }
     found
+}
+
+/// How many errors a machine has raised.
+fn raised(machine: &Machine) -> u64 {
+    machine.errors.values().sum()
+}
+
+fn is_in((start, len): (u32, u32), addr: u32) -> bool {
+    addr.wrapping_sub(start) < len
 }
 
 fn registers(machine: &Machine) -> String {
@@ -98,16 +109,15 @@ fn memory(machine: &Machine, addr: u32, len: u32) -> String {
     bytes + "\n" + &undefined
 }
 
-/// Whether the next step of a machine does something with a range.
-fn does(machine: &Machine, kind: &str, (start, len): (u32, u32)) -> bool {
-    let is_in = |addr: u32| addr.wrapping_sub(start) < len;
+/// Whether the next step of a machine runs, reads or writes something in a range.
+fn does(machine: &Machine, kind: &str, range: (u32, u32)) -> bool {
     if machine.status != Status::Running {
         return false;
     }
     match (kind, machine.access()) {
-        ("run", _) => is_in(machine.pc),
+        ("run", _) => is_in(range, machine.pc),
         ("read", Some((Access::Read, addr, n))) | ("write", Some((Access::Write, addr, n))) => {
-            (0..n).any(|i| is_in(addr.wrapping_add(i)))
+            (0..n).any(|i| is_in(range, addr.wrapping_add(i)))
         }
         _ => false,
     }
