@@ -4,7 +4,6 @@ const HEADER = 52;
 const SYMBOL_TABLE = 2;
 const FUNCTION = 2;
 const LOADED = 1;
-const EXECUTED = 1;
 const LONGEST_NAME = 4096, MOST_NAMED = 1 << 26;  // bytes of one name, and of all
 const decoder = new TextDecoder();
 
@@ -54,8 +53,8 @@ export class Elf {
   }
 
   readSegment(at) {
-    const [kind, offset, address, , inFile, size, flags] = [0, 1, 2, 3, 4, 5, 6].map((field) => this.word(at + 4 * field));
-    if (kind === LOADED) this.segments.push({ offset, address, inFile, size, isCode: (flags & EXECUTED) !== 0 });
+    const [kind, offset, address, , inFile, size] = [0, 1, 2, 3, 4, 5].map((field) => this.word(at + 4 * field));
+    if (kind === LOADED) this.segments.push({ offset, address, inFile, size });
   }
 
   readSymbols(table) {

@@ -2,7 +2,7 @@
 const FRAME = /^ {3}(?:at|by) (0x[0-9a-f]{8}): (.*)$/;
 const ERROR = /^error (\d+): (.*)$/;
 const LEAK = /^leak (\d+) bytes in (\d+) blocks are (.*)$/;
-const NOTE = /^ Address (0x[0-9a-f]{8}) is (.*)$/;
+const NOTE = /^ Address 0x[0-9a-f]{8} is /;
 const SUM = /^([a-z ]+): (\d+) bytes in (\d+) blocks$/;
 const SUMMARY = /^ERROR SUMMARY: (\d+) errors from (\d+) contexts \(suppressed: (\d+) from (\d+)\)$/;
 
@@ -18,8 +18,7 @@ function groupOf(lines) {
   Object.assign(group, error ? { count: Number(error[1]), text: error[2] }
     : { count: Number(leak[2]), kind: leak[3], text: `${leak[1]} bytes in ${leak[2]} blocks are ${leak[3]}` });
   for (const line of lines.slice(1)) {
-    const note = NOTE.exec(line);
-    if (note) group.note = { address: Number(note[1]), text: line.trim() };
+    if (NOTE.test(line)) group.note = line.trim();
     else (group.note ? group.blockTrace : group.trace).push(frameOf(line));
   }
   const trace = group.trace.map((it) => `${it.address}`).join();
@@ -31,7 +30,7 @@ export function parseReport(text) {
   const lines = text.trimEnd().split('\n');
   const [step, state, input, output] = lines.slice(0, 4).map((it) => it.slice(it.indexOf(' ') + 1));
   const report = { text, step: Number(step), state, written: Number(output), groups: [], sums: {} };
-  [report.read, report.length] = input.split(' of ').map(Number);
+  report.read = Number(input.split(' of ')[0]);
   for (let at = 4; at < lines.length;) {
     let end = at + 1;
     while (end < lines.length && lines[end].startsWith(' ')) end++;

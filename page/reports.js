@@ -59,7 +59,7 @@ export class Reports {
     const badge = BADGES[how] ? [element('span', { className: 'badge' }, BADGES[how])] : [];
     const what = element('strong', { className: 'what' }, group.text);
     const parts = [element('p', {}, ...badge, what, times + before), this.frames(group.trace)];
-    if (group.note) parts.push(element('p', {}, group.note.text), this.frames(group.blockTrace));
+    if (group.note) parts.push(element('p', {}, group.note), this.frames(group.blockTrace));
     if (how !== 'gone') {
       const text = suppressionOf(group, this.kinds);
       const button = { onclick: () => this.suppress(text), 'aria-label': `suppress ${group.text}` };

@@ -14,9 +14,9 @@ export class Refused extends Error {
 
 // The program has ended, or its worker has.
 export class Ended extends Error {
-  constructor({ status, said, text, memory }) {
+  constructor({ status, said, text }) {
     super(said || text);
-    Object.assign(this, { status, said, memory });
+    Object.assign(this, { status, said });
   }
 }
 

@@ -9,9 +9,9 @@ const POST_EVERY = 100;  // milliseconds
 let session = null;
 
 class Fault extends Error {
-  constructor(status, said, memory) {
+  constructor(status, said) {
     super(said);
-    Object.assign(this, { status, said, memory });
+    Object.assign(this, { status, said });
   }
 }
 
@@ -28,7 +28,7 @@ class Waiting {
     const tell = (bytes) => this.told(decoder.decode(bytes));
     const words = ['replaycheck', 'session', ...fileWords(files)];
     this.run = new Run(module, { words, files, limit, ask, tell, waits: true });
-    this.run.start().then((status) => this.end(new Fault(status, this.run.said, this.run.memory)), (fault) => this.end(fault));
+    this.run.start().then((status) => this.end(new Fault(status, this.run.said)), (fault) => this.end(fault));
   }
 
   told(written) {
@@ -80,7 +80,7 @@ class Again {
     const run = new Run(module, { words: ['replaycheck', 'session', ...fileWords(files)], files, limit, ask, tell });
     const status = run.start();
     this.memory = run.memory;
-    if (status) throw new Fault(status, run.said, run.memory);
+    if (status) throw new Fault(status, run.said);
     this.before.push(...lines.filter((line) => line !== 'report' && line !== 'worked'));
     return written.slice(-lines.length);
   }
@@ -103,7 +103,7 @@ function sweep({ id, module, files, limit, words }) {
   const run = new Run(module, { words: all, files, limit, ask: () => null, tell });
   const status = run.start();
   post();
-  if (status || !table.isWhole) throw new Fault(status, run.said, run.memory);
+  if (status || !table.isWhole) throw new Fault(status, run.said);
   return { memory: run.memory };
 }
 
@@ -119,7 +119,7 @@ onmessage = async ({ data }) => {
   try {
     postMessage({ id: data.id, value: await DOES[data.does](data) });
   } catch (fault) {
-    const { status, said = '', memory } = fault;
-    postMessage({ id: data.id, fault: { status, said, memory, text: String(fault) } });
+    const { status, said = '' } = fault;
+    postMessage({ id: data.id, fault: { status, said, text: String(fault) } });
   }
 };
