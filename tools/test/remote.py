@@ -10,6 +10,7 @@ class Child:
     def __init__(self, words, seconds, **how):
         self.process = subprocess.Popen(words, stdin=subprocess.PIPE, stdout=subprocess.PIPE, **how)
         self.timer = threading.Timer(seconds, self.process.kill)
+        self.timer.daemon = True
         self.timer.start()
 
     def send(self, data):
