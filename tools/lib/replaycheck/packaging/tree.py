@@ -16,7 +16,8 @@ from replaycheck.packaging.pages import manual, man_pages
 HOME = "lib/replaycheck"
 EXAMPLES = "share/replaycheck/examples"
 DOC = "share/doc/replaycheck"
-SHIPPED = re.compile(r"replaycheck$|tools/(bin|lib)/(?!README|build-times|replaycheck/(paging|packaging)/|replaycheck-page$)|tools/bin/README\.md$")
+LEFT_OUT = r"README|build-times|replaycheck/(paging|packaging)/|replaycheck-page$"
+SHIPPED = re.compile(rf"replaycheck$|tools/(bin|lib)/(?!{LEFT_OUT})|tools/bin/README\.md$")
 EXAMPLE = re.compile(r"examples/(?!README|guests/|sessions/|firmware/(expected/|check\.sh|\.gitignore))")
 
 # The package's own list of changes, in Debian's form.
@@ -82,7 +83,8 @@ def document(tree, source):
     if f"## [{source.version}]" not in changes.read_text():
         raise Fault(f"CHANGELOG.md has nothing of version {source.version}")
     put(tree / DOC / "CHANGELOG.md.gz", compressed(changes.read_text()))
-    put(tree / DOC / "changelog.gz", compressed(ENTRY.format(version=source.version, maintainer=source.maintainer, date=formatdate(source.time).replace("-0000", "+0000"))))
+    date = formatdate(source.time).replace("-0000", "+0000")
+    put(tree / DOC / "changelog.gz", compressed(ENTRY.format(version=source.version, maintainer=source.maintainer, date=date)))
     put(tree / DOC / "copyright", notices())
     link(tree / DOC / "examples", tree / EXAMPLES)
     put(tree / "share/lintian/overrides/replaycheck", OVERRIDES)
