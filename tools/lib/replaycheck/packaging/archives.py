@@ -81,6 +81,7 @@ def make_debian(tree, source, folder):
     (control / "md5sums").write_text("".join(sums))
     settle(tree.parent, source.time)
     made = folder / f"replaycheck_{source.version}_amd64.deb"
-    output("dpkg-deb", "--build", "--root-owner-group", "-Zxz", tree.parent, made, env={**os.environ, "SOURCE_DATE_EPOCH": str(source.time)})
+    dated = {**os.environ, "SOURCE_DATE_EPOCH": str(source.time)}
+    output("dpkg-deb", "--build", "--root-owner-group", "-Zxz", tree.parent, made, env=dated)
     shutil.rmtree(control)
     return made

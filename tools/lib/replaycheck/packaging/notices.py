@@ -9,8 +9,8 @@ from replaycheck.packaging.source import output
 HEAD = """\
 replaycheck: Memcheck for static RV32IM programs.
 
-Copyright: its authors. No licence has been chosen for it yet: ask its owner before you pass it on. What follows are the notices of what is linked into
-the program bin/replaycheck runs, as the toolchain has them.
+Copyright: its authors. No licence has been chosen for it yet: ask its owner before you pass it on. What follows are the notices of
+what is linked into the program, as the toolchain has them.
 """
 
 

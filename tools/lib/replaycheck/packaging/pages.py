@@ -52,7 +52,8 @@ def page(name, summary, told, tools):
         title = "DESCRIPTION" if it is told[0] else f"REPLAYCHECK {it.name.upper()}"
         parts.append(f"# {title}\n\n```\n{it.text.strip()}\n```\n")
     also = [f"replaycheck-{it.name}" for it in tools] or ["replaycheck"]
-    parts.append("# SEE ALSO\n\n" + ", ".join(f"**{it}**(1)" for it in also) + ", and the manual, */usr/share/doc/replaycheck/manual.html*\n")
+    others = ", ".join(f"**{it}**(1)" for it in also)
+    parts.append(f"# SEE ALSO\n\n{others}, and the manual, */usr/share/doc/replaycheck/manual.html*\n")
     return "\n".join(parts)
 
 
