@@ -48,9 +48,11 @@ class Packets:
         while (byte := self.byte()) != b"#":
             if byte == b"$":  # another packet has begun: the first was cut
                 body, total, length = bytearray(), 0, 0
-            else:
-                total, length = total + byte[0], length + 1
-                body = body + byte if length <= MOST else bytearray()
+                continue
+            total, length = total + byte[0], length + 1
+            body += byte
+            if length > MOST:
+                body.clear()
         told = self.byte() + self.byte()
         if not self.acknowledges:
             return body
