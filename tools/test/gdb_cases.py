@@ -149,6 +149,7 @@ ILL = "E.a packet of gdb can't be read"
 ASK = "qXfer:features:read:target.xml:"
 BEGIN, END = "T05replaylog:begin;thread:1;", "T05replaylog:end;thread:1;"
 HERE = "T05thread:1;"
+AT_FIRST = "00" * 8 + "f0ffff7f" + "00" * 116 + "00000100"  # x0 to x31, and pc
 # Programs of the packets: the first counts t0 down from 40,000 and then exits, in step 80,004; the other has no end.
 COUNTS = "lui t0, 10; addi t0, t0, -960; again: addi t0, t0, -1; bne t0, zero, again; li a0, 3; li a7, 93; ecall"
 TURNS = "again: addi t0, t0, 1; j again"
@@ -159,7 +160,7 @@ PACKETS = [
     ("a step with a signal", ["S05", "p21"], "01000000"), ("back from the start", ["bs"], BEGIN),
     ("all the way back", ["s", "s", "bc"], BEGIN),
     ("pc", ["p20"], "00000100"), ("sp", ["p2"], "f0ffff7f"), ("undefined bits of t6", ["p41"], "00000000"),
-    ("no such register", ["p42"], "E01"), ("all registers", ["g"], "00" * 8 + "f0ffff7f" + "00" * 116 + "00000100"),
+    ("no such register", ["p42"], "E01"), ("all registers", ["g"], AT_FIRST),
     ("memory", ["m10000,4"], "b7a20000"), ("no memory there", ["m100000000,4"], "E01"), ("memory up to 2^32", ["mfffffffe,8"], "0000"),
     ("on to a breakpoint", ["Z0,10010,4", "c", "p21"], "82380100"), ("on with a signal", ["Z1,10010,4", "C05", "p21"], "82380100"),
     ("what is told of a breakpoint", ["Z0,10010,4", "vCont;c"], "T05swbreak:;thread:1;"),
@@ -206,7 +207,7 @@ STREAMS = [
     ("what was sent is asked for again", b"$s#73--", STEPPED + 2 * whole(HERE)), ("again before anything was sent", b"-$s#73", STEPPED),
     ("no acknowledgements", b"$QStartNoAckMode#b0+$s#73-$s#00", DONE + 2 * whole(HERE)), ("a sum in capitals", b"$k#6B$s#73", b"+"),
     ("detached, and a packet after it", b"$D#44$s#73", DONE), ("detached from a process", b"$D;1#b0$s#73", DONE),
-    ("killed, and a packet after it", b"$k#6b$s#73", b"+"), ("an escaped byte", b"$}S#d0", STEPPED),
+    ("killed, and a packet after it", b"$k#6b$s#73", b"+"), ("an escaped byte", b"$}G#c4", b"+" + whole(AT_FIRST)),
     ("an escape that is cut", b"$s}#f0", STEPPED), ("a packet of a megabyte", b"$" + b"s" * (1 << 20) + b"#00$s#73", b"+$#00" + STEPPED),
     ("a hundred begins", b"$" * 100 + b"s#73", STEPPED), ("interrupts, which find it at its end", b"$c#63\x03\x03$s#73\x03",
      EXITED + EXITED),
