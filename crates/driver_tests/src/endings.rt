@@ -187,15 +187,18 @@ fn carried(alloc: Global, order: &Order<'_>, rules: &[u8]) -> Result<(u8, Vec<u8
     Ok((tell(&end, &mut line), writer.taken))
 }
 
-/// Whether a text is these parts, one after another.
-fn is_joined(mut text: &[u8], parts: &[&[u8]]) -> bool {
-    for part in parts {
-        match text.strip_prefix(*part) {
-            Some(rest) => text = rest,
-            None => return false,
-        }
+/// Whether a text is a report with this around it, or nothing.
+fn is_around(written: &[u8], want: &Option<Around>) -> bool {
+    let Some((before, after)) = want else {
+        return written.is_empty();
+    };
+    match written.strip_prefix(*before) {
+        Some(rest) => match rest.strip_prefix(REPORT) {
+            Some(rest) => rest == *after,
+            None => false,
+        },
+        None => false,
     }
-    text.is_empty()
 }
 
 /// An order on a program.
@@ -215,69 +218,72 @@ const BAD_RULES: &[u8] = b"# an empty block\n{\n}\n";
 /// An order's file, the file of its suppressions, and its command.
 type Words = (&'static str, Option<&'static str>, Task<'static>);
 
-/// What a row shows; an order and the suppressions on the shelf; its status, and the parts of what it writes.
-const ORDERS: [(&str, Words, &[u8], u8, &[&[u8]]); 7] = [
+/// What is written before a report and after it.
+type Around = (&'static [u8], &'static [u8]);
+
+/// What a row shows; an order and the suppressions on the shelf; its status, and what is written around the report, if there is one.
+const ORDERS: [(&str, Words, &[u8], u8, Option<Around>); 7] = [
     (
         "a report",
         ("program", None, Task::Report(3)),
         b"",
         0,
-        &[REPORT],
+        Some((b"", b"")),
     ),
     (
         "with suppressions",
         ("program", Some("rules"), Task::Report(3)),
         GOOD_RULES,
         0,
-        &[REPORT],
+        Some((b"", b"")),
     ),
     (
         "a session",
         ("program", None, Task::Session),
         b"",
         0,
-        &[b"ok\n", REPORT, b"refused 2\n"],
+        Some((b"ok\n", b"refused 2\n")),
     ),
     (
         "a session that looks",
         ("program", None, Task::Look),
         b"",
         0,
-        &[b"ok\n", REPORT, b"step 2\n"],
+        Some((b"ok\n", b"step 2\n")),
     ),
     (
         "no such program",
         ("prog", Some("rules"), Task::Session),
         BAD_RULES,
         1,
-        &[],
+        None,
     ),
     (
         "no ELF file",
         ("input", Some("rules"), Task::Look),
         BAD_RULES,
         3,
-        &[],
+        None,
     ),
     (
         "bad suppressions",
         ("program", Some("rules"), Task::Session),
         BAD_RULES,
         3,
-        &[],
+        None,
     ),
 ];
 
-/// Whether an order ends with this status and writes these parts.
+/// Whether an order ends with this status and writes a report with this around it, or nothing.
 fn is_carried(
     alloc: Global,
     order: &Order<'_>,
     rules: &[u8],
     status: u8,
-    want: &[&[u8]],
+    want: &Option<Around>,
 ) -> Result<bool, Fail> {
     let (came, written) = carried(alloc, order, rules)?;
-    Ok(came == status && is_joined(&written, want))
+    Ok(came == status && is_around(&written, want))
 }
 
 /// A report, a session and one that looks, and files that keep one from being made.
@@ -347,58 +353,56 @@ tally 0 3
 end 3 1 0
 ";
 
-/// What a row shows; the bytes, the words and the part of a sweep; its status, and the end of what it writes.
-type Swept = (
+/// What a row shows; the bytes, the words and the part of a sweep that isn't made; its status.
+type NoSweep = (
     &'static str,
     Option<&'static str>,
     Option<&'static str>,
     &'static str,
     u8,
-    &'static [u8],
 );
 
-const SWEEPS: [Swept; 6] = [
-    (
-        "words, the second of three parts",
-        None,
-        Some("0x10000..0x1000b"),
-        "2/3",
-        0,
-        WORD_TABLE,
-    ),
-    (
-        "bytes, up to the last",
-        Some("0.."),
-        None,
-        "1/1",
-        0,
-        BYTE_TABLE,
-    ),
-    (
-        "bytes outside of the input",
-        Some("1..2"),
-        None,
-        "1/1",
-        3,
-        b"",
-    ),
-    ("no word loaded", None, Some("0..0xffff"), "1/1", 3, b""),
-    ("no range", Some("2..1"), None, "1/1", 2, b""),
-    ("no part", None, None, "4/3", 2, b""),
+const NO_SWEEPS: [NoSweep; 4] = [
+    ("bytes outside of the input", Some("1..2"), None, "1/1", 3),
+    ("no word loaded", None, Some("0..0xffff"), "1/1", 3),
+    ("no range", Some("2..1"), None, "1/1", 2),
+    ("no part", None, None, "4/3", 2),
 ];
 
-/// Whether a sweep ends with this status and writes a table with this end, or nothing.
-fn is_swept(alloc: Global, order: &Order<'_>, status: u8, want: &[u8]) -> Result<bool, Fail> {
+/// Whether a sweep is made and writes a table with this end.
+fn is_swept(alloc: Global, order: &Order<'_>, want: &[u8]) -> Result<bool, Fail> {
     let (came, written) = carried(alloc, order, b"")?;
-    Ok(came == status && written.ends_with(want) && written.is_empty() == want.is_empty())
+    Ok(came == 0 && written.ends_with(want))
 }
 
-/// Sweeps, and words that no sweep has.
+/// Whether a sweep ends with this status and writes nothing.
+fn is_not_swept(alloc: Global, order: &Order<'_>, status: u8) -> Result<bool, Fail> {
+    let (came, written) = carried(alloc, order, b"")?;
+    Ok(came == status && written.is_empty())
+}
+
+/// Words, the second of three parts.
 #[test]
-fn sweeps_are_carried_out(rt: HostRuntime) -> Result<(), Fail> {
-    for (label, bytes, words, part, status, want) in &SWEEPS {
+fn words_are_swept(rt: HostRuntime) -> Result<(), Fail> {
+    let order = sweep_of(None, Some("0x10000..0x1000b"), "2/3");
+    assert!(rt; is_swept(rt.alloc(), &order, WORD_TABLE)?);
+    Ok(())
+}
+
+/// Bytes, up to the last.
+#[test]
+fn bytes_are_swept(rt: HostRuntime) -> Result<(), Fail> {
+    let order = sweep_of(Some("0.."), None, "1/1");
+    assert!(rt; is_swept(rt.alloc(), &order, BYTE_TABLE)?);
+    Ok(())
+}
+
+/// Words that no sweep has.
+#[test]
+fn sweeps_are_refused(rt: HostRuntime) -> Result<(), Fail> {
+    for (label, bytes, words, part, status) in &NO_SWEEPS {
         let order = sweep_of(*bytes, *words, part);
-        assert!(rt; is_swept(rt.alloc(), &order, *status, want)?, "{label}");
+        assert!(rt; is_not_swept(rt.alloc(), &order, *status)?, "{label}");
     }
     Ok(())
 }

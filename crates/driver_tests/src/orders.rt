@@ -1,7 +1,7 @@
 //! What lines of words ask for.
 use clap::error::ErrorKind;
-use command_line::{Order, Task, read_order};
-use std::alloc::Global;
+use command_line::{Order, SweepWords, Task, read_order};
+use std::alloc::{AllocError, Global};
 use std::test::Fail;
 
 /// The words of a line, after the program's name.
@@ -14,23 +14,31 @@ fn words_of(alloc: Global, line: &[&str]) -> Result<Vec<String>, Fail> {
     Ok(words)
 }
 
+/// A sweep as a text, with `-` for what it leaves out.
+fn sweep_text(alloc: Global, asked: &SweepWords<'_>) -> Result<String, AllocError> {
+    let (step, part, output) = (asked.step, asked.part, asked.with_output);
+    let (bytes, byte_values) = (asked.bytes.unwrap_or("-"), asked.byte_values);
+    let (words, word_values) = (asked.words.unwrap_or("-"), asked.word_values);
+    format!(in alloc; "{step} {bytes} {byte_values} {words} {word_values} {part} {output}")
+}
+
+/// What is asked for, as a text.
+fn task_text(alloc: Global, task: &Task<'_>) -> Result<String, AllocError> {
+    match task {
+        Task::Report(step) => format!(in alloc; "{step}"),
+        Task::Session => format!(in alloc; "session"),
+        Task::Look => format!(in alloc; "look"),
+        Task::Sweep(asked) => sweep_text(alloc, asked),
+    }
+}
+
 /// An order as a text: its files and what is asked for, with `-` for what it leaves out.
-fn text_of(alloc: Global, order: &Order<'_>) -> Result<String, Fail> {
+fn text_of(alloc: Global, order: &Order<'_>) -> Result<String, AllocError> {
     let file = order.file;
     let input = order.input.unwrap_or("-");
     let rules = order.suppressions.unwrap_or("-");
-    let task = match order.task {
-        Task::Report(step) => format!(in alloc; "{step}")?,
-        Task::Session => format!(in alloc; "session")?,
-        Task::Look => format!(in alloc; "look")?,
-        Task::Sweep(asked) => {
-            let (step, part, output) = (asked.step, asked.part, asked.with_output);
-            let (bytes, byte_values) = (asked.bytes.unwrap_or("-"), asked.byte_values);
-            let (words, word_values) = (asked.words.unwrap_or("-"), asked.word_values);
-            format!(in alloc; "{step} {bytes} {byte_values} {words} {word_values} {part} {output}")?
-        }
-    };
-    Ok(format!(in alloc; "{file} {input} {rules} {task}")?)
+    let task = task_text(alloc, &order.task)?;
+    format!(in alloc; "{file} {input} {rules} {task}")
 }
 
 /// What a row shows, the words of a line, and its order as a text.
