@@ -2,13 +2,14 @@
 use crate::shelf::Shelf;
 use command_line::{Order, SweepWords, Task};
 use driver::{End, ReadFault, RunFault, SweepOption, carry_out, read_opened, run_once, tell};
-use guest_elf::{ElfFault, read};
+use guest_elf::{ElfFault, Image, read};
 use guest_programs::program;
 use replay_session::LONGEST_INPUT;
 use replay_session::fakes::{Room, Script};
-use std::alloc::Global;
+use std::alloc::{AllocError, Global};
 use std::io;
 use std::io::ErrorKind;
+use std::process::Abort;
 use std::test::Fail;
 use suppressions::SuppFault;
 
@@ -38,117 +39,137 @@ fn told(end: Result<(), RunFault>) -> (&'static str, u64) {
     }
 }
 
+/// What a row shows; how much a writer takes and how many flushes; how long the input is; what the report comes to, and how many bytes
+/// of it are taken.
+type Report = (
+    &'static str,
+    usize,
+    usize,
+    usize,
+    (&'static str, u64),
+    usize,
+);
+
+const REPORTS: [Report; 4] = [
+    ("all of it", 1 << 20, 1, 0, ("done", 0), 285),
+    ("a write fails", 100, 1, 0, ("cut", 100), 100),
+    ("the flush fails", 1 << 20, 0, 0, ("cut", 285), 285),
+    (
+        "an input too large",
+        1 << 20,
+        1,
+        LONGEST_INPUT + 1,
+        ("too large", 0),
+        0,
+    ),
+];
+
+/// Whether the report on an image comes to what a row says.
+fn is_cut(alloc: Global, image: &Image<'_>, report: &Report) -> Result<bool, AllocError> {
+    let (_, room, flushes, input, want, sent) = *report;
+    let input = vec![in alloc; 0u8; input]?;
+    let mut writer = Room::new(alloc, room);
+    writer.flushes = flushes;
+    let end = run_once(alloc, image, input, &[], 3, &mut writer);
+    Ok(told(end) == want && writer.taken.len() == sent && REPORT.starts_with(&writer.taken))
+}
+
+/// Asserts that of each row.
+fn are_cut(rt: &impl Abort, alloc: Global, image: &Image<'_>) -> Result<(), AllocError> {
+    for report in &REPORTS {
+        assert!(rt; is_cut(alloc, image, report)?, "{}", report.0);
+    }
+    Ok(())
+}
+
 /// A write that fails has taken a front of the report, and a flush that fails all of it.
 #[test]
 fn a_report_is_cut(rt: HostRuntime) -> Result<(), Fail> {
-    let alloc = rt.alloc();
-    let file = program(alloc, &EXITS)?;
-    let image = read(alloc, &file).map_err(|_| Fail::from("the image is refused"))?;
-    for (label, room, flushes, input, want, sent) in [
-        ("all of it", 1 << 20, 1, 0, ("done", 0), 285),
-        ("a write fails", 100, 1, 0, ("cut", 100), 100),
-        ("the flush fails", 1 << 20, 0, 0, ("cut", 285), 285),
-        (
-            "an input too large",
-            1 << 20,
-            1,
-            LONGEST_INPUT + 1,
-            ("too large", 0),
-            0,
-        ),
-    ] {
-        let input = vec![in alloc; 0u8; input]?;
-        let mut writer = Room::new(alloc, room);
-        writer.flushes = flushes;
-        let end = run_once(alloc, &image, input, &[], 3, &mut writer);
-        assert!(rt; told(end) == want, "{label}");
-        assert!(rt; writer.taken.len() == sent, "{label}");
-        assert!(rt; REPORT.starts_with(&writer.taken), "{label}");
-    }
+    let file = program(rt.alloc(), &EXITS)?;
+    let image = read(rt.alloc(), &file)?;
+    are_cut(&rt, rt.alloc(), &image)?;
     Ok(())
+}
+
+/// Ends, each with its status and its line.
+const ENDS: [(End<'static>, u8, &str); 17] = [
+    (End::Done, 0, ""),
+    (
+        End::CannotRead("a file"),
+        1,
+        "replaycheck: cannot read a file\n",
+    ),
+    (
+        End::CannotReadInput,
+        1,
+        "replaycheck: cannot read standard input\n",
+    ),
+    (End::CannotWrite, 1, "replaycheck: cannot write\n"),
+    (End::Usage, 2, ""),
+    (
+        End::NotText,
+        2,
+        "error: invalid UTF-8 was detected in one or more arguments\n",
+    ),
+    (
+        End::Image(ElfFault::Memory),
+        4,
+        "replaycheck: out of memory\n",
+    ),
+    (
+        End::Image(ElfFault::NotElf),
+        3,
+        "replaycheck: image refused 20\n",
+    ),
+    (
+        End::Image(ElfFault::BadSymbols),
+        3,
+        "replaycheck: image refused 31\n",
+    ),
+    (
+        End::Suppressions(SuppFault::Memory),
+        4,
+        "replaycheck: out of memory\n",
+    ),
+    (
+        End::Suppressions(SuppFault::BadSuppression(u32::MAX)),
+        3,
+        "replaycheck: suppressions refused 13 at line 4294967295\n",
+    ),
+    (
+        End::SuppressionsTooLong,
+        3,
+        "replaycheck: suppressions refused 15\n",
+    ),
+    (End::InputTooLarge, 3, "replaycheck: input refused 14\n"),
+    (End::BytesRefused, 3, "replaycheck: bytes refused 3\n"),
+    (End::WordsRefused, 3, "replaycheck: words refused 4\n"),
+    (
+        End::BadText {
+            option: SweepOption::Bytes,
+            text: "5..x",
+        },
+        2,
+        "replaycheck: no range, list or part: --bytes 5..x\n",
+    ),
+    (End::NoMemory, 4, "replaycheck: out of memory\n"),
+];
+
+/// Whether an end has this status, and a writer with so much room takes as much of its line.
+fn is_told(alloc: Global, end: &End<'_>, status: u8, line: &str, room: usize) -> bool {
+    let mut writer = Room::new(alloc, room);
+    tell(end, &mut writer) == status
+        && writer.taken.len() == line.len().min(room)
+        && line.as_bytes().starts_with(&writer.taken)
 }
 
 /// Each end has its status and its line, and of a line a front where a write fails.
 #[test]
-fn each_end_is_told(rt: HostRuntime) -> Result<(), Fail> {
-    let alloc = rt.alloc();
-    let not_text = "error: invalid UTF-8 was detected in one or more arguments\n";
-    let supp_line = "replaycheck: suppressions refused 13 at line 4294967295\n";
-    for (end, status, line) in [
-        (End::Done, 0, ""),
-        (
-            End::CannotRead("a file"),
-            1,
-            "replaycheck: cannot read a file\n",
-        ),
-        (
-            End::CannotReadInput,
-            1,
-            "replaycheck: cannot read standard input\n",
-        ),
-        (End::CannotWrite, 1, "replaycheck: cannot write\n"),
-        (End::Usage, 2, ""),
-        (End::NotText, 2, not_text),
-        (
-            End::Image(ElfFault::Memory),
-            4,
-            "replaycheck: out of memory\n",
-        ),
-        (
-            End::Image(ElfFault::NotElf),
-            3,
-            "replaycheck: image refused 20\n",
-        ),
-        (
-            End::Image(ElfFault::BadSymbols),
-            3,
-            "replaycheck: image refused 31\n",
-        ),
-        (
-            End::Suppressions(SuppFault::Memory),
-            4,
-            "replaycheck: out of memory\n",
-        ),
-        (
-            End::Suppressions(SuppFault::BadSuppression(u32::MAX)),
-            3,
-            supp_line,
-        ),
-        (
-            End::SuppressionsTooLong,
-            3,
-            "replaycheck: suppressions refused 15\n",
-        ),
-        (End::InputTooLarge, 3, "replaycheck: input refused 14\n"),
-        (End::BytesRefused, 3, "replaycheck: bytes refused 3\n"),
-        (End::WordsRefused, 3, "replaycheck: words refused 4\n"),
-        (
-            End::BadText {
-                option: SweepOption::Bytes,
-                text: "5..x",
-            },
-            2,
-            "replaycheck: no range, list or part: --bytes 5..x\n",
-        ),
-        (End::NoMemory, 4, "replaycheck: out of memory\n"),
-    ] {
-        for room in [1000, 24] {
-            let mut writer = Room::new(alloc, room);
-            assert!(rt; tell(&end, &mut writer) == status, "{line}");
-            assert!(rt; writer.taken.len() == line.len().min(room), "{line}");
-            assert!(rt; line.as_bytes().starts_with(&writer.taken), "{line}");
-        }
-    }
-    Ok(())
-}
-
-/// An order on the program of the shelf.
-fn order_of<'a>(file: &'a str, suppressions: Option<&'a str>, task: Task<'a>) -> Order<'a> {
-    Order {
-        file,
-        input: None,
-        suppressions,
-        task,
+fn each_end_is_told(rt: HostRuntime) {
+    for (end, status, line) in &ENDS {
+        let whole = is_told(rt.alloc(), end, *status, line, 1000);
+        let front = is_told(rt.alloc(), end, *status, line, 24);
+        assert!(rt; whole && front, "{line}");
     }
 }
 
@@ -166,78 +187,114 @@ fn carried(alloc: Global, order: &Order<'_>, rules: &[u8]) -> Result<(u8, Vec<u8
     Ok((tell(&end, &mut line), writer.taken))
 }
 
-/// Whether a text is these parts, one after another.
-fn is_joined(mut text: &[u8], parts: &[&[u8]]) -> bool {
-    for part in parts {
-        match text.strip_prefix(*part) {
-            Some(rest) => text = rest,
-            None => return false,
-        }
+/// Whether a text is a report with this around it, or nothing.
+fn is_around(written: &[u8], want: &Option<Around>) -> bool {
+    let Some((before, after)) = want else {
+        return written.is_empty();
+    };
+    match written.strip_prefix(*before) {
+        Some(rest) => match rest.strip_prefix(REPORT) {
+            Some(rest) => rest == *after,
+            None => false,
+        },
+        None => false,
     }
-    text.is_empty()
+}
+
+/// An order on a program.
+fn order_of<'a>(file: &'a str, suppressions: Option<&'a str>, task: Task<'a>) -> Order<'a> {
+    Order {
+        file,
+        input: None,
+        suppressions,
+        task,
+    }
+}
+
+const GOOD_RULES: &[u8] = b"{\n  any\n  Memcheck:Cond\n  fun:*\n}\n";
+
+const BAD_RULES: &[u8] = b"# an empty block\n{\n}\n";
+
+/// An order's file, the file of its suppressions, and its command.
+type Words = (&'static str, Option<&'static str>, Task<'static>);
+
+/// What is written before a report and after it.
+type Around = (&'static [u8], &'static [u8]);
+
+/// What a row shows; an order and the suppressions on the shelf; its status, and what is written around the report, if there is one.
+const ORDERS: [(&str, Words, &[u8], u8, Option<Around>); 7] = [
+    (
+        "a report",
+        ("program", None, Task::Report(3)),
+        b"",
+        0,
+        Some((b"", b"")),
+    ),
+    (
+        "with suppressions",
+        ("program", Some("rules"), Task::Report(3)),
+        GOOD_RULES,
+        0,
+        Some((b"", b"")),
+    ),
+    (
+        "a session",
+        ("program", None, Task::Session),
+        b"",
+        0,
+        Some((b"ok\n", b"refused 2\n")),
+    ),
+    (
+        "a session that looks",
+        ("program", None, Task::Look),
+        b"",
+        0,
+        Some((b"ok\n", b"step 2\n")),
+    ),
+    (
+        "no such program",
+        ("prog", Some("rules"), Task::Session),
+        BAD_RULES,
+        1,
+        None,
+    ),
+    (
+        "no ELF file",
+        ("input", Some("rules"), Task::Look),
+        BAD_RULES,
+        3,
+        None,
+    ),
+    (
+        "bad suppressions",
+        ("program", Some("rules"), Task::Session),
+        BAD_RULES,
+        3,
+        None,
+    ),
+];
+
+/// Whether an order ends with this status and writes a report with this around it, or nothing.
+fn is_carried(
+    alloc: Global,
+    order: &Order<'_>,
+    rules: &[u8],
+    status: u8,
+    want: &Option<Around>,
+) -> Result<bool, Fail> {
+    let (came, written) = carried(alloc, order, rules)?;
+    Ok(came == status && is_around(&written, want))
 }
 
 /// A report, a session and one that looks, and files that keep one from being made.
 #[test]
 fn orders_are_carried_out(rt: HostRuntime) -> Result<(), Fail> {
-    let alloc = rt.alloc();
-    let good = b"{\n  any\n  Memcheck:Cond\n  fun:*\n}\n".as_slice();
-    let bad = b"# an empty block\n{\n}\n".as_slice();
-    let none = b"".as_slice();
-    for (label, order, rules, status, want) in [
-        (
-            "a report",
-            order_of("program", None, Task::Report(3)),
-            none,
-            0,
-            [REPORT].as_slice(),
-        ),
-        (
-            "with suppressions",
-            order_of("program", Some("rules"), Task::Report(3)),
-            good,
-            0,
-            [REPORT].as_slice(),
-        ),
-        (
-            "a session",
-            order_of("program", None, Task::Session),
-            none,
-            0,
-            [b"ok\n", REPORT, b"refused 2\n"].as_slice(),
-        ),
-        (
-            "a session that looks",
-            order_of("program", None, Task::Look),
-            none,
-            0,
-            [b"ok\n", REPORT, b"step 2\n"].as_slice(),
-        ),
-        (
-            "no such program",
-            order_of("prog", Some("rules"), Task::Session),
-            bad,
-            1,
-            [].as_slice(),
-        ),
-        (
-            "no ELF file",
-            order_of("input", Some("rules"), Task::Look),
-            bad,
-            3,
-            [].as_slice(),
-        ),
-        (
-            "bad suppressions",
-            order_of("program", Some("rules"), Task::Session),
-            bad,
-            3,
-            [].as_slice(),
-        ),
-    ] {
-        let (came, written) = carried(alloc, &order, rules)?;
-        assert!(rt; came == status, "{label}");
-        assert!(rt; is_joined(&written, want), "{label}");
+    for (label, (file, suppressions, task), rules, status, want) in &ORDERS {
+        let order = order_of(file, *suppressions, *task);
+        assert!(rt;
+            is_carried(rt.alloc(), &order, rules, *status, want)?,
+            "{label}"
+        );
     }
     Ok(())
 }
@@ -296,81 +353,85 @@ tally 0 3
 end 3 1 0
 ";
 
-/// Sweeps, and words that no sweep has.
+/// What a row shows; the bytes, the words and the part of a sweep that isn't made; its status.
+type NoSweep = (
+    &'static str,
+    Option<&'static str>,
+    Option<&'static str>,
+    &'static str,
+    u8,
+);
+
+const NO_SWEEPS: [NoSweep; 4] = [
+    ("bytes outside of the input", Some("1..2"), None, "1/1", 3),
+    ("no word loaded", None, Some("0..0xffff"), "1/1", 3),
+    ("no range", Some("2..1"), None, "1/1", 2),
+    ("no part", None, None, "4/3", 2),
+];
+
+/// Whether a sweep is made and writes a table with this end.
+fn is_swept(alloc: Global, order: &Order<'_>, want: &[u8]) -> Result<bool, Fail> {
+    let (came, written) = carried(alloc, order, b"")?;
+    Ok(came == 0 && written.ends_with(want))
+}
+
+/// Whether a sweep ends with this status and writes nothing.
+fn is_not_swept(alloc: Global, order: &Order<'_>, status: u8) -> Result<bool, Fail> {
+    let (came, written) = carried(alloc, order, b"")?;
+    Ok(came == status && written.is_empty())
+}
+
+/// Words, the second of three parts.
 #[test]
-fn sweeps_are_carried_out(rt: HostRuntime) -> Result<(), Fail> {
-    let alloc = rt.alloc();
-    for (label, order, status, want) in [
-        (
-            "words, the second of three parts",
-            sweep_of(None, Some("0x10000..0x1000b"), "2/3"),
-            0,
-            WORD_TABLE,
-        ),
-        (
-            "bytes, up to the last",
-            sweep_of(Some("0.."), None, "1/1"),
-            0,
-            BYTE_TABLE,
-        ),
-        (
-            "bytes outside of the input",
-            sweep_of(Some("1..2"), None, "1/1"),
-            3,
-            b"",
-        ),
-        (
-            "no word loaded",
-            sweep_of(None, Some("0..0xffff"), "1/1"),
-            3,
-            b"",
-        ),
-        ("no range", sweep_of(Some("2..1"), None, "1/1"), 2, b""),
-        ("no part", sweep_of(None, None, "4/3"), 2, b""),
-    ] {
-        let (came, written) = carried(alloc, &order, b"")?;
-        assert!(rt; came == status, "{label}");
-        assert!(rt; written.ends_with(want), "{label}");
-        assert!(rt; written.is_empty() == want.is_empty(), "{label}");
+fn words_are_swept(rt: HostRuntime) -> Result<(), Fail> {
+    let order = sweep_of(None, Some("0x10000..0x1000b"), "2/3");
+    assert!(rt; is_swept(rt.alloc(), &order, WORD_TABLE)?);
+    Ok(())
+}
+
+/// Bytes, up to the last.
+#[test]
+fn bytes_are_swept(rt: HostRuntime) -> Result<(), Fail> {
+    let order = sweep_of(Some("0.."), None, "1/1");
+    assert!(rt; is_swept(rt.alloc(), &order, BYTE_TABLE)?);
+    Ok(())
+}
+
+/// Words that no sweep has.
+#[test]
+fn sweeps_are_refused(rt: HostRuntime) -> Result<(), Fail> {
+    for (label, bytes, words, part, status) in &NO_SWEEPS {
+        let order = sweep_of(*bytes, *words, part);
+        assert!(rt; is_not_swept(rt.alloc(), &order, *status)?, "{label}");
     }
     Ok(())
 }
 
-/// What a reader gave, or why none: `!` for a file that can't be read, `?` for want of memory.
-fn given(alloc: Global, opened: io::Result<Script<'_>>, most: usize) -> Result<Vec<u8>, Fail> {
+/// Whether a reader gave these bytes, or none: `!` for a file that can't be read, `?` for want of memory.
+fn gives(alloc: Global, opened: io::Result<Script<'_>>, most: usize, want: &[u8]) -> bool {
     match read_opened(alloc, opened, most) {
-        Ok(bytes) => Ok(bytes),
-        Err(ReadFault::Unreadable) => Ok(b"!".to_vec(alloc)?),
-        Err(ReadFault::NoMemory) => Ok(b"?".to_vec(alloc)?),
+        Ok(bytes) => bytes.as_slice() == want,
+        Err(ReadFault::Unreadable) => want == b"!".as_slice(),
+        Err(ReadFault::NoMemory) => want == b"?".as_slice(),
     }
 }
 
-/// The first bytes of a file, and why there are none.
+/// The first bytes of a file.
 #[test]
-fn files_are_read(rt: HostRuntime) -> Result<(), Fail> {
-    let alloc = rt.alloc();
+fn files_are_read(rt: HostRuntime) {
+    assert!(rt; gives(rt.alloc(), Ok(Script::new(b"abc")), 4, b"abc"));
+    assert!(rt; gives(rt.alloc(), Ok(Script::new(b"abc")), 3, b"abc"));
+    assert!(rt; gives(rt.alloc(), Ok(Script::new(b"abc")), 2, b"ab"));
+}
+
+/// Why there are none: a read fails, or the file isn't there or can't be opened for want of memory.
+#[test]
+fn files_are_not_read(rt: HostRuntime) {
     let mut failing = Script::new(b"abc");
     failing.bytes = 2;
-    for (label, opened, most, want) in [
-        ("shorter", Ok(Script::new(b"abc")), 4, b"abc".as_slice()),
-        ("as long", Ok(Script::new(b"abc")), 3, b"abc".as_slice()),
-        ("longer", Ok(Script::new(b"abc")), 2, b"ab".as_slice()),
-        ("a read fails", Ok(failing), 4, b"!".as_slice()),
-        (
-            "no such file",
-            Err(io::Error::from(ErrorKind::NotFound)),
-            4,
-            b"!".as_slice(),
-        ),
-        (
-            "no memory",
-            Err(io::Error::from(ErrorKind::OutOfMemory)),
-            4,
-            b"?".as_slice(),
-        ),
-    ] {
-        let bytes = given(alloc, opened, most)?;
-        assert!(rt; bytes.as_slice() == want, "{label}");
-    }
-    Ok(())
+    assert!(rt; gives(rt.alloc(), Ok(failing), 4, b"!"));
+    let missing = io::Error::from(ErrorKind::NotFound);
+    assert!(rt; gives(rt.alloc(), Err(missing), 4, b"!"));
+    let no_memory = io::Error::from(ErrorKind::OutOfMemory);
+    assert!(rt; gives(rt.alloc(), Err(no_memory), 4, b"?"));
 }

@@ -2,7 +2,6 @@
 use definedness::Bits;
 use shadow_memory::{Cell, Memory, RangeKind};
 use std::alloc::{AllocError, Global};
-use std::process::Abort;
 use std::test::Fail;
 
 /// A page that is held, with some bytes inaccessible, undefined and defined in part; two blank pages of undefined bytes; one of
@@ -15,19 +14,29 @@ fn lay_out(memory: &mut Memory, base: u32) -> Result<(), AllocError> {
         let at = base
             .wrapping_add(0xF00)
             .wrapping_add(group.wrapping_mul(20));
-        let bits = Bits {
-            value: group | 0x4433_2200,
-            undef: 0x00F0_0000,
-        };
-        let _bad = memory.store(at, 4, bits)?;
-        memory.set_range(at.wrapping_add(5), 9, RangeKind::Undefined)?;
-        memory.set_range(at.wrapping_add(16), group & 3, RangeKind::NoAccess)?;
+        lay_out_group(memory, at, group)?;
     }
     Ok(())
 }
 
+/// A word that is defined in part, and undefined and inaccessible bytes after it.
+fn lay_out_group(memory: &mut Memory, at: u32, group: u32) -> Result<(), AllocError> {
+    let bits = Bits {
+        value: group | 0x4433_2200,
+        undef: 0x00F0_0000,
+    };
+    let _bad = memory.store(at, 4, bits)?;
+    memory.set_range(at.wrapping_add(5), 9, RangeKind::Undefined)?;
+    memory.set_range(at.wrapping_add(16), group & 3, RangeKind::NoAccess)
+}
+
 /// Copies, if the ranges are apart.
-fn copy_apart(memory: &mut Memory, from: u32, to: u32, len: u32) -> Result<bool, AllocError> {
+pub(crate) fn copy_apart(
+    memory: &mut Memory,
+    from: u32,
+    to: u32,
+    len: u32,
+) -> Result<bool, AllocError> {
     if from.wrapping_sub(to) < len || to.wrapping_sub(from) < len {
         return Ok(false);
     }
@@ -61,16 +70,33 @@ fn first_wrong(old: &Memory, new: &Memory, from: u32, to: u32, len: u32) -> Opti
     None
 }
 
-/// Where a copy leaves a memory that it shouldn't; none where all is well.
+/// Where a copy leaves a memory that is laid out at both bases as it shouldn't; none where all is well.
+fn wrong_in(memory: &mut Memory, from: u32, to: u32, len: u32) -> Result<Option<u32>, AllocError> {
+    let old = memory.share()?;
+    if !copy_apart(memory, from, to, len)? {
+        return Ok(Some(len));
+    }
+    Ok(first_wrong(&old, memory, from, to, len))
+}
+
+/// The same, in a new memory.
 fn wrong_copy(alloc: Global, from: u32, to: u32, len: u32) -> Result<Option<u32>, AllocError> {
     let mut memory = Memory::new(alloc);
     lay_out(&mut memory, 0x1_0000)?;
     lay_out(&mut memory, 0x3_0000)?;
-    let old = memory.share()?;
-    if !copy_apart(&mut memory, from, to, len)? {
-        return Ok(Some(len));
+    wrong_in(&mut memory, from, to, len)
+}
+
+/// The first of 256 pairs of offsets in 16 bytes, of a source and of a target, at which a copy goes wrong; 256 where all is well.
+fn wrong_pair(alloc: Global, from: u32, to: u32, len: u32) -> Result<u32, AllocError> {
+    for pair in 0..256u32 {
+        let from = from.wrapping_add(pair & 15);
+        let to = to.wrapping_add(pair / 16);
+        if wrong_copy(alloc, from, to, len)? != None {
+            return Ok(pair);
+        }
     }
-    Ok(first_wrong(&old, &memory, from, to, len))
+    Ok(256)
 }
 
 // What a row shows; from where, to where and how many bytes are copied.
@@ -90,13 +116,9 @@ const COPIES: [Copy; 8] = [
 /// Each offset of a source and of a target in 16 bytes.
 #[test]
 fn copies_at_each_offset(rt: HostRuntime) -> Result<(), Fail> {
-    for (shows, from, to, len) in COPIES {
-        for offsets in 0..256u32 {
-            let from = from.wrapping_add(offsets & 15);
-            let to = to.wrapping_add(offsets / 16);
-            let wrong = wrong_copy(rt.alloc(), from, to, len)?;
-            assert!(rt; wrong == None, "{shows}, {offsets}");
-        }
+    for (shows, from, to, len) in &COPIES {
+        let pair = wrong_pair(rt.alloc(), *from, *to, *len)?;
+        assert!(rt; pair == 256, "{shows}, {pair}");
     }
     Ok(())
 }
@@ -111,8 +133,8 @@ const PAGES: [Copy; 4] = [
 /// Whole pages.
 #[test]
 fn copies_of_pages(rt: HostRuntime) -> Result<(), Fail> {
-    for (shows, from, to, len) in PAGES {
-        let wrong = wrong_copy(rt.alloc(), from, to, len)?;
+    for (shows, from, to, len) in &PAGES {
+        let wrong = wrong_copy(rt.alloc(), *from, *to, *len)?;
         assert!(rt; wrong == None, "{shows}");
     }
     Ok(())

@@ -170,11 +170,18 @@ const LISTING: [(u32, u32, Op); 48] = [
 /// Whether `decode` finds the operation of the one row whose fixed bits the word has, and nothing
 /// where there is no such row.
 fn agrees(word: u32) -> bool {
-    let mut found = LISTING.iter().filter(|row| word & row.0 == row.1);
-    match (found.next(), found.next()) {
-        (None, _) => decode(word).is_none(),
-        (Some(row), None) => decode(word).is_some_and(|insn| insn.op == row.2),
-        _ => false,
+    let mut found = None;
+    for (mask, value, op) in &LISTING {
+        if word & *mask == *value {
+            if found.is_some() {
+                return false;
+            }
+            found = Some(*op);
+        }
+    }
+    match decode(word) {
+        Some(insn) => found == Some(insn.op),
+        None => found.is_none(),
     }
 }
 
@@ -185,25 +192,31 @@ fn all_agree(others: u32) -> bool {
     })
 }
 
-#[test]
-fn assembled_words(rt: HostRuntime) {
-    one_row();
-    for (word, op, rd, rs1, rs2, imm) in ASSEMBLED {
-        let expected = Insn {
+/// Whether a row's word is decoded to its other fields.
+fn is_decoded(row: &(u32, Op, u8, u8, u8, u32)) -> bool {
+    let (word, op, rd, rs1, rs2, imm) = *row;
+    decode(word)
+        == Some(Insn {
             op,
             rd,
             rs1,
             rs2,
             imm,
-        };
-        assert!(rt; decode(word) == Some(expected), "at {word:#010x}");
+        })
+}
+
+#[test]
+fn assembled_words(rt: HostRuntime) {
+    one_row();
+    for row in &ASSEMBLED {
+        assert!(rt; is_decoded(row), "at {:#010x}", row.0);
     }
 }
 
 #[test]
 fn words_without_a_row(rt: HostRuntime) {
     // A shift with another funct7, BGE's opcode with funct3 2, a whole word but one bit, and no word.
-    for word in [
+    for word in &[
         0x6015_5513,
         0x0205_2063,
         0x0020_0073,
@@ -211,7 +224,7 @@ fn words_without_a_row(rt: HostRuntime) {
         0x0000_0000,
         0xFFFF_FFFF,
     ] {
-        assert!(rt; decode(word) == None, "at {word:#010x}");
+        assert!(rt; decode(*word).is_none(), "at {word:#010x}");
     }
 }
 

@@ -1,7 +1,8 @@
 //! Files by hand, and what becomes of them. By which number a cut or changed file is refused, `tools/test/test-files` compares.
 use byteorder::{ByteOrder, LittleEndian};
-use guest_elf::{Hook, read};
+use guest_elf::{ElfFault, Hook, Image, Segment, read};
 use std::alloc::{AllocError, Global};
+use std::process::Abort;
 use std::test::Fail;
 
 /// Three words at 0x10000: `addi a7, x0, 93`, `addi a0, x0, 0`, `ecall`.
@@ -75,61 +76,78 @@ fn sized_program(alloc: Global, len: usize) -> Result<Vec<u8>, AllocError> {
     Ok(file)
 }
 
+/// Whether segments are that of the program above alone.
+fn are_code(segments: &[Segment<'_>]) -> bool {
+    match segments {
+        [segment] => {
+            segment.vaddr == 0x10000 && segment.memsz == 12 && segment.bytes == &PROGRAM[84..]
+        }
+        _ => false,
+    }
+}
+
+/// Whether an image is that of the program above.
+fn is_program(image: &Image<'_>) -> bool {
+    image.entry() == 0x10000 && are_code(image.segments()) && image.name_of(0x10000) == UNKNOWN
+}
+
 #[test]
 fn reads_a_program(rt: HostRuntime) -> Result<(), Fail> {
     let image = read(rt.alloc(), &PROGRAM)?;
-    assert!(rt; image.entry() == 0x10000);
-    assert!(rt; image.segments().len() == 1);
-    let segment = image.segments()[0];
-    assert!(rt; segment.vaddr == 0x10000);
-    assert!(rt; segment.memsz == 12);
-    assert!(rt; segment.bytes == &PROGRAM[84..]);
-    assert!(rt; image.name_of(0x10000) == b"???".as_slice());
+    assert!(rt; is_program(&image));
     Ok(())
+}
+
+/// Addresses, and whether the word there can be patched.
+const PATCHABLE: [(u32, bool); 7] = [
+    (0xFFFC, false),
+    (0xFFFD, false),
+    (0x10000, true),
+    (0x10008, true),
+    (0x10009, false),
+    (0x1000C, false),
+    (0xFFFF_FFFF, false),
+];
+
+/// Asserts which words of the program can be patched.
+fn are_patchable(rt: &impl Abort, image: &Image<'_>) {
+    for (addr, want) in &PATCHABLE {
+        assert!(rt; image.patchable(*addr) == *want, "at {addr}");
+    }
 }
 
 #[test]
 fn words_are_patchable_where_each_byte_is_loaded(rt: HostRuntime) -> Result<(), Fail> {
     let image = read(rt.alloc(), &PROGRAM)?;
-    for (addr, want) in [
-        (0xFFFC, false),
-        (0xFFFD, false),
-        (0x10000, true),
-        (0x10008, true),
-        (0x10009, false),
-        (0x1000C, false),
-        (0xFFFF_FFFF, false),
-    ] {
-        assert!(rt; image.patchable(addr) == want, "at {addr}");
-    }
+    are_patchable(&rt, &image);
     Ok(())
+}
+
+/// Whether the program with another word in a field has a last word that can be patched.
+fn has_last(alloc: Global, field: usize, value: u32, last: u32) -> Result<bool, ElfFault> {
+    let mut file = PROGRAM;
+    set_word(&mut file, field, value);
+    let image = read(alloc, &file)?;
+    Ok(image.patchable(last) && !image.patchable(last.wrapping_add(1)))
 }
 
 #[test]
 fn the_last_loaded_word_is_patchable(rt: HostRuntime) -> Result<(), Fail> {
-    for (label, field, value, last, next) in [
-        (
-            "zeros after the bytes",
-            MEMSZ,
-            0x0100_0000,
-            0x0100_FFFC,
-            0x0100_FFFD,
-        ),
-        (
-            "up to the last address",
-            VADDR,
-            0xFFFF_FFF4,
-            0xFFFF_FFFC,
-            0xFFFF_FFFD,
-        ),
+    for (label, field, value, last) in &[
+        ("zeros after the bytes", MEMSZ, 0x0100_0000, 0x0100_FFFC),
+        ("up to the last address", VADDR, 0xFFFF_FFF4, 0xFFFF_FFFC),
     ] {
-        let mut file = PROGRAM;
-        set_word(&mut file, field, value);
-        let image = read(rt.alloc(), &file)?;
-        assert!(rt; image.patchable(last), "{label}");
-        assert!(rt; !image.patchable(next), "{label}");
+        assert!(rt; has_last(rt.alloc(), *field, *value, *last)?, "{label}");
     }
     Ok(())
+}
+
+/// Whether an image has no byte of the file, and words that can be patched.
+fn is_empty(image: &Image<'_>) -> bool {
+    match image.segments() {
+        [segment] => segment.bytes.is_empty() && image.patchable(0x10000),
+        _ => false,
+    }
 }
 
 #[test]
@@ -137,145 +155,197 @@ fn without_bytes_the_offset_may_be_anywhere(rt: HostRuntime) -> Result<(), Fail>
     let mut file = PROGRAM;
     set_word(&mut file, FILESZ, 0);
     set_word(&mut file, OFFSET, 0xFFFF_FFFF);
-    let empty = read(rt.alloc(), &file)?;
-    assert!(rt; empty.segments().len() == 1);
-    assert!(rt; empty.segments()[0].bytes.len() == 0);
-    assert!(rt; empty.patchable(0x10000));
+    let image = read(rt.alloc(), &file)?;
+    assert!(rt; is_empty(&image));
     Ok(())
+}
+
+const MAIN: &[u8] = b"main";
+
+const MAX: &[u8] = b"max";
+
+const UNKNOWN: &[u8] = b"???";
+
+/// Addresses, and the name of the function of each.
+const NAMES: [(u32, &[u8]); 6] = [
+    (0xFFFF, UNKNOWN),
+    (0x10000, MAIN),
+    (0x10017, MAIN),
+    (0x10018, MAX),
+    (0x1001F, MAX),
+    (0x10020, UNKNOWN),
+];
+
+/// Asserts how the functions of a file are named.
+fn are_named(rt: &impl Abort, image: &Image<'_>) {
+    for (addr, name) in &NAMES {
+        assert!(rt; image.name_of(*addr) == *name, "at {addr}");
+    }
 }
 
 #[test]
 fn the_functions_of_a_file_have_names(rt: HostRuntime) -> Result<(), Fail> {
     let image = read(rt.alloc(), &NAMED)?;
-    let main: &[u8] = b"main";
-    let max: &[u8] = b"max";
-    let unknown: &[u8] = b"???";
-    assert!(rt; image.name_of(0xFFFF) == unknown);
-    assert!(rt; image.name_of(0x10000) == main);
-    assert!(rt; image.name_of(0x10017) == main);
-    assert!(rt; image.name_of(0x10018) == max);
-    assert!(rt; image.name_of(0x1001F) == max);
-    assert!(rt; image.name_of(0x10020) == unknown);
+    are_named(&rt, &image);
     Ok(())
+}
+
+/// Two words changed each: their offsets and values, and the name of 0x10018 then.
+const NEAREST: [(usize, u32, usize, u32, &[u8]); 9] = [
+    // Both functions at one address: the one with the lower index, whatever its size.
+    (136, 0x10018, 136, 0x10018, MAIN),
+    (136, 0x10018, 140, 0, MAIN),
+    // A size of 0 is unknown, one that is too small does not reach the address.
+    (156, 0, 156, 0, MAX),
+    (152, 0x10010, 156, 8, UNKNOWN),
+    (152, 0x10010, 156, 9, MAX),
+    // No function, then one that is undefined.
+    (160, 0xFFF1_0011, 140, 0, MAIN),
+    (160, 0x0000_0012, 140, 0, MAIN),
+    // An empty name.
+    (148, 0, 140, 0, MAIN),
+    // Below the first function there is none.
+    (136, 0x10019, 152, 0x10019, UNKNOWN),
+];
+
+/// Whether 0x10018 has this name in a file.
+fn is_named(alloc: Global, file: &[u8], name: &[u8]) -> Result<bool, ElfFault> {
+    let image = read(alloc, file)?;
+    Ok(image.name_of(0x10018) == name)
+}
+
+/// Whether it has the name of a row.
+fn is_nearest(alloc: Global, row: &(usize, u32, usize, u32, &[u8])) -> Result<bool, ElfFault> {
+    let (first, one, second, two, want) = row;
+    let mut file = NAMED;
+    set_word(&mut file, *first, *one);
+    set_word(&mut file, *second, *two);
+    is_named(alloc, &file, want)
 }
 
 #[test]
 fn the_nearest_function_names_an_address(rt: HostRuntime) -> Result<(), Fail> {
-    let main: &[u8] = b"main";
-    let max: &[u8] = b"max";
-    let unknown: &[u8] = b"???";
-    // Two words changed each: their offsets and values, and the name of 0x10018 then.
-    for (first, one, second, two, want) in [
-        // Both functions at one address: the one with the lower index, whatever its size.
-        (136usize, 0x10018u32, 136usize, 0x10018u32, main),
-        (136, 0x10018, 140, 0, main),
-        // A size of 0 is unknown, one that is too small does not reach the address.
-        (156, 0, 156, 0, max),
-        (152, 0x10010, 156, 8, unknown),
-        (152, 0x10010, 156, 9, max),
-        // No function, then one that is undefined.
-        (160, 0xFFF1_0011, 140, 0, main),
-        (160, 0x0000_0012, 140, 0, main),
-        // An empty name.
-        (148, 0, 140, 0, main),
-        // Below the first function there is none.
-        (136, 0x10019, 152, 0x10019, unknown),
-    ] {
-        let mut file = NAMED;
-        set_word(&mut file, first, one);
-        set_word(&mut file, second, two);
-        let image = read(rt.alloc(), &file)?;
-        assert!(rt; image.name_of(0x10018) == want, "{first} set to {one}");
+    for row in &NEAREST {
+        assert!(rt; is_nearest(rt.alloc(), row)?, "{} set to {}", row.0, row.1);
     }
     Ok(())
+}
+
+/// Of a symbol where its name begins, its address and its type with its section.
+type Symbol = (u32, u32, u32);
+
+const FUNCTION: u32 = 0xFFF1_0012;
+
+/// Names at 1, 8, 13, 20, 28 and 36; `alloc` at 22.
+const HEAP_NAMES: &[u8] = b"\0malloc\0free\0calloc\0realloc\0mallocs\0mal\0";
+
+/// What a row shows; two symbols; the functions of the heap that are known then.
+const HOOKS: [(&str, Symbol, Symbol, &[(u32, Hook)]); 8] = [
+    (
+        "in the order of their addresses",
+        (1, 0x10018, FUNCTION),
+        (8, 0x10000, FUNCTION),
+        &[(0x10000, Hook::Free), (0x10018, Hook::Malloc)],
+    ),
+    (
+        "at the lowest and the highest",
+        (13, u32::MAX, FUNCTION),
+        (20, 8, FUNCTION),
+        &[(8, Hook::Realloc), (u32::MAX, Hook::Calloc)],
+    ),
+    (
+        "one name at two addresses",
+        (1, 0x10000, FUNCTION),
+        (1, 0x10018, FUNCTION),
+        &[(0x10000, Hook::Malloc), (0x10018, Hook::Malloc)],
+    ),
+    (
+        "two names at one address",
+        (8, 0x10000, FUNCTION),
+        (1, 0x10000, FUNCTION),
+        &[(0x10000, Hook::Free)],
+    ),
+    (
+        "beside another function",
+        (28, 0x10000, FUNCTION),
+        (1, 0x10000, FUNCTION),
+        &[(0x10000, Hook::Malloc)],
+    ),
+    (
+        "longer and shorter names",
+        (28, 0x10000, FUNCTION),
+        (36, 0x10000, FUNCTION),
+        &[],
+    ),
+    (
+        "the end of a name, and none",
+        (22, 0x10000, FUNCTION),
+        (0, 0x10000, FUNCTION),
+        &[],
+    ),
+    (
+        "an object, and undefined",
+        (1, 0x10000, 0xFFF1_0011),
+        (8, 0x10000, 0x12),
+        &[],
+    ),
+];
+
+/// Writes a symbol's name, address, and type with its section.
+fn set_symbol(file: &mut [u8], offset: usize, symbol: &Symbol) {
+    let (name, address, kind) = symbol;
+    set_word(file, offset, *name);
+    set_word(file, offset.saturating_add(4), *address);
+    set_word(file, offset.saturating_add(12), *kind);
+}
+
+/// The file with two functions, with these symbols and the names of the heap.
+fn heap_file(alloc: Global, one: &Symbol, two: &Symbol) -> Result<Vec<u8>, AllocError> {
+    let mut file = NAMED.to_vec(alloc)?;
+    file.extend_from_slice(HEAP_NAMES)?;
+    // Of section 2 sh_offset and sh_size.
+    set_word(&mut file, 272, 296);
+    set_word(&mut file, 276, 40);
+    set_symbol(&mut file, 132, one);
+    set_symbol(&mut file, 148, two);
+    Ok(file)
+}
+
+/// Whether a file has these functions of the heap.
+fn has_hooks(alloc: Global, file: &[u8], want: &[(u32, Hook)]) -> Result<bool, ElfFault> {
+    let image = read(alloc, file)?;
+    let hooks = image.hooks(alloc)?;
+    Ok(hooks.as_slice() == want)
+}
+
+/// Whether a file with these symbols has these functions of the heap.
+fn are_hooks(
+    alloc: Global,
+    one: &Symbol,
+    two: &Symbol,
+    want: &[(u32, Hook)],
+) -> Result<bool, ElfFault> {
+    let file = heap_file(alloc, one, two)?;
+    has_hooks(alloc, &file, want)
 }
 
 #[test]
 fn functions_of_the_heap_are_known_by_name(rt: HostRuntime) -> Result<(), Fail> {
-    // Names at 1, 8, 13, 20, 28 and 36; `alloc` at 22.
-    let names = b"\0malloc\0free\0calloc\0realloc\0mallocs\0mal\0";
-    let function = 0xFFF1_0012u32;
-    let none: [(u32, Hook); 0] = [];
-    let low = [(0x10000u32, Hook::Free), (0x10018, Hook::Malloc)];
-    let high = [(8u32, Hook::Realloc), (u32::MAX, Hook::Calloc)];
-    let both = [(0x10000u32, Hook::Malloc), (0x10018, Hook::Malloc)];
-    let free = [(0x10000u32, Hook::Free)];
-    let malloc = [(0x10000u32, Hook::Malloc)];
-    // Of each symbol where its name begins, its address and its type with its section.
-    for (label, one, two, want) in [
-        (
-            "in the order of their addresses",
-            (1u32, 0x10018u32, function),
-            (8u32, 0x10000u32, function),
-            low.as_slice(),
-        ),
-        (
-            "at the lowest and the highest",
-            (13, u32::MAX, function),
-            (20, 8, function),
-            high.as_slice(),
-        ),
-        (
-            "one name at two addresses",
-            (1, 0x10000, function),
-            (1, 0x10018, function),
-            both.as_slice(),
-        ),
-        (
-            "two names at one address",
-            (8, 0x10000, function),
-            (1, 0x10000, function),
-            free.as_slice(),
-        ),
-        (
-            "beside another function",
-            (28, 0x10000, function),
-            (1, 0x10000, function),
-            malloc.as_slice(),
-        ),
-        (
-            "longer and shorter names",
-            (28, 0x10000, function),
-            (36, 0x10000, function),
-            none.as_slice(),
-        ),
-        (
-            "the end of a name, and none",
-            (22, 0x10000, function),
-            (0, 0x10000, function),
-            none.as_slice(),
-        ),
-        (
-            "an object, and undefined",
-            (1, 0x10000, 0xFFF1_0011),
-            (8, 0x10000, 0x12),
-            none.as_slice(),
-        ),
-    ] {
-        let mut file = [0; 336];
-        file[..296].copy_from_slice(&NAMED);
-        file[296..].copy_from_slice(names);
-        // Of section 2 sh_offset and sh_size; then of symbols 1 and 2 st_name, st_value and st_info with st_shndx.
-        set_word(&mut file, 272, 296);
-        set_word(&mut file, 276, 40);
-        set_word(&mut file, 132, one.0);
-        set_word(&mut file, 136, one.1);
-        set_word(&mut file, 144, one.2);
-        set_word(&mut file, 148, two.0);
-        set_word(&mut file, 152, two.1);
-        set_word(&mut file, 160, two.2);
-        let image = read(rt.alloc(), &file)?;
-        let hooks = image.hooks(rt.alloc())?;
-        assert!(rt; hooks.as_slice() == want, "{label}");
+    for (label, one, two, want) in &HOOKS {
+        assert!(rt; are_hooks(rt.alloc(), one, two, want)?, "{label}");
     }
     Ok(())
 }
 
+/// The number of the refusal of the program in a file of so many bytes, or 0.
+fn sized_answer(alloc: Global, len: usize) -> Result<u8, AllocError> {
+    let file = sized_program(alloc, len)?;
+    Ok(answer(alloc, &file))
+}
+
 #[test]
 fn a_file_above_the_limit_is_refused(rt: HostRuntime) -> Result<(), Fail> {
-    let most = sized_program(rt.alloc(), 16_777_216)?;
-    assert!(rt; answer(rt.alloc(), &most) == 0);
-    let longer = sized_program(rt.alloc(), 16_777_217)?;
-    assert!(rt; answer(rt.alloc(), &longer) == 30);
+    assert!(rt; sized_answer(rt.alloc(), 16_777_216)? == 0);
+    assert!(rt; sized_answer(rt.alloc(), 16_777_217)? == 30);
     Ok(())
 }

@@ -119,21 +119,30 @@ fn kinds_of(
     leak_kinds(alloc, roots, edges)
 }
 
+/// The pointers of the roots.
+fn pointers_of(alloc: Global, roots: &[(usize, bool)]) -> Result<Vec<Pointer>, AllocError> {
+    let mut pointers = Vec::new(alloc);
+    for (block, is_start) in roots {
+        pointers.push(Pointer {
+            block: *block,
+            is_start: *is_start,
+        })?;
+    }
+    Ok(pointers)
+}
+
+/// Whether the blocks of a case have its kinds.
+fn is_decided(alloc: Global, case: &Case) -> Result<bool, AllocError> {
+    let (_, roots, pointers, kinds) = case;
+    let roots = pointers_of(alloc, roots)?;
+    let edges = rows(alloc, kinds.len(), pointers)?;
+    Ok(kinds_of(alloc, &roots, &edges)?.as_slice() == *kinds)
+}
+
 #[test]
 fn paths_decide_the_kind(rt: HostRuntime) -> Result<(), Fail> {
-    for (label, roots, pointers, kinds) in CASES {
-        let mut pointers_of_roots = Vec::new(rt.alloc());
-        for (block, is_start) in roots {
-            pointers_of_roots.push(Pointer {
-                block: *block,
-                is_start: *is_start,
-            })?;
-        }
-        let edges = rows(rt.alloc(), kinds.len(), pointers)?;
-        assert!(rt;
-            kinds_of(rt.alloc(), &pointers_of_roots, &edges)?.as_slice() == kinds,
-            "{label}"
-        );
+    for case in &CASES {
+        assert!(rt; is_decided(rt.alloc(), case)?, "{}", case.0);
     }
     Ok(())
 }

@@ -1,152 +1,219 @@
 //! Each call on its happy path, and ranges across the end of a page and of the address space. Expected values are worked out by
 //! hand from the definitions.
+use crate::copies::copy_apart;
 use definedness::Bits;
 use shadow_memory::laws::{all_are, first_not};
-use shadow_memory::{Bad, Cell, Memory, RangeKind};
+use shadow_memory::{Bad, Memory, RangeKind};
+use std::alloc::{AllocError, Global};
+use std::process::Abort;
 use std::test::Fail;
 
-/// A cell.
-const fn cell(byte: u8, accessible: bool, undef: u8) -> Cell {
-    Cell {
-        byte,
-        accessible,
-        undef,
+/// Whether an address holds this byte with what is known of it.
+fn is_cell(memory: &Memory, addr: u32, byte: u8, accessible: bool, undef: u8) -> bool {
+    let cell = memory.byte(addr);
+    cell.byte == byte && cell.accessible == accessible && cell.undef == undef
+}
+
+/// Whether the word at an address has this value.
+fn has_word(memory: &Memory, addr: u32, value: u32) -> bool {
+    memory.load(addr, 4).value == value
+}
+
+/// So many copies of a memory, which share its pages.
+fn copies_of(alloc: Global, memory: &Memory, count: u32) -> Result<Vec<Memory>, AllocError> {
+    let mut copies = Vec::new(alloc);
+    for _copy in 0..count {
+        copies.push(memory.share()?)?;
+    }
+    Ok(copies)
+}
+
+/// Asserts that the first so many copies have their byte, and the others none.
+fn are_written(rt: &impl Abort, copies: &[Memory], written: usize) {
+    for (i, copy) in copies.iter().enumerate() {
+        let want = if i < written { (i & 0x7f) as u8 } else { b'b' };
+        assert!(rt;
+            copy.byte(0x1000_0001).byte == want,
+            "copy {i} of {written} written"
+        );
     }
 }
 
-/// Whether addresses hold these cells.
-fn holds(memory: &Memory, cells: &[(u32, Cell)]) -> bool {
-    cells.iter().all(|(addr, cell)| memory.byte(*addr) == *cell)
+/// Writes a byte into each copy in turn.
+fn write_each(rt: &impl Abort, copies: &mut [Memory]) -> Result<(), AllocError> {
+    for i in 0..copies.len() {
+        if let Some(copy) = copies.get_mut(i) {
+            copy.poke(0x1000_0001, (i & 0x7f) as u8)?;
+        }
+        are_written(rt, copies, i.saturating_add(1));
+    }
+    Ok(())
 }
 
 /// One byte is written into each of 1,025 memories that share their pages; after each write, the ones before it have theirs and
 /// the ones after it have none.
 #[test]
 fn shares_are_apart(rt: HostRuntime) -> Result<(), Fail> {
-    let alloc = rt.alloc();
-    let mut first = Memory::new(alloc);
+    let mut first = Memory::new(rt.alloc());
     first.fill(0x1000_0000, 8192, b"abcd")?;
-    let mut shares = Vec::new(alloc);
-    for _share in 0..1025u32 {
-        shares.push(first.share()?)?;
-    }
-    let mut written = 0usize;
-    for _share in 0..1025u32 {
-        let Some(share) = shares.get_mut(written) else {
-            break;
-        };
-        share.poke(0x1000_0001, (written & 0x7f) as u8)?;
-        written = written.saturating_add(1);
-        let mut i = 0usize;
-        for other in &shares {
-            let want = if i < written { (i & 0x7f) as u8 } else { b'b' };
-            assert!(rt;
-                other.byte(0x1000_0001).byte == want,
-                "copy {i} of {written} written"
-            );
-            i = i.saturating_add(1);
-        }
-    }
-    assert!(rt; first.load(0x1000_0000, 4).value == 0x6463_6261);
+    let mut copies = copies_of(rt.alloc(), &first, 1025)?;
+    write_each(&rt, &mut copies)?;
+    assert!(rt; has_word(&first, 0x1000_0000, 0x6463_6261));
     Ok(())
 }
 
-/// Loads and stores across the end of a page and of the address space.
+/// Whether a word is stored at an address, all but its last byte, which isn't accessible; `next` is two bytes on.
+fn is_stored(memory: &mut Memory, addr: u32, next: u32) -> Result<bool, AllocError> {
+    memory.set_range(addr, 3, RangeKind::Defined)?;
+    let bits = Bits {
+        value: 0x4433_2211,
+        undef: 0x0000_F000,
+    };
+    let bad = memory.store(addr, 4, bits)?;
+    Ok(
+        bad == Some(addr.wrapping_add(3))
+            && is_cell(memory, addr.wrapping_add(1), 0x22, true, 0xF0)
+            && is_cell(memory, next, 0x33, true, 0)
+            && is_cell(memory, next.wrapping_add(1), 0x44, false, 0),
+    )
+}
+
+/// Whether that word is loaded.
+fn is_loaded(memory: &Memory, addr: u32, next: u32) -> bool {
+    let loaded = memory.load(addr, 4);
+    loaded.value == 0x4433_2211
+        && loaded.undef == 0xF000
+        && loaded.bad == Some(addr.wrapping_add(3))
+        && memory.load(next, 2).value == 0x4433
+}
+
+/// Whether it is copied to inaccessible bytes, and then to accessible ones.
+fn is_copied(memory: &mut Memory, addr: u32) -> Result<bool, AllocError> {
+    let first = copy_apart(memory, addr, 0x5FFF, 4)? && is_cell(memory, 0x6000, 0x22, false, 0);
+    memory.set_range(0x5FFF, 4, RangeKind::Undefined)?;
+    Ok(
+        first
+            && copy_apart(memory, addr, 0x5FFF, 4)?
+            && is_cell(memory, 0x6000, 0x22, true, 0xF0)
+            && is_cell(memory, 0x6002, 0x44, true, 0),
+    )
+}
+
+/// Loads, stores and copies from one address on; `next` is two bytes on.
+fn accesses(rt: &impl Abort, memory: &mut Memory, addr: u32, next: u32) -> Result<(), AllocError> {
+    assert!(rt; is_stored(memory, addr, next)?);
+    assert!(rt; is_loaded(memory, addr, next));
+    assert!(rt; is_copied(memory, addr)?);
+    Ok(())
+}
+
 #[test]
 fn accesses_cross_pages(rt: HostRuntime) -> Result<(), Fail> {
-    let alloc = rt.alloc();
-    let cases: [(u32, u32); 2] = [(0x1FFE, 0x2000), (0xFFFF_FFFE, 0)];
-    for (addr, next) in &cases {
-        let mut memory = Memory::new(alloc);
-        memory.set_range(*addr, 3, RangeKind::Defined)?;
-        let bits = Bits {
-            value: 0x4433_2211,
-            undef: 0x0000_F000,
-        };
-        let bad = memory.store(*addr, 4, bits)?;
-        assert!(rt; bad == Some(addr.wrapping_add(3)));
-        let stored = [
-            (addr.wrapping_add(1), cell(0x22, true, 0xF0)),
-            (*next, cell(0x33, true, 0)),
-            (next.wrapping_add(1), cell(0x44, false, 0)),
-        ];
-        assert!(rt; holds(&memory, &stored));
-        let loaded = memory.load(*addr, 4);
-        assert!(rt; (loaded.value, loaded.undef, loaded.bad) == (0x4433_2211, 0xF000, bad));
-        assert!(rt; memory.load(*next, 2).value == 0x4433);
-        memory.copy_with_shadow(*addr, 0x5FFF, 4)?;
-        assert!(rt; memory.byte(0x6000) == cell(0x22, false, 0));
-        memory.set_range(0x5FFF, 4, RangeKind::Undefined)?;
-        memory.copy_with_shadow(*addr, 0x5FFF, 4)?;
-        let copied = [
-            (0x6000, cell(0x22, true, 0xF0)),
-            (0x6002, cell(0x44, true, 0)),
-        ];
-        assert!(rt; holds(&memory, &copied));
-    }
+    let mut memory = Memory::new(rt.alloc());
+    accesses(&rt, &mut memory, 0x1FFE, 0x2000)?;
+    Ok(())
+}
+
+#[test]
+fn accesses_go_round_the_end(rt: HostRuntime) -> Result<(), Fail> {
+    let mut memory = Memory::new(rt.alloc());
+    accesses(&rt, &mut memory, 0xFFFF_FFFE, 0)?;
+    Ok(())
+}
+
+/// Splits two pages of one kind by a range and by a partly defined byte; whether the bytes there are as they should be.
+fn split(memory: &mut Memory) -> Result<bool, AllocError> {
+    memory.fill(0x4000, 0x2000, b"xyz")?;
+    memory.set_range(0x4010, 16, RangeKind::NoAccess)?;
+    let partly = Bits {
+        value: 7,
+        undef: 0x81,
+    };
+    let bad = memory.store(0x4030, 1, partly)?;
+    Ok(
+        bad == None
+            && is_cell(memory, 0x400F, 0, true, 0)
+            && is_cell(memory, 0x4010, 0, false, 0)
+            && is_cell(memory, 0x4030, 7, true, 0x81),
+    )
+}
+
+/// Whether the bad bytes of pages that are split are found.
+fn are_split(memory: &Memory) -> bool {
+    let inaccessible = Bad {
+        addr: 0x4010,
+        accessible: false,
+    };
+    let undefined = Bad {
+        addr: 0x4030,
+        accessible: true,
+    };
+    memory.first_bad(0x4000, 0x2000, true) == Some(inaccessible)
+        && memory.first_bad(0x4020, 0x1000, true) == Some(undefined)
+        && memory.first_bad(0x4020, 0x1000, false) == None
+}
+
+/// Whether the words between those bytes are found.
+fn are_passed_over(memory: &Memory) -> bool {
+    memory.next_word(0x400D) == Some(0x4020)
+        && memory.next_word(0x402D) == Some(0x4034)
+        && memory.next_word(0x6000) == None
+}
+
+/// Whether pages that were split are defined again, with their bytes.
+fn fold(memory: &mut Memory) -> Result<bool, AllocError> {
+    memory.set_range(0x4000, 0x1000, RangeKind::Defined)?;
+    Ok(
+        memory.first_bad(0x4000, 0x2000, true) == None
+            && has_word(memory, 0x4000, 0x007A_7978)
+            && is_cell(memory, 0x4030, 7, true, 0),
+    )
+}
+
+/// Splits pages, and makes them one again.
+fn split_and_fold(rt: &impl Abort, memory: &mut Memory) -> Result<(), AllocError> {
+    assert!(rt; split(memory)?);
+    assert!(rt; are_split(memory));
+    assert!(rt; are_passed_over(memory));
+    assert!(rt; fold(memory)?);
     Ok(())
 }
 
 /// A page of one kind is split by a range and by a partly defined byte, and made one again.
 #[test]
 fn pages_split_and_fold(rt: HostRuntime) -> Result<(), Fail> {
-    let alloc = rt.alloc();
-    let mut memory = Memory::new(alloc);
-    memory.fill(0x4000, 0x2000, b"xyz")?;
-    memory.set_range(0x4010, 16, RangeKind::NoAccess)?;
-    assert!(rt;
-        holds(
-            &memory,
-            &[(0x400F, cell(0, true, 0)), (0x4010, cell(0, false, 0))]
-        )
-    );
-    let partly = Bits {
-        value: 7,
-        undef: 0x81,
-    };
-    assert!(rt; memory.store(0x4030, 1, partly)? == None);
-    assert!(rt; memory.byte(0x4030) == cell(7, true, 0x81));
-    assert!(rt;
-        memory.first_bad(0x4000, 0x2000, true)
-            == Some(Bad {
-                addr: 0x4010,
-                accessible: false
-            })
-    );
-    assert!(rt;
-        memory.first_bad(0x4020, 0x1000, true)
-            == Some(Bad {
-                addr: 0x4030,
-                accessible: true
-            })
-    );
-    assert!(rt; memory.first_bad(0x4020, 0x1000, false) == None);
-    assert!(rt; memory.next_word(0x400D) == Some(0x4020));
-    assert!(rt; memory.next_word(0x402D) == Some(0x4034));
-    assert!(rt; memory.next_word(0x6000) == None);
-    memory.set_range(0x4000, 0x1000, RangeKind::Defined)?;
-    assert!(rt; memory.first_bad(0x4000, 0x2000, true) == None);
-    assert!(rt; memory.load(0x4000, 4).value == 0x007A_7978);
-    assert!(rt; memory.byte(0x4030) == cell(7, true, 0));
+    let mut memory = Memory::new(rt.alloc());
+    split_and_fold(&rt, &mut memory)?;
     Ok(())
+}
+
+/// Whether bytes from outside are stored, the last of them to an inaccessible place.
+fn are_stored(memory: &mut Memory) -> Result<bool, AllocError> {
+    memory.set_range(0x8FFE, 3, RangeKind::Undefined)?;
+    memory.store_bytes(0x8FFE, b"pqrs")?;
+    Ok(is_cell(memory, 0x9000, b'r', true, 0) && is_cell(memory, 0x9001, b's', false, 0))
+}
+
+/// Whether a word is written over them.
+fn are_poked(memory: &mut Memory) -> Result<bool, AllocError> {
+    memory.poke_word(0x8FFF, 0x0403_0201)?;
+    Ok(
+        memory.byte(0x8FFE).byte == b'p'
+            && has_word(memory, 0x8FFF, 0x0403_0201)
+            && is_cell(memory, 0x9001, 3, false, 0),
+    )
+}
+
+/// Whether both are so, one after the other.
+fn are_stored_and_poked(memory: &mut Memory) -> Result<bool, AllocError> {
+    Ok(are_stored(memory)? && are_poked(memory)?)
 }
 
 /// Bytes from outside the program.
 #[test]
 fn bytes_come_and_go(rt: HostRuntime) -> Result<(), Fail> {
-    let alloc = rt.alloc();
-    let mut memory = Memory::new(alloc);
-    memory.set_range(0x8FFE, 3, RangeKind::Undefined)?;
-    memory.store_bytes(0x8FFE, b"pqrs")?;
-    let stored = [
-        (0x9000, cell(b'r', true, 0)),
-        (0x9001, cell(b's', false, 0)),
-    ];
-    assert!(rt; holds(&memory, &stored));
-    memory.poke_word(0x8FFF, 0x0403_0201)?;
-    assert!(rt; memory.byte(0x8FFE).byte == b'p');
-    assert!(rt; memory.load(0x8FFF, 4).value == 0x0403_0201);
-    assert!(rt; memory.byte(0x9001) == cell(3, false, 0));
+    let mut memory = Memory::new(rt.alloc());
+    assert!(rt; are_stored_and_poked(&mut memory)?);
     Ok(())
 }
 
@@ -196,11 +263,8 @@ const SEARCHES: [Search; 11] = [
     ("not across two words", 0, 0x9090_9090, 0x9090_9091, None),
 ];
 
-/// Words whose values lie in a range.
-#[test]
-fn values_are_found(rt: HostRuntime) -> Result<(), Fail> {
-    let alloc = rt.alloc();
-    let mut memory = Memory::new(alloc);
+/// Fills a memory with pages of one kind, one byte apart from the others, and words that no search finds.
+fn fill_for_searches(rt: &impl Abort, memory: &mut Memory) -> Result<(), AllocError> {
     memory.fill(0x4000, 0x3000, b"\x40")?;
     memory.fill(0x0080_0000, 0x0100_0000, b"")?;
     memory.fill(0xFFFF_FFFC, 4, b"\xFF\xFF\xFF\xFF")?;
@@ -212,9 +276,17 @@ fn values_are_found(rt: HostRuntime) -> Result<(), Fail> {
         undef: 0x100,
     };
     assert!(rt; memory.store(0x5020, 4, partly)? == None);
-    memory.store_bytes(0x5032, b"\x90\x90\x90\x90")?;
-    for (shows, from, low, high, found) in SEARCHES {
-        assert!(rt; memory.next_in_range(from, low, high) == found, "{shows}");
+    memory.store_bytes(0x5032, b"\x90\x90\x90\x90")
+}
+
+/// Words whose values lie in a range.
+#[test]
+fn values_are_found(rt: HostRuntime) -> Result<(), Fail> {
+    let mut memory = Memory::new(rt.alloc());
+    fill_for_searches(&rt, &mut memory)?;
+    for (shows, from, low, high, found) in &SEARCHES {
+        let next = memory.next_in_range(*from, *low, *high);
+        assert!(rt; next == *found, "{shows}");
     }
     Ok(())
 }

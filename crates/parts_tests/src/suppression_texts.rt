@@ -1,87 +1,86 @@
 //! Texts and words with their answers, from outside.
-ghost use Rattle.std.specs.Prelude.{◌≤◌, length};
-
 use error_events::{Fault3, Kind, LeakKind, Parameter};
 use std::alloc::{AllocError, Global};
 use std::process::Abort;
+use std::test::Fail;
 use suppressions::{SuppFault, Suppression, TEXT_LIMIT, Target, is_suppressed, parse};
 
-/// Asserts that a text has so many suppressions.
-fn reads(rt: &impl Abort, alloc: Global, text: &str, count: usize)
-    requires { length text.now ≤ TEXT_LIMIT }
-{
+/// How many suppressions a text has; none where it is refused or too long.
+fn count_of(alloc: Global, text: &str) -> Option<usize> {
+    if text.len() > TEXT_LIMIT {
+        return None;
+    }
     match parse(alloc, text.as_bytes()) {
-        Ok(list) => assert!(rt; list.len() == count, "{text}"),
-        Err(_) => assert!(rt; false, "{text}"),
+        Ok(list) => Some(list.len()),
+        Err(_) => None,
     }
 }
 
-/// Asserts that a text is refused at a line.
-fn refused(rt: &impl Abort, alloc: Global, text: &str, line: u32)
-    requires { length text.now ≤ TEXT_LIMIT }
-{
+/// At which line a text is refused.
+fn refused_at(alloc: Global, text: &str) -> Option<u32> {
+    if text.len() > TEXT_LIMIT {
+        return None;
+    }
     match parse(alloc, text.as_bytes()) {
-        Ok(_) => assert!(rt; false, "{text}"),
-        Err(fault) => assert!(rt; fault == SuppFault::BadSuppression(line), "{text}"),
+        Err(SuppFault::BadSuppression(line)) => Some(line),
+        _ => None,
     }
 }
 
-/// Asserts whether the suppression of some words matches.
-fn added(
-    rt: &impl Abort,
-    alloc: Global,
-    words: &str,
-    target: Target,
-    names: &[&[u8]],
-    wanted: bool,
-) {
+/// Whether the suppression of some words, which is on, matches; none where they are refused.
+fn matched(alloc: Global, words: &str, target: &Target, names: &[&[u8]]) -> Option<bool> {
     match Suppression::from_words(alloc, words.as_bytes()) {
-        Ok(suppression) => {
-            assert!(rt; suppression.is_on(), "{words}");
-            assert!(rt; suppression.matches(&target, names) == wanted, "{words}");
-        }
-        Err(_) => assert!(rt; false, "{words}"),
+        Ok(suppression) if suppression.is_on() => Some(suppression.matches(target, names)),
+        _ => None,
     }
 }
 
-/// Asserts that some words are refused.
-fn not_added(rt: &impl Abort, alloc: Global, words: &str) {
+/// At which line some words are refused.
+fn words_refused_at(alloc: Global, words: &str) -> Option<u32> {
     match Suppression::from_words(alloc, words.as_bytes()) {
-        Ok(_) => assert!(rt; false, "{words}"),
-        Err(fault) => assert!(rt; fault == SuppFault::BadSuppression(1), "{words}"),
+        Err(SuppFault::BadSuppression(line)) => Some(line),
+        _ => None,
     }
 }
+
+/// Texts, and at which line each is refused.
+const REFUSED: [(&str, u32); 8] = [
+    ("{\nn\nMemcheck:Cond\nfun:a\n", 1),
+    ("}\n", 1),
+    ("{\n}\n", 2),
+    ("{\nn\nCond\nfun:a\n}\n", 3),
+    ("{\nn\nMemcheck:Cond\nfoo:a\n}\n", 4),
+    (
+        "{\nn\nMemcheck:Leak\nmatch-leak-kinds: definite,huge\n}\n",
+        4,
+    ),
+    ("{\nn\nMemcheck:Cond\nfoo:a\n", 1),
+    ("\n# c\n{\nn\nMemcheck:Param\n}\n", 6),
+];
 
 #[test]
 fn refused_texts(rt: HostRuntime) {
-    let alloc = rt.alloc();
-    refused(&rt, alloc, "{\nn\nMemcheck:Cond\nfun:a\n", 1);
-    refused(&rt, alloc, "}\n", 1);
-    refused(&rt, alloc, "{\n}\n", 2);
-    refused(&rt, alloc, "{\nn\nCond\nfun:a\n}\n", 3);
-    refused(&rt, alloc, "{\nn\nMemcheck:Cond\nfoo:a\n}\n", 4);
-    refused(
-        &rt,
-        alloc,
-        "{\nn\nMemcheck:Leak\nmatch-leak-kinds: definite,huge\n}\n",
-        4,
-    );
-    refused(&rt, alloc, "{\nn\nMemcheck:Cond\nfoo:a\n", 1);
-    refused(&rt, alloc, "\n# c\n{\nn\nMemcheck:Param\n}\n", 6);
+    for (text, line) in &REFUSED {
+        assert!(rt; refused_at(rt.alloc(), text) == Some(*line), "{text}");
+    }
 }
+
+/// Texts, and how many suppressions each has.
+const READ: [(&str, usize); 4] = [
+    ("{\nn\nHelgrind:Race\nany words\n}\n", 1),
+    ("# c\n", 0),
+    ("", 0),
+    (
+        " {\t\r\nn\n Helgrind,Memcheck:Cond \n# c\n\n  fun:a \n}\n{\nm\nMemcheck:Leak\n}",
+        2,
+    ),
+];
 
 #[test]
 fn texts_that_are_read(rt: HostRuntime) {
-    let alloc = rt.alloc();
-    reads(&rt, alloc, "{\nn\nHelgrind:Race\nany words\n}\n", 1);
-    reads(&rt, alloc, "# c\n", 0);
-    reads(&rt, alloc, "", 0);
-    reads(
-        &rt,
-        alloc,
-        " {\t\r\nn\n Helgrind,Memcheck:Cond \n# c\n\n  fun:a \n}\n{\nm\nMemcheck:Leak\n}",
-        2,
-    );
+    for (text, count) in &READ {
+        assert!(rt; count_of(rt.alloc(), text) == Some(*count), "{text}");
+    }
 }
 
 #[test]
@@ -93,39 +92,35 @@ fn another_tools_block_matches_nothing(rt: HostRuntime) {
     }
 }
 
+const COND: Target = Target::Error(Kind::Cond);
+
+const READS: Target = Target::Error(Kind::Param(Parameter::ReadBuffer, Fault3::Uninit));
+
+const LOST: Target = Target::Leak(LeakKind::Definite);
+
+/// Words, and whether their suppression matches a target in `max`, which `main` called.
+const ADDED: [(&str, Target, bool); 12] = [
+    ("Cond fun:ma*", COND, true),
+    ("Cond fun:main", COND, false),
+    ("Cond ... fun:main", COND, true),
+    ("Cond ... fun:m?x", COND, true),
+    ("Cond obj:g*t obj:?????", COND, true),
+    ("Cond src:a", COND, false),
+    ("Cond", COND, true),
+    ("Value4 fun:*", COND, false),
+    ("Param read(buf) fun:max", READS, true),
+    ("Param read(fd)", READS, false),
+    ("Leak match-leak-kinds:none,all", LOST, true),
+    ("Leak match-leak-kinds:possible", LOST, false),
+];
+
 #[test]
 fn added_by_words(rt: HostRuntime) {
-    let alloc = rt.alloc();
-    let cond = Target::Error(Kind::Cond);
     let names: [&[u8]; 2] = [b"max", b"main"];
-    added(&rt, alloc, "Cond fun:ma*", cond, &names, true);
-    added(&rt, alloc, "Cond fun:main", cond, &names, false);
-    added(&rt, alloc, "Cond ... fun:main", cond, &names, true);
-    added(&rt, alloc, "Cond ... fun:m?x", cond, &names, true);
-    added(&rt, alloc, "Cond obj:g*t obj:?????", cond, &names, true);
-    added(&rt, alloc, "Cond src:a", cond, &names, false);
-    added(&rt, alloc, "Cond", cond, &names, true);
-    added(&rt, alloc, "Value4 fun:*", cond, &names, false);
-    let reads = Target::Error(Kind::Param(Parameter::ReadBuffer, Fault3::Uninit));
-    added(&rt, alloc, "Param read(buf) fun:max", reads, &names, true);
-    added(&rt, alloc, "Param read(fd)", reads, &names, false);
-    let lost = Target::Leak(LeakKind::Definite);
-    added(
-        &rt,
-        alloc,
-        "Leak match-leak-kinds:none,all",
-        lost,
-        &names,
-        true,
-    );
-    added(
-        &rt,
-        alloc,
-        "Leak match-leak-kinds:possible",
-        lost,
-        &names,
-        false,
-    );
+    for (words, target, wanted) in &ADDED {
+        let is_matched = matched(rt.alloc(), words, target, &names);
+        assert!(rt; is_matched == Some(*wanted), "{words}");
+    }
 }
 
 /// The names of a deep recursion: `max`, so many times `walk`, and `main`.
@@ -139,60 +134,61 @@ fn recursion(alloc: Global, depth: usize) -> Result<Vec<&'static [u8]>, AllocErr
     Ok(names)
 }
 
-#[test]
-fn frame_lines_on_200_names(rt: HostRuntime) {
-    let alloc = rt.alloc();
-    let cond = Target::Error(Kind::Cond);
-    match recursion(alloc, 198) {
-        Ok(names) => {
-            assert!(rt; names.len() == 200);
-            added(&rt, alloc, "Cond fun:max ... fun:ma?n", cond, &names, true);
-            added(
-                &rt,
-                alloc,
-                "Cond fun:max ... fun:main obj:*",
-                cond,
-                &names,
-                false,
-            );
-            added(
-                &rt,
-                alloc,
-                "Cond ... fun:walk ... fun:max",
-                cond,
-                &names,
-                false,
-            );
-        }
-        Err(_) => assert!(rt; false),
+/// Words, and whether their suppression matches in a deep recursion.
+const DEEP: [(&str, bool); 3] = [
+    ("Cond fun:max ... fun:ma?n", true),
+    ("Cond fun:max ... fun:main obj:*", false),
+    ("Cond ... fun:walk ... fun:max", false),
+];
+
+/// Asserts which of these match.
+fn added_deep(rt: &impl Abort, alloc: Global, names: &[&[u8]]) {
+    assert!(rt; names.len() == 200);
+    for (words, wanted) in &DEEP {
+        assert!(rt;
+            matched(alloc, words, &COND, names) == Some(*wanted),
+            "{words}"
+        );
     }
 }
 
 #[test]
+fn frame_lines_on_200_names(rt: HostRuntime) -> Result<(), Fail> {
+    let names = recursion(rt.alloc(), 198)?;
+    added_deep(&rt, rt.alloc(), &names);
+    Ok(())
+}
+
+#[test]
 fn refused_words(rt: HostRuntime) {
-    let alloc = rt.alloc();
-    not_added(&rt, alloc, "Foo fun:a");
-    not_added(&rt, alloc, "Param");
-    not_added(&rt, alloc, "Cond fun");
-    not_added(&rt, alloc, "Leak match-leak-kinds:definite,");
+    for words in &[
+        "Foo fun:a",
+        "Param",
+        "Cond fun",
+        "Leak match-leak-kinds:definite,",
+    ] {
+        assert!(rt; words_refused_at(rt.alloc(), words) == Some(1), "{words}");
+    }
+}
+
+/// Asserts of which kinds of errors in `max` a list of two, for jumps and for conditions, suppresses some before and after its last
+/// one is switched off.
+fn switched(rt: &impl Abort, list: &mut [Suppression]) {
+    let names: [&[u8]; 2] = [b"max", b"main"];
+    assert!(rt; is_suppressed(list, &COND, &names));
+    assert!(rt; !is_suppressed(list, &Target::Error(Kind::Free), &names));
+    if let Some(last) = list.last_mut() {
+        last.switch(false);
+    }
+    assert!(rt; !is_suppressed(list, &COND, &names));
+    assert!(rt; is_suppressed(list, &Target::Error(Kind::Jump), &names));
 }
 
 #[test]
 fn suppressed_by_those_that_are_on(rt: HostRuntime) {
-    let alloc = rt.alloc();
-    let names: [&[u8]; 2] = [b"max", b"main"];
-    let cond = Target::Error(Kind::Cond);
     let text: &[u8] = b"{\nn\nMemcheck:Jump\nfun:max\n}\n{\nm\nMemcheck:Cond\nfun:max\n}\n";
-    match parse(alloc, text) {
-        Ok(mut list) => {
-            assert!(rt; is_suppressed(&list, &cond, &names));
-            assert!(rt; !is_suppressed(&list, &Target::Error(Kind::Free), &names));
-            if let Some(last) = list.last_mut() {
-                last.switch(false);
-            }
-            assert!(rt; !is_suppressed(&list, &cond, &names));
-            assert!(rt; is_suppressed(&list, &Target::Error(Kind::Jump), &names));
-        }
+    match parse(rt.alloc(), text) {
+        Ok(mut list) => switched(&rt, &mut list),
         Err(_) => assert!(rt; false),
     }
 }
