@@ -381,7 +381,7 @@ impl Machine {
 
     /// Carries a word out, and says whether the next instruction is the one at `pc + 4`.
     #[inline(always)]
-    fn carry_out(&mut self, word: u32) -> bool {
+    fn execute(&mut self, word: u32) -> bool {
         match word & 0x7F {
             0x37 => self.set(field(word, 11, 7), known(word & 0xFFFF_F000)),
             0x17 => self.set(field(word, 11, 7), known(self.pc.wrapping_add(word & 0xFFFF_F000))),
@@ -437,7 +437,7 @@ impl Machine {
         if word.undef != 0 {
             self.raise(Kind::Value);
         }
-        if self.carry_out(word.value) {
+        if self.execute(word.value) {
             self.pc = self.pc.wrapping_add(4);
         }
         if stack_pointer.value != self.registers[STACK_POINTER].value {

@@ -3,7 +3,7 @@ use Rattle.std.specs.Prelude.{◌≡◌, ℕ, ◌&&◌, ◌||◌, nat_lt, nat_le
 use Rattle.std.specs.List.{list_any}
 use Rattle.std.specs.Str.{bytes_eq}
 use Rattle.replay_session.specs.Commands.{number}
-use Rattle.suppressions.specs.Parts.{parts}
+use Rattle.text_parts.specs.Parts.{parts}
 use Rattle.sweeps.specs.declared.plan.ByteValues.{ByteValues}
 use Rattle.sweeps.specs.declared.plan.ByteValues.TheVariants.{All, Flips as FlippedBytes, Edges, Listed as ListedBytes}
 use Rattle.sweeps.specs.declared.plan.WordValues.{WordValues}

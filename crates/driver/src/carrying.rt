@@ -281,7 +281,7 @@ fn ended<'a>(done: Result<(), End<'a>>) -> End<'a>
 }
 
 /// Does what is asked for, and answers how the program ends.
-pub fn carry_out<'a, F: Files, R: Read, W: Write>(
+pub fn run_order<'a, F: Files, R: Read, W: Write>(
     alloc: Global,
     order: &Order<'a>,
     files: &F,

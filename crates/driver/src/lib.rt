@@ -2,7 +2,7 @@
 //!
 //! | Call | What it does |
 //! |---|---|
-//! | [`carry_out`] | follows an order of the command line, and answers how the program ends: an [`End`] |
+//! | [`run_order`] | follows an order of the command line, and answers how the program ends: an [`End`] |
 //! | [`run_once`] | writes the report of a program at a step, or stops with a [`RunFault`] |
 //! | [`tell`] | writes the error line of an end, and answers the exit status |
 //! | [`Files`] | what gives files their bytes: the machine, or a test |
@@ -11,7 +11,7 @@
 //!
 //! # What a caller relies on
 //!
-//! - [`carry_out`]: the program is read, then the suppressions, then the input, each judged before the next is read; the report or the
+//! - [`run_order`]: the program is read, then the suppressions, then the input, each judged before the next is read; the report or the
 //!   replies are written, and nothing else; and the end is that of what stopped it (`Carried`).
 //! - [`run_once`]: the report of one run from step zero was written (`IsReportOnce`), or a front of it before a write that failed.
 //! - [`tell`]: the exit status is that of the end (`status_of`), and what was written is its line (`line_of`), or a front of it.
@@ -28,7 +28,7 @@ mod lines;
 mod reporting;
 mod sweeping;
 
-pub use carrying::{MOST_READ, carry_out};
+pub use carrying::{MOST_READ, run_order};
 pub use ends::{End, SweepOption, tell};
 pub use files::{Files, ReadFault, read_opened};
 pub use reporting::{RunFault, run_once};

@@ -1,11 +1,11 @@
 //! How orders are carried out and what is told of it, over files, readers and writers that fail.
 use crate::shelf::Shelf;
 use command_line::{Order, SweepWords, Task};
-use driver::{End, ReadFault, RunFault, SweepOption, carry_out, read_opened, run_once, tell};
+use driver::{End, ReadFault, RunFault, SweepOption, run_order, read_opened, run_once, tell};
 use guest_elf::{ElfFault, Image, read};
 use guest_programs::program;
 use replay_session::LONGEST_INPUT;
-use replay_session::fakes::{Room, Script};
+use fake_streams::{Room, Script};
 use std::alloc::{AllocError, Global};
 use std::io;
 use std::io::ErrorKind;
@@ -182,7 +182,7 @@ fn carried(alloc: Global, order: &Order<'_>, rules: &[u8]) -> Result<(u8, Vec<u8
     };
     let mut writer = Room::new(alloc, 1 << 20);
     let mut reader = Script::new(b"goto 3\nreport\nlook last run 0x10008 4 0\n");
-    let end = carry_out(alloc, order, &shelf, &mut reader, &mut writer);
+    let end = run_order(alloc, order, &shelf, &mut reader, &mut writer);
     let mut line = Room::new(alloc, 1 << 20);
     Ok((tell(&end, &mut line), writer.taken))
 }

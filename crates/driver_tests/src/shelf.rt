@@ -1,6 +1,6 @@
 //! Files over memory.
 use driver::{Files, ReadFault, read_opened};
-use replay_session::fakes::Script;
+use fake_streams::Script;
 use std::alloc::Global;
 use std::io;
 use std::io::ErrorKind;

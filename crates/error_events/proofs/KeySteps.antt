@@ -8,8 +8,8 @@ use Rattle.error_events.specs.Parameters.{parameter_text}
 use Rattle.error_events.specs.declared.event.Key.{Key}
 use Rattle.error_events.specs.declared.kind.Kind.{Kind}
 use Rattle.error_events.specs.declared.kind.Kind.TheVariants.{Read, Write, Value, Cond, Param, Free, Jump}
-use Rattle.error_events.specs.declared.kind.Fault3.{Fault3}
-use Rattle.error_events.specs.declared.kind.Fault3.TheVariants.{Contains, Uninit, Unaddressable}
+use Rattle.error_events.specs.declared.kind.ParameterFault.{ParameterFault}
+use Rattle.error_events.specs.declared.kind.ParameterFault.TheVariants.{Contains, Uninit, Unaddressable}
 use Rattle.error_events.specs.declared.parameter.Parameter.{Parameter}
 use Rattle.error_events.specs.declared.parameter.Parameter.TheVariants.{SyscallNumber, ReadFd, ReadBuffer, ReadCount, WriteFd, WriteBuffer, WriteCount, ExitStatus}
 use Rattle.error_events.specs.declared.parameter.Parameter.TheVariants.{ExitGroupStatus, MallocSize, FreePointer, CallocMembers, CallocSize, ReallocPointer, ReallocSize}
@@ -18,7 +18,7 @@ use Rattle.error_events.specs.contracts.kind.KindPartialEq.TheImpl.{ghosts as of
 use Rattle.error_events.specs.contracts.kind.Fault3PartialEq.TheImpl.{ghosts as of_faults}
 use Rattle.error_events.specs.contracts.parameter.ParameterPartialEq.TheImpl.{ghosts as of_parameters}
 
-fault-eq : (a b : Fault3) → of_faults.eq a b ≡ same_fault a b
+fault-eq : (a b : ParameterFault) → of_faults.eq a b ≡ same_fault a b
 fault-eq Contains Contains = refl
 fault-eq Uninit Uninit = refl
 fault-eq Unaddressable Unaddressable = refl

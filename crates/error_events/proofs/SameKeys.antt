@@ -8,8 +8,8 @@ use Rattle.error_events.specs.Parameters.{parameter_text}
 use Rattle.error_events.specs.declared.event.Event.{Event}
 use Rattle.error_events.specs.declared.kind.Kind.{Kind}
 use Rattle.error_events.specs.declared.kind.Kind.TheVariants.{Read, Write, Value, Cond, Param, Free, Jump}
-use Rattle.error_events.specs.declared.kind.Fault3.{Fault3}
-use Rattle.error_events.specs.declared.kind.Fault3.TheVariants.{Contains, Uninit, Unaddressable}
+use Rattle.error_events.specs.declared.kind.ParameterFault.{ParameterFault}
+use Rattle.error_events.specs.declared.kind.ParameterFault.TheVariants.{Contains, Uninit, Unaddressable}
 use Rattle.error_events.specs.declared.parameter.Parameter.{Parameter}
 use Rattle.error_events.specs.declared.parameter.Parameter.TheVariants.{SyscallNumber, ReadFd, ReadBuffer, ReadCount, WriteFd, WriteBuffer, WriteCount, ExitStatus}
 use Rattle.error_events.specs.declared.parameter.Parameter.TheVariants.{ExitGroupStatus, MallocSize, FreePointer, CallocMembers, CallocSize, ReallocPointer, ReallocSize}
@@ -39,13 +39,13 @@ one-answer true b f g = sym (f refl)
 one-answer false true f g = g refl
 one-answer false false f g = refl
 
-fault-same : (f g : Fault3) → same_fault f g ≡ true → f ≡ g
+fault-same : (f g : ParameterFault) → same_fault f g ≡ true → f ≡ g
 fault-same Contains Contains h = refl
 fault-same Uninit Uninit h = refl
 fault-same Unaddressable Unaddressable h = refl
 fault-same _ _ h = cc
 
-fault-refl : (f : Fault3) → same_fault f f ≡ true
+fault-refl : (f : ParameterFault) → same_fault f f ≡ true
 fault-refl Contains = refl
 fault-refl Uninit = refl
 fault-refl Unaddressable = refl

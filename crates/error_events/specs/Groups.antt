@@ -5,14 +5,14 @@ use Rattle.std.specs.List.{list_any}
 use Rattle.std.specs.Str.{bytes_eq}
 use Rattle.std.specs.Cmp.Lexicographic.{pointwise}
 use Rattle.error_events.specs.Parameters.{parameter_text}
-use Rattle.error_events.specs.declared.kind.Fault3.{Fault3}
-use Rattle.error_events.specs.declared.kind.Fault3.TheVariants.{Contains, Uninit, Unaddressable}
+use Rattle.error_events.specs.declared.kind.ParameterFault.{ParameterFault}
+use Rattle.error_events.specs.declared.kind.ParameterFault.TheVariants.{Contains, Uninit, Unaddressable}
 use Rattle.error_events.specs.declared.kind.Kind.{Kind}
 use Rattle.error_events.specs.declared.kind.Kind.TheVariants.{Read, Write, Value, Cond, Param, Free, Jump}
 use Rattle.error_events.specs.declared.event.Event.{Event}
 use Rattle.error_events.specs.declared.event.Group.{Group}
 
-abbrev pub same_fault : Fault3 → Fault3 → Bool
+abbrev pub same_fault : ParameterFault → ParameterFault → Bool
 same_fault Contains Contains = true
 same_fault Uninit Uninit = true
 same_fault Unaddressable Unaddressable = true

@@ -1,5 +1,6 @@
 use crate::kind::Kind;
-use call_stacks::{Near, Trace};
+use call_stacks::Trace;
+use guest_heap::Near;
 
 /// What an error says of an address (Memcheck manual, section 4.2.1).
 #[derive(Clone, Copy)]

@@ -2,7 +2,7 @@ use crate::parameter::Parameter;
 
 /// What is wrong with a parameter of a call (Memcheck manual, section 4.2.3).
 #[derive(Clone, Copy, Debug, PartialEq, Eq, Hash)]
-pub enum Fault3 {
+pub enum ParameterFault {
     /// A register has an undefined bit.
     Contains,
     /// A byte of the buffer has an undefined bit.
@@ -23,7 +23,7 @@ pub enum Kind {
     /// A conditional jump that depends on undefined bits.
     Cond,
     /// A parameter of a call.
-    Param(Parameter, Fault3),
+    Param(Parameter, ParameterFault),
     /// A free or a realloc of what is no live block's start.
     Free,
     /// A jump to bytes that may not be accessed.

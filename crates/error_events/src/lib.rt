@@ -19,7 +19,7 @@
 //! | [`Parameter::text`] | the text by which reports and suppressions name a parameter of a call |
 //! | [`laws::groups_grow`], [`laws::kept_by_test`] | nothing: their contracts are laws of the definitions |
 //!
-//! [`Kind`], [`Fault3`], [`Parameter`], [`Note`], [`Event`], [`Group`] and [`LeakKind`] are plain values. Only `add`, `regroup`
+//! [`Kind`], [`ParameterFault`], [`Parameter`], [`Note`], [`Event`] and [`Group`] are plain values. Only `add`, `regroup`
 //! and `share` take memory, and nothing else fails.
 //!
 //! # What a caller relies on
@@ -56,12 +56,10 @@ mod kind;
 pub mod laws;
 mod layered_map;
 mod layers;
-mod leak_kind;
 mod parameter;
 mod shared_map;
 
 pub use event::{Event, Group, Note};
 pub use groups::Groups;
-pub use kind::{Fault3, Kind};
-pub use leak_kind::LeakKind;
+pub use kind::{ParameterFault, Kind};
 pub use parameter::Parameter;

@@ -14,7 +14,7 @@ use Rattle.guest_elf.specs.Images.{contents_of, loaded_at, entry_of, name_at, ho
 use Rattle.guest_elf.specs.Names.{name_by, nearest}
 use Rattle.guest_elf.specs.Sections.{has_bad_section_table, is_bad_table, naming_in, strings_of, symbol_table}
 use Rattle.guest_elf.specs.Segments.{SegmentContent}
-use Rattle.guest_elf.specs.Regions.{heap_begin, heap_end, stack_begin, stack_end}
+use Rattle.memory_map.specs.Regions.{heap_begin, heap_end, stack_begin, stack_end}
 
 -- e_entry: the address of the first instruction
 abbrev pub entry_in : List ℕ → ℕ

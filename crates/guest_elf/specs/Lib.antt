@@ -4,6 +4,5 @@ pub mod Hooks
 pub mod File
 pub mod Images
 pub mod Names
-pub mod Regions
 pub mod Sections
 pub mod Segments

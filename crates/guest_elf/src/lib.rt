@@ -41,7 +41,6 @@
 //! - `Fields`: a number in the file, which is a list of bytes.
 //! - `File`: each reason to refuse it (`is_not_elf` to `has_bad_symbols`), the first of them (`refusal`), and
 //!   what the file loads and names (`contents_in`, `loaded_in`, `entry_in`, `name_in`).
-//! - `Regions`: where the heap and the stack lie.
 //! - `Sections`: the section headers, the symbol table, its symbols and their names.
 //! - `Names`: the symbol that is nearest to an address, and the name by it (`nearest`, `name_by`).
 //! - `Hooks`: which names are functions of the heap, and those of a symbol table (`hook_named`, `hooks_by`).
@@ -62,7 +61,6 @@ mod overlaps;
 mod program;
 mod reading;
 mod refusals;
-mod regions;
 mod sections;
 mod segment;
 mod segments;
@@ -72,6 +70,5 @@ pub use fault::ElfFault;
 pub use hook::Hook;
 pub use image::Image;
 pub use reading::read;
-pub use regions::{HEAP_BEGIN, HEAP_END, STACK_BEGIN, STACK_END};
 pub use segment::Segment;
 pub use segments::MOST_BYTES;

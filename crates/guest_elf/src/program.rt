@@ -3,7 +3,7 @@ ghost use Rattle.std.specs.Prelude.{◌≡◌, ◌+◌, ◌<◌};
 ghost use Rattle.guest_elf.specs.File.{header_at, header_count, is_interpreter, is_load, is_bad_segment, meets_region, ranges_meet, HasHeader, HasTable};
 
 use crate::fields::{E_PHNUM, E_PHOFF, half_at, word_at};
-use crate::regions::{HEAP_BEGIN, HEAP_END, STACK_BEGIN, STACK_END};
+use memory_map::{HEAP_BEGIN, HEAP_END, STACK_BEGIN, STACK_END};
 
 /// PT_LOAD: a segment to load.
 const PT_LOAD: u32 = 1;

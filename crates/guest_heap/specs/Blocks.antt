@@ -3,9 +3,10 @@
 -- Valgrind core manual, section 2.6, `--redzone-size` (padding before and after each block). Where blocks lie is this project's own
 -- rule: each at the lowest place of all.
 use Rattle.std.specs.Prelude.{ℕ, ◌+◌, ◌-◌, ◌%◌, ◌<◌, ◌≤◌, ◌≡◌, ◌==◌, ◌⊎◌, nat_lt, nat_le, max, Option, Some, None, List, [], ◌∷◌, ◌++◌, Contains, drop, sum_by, if◌then◌else◌}
-use Rattle.call_stacks.specs.declared.block.Block.{Block}
-use Rattle.call_stacks.specs.declared.block.Near.{Near}
-use Rattle.call_stacks.specs.declared.block.Place.TheVariants.{Before, Inside, After}
+use Rattle.guest_heap.specs.declared.block.Block.{Block}
+use Rattle.guest_heap.specs.declared.block.Near.{Near}
+use Rattle.guest_heap.specs.declared.block.Place.TheVariants.{Before, Inside, After}
+use Rattle.memory_map.specs.Regions.{heap_begin, heap_end}
 use Rattle.guest_heap.specs.declared.released.Released.{Released}
 use Rattle.guest_heap.specs.declared.released.Released.TheVariants.{Done, Nothing, Invalid}
 
@@ -20,7 +21,7 @@ no_blocks = record { live = λ _. None; queue = [] }
 abbrev pub IsKept : Blocks → Block → Type 0
 IsKept blocks b = (blocks.live b.start ≡ Some b) ⊎ Contains blocks.queue b
 
--- the interval of a block: its bytes, one where it has none, and a red zone on either side
+-- the interval of a block: its bytes, one where it has none, and a redzone on either side
 abbrev pub low_end : Block → ℕ
 low_end b = b.start - b.redzone
 
@@ -32,14 +33,6 @@ abbrev pub Meets : ℕ → ℕ → Block → Type 0
 Meets low high b = (low < high_end b) × (low_end b < high)
 
 -- placement --
-
--- the heap region goes from here
-abbrev pub heap_begin : ℕ
-heap_begin = 0x40000000
-
--- up to, not with, here
-abbrev pub heap_end : ℕ
-heap_end = 0x60000000
 
 -- the bytes of the greatest block
 abbrev pub greatest_size : ℕ

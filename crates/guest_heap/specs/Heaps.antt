@@ -20,6 +20,6 @@ freed_in heap = entries_of heap.freed
 unfoldable pub first_in : Heap → ℕ
 first_in heap = heap.first
 
--- the red zone of the bounds
+-- the redzone of the bounds
 unfoldable pub redzone_in : Heap → ℕ
 redzone_in heap = heap.redzone

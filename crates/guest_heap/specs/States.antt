@@ -1,8 +1,9 @@
 -- How a heap keeps its blocks: live ones in one table, freed ones in another, and the queue of the freed. The place of a block is the
 -- number of its start among the multiples of 16 of the heap region.
 use Rattle.std.specs.Prelude.{ℕ, ◌+◌, ◌-◌, ◌*◌, ◌/◌, ◌<◌, ◌≤◌, ◌≡◌, ◌==◌, ◌⊎◌, nat_le, Option, Some, None, List, map, is_some, option_map, true, slice_get, if◌then◌else◌}
-use Rattle.call_stacks.specs.declared.block.Block.{Block}
-use Rattle.guest_heap.specs.Blocks.{Blocks, IsKept, IsPlace, low_end, high_end, heap_begin, heap_end, volume_of}
+use Rattle.guest_heap.specs.declared.block.Block.{Block}
+use Rattle.guest_heap.specs.Blocks.{Blocks, IsKept, IsPlace, low_end, high_end, volume_of}
+use Rattle.memory_map.specs.Regions.{heap_begin, heap_end}
 use Rattle.guest_heap.specs.Entries.{Entries}
 use Rattle.guest_heap.specs.declared.entry.Entry.{Entry}
 
@@ -85,7 +86,7 @@ abbrev pub MeetsFrom : Blocks → ℕ → ℕ → Option Block → Type 0
 MeetsFrom blocks from high None = (b : Block) → IsKept blocks b → heap_begin + 16 * from ≤ b.start → high ≤ low_end b
 MeetsFrom blocks from high (Some b) = BeforeFrom blocks from high b
 
--- from one address up to, not with, another no block of a size has a place with a red zone
+-- from one address up to, not with, another no block of a size has a place with a redzone
 abbrev pub AreNoPlaces : Blocks → ℕ → ℕ → ℕ → ℕ → Type 0
 AreNoPlaces blocks size redzone from to = (q : ℕ) → from ≤ q → q < to → ¬ (IsPlace blocks size redzone q)
 

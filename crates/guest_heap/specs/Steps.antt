@@ -2,9 +2,10 @@
 use Rattle.std.specs.Prelude.{ℕ, zero, suc, ◌+◌, ◌-◌, ◌%◌, ◌<◌, ◌≤◌, ◌≡◌, nat_lt, nat_le, max, Bool, ◌&&◌, if◌then◌else◌, Option, Some, None, is_none, is_some, true, ◌⊎◌, Contains, List, [], ◌∷◌, ◌++◌}
 use Rattle.std.specs.List.{filter, filter_map, find}
 use Rattle.std.specs.Option.{option_map}
-use Rattle.call_stacks.specs.declared.block.Block.{Block}
-use Rattle.call_stacks.specs.declared.block.Near.{Near}
-use Rattle.guest_heap.specs.Blocks.{Blocks, IsKept, low_end, high_end, near_of, allocated, with_live, volume_of, released_at, heap_begin, heap_end, greatest_size}
+use Rattle.guest_heap.specs.declared.block.Block.{Block}
+use Rattle.guest_heap.specs.declared.block.Near.{Near}
+use Rattle.guest_heap.specs.Blocks.{Blocks, IsKept, low_end, high_end, near_of, allocated, with_live, volume_of, released_at, greatest_size}
+use Rattle.memory_map.specs.Regions.{heap_begin, heap_end}
 use Rattle.guest_heap.specs.declared.released.Released.{Released}
 use Rattle.guest_heap.specs.declared.released.Released.TheVariants.{Done, Nothing, Invalid}
 

@@ -7,7 +7,7 @@ ghost use Rattle.guest_heap.specs.Bounds.{lowered, IsSkipped};
 use crate::region::aligned;
 use std::alloc::{AllocError, Global};
 
-/// Sizes up to 4,096 are in classes of 16 in a row, since blocks begin at multiples of 16: with one red zone for all, the sizes of a
+/// Sizes up to 4,096 are in classes of 16 in a row, since blocks begin at multiples of 16: with one redzone for all, the sizes of a
 /// class have the same places. Each further class has twice the sizes of the one before.
 const STEP: u32 = 16;
 
@@ -76,7 +76,7 @@ pub(crate) struct Bounds {
     list: Vec<Bound>,
 }
 
-/// A range that came free, for blocks with a red zone: its first place, where it ends, and the greatest size that has a place in it.
+/// A range that came free, for blocks with a redzone: its first place, where it ends, and the greatest size that has a place in it.
 #[derive(Clone, Copy)]
 pub(crate) struct Opened {
     pub(crate) first: u64,

@@ -26,7 +26,7 @@ pub struct Heap {
     next: u64,
     // The sum of the sizes in the queue.
     held: u64,
-    // Bounds of places with this red zone.
+    // Bounds of places with this redzone.
     redzone: u32,
     bounds: Bounds,
     ghost sound: { AreSound (entries_of live) (entries_of freed) (queued queue) first },

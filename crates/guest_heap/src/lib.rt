@@ -2,7 +2,7 @@
 //!
 //! A heap call of the guest asks a [`Heap`] for the lowest place of all, or frees the block at an address. A freed block is kept in a queue of
 //! bounded volume, so that uses of it are told with the block, and its place isn't given again before (Memcheck manual, section 4.3,
-//! `--freelist-vol`). Either side of a block has a red zone (Valgrind core manual, section 2.6, `--redzone-size`).
+//! `--freelist-vol`). Either side of a block has a redzone (Valgrind core manual, section 2.6, `--redzone-size`).
 //!
 //! # Public items
 //!
@@ -16,6 +16,8 @@
 //! | [`Heap::share`] | a copy, which later changes of the other don't reach |
 //! | [`Heap::in_region`], [`Heap::apart`] | nothing: their contracts say what the laws ask of a heap's blocks |
 //! | [`laws`] | nothing: their contracts say what the functions of the definitions mean |
+//!
+//! A [`Block`] is a block as it was given to the guest; [`Near`] is one whose interval holds an address, and [`Place`] on which side.
 //!
 //! `allocate`, `release` and `share` take memory; where there is none a heap holds what it held. The other calls are total.
 //!
@@ -41,6 +43,7 @@
 //! it looks at kept blocks only from there on, and forgets no more of this than a block that leaves the queue makes room for.
 #![tactic(auto)]
 
+mod block;
 mod bounds;
 mod entry;
 mod heap;
@@ -51,5 +54,6 @@ mod region;
 mod released;
 mod table;
 
+pub use block::{Block, Near, Place};
 pub use heap::Heap;
 pub use released::Released;

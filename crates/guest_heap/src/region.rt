@@ -1,13 +1,13 @@
 //! The heap region, and the multiples of 16 in it, at which blocks begin.
 ghost use Rattle.std.specs.Prelude.{◌≡◌, ◌<◌, ◌≤◌, ◌+◌, ◌%◌};
-ghost use Rattle.guest_heap.specs.Blocks.{heap_begin};
+ghost use Rattle.memory_map.specs.Regions.{heap_begin};
 ghost use Rattle.guest_heap.specs.States.{slot_of};
 
 /// The first address of the region.
-pub(crate) const HEAP_BEGIN: u64 = 0x4000_0000;
+pub(crate) const HEAP_BEGIN: u64 = memory_map::HEAP_BEGIN as u64;
 
 /// The first address behind it.
-pub(crate) const HEAP_END: u64 = 0x6000_0000;
+pub(crate) const HEAP_END: u64 = memory_map::HEAP_END as u64;
 
 /// How many multiples of 16 the region has.
 pub(crate) const SLOTS: usize = 33554432;

@@ -1,4 +1,4 @@
-use call_stacks::Block;
+use crate::block::Block;
 
 /// What the release of an address did.
 #[derive(Clone, Copy)]

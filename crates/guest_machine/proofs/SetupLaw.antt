@@ -84,17 +84,17 @@ keeps-input one other offset s d h =
     same ∙ ap (λ hooks. intake_of (deed_asks s.core (deed_at s.core s.bytes hooks)) (length other.input - s.position)) d.hooks in
     let t : seen s one ≡ seen s other = λ i.
     let heap = is_heap_step s (d.hooks i) in
-    record { intake = given i; written = length s.output; red_zone = cond heap (d.redzone i) 0; volume = cond heap (d.volume i) 0 } in
+    record { intake = given i; written = length s.output; redzone = cond heap (d.redzone i) 0; volume = cond heap (d.volume i) 0 } in
     same-step one other s d.hooks t (same-part one.input other.input s.position (taken-under s one).count (λ i k. d.bytes i (omega arith)))
 
 heap-same : (one other : Setup) (s : State) → one.input ≡ other.input → one.hooks ≡ other.hooks → is_heap_step s one.hooks ≡ false → (touches s one ≡ touches s other) × (exec s one ≡ exec s other)
 unfolding seen taken-under intake_at
 heap-same one other s e k f =
-    let closed : (setup : Setup) → is_heap_step s setup.hooks ≡ false → seen s setup ≡ record { intake = taken-under s setup; written = length s.output; red_zone = 0; volume = 0 } =
-    λ setup none. ap (λ b. record { intake = taken-under s setup; written = length s.output; red_zone = cond b setup.redzone 0; volume = cond b setup.volume 0 }) none in
+    let closed : (setup : Setup) → is_heap_step s setup.hooks ≡ false → seen s setup ≡ record { intake = taken-under s setup; written = length s.output; redzone = 0; volume = 0 } =
+    λ setup none. ap (λ b. record { intake = taken-under s setup; written = length s.output; redzone = cond b setup.redzone 0; volume = cond b setup.volume 0 }) none in
     let between : taken-under s one ≡ taken-under s other = λ i. intake_of (deed_asks s.core (deed_at s.core s.bytes (k i))) (length (e i) - s.position) in
     let t : seen s one ≡ seen s other =
-    closed one f ∙ ap (λ intake. record { intake = intake; written = length s.output; red_zone = 0; volume = 0 }) between ∙ sym (closed other (ap (λ hooks. is_heap_step s hooks) (sym k) ∙ f)) in
+    closed one f ∙ ap (λ intake. record { intake = intake; written = length s.output; redzone = 0; volume = 0 }) between ∙ sym (closed other (ap (λ hooks. is_heap_step s hooks) (sym k) ∙ f)) in
     same-step one other s k t (ap (λ xs. take (taken-under s one).count (drop s.position xs)) e)
 
 pub keeps-heap : KeepsHeap
@@ -150,7 +150,7 @@ module _ (one other : Setup) (s : State) (x : Extends one other) where
       let same : taken-under s one ≡ taken-under s other = a.same ∙ ap (λ o. intake_of o (left_at s.position other)) asks in
       let t : seen s one ≡ seen s other =
       λ i. let heap = is_heap_step s (x.hooks i) in
-      record { intake = same i; written = length s.output; red_zone = cond heap (x.redzone i) 0; volume = cond heap (x.volume i) 0 } in
+      record { intake = same i; written = length s.output; redzone = cond heap (x.redzone i) 0; volume = cond heap (x.volume i) 0 } in
       let n = (taken-under s one).count in
       same-step one other s x.hooks t (front-part one.input x.input.0 s.position n a.within ∙ ap (λ xs. take n (drop s.position xs)) (sym x.input.1))
 

@@ -139,10 +139,10 @@ abbrev pub named_terms : Guest → Setup → Terms
 named_terms m setup = terms_of (returns (core_of m)) None m.progress.position m.progress.output_len setup
 
 abbrev pub uses_by_name : Guest → Hook → Setup → Uses
-uses_by_name m function setup = named_uses function (core_of m) (named_terms m setup).red_zone
+uses_by_name m function setup = named_uses function (core_of m) (named_terms m setup).redzone
 
 abbrev pub DoesNamed : Guest → Guest → Hook → Setup → Type 0
 DoesNamed old new function setup =
     let terms = named_terms old setup in
     let uses = uses_by_name old function setup in
-    Does old new (named_call function (core_of old) terms.red_zone terms.volume (taken_from (bytes_of old) uses.reads)) uses (returns (core_of old)) no_intake
+    Does old new (named_call function (core_of old) terms.redzone terms.volume (taken_from (bytes_of old) uses.reads)) uses (returns (core_of old)) no_intake

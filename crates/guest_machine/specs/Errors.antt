@@ -8,16 +8,16 @@ use Rattle.call_stacks.specs.Frames.{trace_at}
 use Rattle.error_events.specs.declared.event.Event.{Event}
 use Rattle.error_events.specs.declared.event.Note.{Note}
 use Rattle.error_events.specs.declared.event.Note.TheVariants.{Absent, Near, Stack, Elsewhere}
-use Rattle.call_stacks.specs.declared.block.Near.{Near as NearBlock}
+use Rattle.guest_heap.specs.declared.block.Near.{Near as NearBlock}
 use Rattle.guest_heap.specs.Blocks.{Blocks}
 use Rattle.guest_heap.specs.Steps.{near}
 use Rattle.error_events.specs.declared.kind.Kind.{Kind}
 use Rattle.error_events.specs.declared.kind.Kind.TheVariants.{Value, Param}
-use Rattle.error_events.specs.declared.kind.Fault3.{Fault3}
-use Rattle.error_events.specs.declared.kind.Fault3.TheVariants.{Contains, Uninit, Unaddressable}
+use Rattle.error_events.specs.declared.kind.ParameterFault.{ParameterFault}
+use Rattle.error_events.specs.declared.kind.ParameterFault.TheVariants.{Contains, Uninit, Unaddressable}
 use Rattle.error_events.specs.declared.parameter.Parameter.{Parameter}
 use Rattle.guest_machine.specs.State.{Core}
-use Rattle.guest_elf.specs.Regions.{stack_begin, stack_end}
+use Rattle.memory_map.specs.Regions.{stack_begin, stack_end}
 use Rattle.guest_machine.specs.Registers.{register}
 
 -- where the instruction at pc is
@@ -70,7 +70,7 @@ abbrev pub access_errors : Core → Kind → ℕ → ℕ → List Event
 access_errors core kind start n = event_about core.blocks (here core) kind (first_inaccessible core.shadow start n)
 
 -- what is wrong with a byte of a buffer
-abbrev pub fault_of : Bad → Fault3
+abbrev pub fault_of : Bad → ParameterFault
 fault_of bad = if bad.accessible then Uninit else Unaddressable
 
 unfoldable pub buffer_event : Blocks → List ℕ → Parameter → Option Bad → List Event

@@ -105,11 +105,11 @@ intake_of None left = no_intake
 intake_of (Some asked) left = record { count = min asked left; ends = nat_lt (min asked left) asked }
 
 -- what a step may see of the setup and of what adds up: what it is given of the input, how much output there is, and, at a heap call
--- alone, the red zone and the volume
+-- alone, the redzone and the volume
 pub record Terms : Type 0 where
   pub intake : Intake
   pub written : ℕ
-  pub red_zone : ℕ
+  pub redzone : ℕ
   pub volume : ℕ
 
 abbrev pub nothing : Uses
@@ -179,7 +179,7 @@ call_uses core ReadCall terms = read_uses core terms.intake.count
 call_uses core WriteCall terms = write_uses core terms.written
 call_uses core ExitCall terms = nothing
 call_uses core ExitGroupCall terms = nothing
-call_uses core (HeapCall function) terms = heap_uses function core terms.red_zone
+call_uses core (HeapCall function) terms = heap_uses function core terms.redzone
 call_uses core UnknownCall terms = nothing
 
 -- does a row call the heap?
@@ -211,7 +211,7 @@ call_effect core ReadCall terms given taken = read_call core terms.intake.count 
 call_effect core WriteCall terms given taken = write_call core terms.written taken
 call_effect core ExitCall terms given taken = exit_call core ExitCall
 call_effect core ExitGroupCall terms given taken = exit_call core ExitGroupCall
-call_effect core (HeapCall function) terms given taken = heap_call function core terms.red_zone terms.volume taken
+call_effect core (HeapCall function) terms given taken = heap_call function core terms.redzone terms.volume taken
 call_effect core UnknownCall terms given taken = unknown_call core
 
 unfoldable pub row_effect : Core → Option Instruction → Terms → List ℕ → (ℕ → ℕ) → Effect
@@ -251,7 +251,7 @@ is_heap_deed core Halts = false
 
 abbrev pub plan : Core → Terms → Deed → Uses
 plan core terms (Takes word) = row_uses core (row_of word) terms
-plan core terms (CallsByName function) = named_uses function core terms.red_zone
+plan core terms (CallsByName function) = named_uses function core terms.redzone
 plan core terms Halts = nothing
 
 -- between the test of the word and the stack pointer rule
@@ -267,7 +267,7 @@ rounded core e =
 -- a call by name leaves the stack pointer, and so needs no rule for it
 abbrev pub outcome : Core → Terms → Deed → List ℕ → (ℕ → ℕ) → Effect
 outcome core terms (Takes word) given taken = rounded core (row_effect core (row_of word) terms given taken)
-outcome core terms (CallsByName function) given taken = named_call function core terms.red_zone terms.volume taken
+outcome core terms (CallsByName function) given taken = named_call function core terms.redzone terms.volume taken
 outcome core terms Halts given taken = unfetched core
 
 -- how much of the input a step asks for, if it asks
@@ -286,7 +286,7 @@ terms_of heap asks position written setup =
     record {
       intake = intake_of asks (left_at position setup);
       written = written;
-      red_zone = if heap then setup.redzone else 0;
+      redzone = if heap then setup.redzone else 0;
       volume = if heap then setup.volume else 0;
     }
 

@@ -1,11 +1,11 @@
 -- The calls of the heap: malloc, free, calloc and realloc as the C standard (ISO/IEC 9899, 7.22.3) has them, over blocks that are kept
--- as Memcheck's replacement of malloc keeps them (Memcheck manual, section 4.1): red zones round each, freed ones in a queue. A
+-- as Memcheck's replacement of malloc keeps them (Memcheck manual, section 4.1): redzones round each, freed ones in a queue. A
 -- program asks for them by number or by name; what they do is the same.
 use Rattle.std.specs.Prelude.{ℕ, ◌+◌, ◌-◌, ◌*◌, ◌==◌, min, max, if◌then◌else◌, List, [], ◌++◌, Option, Some, None, Bool, true, false}
 use Rattle.shadow_memory.specs.Shadows.{copied_undef}
 use Rattle.shadow_memory.specs.declared.cells.RangeKind.{RangeKind}
 use Rattle.shadow_memory.specs.declared.cells.RangeKind.TheVariants.{NoAccess, Undefined, Defined}
-use Rattle.call_stacks.specs.declared.block.Block.{Block}
+use Rattle.guest_heap.specs.declared.block.Block.{Block}
 use Rattle.error_events.specs.declared.event.Event.{Event}
 use Rattle.error_events.specs.declared.kind.Kind.TheVariants.{Free as FreeError}
 use Rattle.guest_heap.specs.Blocks.{Blocks, IsKept, Meets, allocated, released_at}

@@ -49,7 +49,7 @@ KeepsInput =
 abbrev pub is_heap_step : State → List (ℕ × Hook) → Bool
 is_heap_step s hooks = is_heap_deed s.core (deed_at s.core s.bytes hooks)
 
--- a step that is no heap call doesn't look at the red zone nor at the volume; and the state counts its heap calls
+-- a step that is no heap call doesn't look at the redzone nor at the volume; and the state counts its heap calls
 pub record KeepsHeap : Type 0 where
   pub same : (one other : Setup) (s : State) → one.input ≡ other.input → one.hooks ≡ other.hooks → is_heap_step s one.hooks ≡ false
       → (touches s one ≡ touches s other) × (exec s one ≡ exec s other)

@@ -5,7 +5,7 @@ use Rattle.definedness.specs.declared.Bits.{Bits}
 use Rattle.shadow_memory.specs.Shadows.{made_so}
 use Rattle.shadow_memory.specs.declared.cells.RangeKind.{RangeKind}
 use Rattle.shadow_memory.specs.declared.cells.RangeKind.TheVariants.{NoAccess, Undefined}
-use Rattle.guest_elf.specs.Regions.{stack_begin, stack_end}
+use Rattle.memory_map.specs.Regions.{stack_begin, stack_end}
 use Rattle.guest_machine.specs.State.{Core}
 use Rattle.guest_machine.specs.Registers.{register}
 

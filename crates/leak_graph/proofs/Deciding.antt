@@ -4,7 +4,7 @@ use Rattle.std.proofs.lemmas.Bool.{cases_eq, cases_Bool, false≢true}
 use Rattle.leak_graph.specs.Paths.{Follows, HasPath}
 use Rattle.leak_graph.specs.Leaks.{Links, IsLost, LostEdge, HasKind}
 use Rattle.leak_graph.specs.Marks.{IsMarked, Reaches, HeadsOf, DefiniteOf}
-use Rattle.error_events.specs.declared.leak_kind.LeakKind.TheVariants.{Definite, Indirect, Possible, Reachable}
+use Rattle.leak_graph.specs.declared.leak_kind.LeakKind.TheVariants.{Definite, Indirect, Possible, Reachable}
 use Rattle.leak_graph.proofs.Paths.{path_join, path_map, reached_on}
 use Rattle.leak_graph.proofs.Reaching.{reaches_all}
 

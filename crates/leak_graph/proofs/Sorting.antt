@@ -5,7 +5,7 @@ use Rattle.std.proofs.lemmas.Option.{same_Some, none-some, slice_get_within}
 use Rattle.std.specs.declared.vec.Vec.{Vec}
 use Rattle.std.specs.declared.alloc.Global.{Global}
 use Rattle.leak_graph.specs.declared.graph.Pointer.{Pointer}
-use Rattle.error_events.specs.declared.leak_kind.LeakKind.{LeakKind}
+use Rattle.leak_graph.specs.declared.leak_kind.LeakKind.{LeakKind}
 use Rattle.leak_graph.specs.Graphs.{HasPointer, HasEdge, links_of}
 use Rattle.leak_graph.specs.Leaks.{Links, HasKind}
 use Rattle.leak_graph.specs.Marks.{Reaches, HeadsOf, DefiniteOf, kind_by, AreBy}

@@ -2,8 +2,8 @@
 -- Of a ring that no other lost block leads to, the block of lowest address is definitely lost, which is this project's own rule.
 use Rattle.std.specs.Prelude.{ℕ, ◌<◌, ◌≢◌, ◌⊎◌}
 use Rattle.leak_graph.specs.Paths.{HasPath, IsReached}
-use Rattle.error_events.specs.declared.leak_kind.LeakKind.{LeakKind}
-use Rattle.error_events.specs.declared.leak_kind.LeakKind.TheVariants.{Definite, Indirect, Possible, Reachable}
+use Rattle.leak_graph.specs.declared.leak_kind.LeakKind.{LeakKind}
+use Rattle.leak_graph.specs.declared.leak_kind.LeakKind.TheVariants.{Definite, Indirect, Possible, Reachable}
 
 -- What points to what, where the blocks are numbered from 0 in the order of their addresses.
 pub record Links : Type 1 where

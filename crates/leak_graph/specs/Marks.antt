@@ -2,8 +2,8 @@
 use Rattle.std.specs.Prelude.{◌≡◌, ℕ, ◌+◌, ◌<◌, ◌≤◌, ◌≢◌, Bool, true, false, List, length, ◌⊎◌, slice_index_or, slice_get, Some, not, count_by}
 use Rattle.std.specs.Prelude.{if◌then◌else◌}
 use Rattle.std.specs.List.{Contains}
-use Rattle.error_events.specs.declared.leak_kind.LeakKind.{LeakKind}
-use Rattle.error_events.specs.declared.leak_kind.LeakKind.TheVariants.{Definite, Indirect, Possible, Reachable}
+use Rattle.leak_graph.specs.declared.leak_kind.LeakKind.{LeakKind}
+use Rattle.leak_graph.specs.declared.leak_kind.LeakKind.TheVariants.{Definite, Indirect, Possible, Reachable}
 use Rattle.leak_graph.specs.Paths.{HasPath, IsReached}
 
 abbrev pub IsMarked : List Bool → ℕ → Type 0

@@ -1,12 +1,12 @@
 ghost use Rattle.std.specs.Prelude.{◌≡◌, ℕ, ◌<◌, length, IfOk, slice_get, Some, slice_index_or, false, vec_len};
-ghost use Rattle.error_events.specs.declared.leak_kind.LeakKind.{LeakKind};
+ghost use Rattle.leak_graph.specs.declared.leak_kind.LeakKind.{LeakKind};
 ghost use Rattle.leak_graph.specs.Graphs.{GoWithin, AllGoWithin, links_of};
 ghost use Rattle.leak_graph.specs.Leaks.{HasKind};
 ghost use Rattle.leak_graph.specs.Marks.{kind_by, AreBy};
 
 use crate::graph::Pointer;
+use crate::leak_kind::LeakKind;
 use crate::passes::{definite_heads, lost_heads, reached};
-use error_events::LeakKind;
 use std::alloc::{AllocError, Global};
 
 /// The kind that the marks of a block say.

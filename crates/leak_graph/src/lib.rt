@@ -1,7 +1,7 @@
 //! Leak kinds of blocks that point to one another: the graph below a leak search.
 //!
 //! Blocks are numbered from 0 in order of address. A [`Pointer`] goes to a block, to its start or to its inside; the roots have a
-//! list of pointers, and so has each block. The kinds are those of the Memcheck manual (section 4.2, "Memory leak detection").
+//! list of pointers, and so has each block. A [`LeakKind`] is a kind of the Memcheck manual (section 4.2, "Memory leak detection").
 //!
 //! # Public items
 //!
@@ -32,8 +32,10 @@
 
 mod graph;
 mod kinds;
+mod leak_kind;
 mod passes;
 mod spread;
 
 pub use graph::Pointer;
 pub use kinds::leak_kinds;
+pub use leak_kind::LeakKind;

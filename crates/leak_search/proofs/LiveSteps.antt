@@ -3,7 +3,7 @@ use Rattle.std.proofs.Common.{◌≡◌, ℕ, zero, suc, ◌+◌, ◌<◌, ◌�
 use Rattle.std.proofs.lemmas.Option.{same_Some, none-some, slice_get_within}
 use Rattle.std.specs.declared.vec.Vec.{Vec}
 use Rattle.std.specs.declared.alloc.Global.{Global}
-use Rattle.call_stacks.specs.declared.block.Block.{Block}
+use Rattle.guest_heap.specs.declared.block.Block.{Block}
 use Rattle.guest_heap.specs.Blocks.{Blocks, IsFirstLive, high_end, low_end}
 use Rattle.guest_heap.specs.Steps.{AreInRegion, AreApart, live_from, live_list, live_above}
 use Rattle.guest_heap.specs.Laws.{LiveGoesOn}

@@ -1,9 +1,9 @@
 -- The records of a scene are one list.
 use Rattle.std.proofs.Common.{◌≡◌, ℕ, suc, inl, List, [], ◌∷◌, Some, length, true, false, arith, refl, sym, ◌∙◌, ap, slice_get}
 use Rattle.std.proofs.lemmas.Option.{same_Some}
-use Rattle.call_stacks.specs.declared.block.Block.{Block}
-use Rattle.error_events.specs.declared.leak_kind.LeakKind.{LeakKind}
-use Rattle.error_events.specs.declared.leak_kind.LeakKind.TheVariants.{Definite, Indirect, Possible, Reachable}
+use Rattle.guest_heap.specs.declared.block.Block.{Block}
+use Rattle.leak_graph.specs.declared.leak_kind.LeakKind.{LeakKind}
+use Rattle.leak_graph.specs.declared.leak_kind.LeakKind.TheVariants.{Definite, Indirect, Possible, Reachable}
 use Rattle.leak_graph.specs.Leaks.{Links, IsReachable, IsFound, HasKind}
 use Rattle.leak_graph.proofs.Paths.{reached_map}
 use Rattle.leak_search.specs.declared.record.LeakRecord.{LeakRecord}

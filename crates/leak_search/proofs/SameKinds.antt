@@ -2,8 +2,8 @@
 use Rattle.std.proofs.Common.{◌≡◌, ℕ, ◌<◌, inl, inr, subst}
 use Rattle.leak_graph.specs.Paths.{HasPath}
 use Rattle.leak_graph.specs.Leaks.{Links, IsReachable, IsFound, IsLost, LostEdge, IsHeldBy, HasKind}
-use Rattle.error_events.specs.declared.leak_kind.LeakKind.{LeakKind}
-use Rattle.error_events.specs.declared.leak_kind.LeakKind.TheVariants.{Definite, Indirect, Possible, Reachable}
+use Rattle.leak_graph.specs.declared.leak_kind.LeakKind.{LeakKind}
+use Rattle.leak_graph.specs.declared.leak_kind.LeakKind.TheVariants.{Definite, Indirect, Possible, Reachable}
 use Rattle.leak_graph.proofs.Paths.{path_map, reached_map}
 
 -- each link of the one is a link of the other

@@ -2,7 +2,7 @@
 use Rattle.std.specs.Prelude.{◌≡◌, ℕ, ◌<◌, ◌+◌, ◌≤◌, ◌%◌, ◌^◌, ◌==◌, ◌&&◌, ◌⊎◌, nat_lt, if◌then◌else◌, Bool, List, [], ◌∷◌, ◌++◌, Option, Some, None, slice_get, slice_index_or, length}
 use Rattle.std.specs.declared.vec.Vec.{Vec}
 use Rattle.std.specs.declared.alloc.Global.{Global}
-use Rattle.call_stacks.specs.declared.block.Block.{Block}
+use Rattle.guest_heap.specs.declared.block.Block.{Block}
 use Rattle.guest_heap.specs.Blocks.{Blocks, IsFirstLive}
 use Rattle.guest_heap.specs.Steps.{live_from}
 use Rattle.definedness.specs.declared.Bits.{Bits}
@@ -11,7 +11,7 @@ use Rattle.shadow_memory.specs.Shadows.{Shadow}
 use Rattle.shadow_memory.specs.Values.{value_at, holds_in_range}
 use Rattle.shadow_memory.specs.declared.memory.Memory.{Memory}
 use Rattle.leak_graph.specs.declared.graph.Pointer.{Pointer}
-use Rattle.error_events.specs.declared.leak_kind.LeakKind.{LeakKind}
+use Rattle.leak_graph.specs.declared.leak_kind.LeakKind.{LeakKind}
 use Rattle.leak_search.specs.declared.record.LeakRecord.{LeakRecord}
 use Rattle.leak_graph.specs.Graphs.{LeadsTo, HasPointer, HasEdge}
 use Rattle.leak_search.specs.declared.words.Word.{Word}

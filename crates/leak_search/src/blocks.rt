@@ -4,8 +4,7 @@ ghost use Rattle.guest_heap.specs.Heaps.{blocks_of};
 ghost use Rattle.guest_heap.specs.Steps.{live_list};
 ghost use Rattle.leak_search.specs.Gathering.{AreOrdered, GoesOn};
 
-use call_stacks::Block;
-use guest_heap::Heap;
+use guest_heap::{Block, Heap};
 use guest_heap::laws::live_goes_on;
 use std::alloc::{AllocError, Global};
 

@@ -1,10 +1,10 @@
 ghost use Rattle.std.specs.Prelude.{◌≡◌, ℕ, ◌<◌, ◌≤◌, ◌%◌, IfNone, IfSome, Some, slice_get, length, nat_le, true, false, Bool};
 ghost use Rattle.std.specs.List.Sorted.{IsPartitionPoint, IsPartitionedBy};
-ghost use Rattle.call_stacks.specs.declared.block.Block.{Block};
+ghost use Rattle.guest_heap.specs.declared.block.Block.{Block};
 ghost use Rattle.leak_search.specs.Pointing.{PointsTo};
 ghost use Rattle.leak_search.specs.Gathering.{AreOrdered, IsLastAt, Finds, IsOwner};
 
-use call_stacks::Block;
+use guest_heap::Block;
 use leak_graph::Pointer;
 
 /// Whose a word is: it lies in no block, wholly in one, or half in one.

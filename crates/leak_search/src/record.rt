@@ -1,5 +1,5 @@
 use call_stacks::Trace;
-use error_events::LeakKind;
+use leak_graph::LeakKind;
 
 /// What a search says of a live block.
 #[derive(Clone, Copy, Debug, PartialEq, Eq)]

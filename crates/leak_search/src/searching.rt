@@ -13,12 +13,10 @@ ghost use Rattle.leak_search.specs.Gathering.{AreOrdered, listed, scene_by, Gain
 use crate::blocks::live_blocks;
 use crate::gathering::{gather_registers, gather_words};
 use crate::record::LeakRecord;
-use call_stacks::Block;
 use definedness::Bits;
-use error_events::LeakKind;
-use guest_heap::Heap;
+use guest_heap::{Block, Heap};
 use guest_machine::{Machine, Register};
-use leak_graph::{Pointer, leak_kinds};
+use leak_graph::{LeakKind, Pointer, leak_kinds};
 use shadow_memory::Memory;
 use std::alloc::{AllocError, Global};
 

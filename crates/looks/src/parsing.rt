@@ -7,7 +7,7 @@ use crate::look::{Look, Search};
 use checkpoints::{Sought, Watch};
 use guest_machine::Span;
 use replay_session::{Fault, MOST_STEPS, number};
-use suppressions::Parts;
+use text_parts::Parts;
 
 const RUN: &[u8] = b"run";
 

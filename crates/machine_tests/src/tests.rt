@@ -21,7 +21,7 @@ fn started(alloc: Global, words: &[u32]) -> Result<Machine, Fail> {
     Ok(Machine::start(alloc, &image)?)
 }
 
-/// No input, and a heap with Memcheck's red zone and volume of freed blocks.
+/// No input, and a heap with Memcheck's redzone and volume of freed blocks.
 fn setup(alloc: Global) -> Setup {
     Setup {
         input: Input::new(Vec::new(alloc)),

@@ -1,13 +1,13 @@
 //! Errors with their groups, by hand.
 use call_stacks::Trace;
-use error_events::{Event, Fault3, Group, Groups, Kind, Note, Parameter};
+use error_events::{Event, ParameterFault, Group, Groups, Kind, Note, Parameter};
 use std::alloc::AllocError;
 use std::process::Abort;
 use std::test::Fail;
 
 const READ: Kind = Kind::Read(4);
 
-const PARAM: Kind = Kind::Param(Parameter::ReadBuffer, Fault3::Unaddressable);
+const PARAM: Kind = Kind::Param(Parameter::ReadBuffer, ParameterFault::Unaddressable);
 
 /// Whether a group has this kind, these addresses, this count and the note of this address.
 fn shows(group: Option<Group>, kind: Kind, addresses: &[u32], count: u64, at: u32) -> bool {

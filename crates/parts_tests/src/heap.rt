@@ -1,6 +1,6 @@
 //! Blocks that are allocated, released and found.
-use call_stacks::{Block, Place, Trace};
-use guest_heap::{Heap, Released};
+use call_stacks::Trace;
+use guest_heap::{Block, Heap, Place, Released};
 use std::alloc::{AllocError, Global};
 use std::process::Abort;
 use std::test::Fail;
@@ -8,7 +8,7 @@ use std::test::Fail;
 /// Where all calls come from.
 const SITE: u32 = 0x10008;
 
-/// Sizes, red zones and places in one heap, one after another: a place is a multiple of 16, and a red zone's length away from the
+/// Sizes, redzones and places in one heap, one after another: a place is a multiple of 16, and a redzone's length away from the
 /// interval before it.
 const PLACES: [(u32, u32, Option<u32>); 8] = [
     (8, 0, Some(0x4000_0000)),
@@ -21,7 +21,7 @@ const PLACES: [(u32, u32, Option<u32>); 8] = [
     (1, 0x2000_0000, None),
 ];
 
-/// What is near an address, of a block of 8 bytes at 0x40000010 with a red zone of 16.
+/// What is near an address, of a block of 8 bytes at 0x40000010 with a redzone of 16.
 const NEAR: [(u32, Option<(Place, u32)>); 7] = [
     (0x3fff_ffff, None),
     (0x4000_0000, Some((Place::Before, 16))),
@@ -44,7 +44,7 @@ fn placed(rt: &impl Abort, alloc: Global, heap: &mut Heap) -> Result<(), AllocEr
     let trace = Trace::of(SITE);
     for (size, redzone, place) in &PLACES {
         let found = heap.allocate(alloc, *size, trace, *redzone)?;
-        assert!(rt; found == *place, "{size} bytes, a red zone of {redzone}");
+        assert!(rt; found == *place, "{size} bytes, a redzone of {redzone}");
     }
     Ok(())
 }
@@ -56,7 +56,7 @@ fn places_one_after_another(rt: HostRuntime) -> Result<(), Fail> {
     Ok(())
 }
 
-/// Allocates a block of 8 bytes with a red zone of 16.
+/// Allocates a block of 8 bytes with a redzone of 16.
 fn allocate_8(alloc: Global, heap: &mut Heap) -> Result<Option<u32>, AllocError> {
     heap.allocate(alloc, 8, Trace::of(SITE), 16)
 }

@@ -2,9 +2,8 @@
 ghost use Rattle.std.specs.Prelude.{IsTrue};
 ghost use Rattle.leak_graph.specs.Graphs.{GoWithin, AllGoWithin};
 
-use error_events::LeakKind;
-use error_events::LeakKind::{Definite, Indirect, Possible, Reachable};
-use leak_graph::{Pointer, leak_kinds};
+use leak_graph::{LeakKind, Pointer, leak_kinds};
+use leak_graph::LeakKind::{Definite, Indirect, Possible, Reachable};
 use std::alloc::{AllocError, Global};
 use std::test::Fail;
 

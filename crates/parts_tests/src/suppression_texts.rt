@@ -1,5 +1,6 @@
 //! Texts and words with their answers, from outside.
-use error_events::{Fault3, Kind, LeakKind, Parameter};
+use error_events::{ParameterFault, Kind, Parameter};
+use leak_graph::LeakKind;
 use std::alloc::{AllocError, Global};
 use std::process::Abort;
 use std::test::Fail;
@@ -94,7 +95,7 @@ fn another_tools_block_matches_nothing(rt: HostRuntime) {
 
 const COND: Target = Target::Error(Kind::Cond);
 
-const READS: Target = Target::Error(Kind::Param(Parameter::ReadBuffer, Fault3::Uninit));
+const READS: Target = Target::Error(Kind::Param(Parameter::ReadBuffer, ParameterFault::Uninit));
 
 const LOST: Target = Target::Leak(LeakKind::Definite);
 

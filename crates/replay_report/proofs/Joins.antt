@@ -5,10 +5,10 @@ use Rattle.std.proofs.lemmas.List.Concat.{flat_map-append}
 use Rattle.std.specs.List.{flat_map}
 use Rattle.std.specs.Fmt.{decimal}
 use Rattle.replay_report.specs.Text.{address_text, newline}
-use Rattle.call_stacks.specs.declared.block.Block.{Block}
+use Rattle.guest_heap.specs.declared.block.Block.{Block}
 use Rattle.error_events.specs.Parameters.{parameter_text}
 use Rattle.error_events.specs.declared.parameter.Parameter.{Parameter}
-use Rattle.error_events.specs.declared.kind.Fault3.{Fault3}
+use Rattle.error_events.specs.declared.kind.ParameterFault.{ParameterFault}
 use Rattle.error_events.specs.declared.event.Group.{Group}
 use Rattle.replay_report.specs.Lines.{fault_text, param_text, state_text, near_back, error_total, shown_summary}
 
@@ -36,7 +36,7 @@ flat_joined g xs i x o p q within is before e =
 pub running_joined : (o p q r : List ℕ) (pc : ℕ) → p ≡ o ++ codes "state running " → q ≡ p ++ address_text pc → r ≡ q ++ newline → r ≡ o ++ (codes "state running " ++ address_text pc ++ newline)
 running_joined o p q r pc d e f = joined o q r (codes "state running " ++ address_text pc) newline (joined o p q (codes "state running ") (address_text pc) d e) f
 
-pub param_joined : (o p q r t u : List ℕ) (parameter : Parameter) (fault : Fault3) → t ≡ parameter_text parameter → u ≡ fault_text fault
+pub param_joined : (o p q r t u : List ℕ) (parameter : Parameter) (fault : ParameterFault) → t ≡ parameter_text parameter → u ≡ fault_text fault
     → p ≡ o ++ codes "Syscall param " → q ≡ p ++ t → r ≡ q ++ u → r ≡ o ++ param_text parameter fault
 unfolding param_text
 param_joined o p q r t u parameter fault named said d e f =

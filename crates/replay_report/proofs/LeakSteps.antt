@@ -9,8 +9,8 @@ use Rattle.std.specs.Map.{lookup}
 use Rattle.guest_elf.specs.declared.image.Image.{Image}
 use Rattle.error_events.specs.Groups.{most}
 use Rattle.error_events.proofs.KeySteps.{filled-eq}
-use Rattle.error_events.specs.declared.leak_kind.LeakKind.{LeakKind}
-use Rattle.error_events.specs.declared.leak_kind.LeakKind.TheVariants.{Definite, Indirect, Possible, Reachable}
+use Rattle.leak_graph.specs.declared.leak_kind.LeakKind.{LeakKind}
+use Rattle.leak_graph.specs.declared.leak_kind.LeakKind.TheVariants.{Definite, Indirect, Possible, Reachable}
 use Rattle.error_events.specs.contracts.leak_kind.LeakKindPartialEq.TheImpl.{ghosts as of_kinds}
 use Rattle.leak_search.specs.declared.record.LeakRecord.{LeakRecord}
 use Rattle.suppressions.specs.Rules.{Rule}

@@ -3,8 +3,8 @@
 use Rattle.std.specs.Prelude.{ℕ, ◌+◌, ◌&&◌, Bool, true, false, not, if◌then◌else◌, List, [], ◌∷◌, filter, fold, length, min, sum_by, take, slice_index_or}
 use Rattle.guest_elf.specs.declared.image.Image.{Image}
 use Rattle.error_events.specs.Groups.{same_trace, most}
-use Rattle.error_events.specs.declared.leak_kind.LeakKind.{LeakKind}
-use Rattle.error_events.specs.declared.leak_kind.LeakKind.TheVariants.{Definite, Indirect, Possible, Reachable}
+use Rattle.leak_graph.specs.declared.leak_kind.LeakKind.{LeakKind}
+use Rattle.leak_graph.specs.declared.leak_kind.LeakKind.TheVariants.{Definite, Indirect, Possible, Reachable}
 use Rattle.leak_search.specs.declared.record.LeakRecord.{LeakRecord}
 use Rattle.suppressions.specs.Rules.{Rule, is_suppressed}
 use Rattle.suppressions.specs.declared.target.Target.TheVariants.{Leak}

@@ -8,16 +8,16 @@ use Rattle.guest_machine.specs.declared.status.Status.{Status}
 use Rattle.guest_machine.specs.declared.status.Status.TheVariants.{Running, Exited, Stopped}
 use Rattle.guest_machine.specs.declared.status.Stop.{Stop}
 use Rattle.guest_machine.specs.declared.status.Stop.TheVariants.{Jump as JumpStop, Break, Illegal, Misaligned}
-use Rattle.call_stacks.specs.declared.block.Block.{Block}
-use Rattle.call_stacks.specs.declared.block.Near.{Near as NearBlock}
-use Rattle.call_stacks.specs.declared.block.Place.{Place}
-use Rattle.call_stacks.specs.declared.block.Place.TheVariants.{Before, Inside, After}
+use Rattle.guest_heap.specs.declared.block.Block.{Block}
+use Rattle.guest_heap.specs.declared.block.Near.{Near as NearBlock}
+use Rattle.guest_heap.specs.declared.block.Place.{Place}
+use Rattle.guest_heap.specs.declared.block.Place.TheVariants.{Before, Inside, After}
 use Rattle.error_events.specs.Parameters.{parameter_text}
 use Rattle.error_events.specs.declared.parameter.Parameter.{Parameter}
 use Rattle.error_events.specs.declared.kind.Kind.{Kind}
 use Rattle.error_events.specs.declared.kind.Kind.TheVariants.{Read, Write, Value, Cond, Param, Free, Jump}
-use Rattle.error_events.specs.declared.kind.Fault3.{Fault3}
-use Rattle.error_events.specs.declared.kind.Fault3.TheVariants.{Contains, Uninit, Unaddressable}
+use Rattle.error_events.specs.declared.kind.ParameterFault.{ParameterFault}
+use Rattle.error_events.specs.declared.kind.ParameterFault.TheVariants.{Contains, Uninit, Unaddressable}
 use Rattle.error_events.specs.declared.event.Note.{Note}
 use Rattle.error_events.specs.declared.event.Note.TheVariants.{Absent, Near, Stack, Elsewhere}
 use Rattle.error_events.specs.declared.event.Group.{Group}
@@ -49,12 +49,12 @@ unfoldable pub output_line : ℕ → List ℕ
 output_line n = codes "output " ++ decimal n ++ newline
 
 -- what is wrong with a parameter
-abbrev pub fault_text : Fault3 → List ℕ
+abbrev pub fault_text : ParameterFault → List ℕ
 fault_text Contains = codes " contains uninitialised byte(s)"
 fault_text Uninit = codes " points to uninitialised byte(s)"
 fault_text Unaddressable = codes " points to unaddressable byte(s)"
 
-unfoldable pub param_text : Parameter → Fault3 → List ℕ
+unfoldable pub param_text : Parameter → ParameterFault → List ℕ
 param_text parameter fault = codes "Syscall param " ++ parameter_text parameter ++ fault_text fault
 
 -- what an error is called (Memcheck manual, section 4.2)

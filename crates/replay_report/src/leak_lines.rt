@@ -8,7 +8,7 @@ use crate::leaks::{BlockSum, LeakKey, is_shown, leak_groups, split_records, sum_
 use crate::lines::push_trace;
 use crate::options::View;
 use crate::text::{push_number, push_text};
-use error_events::LeakKind;
+use leak_graph::LeakKind;
 use guest_elf::Image;
 use indexmap::IndexMap;
 use leak_search::LeakRecord;

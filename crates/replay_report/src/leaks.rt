@@ -5,7 +5,7 @@ ghost use Rattle.indexmap.specs.IndexMap.{get_by as get};
 
 use crate::filtering::names_of;
 use call_stacks::Trace;
-use error_events::LeakKind;
+use leak_graph::LeakKind;
 use guest_elf::Image;
 use indexmap::IndexMap;
 use leak_search::LeakRecord;

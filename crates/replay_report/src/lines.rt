@@ -6,8 +6,9 @@ ghost use Rattle.replay_report.specs.Lines.{step_line, state_line, stop_word, in
 ghost use Rattle.replay_report.specs.Text.{address_text, newline};
 
 use crate::text::{push_address, push_name, push_number, push_text};
-use call_stacks::{Block, Near, Place, Trace};
-use error_events::{Fault3, Group, Kind, Note, Parameter};
+use call_stacks::Trace;
+use guest_heap::{Block, Near, Place};
+use error_events::{ParameterFault, Group, Kind, Note, Parameter};
 use guest_elf::Image;
 use guest_machine::{Status, Stop};
 use std::alloc::AllocError;
@@ -101,19 +102,19 @@ pub(crate) fn push_output(out: &mut Vec<u8>, n: u64) -> Result<(), AllocError>
 }
 
 /// What is wrong with a parameter.
-fn fault_text(fault: Fault3) -> &'static [u8]
+fn fault_text(fault: ParameterFault) -> &'static [u8]
     ensures { result.now ≡ fault_text fault }
 {
     match fault {
-        Fault3::Contains => b" contains uninitialised byte(s)",
-        Fault3::Uninit => b" points to uninitialised byte(s)",
-        Fault3::Unaddressable => b" points to unaddressable byte(s)",
+        ParameterFault::Contains => b" contains uninitialised byte(s)",
+        ParameterFault::Uninit => b" points to uninitialised byte(s)",
+        ParameterFault::Unaddressable => b" points to unaddressable byte(s)",
     }
 }
 
 /// What an error of a parameter is called.
 #[tactic(auto, unfolding(crate::specs::Lines::param_text), using(std::proofs::Common::append_assoc))]
-fn push_param(out: &mut Vec<u8>, parameter: Parameter, fault: Fault3) -> Result<(), AllocError>
+fn push_param(out: &mut Vec<u8>, parameter: Parameter, fault: ParameterFault) -> Result<(), AllocError>
     ensures { OnOk result (out.new.items ≡ out.old.items ++ param_text parameter fault) }
 {
     push_text(out, b"Syscall param ")?;

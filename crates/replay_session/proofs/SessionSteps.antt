@@ -14,7 +14,7 @@ use Rattle.checkpoints.specs.declared.trail.Trail.{Trail}
 use Rattle.scenario.specs.Edits.{Follows, IsTaken, row}
 use Rattle.scenario.specs.Scenario.{Scenario, run_of}
 use Rattle.scenario.specs.declared.edit.Edit.{Edit as AnEdit}
-use Rattle.scenario.specs.declared.edit.Edit.TheVariants.{Input, Append, Cut, Patch, Mark, Unmark, Switch, Add, Callers, Redzone, Queue, Show}
+use Rattle.scenario.specs.declared.edit.Edit.TheVariants.{Input, Append, Cut, Patch, Mark, Unmark, Switch, Add, Callers, Redzone, Volume, Show}
 use Rattle.scenario.proofs.EditLaws.{cut-appended, image_kept}
 
 -- ---- edits
@@ -53,5 +53,5 @@ word-dropped sc (Switch i on) h = absurd h
 word-dropped sc (Add rule) h = absurd h
 word-dropped sc (Callers n) h = absurd h
 word-dropped sc (Redzone n) h = absurd h
-word-dropped sc (Queue n) h = absurd h
+word-dropped sc (Volume n) h = absurd h
 word-dropped sc (Show kinds) h = absurd h

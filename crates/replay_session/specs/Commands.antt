@@ -7,11 +7,11 @@ use Rattle.std.specs.Str.Parse.{digits_value}
 use Rattle.shadow_memory.specs.declared.cells.RangeKind.{RangeKind}
 use Rattle.shadow_memory.specs.declared.cells.RangeKind.TheVariants.{NoAccess, Undefined, Defined}
 use Rattle.suppressions.specs.Added.{added}
-use Rattle.suppressions.specs.Parts.{parts}
+use Rattle.text_parts.specs.Parts.{parts}
 use Rattle.suppressions.specs.Rules.{Rule}
 use Rattle.suppressions.specs.Words.{leak_kinds}
 use Rattle.suppressions.specs.declared.leak_kinds.LeakKinds.{LeakKinds}
-use Rattle.scenario.specs.declared.edit.Edit.TheVariants.{Input, Append, Cut, Patch, Mark, Unmark, Switch, Add, Callers, Redzone, Queue, Show}
+use Rattle.scenario.specs.declared.edit.Edit.TheVariants.{Input, Append, Cut, Patch, Mark, Unmark, Switch, Add, Callers, Redzone, Volume, Show}
 use Rattle.scenario.specs.declared.edit.Edit.{Edit as AnEdit}
 use Rattle.replay_session.specs.declared.command.Command.{Command}
 use Rattle.replay_session.specs.declared.command.Command.TheVariants.{Goto, Report, Worked, Edit}
@@ -163,7 +163,7 @@ unfoldable pub option_named : List ℕ → List ℕ → Result Command Fault
 option_named name field =
     if bytes_eq name (codes "callers") then option_with (λ n. Callers n) (number field)
     else if bytes_eq name (codes "redzone") then option_with (λ n. Redzone n) (number field)
-    else if bytes_eq name (codes "queue") then option_with (λ n. Queue n) (number field)
+    else if bytes_eq name (codes "queue") then option_with (λ n. Volume n) (number field)
     else if bytes_eq name (codes "show") then show_with (leak_kinds field)
     else Err BadOption
 

@@ -18,7 +18,6 @@
 //! | [`send`] | writes all of some bytes and flushes; a [`Sent`] says how many were taken |
 //! | [`laws::work_of_lines`] | nothing: its contract says what any lines cost in steps |
 //! | [`laws::work_is_told`] | nothing: its contract says that `worked` tells this in a served session |
-//! | [`fakes`] | for tests: a reader and a writer over memory that fail where they are told to |
 //!
 //! # The lines
 //!
@@ -84,7 +83,6 @@
 #![tactic(auto)]
 
 mod command;
-pub mod fakes;
 mod fault;
 pub mod laws;
 mod numbers;

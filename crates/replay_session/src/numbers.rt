@@ -3,7 +3,7 @@ ghost use Rattle.std.specs.Prelude.{◌≡◌, ◌≤◌};
 ghost use Rattle.std.specs.Char.{digit_value};
 ghost use Rattle.replay_session.specs.Commands.{number_in, number, small, one_number};
 
-use suppressions::Parts;
+use text_parts::Parts;
 
 /// The value of a digit or a letter, and 36 for another byte.
 fn digit_value(b: u8) -> u64

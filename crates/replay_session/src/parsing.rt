@@ -10,7 +10,8 @@ use guest_machine::Mark;
 use scenario::Edit;
 use shadow_memory::RangeKind;
 use std::alloc::Global;
-use suppressions::{LeakKinds, Parts, SuppFault, Suppression};
+use suppressions::{LeakKinds, SuppFault, Suppression};
+use text_parts::Parts;
 
 const DEFINED: &[u8] = b"defined";
 
@@ -26,7 +27,7 @@ const CALLERS: &[u8] = b"callers";
 
 const REDZONE: &[u8] = b"redzone";
 
-const QUEUE: &[u8] = b"queue";
+const VOLUME: &[u8] = b"queue";
 
 const SHOW: &[u8] = b"show";
 
@@ -239,7 +240,7 @@ fn option_named(name: &[u8], field: &[u8]) -> Result<Command, Fault>
             None => Err(Fault::BadOption),
         };
     }
-    let known = name == CALLERS || name == REDZONE || name == QUEUE;
+    let known = name == CALLERS || name == REDZONE || name == VOLUME;
     if !known {
         return Err(Fault::BadOption);
     }
@@ -251,7 +252,7 @@ fn option_named(name: &[u8], field: &[u8]) -> Result<Command, Fault>
     } else if name == REDZONE {
         Ok(Command::Edit(Edit::Redzone(n)))
     } else {
-        Ok(Command::Edit(Edit::Queue(n)))
+        Ok(Command::Edit(Edit::Volume(n)))
     }
 }
 

@@ -249,7 +249,7 @@ impl<'a> Session<'a> {
     }
 
     /// Carries an accepted command out.
-    fn carry_out(&mut self, command: Command, out: &mut Vec<u8>) -> Result<Reply, Fault>
+    fn answer_command(&mut self, command: Command, out: &mut Vec<u8>) -> Result<Reply, Fault>
         requires { command_refusal (scenario_of self.old) command ≡ None }
         ensures carried { Carried self.new (turn_of self.old) command result out.old.items out.new.items }
         ensures work { Works self.old self.new command result }
@@ -281,6 +281,6 @@ impl<'a> Session<'a> {
     {
         let accepted = self.accept(line);
         self.count();
-        self.carry_out(accepted?, out)
+        self.answer_command(accepted?, out)
     }
 }

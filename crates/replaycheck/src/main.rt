@@ -9,7 +9,7 @@ ghost use Rattle.replaycheck.specs.Shown.{end_of_showing};
 
 use clap::error::ErrorKind;
 use command_line::read_order;
-use driver::{End, carry_out, tell};
+use driver::{End, run_order, tell};
 use std::process::ExitCode;
 use std::rt::Env;
 use std::{env, io};
@@ -65,7 +65,7 @@ fn finish(rt: &HostRuntime) -> u8 {
         Err(error) => return tell(&end_without_words(&error), &mut rt.stderr()),
     };
     let end = match read_order(rt.alloc(), &words) {
-        Ok(order) => carry_out(rt.alloc(), &order, rt, &mut rt.stdin(), &mut rt.stdout()),
+        Ok(order) => run_order(rt.alloc(), &order, rt, &mut rt.stdin(), &mut rt.stdout()),
         Err(error) => show(rt, &error),
     };
     tell(&end, &mut rt.stderr())

@@ -1,6 +1,6 @@
 //! Reports of programs by hand, against texts written down from the format of a report.
 use call_stacks::Trace;
-use error_events::LeakKind;
+use leak_graph::LeakKind;
 use guest_elf::{Image, read};
 use guest_machine::{Hooks, Input, Machine, Mark, Meter, Setup};
 use guest_programs::program;

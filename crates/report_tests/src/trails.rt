@@ -98,8 +98,8 @@ enum Act {
     ReplaceInput(u32, &'static [u8]),
     /// The input has a byte more, at its end.
     Append(u8),
-    /// The red zone is another.
-    SetRedZone(u32),
+    /// The redzone is another.
+    SetRedzone(u32),
 }
 
 /// An input that grows from nothing and shrinks again.
@@ -162,10 +162,10 @@ const CASES: [Case; 8] = [
             (10976, ENDS, 0x10010, 0),
         ],
     ),
-    // Marks at steps 2500, 1024 and 1023, of which the first is taken away; and another red zone, where no heap call was made. The one
+    // Marks at steps 2500, 1024 and 1023, of which the first is taken away; and another redzone, where no heap call was made. The one
     // error is that of the branch on the word that is read in step 2500.
     (
-        "marks, and another red zone",
+        "marks, and another redzone",
         Program::ReadsOn,
         &[
             Act::Ask(3000),
@@ -177,7 +177,7 @@ const CASES: [Case; 8] = [
             Act::Ask(3000),
             Act::TakeMark,
             Act::Ask(3000),
-            Act::SetRedZone(0),
+            Act::SetRedzone(0),
             Act::Ask(3000),
         ],
         &[
@@ -285,7 +285,7 @@ const CASES: [Case; 8] = [
     ),
 ];
 
-/// Memcheck's red zone and volume of freed blocks, and an input.
+/// Memcheck's redzone and volume of freed blocks, and an input.
 pub(crate) fn setup(alloc: Global, input: &[u8]) -> Result<Setup, AllocError> {
     let input = Input::new(input.to_vec(alloc)?);
     Ok(Setup {
@@ -360,7 +360,7 @@ impl<'a> Edited<'a> {
     }
 
     /// Does what is to be done, and tells of the machine, if one was asked for.
-    fn carry_out(&mut self, act: Act) -> Result<Option<Told>, AllocError> {
+    fn perform(&mut self, act: Act) -> Result<Option<Told>, AllocError> {
         match act {
             Act::Ask(step) => return Ok(Some(self.ask(step)?)),
             Act::Patch(addr, word) => self.patch(addr, word)?,
@@ -382,7 +382,7 @@ impl<'a> Edited<'a> {
                 self.setup.input.push(byte)?;
                 self.trail.cut(Effect::End);
             }
-            Act::SetRedZone(len) => {
+            Act::SetRedzone(len) => {
                 self.setup.redzone = len;
                 self.trail.cut(Effect::Heap);
             }
@@ -397,7 +397,7 @@ fn told(alloc: Global, program: Program, acts: &[Act]) -> Result<Vec<Told>, Fail
     let mut edited = Edited::begin(alloc, read(alloc, &file)?)?;
     let mut told = Vec::new(alloc);
     for act in acts {
-        if let Some(one) = edited.carry_out(*act)? {
+        if let Some(one) = edited.perform(*act)? {
             told.push(one)?;
         }
     }

@@ -10,7 +10,7 @@ use Rattle.checkpoints.specs.Effects.{DifferAtStep}
 use Rattle.scenario.specs.Scenario.{Scenario, first_state}
 use Rattle.scenario.specs.Edits.{Follows, TakesBack, IsTaken, row, refused_if, mark_step, switched, is_on}
 use Rattle.scenario.specs.declared.edit.Edit.{Edit}
-use Rattle.scenario.specs.declared.edit.Edit.TheVariants.{Input, Append, Cut, Patch, Mark, Unmark, Switch, Add, Callers, Redzone, Queue, Show}
+use Rattle.scenario.specs.declared.edit.Edit.TheVariants.{Input, Append, Cut, Patch, Mark, Unmark, Switch, Add, Callers, Redzone, Volume, Show}
 use Rattle.scenario.specs.declared.refusal.Refusal.{Refusal}
 use Rattle.scenario.proofs.FrontSteps.{with-more}
 
@@ -82,7 +82,7 @@ follows sc (Switch i on) h = record { start = refl; differ = (refl, refl) }
 follows sc (Add rule) h = record { start = refl; differ = (refl, refl) }
 follows sc (Callers n) h = record { start = refl; differ = (refl, refl) }
 follows sc (Redzone n) h = record { start = refl; differ = (record { input = refl; hooks = refl }, refl) }
-follows sc (Queue n) h = record { start = refl; differ = (record { input = refl; hooks = refl }, refl) }
+follows sc (Volume n) h = record { start = refl; differ = (record { input = refl; hooks = refl }, refl) }
 follows sc (Show kinds) h = record { start = refl; differ = (refl, refl) }
 
 -- ---- what takes an edit back
@@ -142,7 +142,7 @@ goes_back sc edit back h e = go edit back h e
     go (Add rule) back h e = absurd (cc)
     go (Callers n) back h e = along (Callers n) _ back (taken-back _ back e) refl
     go (Redzone n) back h e = along (Redzone n) _ back (taken-back _ back e) refl
-    go (Queue n) back h e = along (Queue n) _ back (taken-back _ back e) refl
+    go (Volume n) back h e = along (Volume n) _ back (taken-back _ back e) refl
     go (Show kinds) back h e = absurd (cc)
 
 -- no edit changes the program

@@ -8,10 +8,10 @@ use Rattle.suppressions.specs.declared.leak_kinds.LeakKinds.{LeakKinds}
 use Rattle.checkpoints.specs.Effects.{LeadsTo}
 use Rattle.checkpoints.specs.declared.effect.Effect.{Effect}
 use Rattle.checkpoints.specs.declared.effect.Effect.TheVariants.{Nowhere, After, Input as InputFrom, End, Heap, Word as WordAt}
-use Rattle.scenario.specs.Limits.{longest_input, most_steps, most_marks, longest_mark, most_callers, largest_redzone, largest_queue}
+use Rattle.scenario.specs.Limits.{longest_input, most_steps, most_marks, longest_mark, most_callers, largest_redzone, largest_volume}
 use Rattle.scenario.specs.Scenario.{Scenario, run_of}
 use Rattle.scenario.specs.declared.edit.Edit.{Edit}
-use Rattle.scenario.specs.declared.edit.Edit.TheVariants.{Input, Append, Cut, Patch, Mark, Unmark, Switch, Add, Callers, Redzone, Queue, Show}
+use Rattle.scenario.specs.declared.edit.Edit.TheVariants.{Input, Append, Cut, Patch, Mark, Unmark, Switch, Add, Callers, Redzone, Volume, Show}
 use Rattle.scenario.specs.declared.refusal.Refusal.{Refusal}
 use Rattle.scenario.specs.declared.refusal.Refusal.TheVariants.{OutsideInput, InputTooLarge, NotPatchable, StepLimit, BadRange, TooManyMarks, NoSuchMark, NoSuchSuppression, BadOption}
 
@@ -141,12 +141,12 @@ row sc (Redzone n) = record {
   may_fail = false;
   back = Some (Redzone sc.setup.redzone);
 }
-row sc (Queue n) = record {
-  refusal = refused_if (nat_lt largest_queue n) BadOption;
+row sc (Volume n) = record {
+  refusal = refused_if (nat_lt largest_volume n) BadOption;
   after = record sc { setup = record sc.setup { volume = n } };
   effect = Heap;
   may_fail = false;
-  back = Some (Queue sc.setup.volume);
+  back = Some (Volume sc.setup.volume);
 }
 row sc (Show kinds) = record {
   refusal = None;

@@ -26,5 +26,5 @@ abbrev pub largest_redzone : ℕ
 largest_redzone = 4096
 
 -- the most bytes of freed blocks that are kept
-abbrev pub largest_queue : ℕ
-largest_queue = 1000000000
+abbrev pub largest_volume : ℕ
+largest_volume = 1000000000

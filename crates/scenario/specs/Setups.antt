@@ -4,7 +4,7 @@ use Rattle.guest_elf.specs.Images.{hooks_of}
 use Rattle.guest_elf.specs.declared.image.Image.{Image}
 use Rattle.guest_machine.specs.declared.setup.Setup.{Setup}
 
--- Memcheck's red zone, in bytes (Memcheck manual, `--redzone-size`)
+-- Memcheck's redzone, in bytes (Memcheck manual, `--redzone-size`)
 abbrev pub usual_redzone : ℕ
 usual_redzone = 16
 
@@ -12,6 +12,6 @@ usual_redzone = 16
 abbrev pub usual_volume : ℕ
 usual_volume = 20000000
 
--- an input, Memcheck's red zone and volume of freed blocks, and the functions of the heap that the program has by name
+-- an input, Memcheck's redzone and volume of freed blocks, and the functions of the heap that the program has by name
 abbrev pub setup_with : Image → List ℕ → Setup
 setup_with image input = record { input = input; redzone = usual_redzone; volume = usual_volume; hooks = hooks_of image }

@@ -26,7 +26,7 @@ pub enum Edit {
     /// How many bytes beside each block of the heap are inaccessible.
     Redzone(u32),
     /// How many bytes the freed blocks may have that aren't used again yet.
-    Queue(u32),
+    Volume(u32),
     /// Which kinds of leak are shown.
     Show(LeakKinds),
 }

@@ -39,7 +39,7 @@ impl<'a> Scenario<'a> {
             Edit::Switch { index, .. } => self.switch_refusal(*index),
             Edit::Callers(n) => self.callers_refusal(*n),
             Edit::Redzone(n) => self.redzone_refusal(*n),
-            Edit::Queue(n) => self.queue_refusal(*n),
+            Edit::Volume(n) => self.volume_refusal(*n),
             Edit::Add(_) | Edit::Show(_) => None,
         }
     }
@@ -59,7 +59,7 @@ impl<'a> Scenario<'a> {
             },
             Edit::Mark(mark) => Effect::After(mark.step),
             Edit::Unmark(index) => self.mark_at(*index),
-            Edit::Redzone(_) | Edit::Queue(_) => Effect::Heap,
+            Edit::Redzone(_) | Edit::Volume(_) => Effect::Heap,
             Edit::Switch { .. } | Edit::Add(_) | Edit::Callers(_) | Edit::Show(_) => {
                 Effect::Nowhere
             }
@@ -83,7 +83,7 @@ impl<'a> Scenario<'a> {
             Edit::Add(suppression) => return self.add(suppression),
             Edit::Callers(n) => self.set_callers(n),
             Edit::Redzone(n) => self.set_redzone(n),
-            Edit::Queue(n) => self.set_queue(n),
+            Edit::Volume(n) => self.set_volume(n),
             Edit::Show(kinds) => self.show(kinds),
         }
         Ok(())

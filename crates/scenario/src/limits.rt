@@ -14,4 +14,4 @@ pub(crate) const MOST_CALLERS: u32 = LONGEST_TRACE as u32;
 /// How many bytes beside a block may be inaccessible.
 pub(crate) const LARGEST_REDZONE: u32 = 4096;
 /// How many bytes the freed blocks may have.
-pub(crate) const LARGEST_QUEUE: u32 = 1_000_000_000;
+pub(crate) const LARGEST_VOLUME: u32 = 1_000_000_000;

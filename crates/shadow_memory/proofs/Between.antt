@@ -5,7 +5,7 @@ use Rattle.std.proofs.lemmas.Bool.Decides.{nat_tests}
 use Rattle.shadow_memory.specs.Marks.{mark_of}
 use Rattle.shadow_memory.specs.Places.{Agree, is_between}
 use Rattle.shadow_memory.specs.Parts.{code_of, mark_by}
-use Rattle.shadow_memory.specs.declared.cells.Mark.{Mark}
+use Rattle.shadow_memory.specs.declared.cells.ByteShadow.{ByteShadow}
 use Rattle.shadow_memory.specs.declared.cells.RangeKind.{RangeKind}
 use Rattle.shadow_memory.specs.declared.cells.RangeKind.TheVariants.{NoAccess, Undefined, Defined}
 
@@ -24,11 +24,11 @@ not-between : (from at : ℕ) → is_between from at at ≡ false
 not-between from at = grind (arith, nat_tests)
 
 -- what comes after a range is as it was
-pub after-between : (marks before made : ℕ → Mark) (from at : ℕ) → Agree before (λ k. cond (is_between from at k) (made k) (marks k)) → before at ≡ marks at
+pub after-between : (marks before made : ℕ → ByteShadow) (from at : ℕ) → Agree before (λ k. cond (is_between from at k) (made k) (marks k)) → before at ≡ marks at
 after-between marks before made from at so = so at ∙ ap (λ t. cond t (made at) (marks at)) (not-between from at)
 
 -- one more mark of a range is set
-pub between-more : (marks before after made : ℕ → Mark) (from at : ℕ) → from ≤ at → Agree before (λ k. cond (is_between from at k) (made k) (marks k))
+pub between-more : (marks before after made : ℕ → ByteShadow) (from at : ℕ) → from ≤ at → Agree before (λ k. cond (is_between from at k) (made k) (marks k))
     → after at ≡ made at → ((k : ℕ) → k ≢ at → after k ≡ before k)
     → Agree after (λ k. cond (is_between from (at + 1) k) (made k) (marks k))
 between-more marks before after made from at order so here others = λ k. elim (cases_eq k at) [

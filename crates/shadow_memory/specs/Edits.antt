@@ -9,8 +9,8 @@ use Rattle.shadow_memory.specs.declared.cells.Cell.{Cell}
 use Rattle.shadow_memory.specs.declared.cells.RangeKind.{RangeKind}
 use Rattle.shadow_memory.specs.declared.edits.Each.{Each}
 use Rattle.shadow_memory.specs.declared.edits.Each.TheVariants.{Make, Clear, Take}
-use Rattle.shadow_memory.specs.declared.edits.Edit.{Edit}
-use Rattle.shadow_memory.specs.declared.edits.Edit.TheVariants.{Set, All, Fill, Store, Copy}
+use Rattle.shadow_memory.specs.declared.edits.PageEdit.{PageEdit}
+use Rattle.shadow_memory.specs.declared.edits.PageEdit.TheVariants.{Set, All, Fill, Store, Copy}
 
 -- what becomes of a cell that changes as each of its range does
 unfoldable pub each_of : Each → Cell → Cell
@@ -19,7 +19,7 @@ each_of Clear cell = filled (λ i. 0) 0 cell
 each_of (Take kind) cell = taken_cell (blank kind) cell
 
 -- how many cells change
-unfoldable pub count_of : Edit → ℕ
+unfoldable pub count_of : PageEdit → ℕ
 count_of (Set cell) = 1
 count_of (All count each) = count
 count_of (Fill count bytes) = count
@@ -27,7 +27,7 @@ count_of (Store bytes) = length bytes.now
 count_of (Copy page place count) = count
 
 -- what becomes of the one at an offset
-unfoldable pub change_of : Edit → ℕ → Cell → Cell
+unfoldable pub change_of : PageEdit → ℕ → Cell → Cell
 change_of (Set made) i cell = made
 change_of (All count each) i cell = each_of each cell
 change_of (Fill count bytes) i cell = filled (slice_index bytes.now) i cell
@@ -35,7 +35,7 @@ change_of (Store bytes) i cell = received (slice_index bytes.now) i cell
 change_of (Copy page place count) i cell = taken_cell (cells_in page.now (place + i)) cell
 
 -- no inaccessible byte gets undefined bits, and what is copied lies in a page, with no byte that is defined in part
-unfoldable pub Fits : Edit → Type 0
+unfoldable pub Fits : PageEdit → Type 0
 Fits (Set cell) = IsClean cell
 Fits (All count each) = Unit {0}
 Fits (Fill count bytes) = Unit {0}
@@ -43,5 +43,5 @@ Fits (Store bytes) = Unit {0}
 Fits (Copy page place count) = (place + count ≤ page_len) × AreWhole page.now.marks place (place + count)
 
 -- a blank page is blank after a change, of this kind
-abbrev pub LeavesBlank : RangeKind → Edit → RangeKind → Type 0
+abbrev pub LeavesBlank : RangeKind → PageEdit → RangeKind → Type 0
 LeavesBlank old edit kind = (at k : ℕ) → at + count_of edit ≤ page_len → k < page_len → changed_from (λ a. blank old) at (count_of edit) (change_of edit) k ≡ blank kind

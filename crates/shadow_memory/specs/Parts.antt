@@ -1,7 +1,7 @@
 -- The two bits of a byte of a page: four numbers below four in a byte, and what each number says.
 use Rattle.std.specs.Prelude.{ℕ, true, ◌/◌, ◌%◌, ◌==◌, if◌then◌else◌}
 use Rattle.shadow_memory.specs.Marks.{mark_of}
-use Rattle.shadow_memory.specs.declared.cells.Mark.{Mark}
+use Rattle.shadow_memory.specs.declared.cells.ByteShadow.{ByteShadow}
 use Rattle.shadow_memory.specs.declared.cells.RangeKind.{RangeKind}
 use Rattle.shadow_memory.specs.declared.cells.RangeKind.TheVariants.{NoAccess, Undefined, Defined}
 
@@ -24,5 +24,5 @@ abbrev pub taken_code : ℕ → ℕ → ℕ
 taken_code made old = if old == 0 then 0 else made
 
 -- what a number says, where a partly defined byte has these bits undefined
-abbrev pub mark_by : ℕ → ℕ → Mark
+abbrev pub mark_by : ℕ → ℕ → ByteShadow
 mark_by code partly = if code == 0 then mark_of NoAccess else if code == 1 then mark_of Undefined else if code == 2 then mark_of Defined else record { accessible = true; undef = partly }

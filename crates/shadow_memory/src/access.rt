@@ -10,7 +10,7 @@ ghost use Rattle.shadow_memory.specs.Memories.{bytes_in, shadows_in, cells_of};
 ghost use Rattle.shadow_memory.specs.Places.{page_len};
 
 use crate::cells::{Cell, Loaded};
-use crate::edits::Edit;
+use crate::edits::PageEdit;
 use crate::memory::Memory;
 use crate::pages::PAGE;
 use crate::words::{ABSENT, byte_at, loaded_from, stored_cell, word_bytes};
@@ -143,7 +143,7 @@ impl Memory {
         ensures err { OnErr result (cells_of self.new ≡ cells_of self.old) }
     {
         let bytes = word_bytes(value);
-        self.change(addr, &Edit::Store(&bytes[..n as usize]))
+        self.change(addr, &PageEdit::Store(&bytes[..n as usize]))
     }
 
     // Stores cell by cell.
@@ -157,7 +157,7 @@ impl Memory {
         for i in 0..n {
             let at = addr.wrapping_add(i);
             let cell = self.cell(at);
-            self.change(at, &Edit::Set(stored_cell(bits, i, cell)))?;
+            self.change(at, &PageEdit::Set(stored_cell(bits, i, cell)))?;
         }
         Ok(())
     }
@@ -172,7 +172,7 @@ impl Memory {
         let cell = self.cell(addr);
         self.change(
             addr,
-            &Edit::Set(Cell {
+            &PageEdit::Set(Cell {
                 byte,
                 accessible: cell.accessible,
                 undef: cell.undef,

@@ -42,26 +42,26 @@ pub struct Bad {
 
 /// What is known of a byte beside its value.
 #[derive(Clone, Copy, Debug, PartialEq, Eq)]
-pub(crate) struct Mark {
+pub(crate) struct ByteShadow {
     pub(crate) accessible: bool,
     pub(crate) undef: u8,
 }
 
 /// The mark of a byte of a kind.
-pub(crate) fn mark_of_kind(kind: RangeKind) -> Mark
+pub(crate) fn mark_of_kind(kind: RangeKind) -> ByteShadow
     ensures value { result ≡ mark_of kind }
     ensures clean { IsCleanMark result }
 {
     match kind {
-        RangeKind::NoAccess => Mark {
+        RangeKind::NoAccess => ByteShadow {
             accessible: false,
             undef: 0,
         },
-        RangeKind::Undefined => Mark {
+        RangeKind::Undefined => ByteShadow {
             accessible: true,
             undef: 255,
         },
-        RangeKind::Defined => Mark {
+        RangeKind::Defined => ByteShadow {
             accessible: true,
             undef: 0,
         },
@@ -69,7 +69,7 @@ pub(crate) fn mark_of_kind(kind: RangeKind) -> Mark
 }
 
 /// The cell of a byte and a mark.
-pub(crate) fn marked_cell(byte: u8, mark: Mark) -> Cell
+pub(crate) fn marked_cell(byte: u8, mark: ByteShadow) -> Cell
     requires { IsCleanMark mark }
     ensures value { result ≡ marked byte mark }
     ensures clean { IsClean result }
@@ -90,7 +90,7 @@ pub(crate) fn blank_cell(kind: RangeKind) -> Cell
 }
 
 /// Is a byte inaccessible or, where asked, has it an undefined bit?
-pub(crate) fn is_bad_mark(mark: Mark, need_defined: bool) -> bool
+pub(crate) fn is_bad_mark(mark: ByteShadow, need_defined: bool) -> bool
     ensures { result ≡ is_bad need_defined (shadow_of_mark mark) }
 {
     !mark.accessible || (need_defined && mark.undef != 0)

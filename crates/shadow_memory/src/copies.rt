@@ -9,7 +9,7 @@ ghost use Rattle.shadow_memory.specs.Fronts.{HasCopied};
 ghost use Rattle.shadow_memory.specs.Memories.{bytes_in, shadows_in, cells_of};
 
 use crate::cells::RangeKind;
-use crate::edits::{Each, Edit};
+use crate::edits::{Each, PageEdit};
 use crate::memory::Memory;
 use crate::pages::PAGE;
 use crate::ranges::count_in_page;
@@ -93,7 +93,7 @@ impl Memory {
         if let PageSlot::Held(page) = self.slot(from)? {
             let count = page.whole_end(place, place + most as usize) - place;
             if count > 0 {
-                self.change(to, &Edit::Copy(&page, place, count))?;
+                self.change(to, &PageEdit::Copy(&page, place, count))?;
                 return Ok(count as u32);
             }
         }
@@ -109,6 +109,6 @@ impl Memory {
     {
         let source = self.cell(from);
         let target = self.cell(to);
-        self.change(to, &Edit::Set(copied_from(source, target)))
+        self.change(to, &PageEdit::Set(copied_from(source, target)))
     }
 }

@@ -4,7 +4,7 @@ ghost use Rattle.shadow_memory.specs.Changes.{received};
 ghost use Rattle.shadow_memory.specs.Places.{page_len};
 
 use crate::cells::RangeKind;
-use crate::edits::{Each, Edit};
+use crate::edits::{Each, PageEdit};
 use crate::pages::PAGE;
 use crate::slots::PageSlot;
 use crate::views::View;
@@ -158,7 +158,7 @@ impl Directory {
         &mut self,
         alloc: Global,
         at: usize,
-        edit: &Edit<'_>,
+        edit: &PageEdit<'_>,
     ) -> Result<(), AllocError>
         requires within { at < 4194304 }
         requires one_page { at % page_len + count_of edit.now ≤ page_len }
@@ -228,7 +228,7 @@ impl Directory {
         ensures err { OnErr result (cells_under self.new ≡ cells_under self.old) }
     {
         let count = most.min(PAGE - at % PAGE);
-        self.change(alloc, at, &Edit::All(count, each))?;
+        self.change(alloc, at, &PageEdit::All(count, each))?;
         Ok(count)
     }
 

@@ -37,7 +37,7 @@ impl Each {
 
 /// One change, from a place of a page on.
 #[derive(Clone, Copy)]
-pub(crate) enum Edit<'a> {
+pub(crate) enum PageEdit<'a> {
     /// One cell becomes this one.
     Set(Cell),
     /// So many bytes change alike.

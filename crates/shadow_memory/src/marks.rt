@@ -7,7 +7,7 @@ ghost use Rattle.shadow_memory.specs.Marks.{defined, mark_of, shadow_of_mark, ta
 ghost use Rattle.shadow_memory.specs.Places.{changed_from, is_between, page_len};
 ghost use Rattle.shadow_memory.specs.Codes.{code_at};
 
-use crate::cells::{Mark, RangeKind, is_bad_mark, mark_of_kind};
+use crate::cells::{ByteShadow, RangeKind, is_bad_mark, mark_of_kind};
 use crate::codes::{
     Codes, DEFINED, NO_ACCESS, PARTLY, UNDEFINED, code_of_kind, defined_code, kind_of_code,
     loaded_code,
@@ -25,7 +25,7 @@ pub(crate) struct Mixed {
 
 /// The marks of a page.
 #[derive(Drop)]
-pub(crate) enum Marks {
+pub(crate) enum PageShadows {
     Uniform(RangeKind),
     Mixed(Mixed),
 }
@@ -79,25 +79,25 @@ impl Mixed {
         })
     }
 
-    fn mark(&self, at: usize) -> Mark
+    fn mark(&self, at: usize) -> ByteShadow
         requires { at < page_len }
         ensures value { result ≡ marks_mixed self.now at }
         ensures clean { IsCleanMark result }
     {
         match self.codes.code(at) {
-            NO_ACCESS => Mark {
+            NO_ACCESS => ByteShadow {
                 accessible: false,
                 undef: 0,
             },
-            UNDEFINED => Mark {
+            UNDEFINED => ByteShadow {
                 accessible: true,
                 undef: 255,
             },
-            DEFINED => Mark {
+            DEFINED => ByteShadow {
                 accessible: true,
                 undef: 0,
             },
-            _ => Mark {
+            _ => ByteShadow {
                 accessible: true,
                 undef: self.partly.get(&(at as u16)).copied().unwrap_or(0),
             },
@@ -105,7 +105,7 @@ impl Mixed {
     }
 
     // The side map is written first, which can fail. What it has of a byte that is not partly defined is never read.
-    fn set(&mut self, at: usize, mark: Mark) -> Result<(), AllocError>
+    fn set(&mut self, at: usize, mark: ByteShadow) -> Result<(), AllocError>
         requires within { at < page_len }
         requires clean { IsCleanMark mark }
         ensures ok { OnOk result ((k : ℕ) → marks_mixed self.new k ≡ set_at (marks_mixed self.old) at mark k) }
@@ -261,34 +261,34 @@ impl Clone for Mixed {
 }
 
 #[tactic(auto, unfolding(crate::specs::Pages::marks_in))]
-impl Clone for Marks {
+impl Clone for PageShadows {
     ghost use Rattle.shadow_memory.specs.Pages.{marks_in};
     ghost use Rattle.shadow_memory.specs.Places.{Agree};
 
     ghost is_clone = { λ marks copy. Agree (marks_in copy) (marks_in marks) };
 
-    fn clone(&self) -> Result<Marks, AllocError> {
+    fn clone(&self) -> Result<PageShadows, AllocError> {
         match self {
-            Marks::Uniform(kind) => Ok(Marks::Uniform(*kind)),
-            Marks::Mixed(mixed) => Ok(Marks::Mixed(mixed.clone()?)),
+            PageShadows::Uniform(kind) => Ok(PageShadows::Uniform(*kind)),
+            PageShadows::Mixed(mixed) => Ok(PageShadows::Mixed(mixed.clone()?)),
         }
     }
 }
 
 #[tactic(auto, unfolding(crate::specs::Pages::marks_in, crate::specs::Pages::AreWhole))]
-impl Marks {
+impl PageShadows {
     ghost use Rattle.std.specs.Prelude.{if◌then◌else◌};
     ghost use Rattle.shadow_memory.specs.Pages.{marks_in, marks_mixed, AreWhole};
     ghost use Rattle.shadow_memory.specs.Places.{AgreeInPage};
 
-    pub(crate) fn mark(&self, at: usize) -> Mark
+    pub(crate) fn mark(&self, at: usize) -> ByteShadow
         requires { at < page_len }
         ensures value { result ≡ marks_in self.now at }
         ensures clean { IsCleanMark result }
     {
         match self {
-            Marks::Uniform(kind) => mark_of_kind(*kind),
-            Marks::Mixed(mixed) => mixed.mark(at),
+            PageShadows::Uniform(kind) => mark_of_kind(*kind),
+            PageShadows::Mixed(mixed) => mixed.mark(at),
         }
     }
 
@@ -298,8 +298,8 @@ impl Marks {
         ensures { result ≡ holds_word (λ k. shadow_of_mark (marks_in self.now k)) at }
     {
         match self {
-            Marks::Uniform(kind) => !is_bad_mark(mark_of_kind(*kind), true),
-            Marks::Mixed(mixed) => mixed.holds_word(at),
+            PageShadows::Uniform(kind) => !is_bad_mark(mark_of_kind(*kind), true),
+            PageShadows::Mixed(mixed) => mixed.holds_word(at),
         }
     }
 
@@ -312,8 +312,8 @@ impl Marks {
         ensures inside { IfSome result (λ at. at < page_len) }
     {
         match self {
-            Marks::Uniform(kind) => next_word_of(*kind, from),
-            Marks::Mixed(mixed) => mixed.next_word(from),
+            PageShadows::Uniform(kind) => next_word_of(*kind, from),
+            PageShadows::Mixed(mixed) => mixed.next_word(from),
         }
     }
 
@@ -325,26 +325,26 @@ impl Marks {
         ensures some { IfSome result (IsFirst (λ k. is_bad need_defined (shadow_of_mark (marks_in self.now k))) from to) }
     {
         match self {
-            Marks::Uniform(kind) => first_bad_of(*kind, from, to, need_defined),
-            Marks::Mixed(mixed) => mixed.first_bad(from, to, need_defined),
+            PageShadows::Uniform(kind) => first_bad_of(*kind, from, to, need_defined),
+            PageShadows::Mixed(mixed) => mixed.first_bad(from, to, need_defined),
         }
     }
 
-    pub(crate) fn set(&mut self, alloc: Global, at: usize, mark: Mark) -> Result<(), AllocError>
+    pub(crate) fn set(&mut self, alloc: Global, at: usize, mark: ByteShadow) -> Result<(), AllocError>
         requires within { at < page_len }
         requires clean { IsCleanMark mark }
         ensures ok { OnOk result (AgreeInPage (marks_in self.new) (set_at (marks_in self.old) at mark)) }
         ensures err { OnErr result (AgreeInPage (marks_in self.new) (marks_in self.old)) }
     {
         match self {
-            Marks::Mixed(mixed) => mixed.set(at, mark),
-            Marks::Uniform(kind) => {
+            PageShadows::Mixed(mixed) => mixed.set(at, mark),
+            PageShadows::Uniform(kind) => {
                 if mark_of_kind(*kind) == mark {
                     return Ok(());
                 }
                 let mut mixed = Mixed::filled(alloc, *kind)?;
                 mixed.set(at, mark)?;
-                *self = Marks::Mixed(mixed);
+                *self = PageShadows::Mixed(mixed);
                 Ok(())
             }
         }
@@ -358,8 +358,8 @@ impl Marks {
         ensures { IsTrue result → (k : ℕ) → from ≤ k → k < to → marks_in self.now k ≡ mark_of RangeKind.Defined }
     {
         match self {
-            Marks::Uniform(kind) => *kind == RangeKind::Defined,
-            Marks::Mixed(mixed) => mixed.are_defined(from, to),
+            PageShadows::Uniform(kind) => *kind == RangeKind::Defined,
+            PageShadows::Mixed(mixed) => mixed.are_defined(from, to),
         }
     }
 
@@ -367,10 +367,10 @@ impl Marks {
     fn fold(&mut self, kind: RangeKind)
         ensures { AgreeInPage (marks_in self.new) (marks_in self.old) }
     {
-        if let Marks::Mixed(mixed) = self
+        if let PageShadows::Mixed(mixed) = self
             && mixed.are_all(kind)
         {
-            *self = Marks::Uniform(kind);
+            *self = PageShadows::Uniform(kind);
         }
     }
 
@@ -382,11 +382,11 @@ impl Marks {
         ensures err { OnErr result (AgreeInPage (marks_in self.new) (marks_in self.old)) }
     {
         match self {
-            Marks::Uniform(RangeKind::Undefined) => {
+            PageShadows::Uniform(RangeKind::Undefined) => {
                 self.make(alloc, from, to, RangeKind::Defined)
             }
-            Marks::Uniform(_) => Ok(()),
-            Marks::Mixed(mixed) => {
+            PageShadows::Uniform(_) => Ok(()),
+            PageShadows::Mixed(mixed) => {
                 mixed.define(from, to);
                 Ok(())
             }
@@ -412,9 +412,9 @@ impl Marks {
             _ => RangeKind::Defined,
         };
         match self {
-            Marks::Uniform(RangeKind::NoAccess) => Ok(()),
-            Marks::Uniform(_) => self.make(alloc, from, to, made),
-            Marks::Mixed(mixed) => {
+            PageShadows::Uniform(RangeKind::NoAccess) => Ok(()),
+            PageShadows::Uniform(_) => self.make(alloc, from, to, made),
+            PageShadows::Mixed(mixed) => {
                 mixed.take(from, to, kind);
                 self.fold(made);
                 Ok(())
@@ -439,14 +439,14 @@ impl Marks {
         ensures err { OnErr result (AgreeInPage (marks_in self.new) (marks_in self.old)) }
     {
         match self {
-            Marks::Uniform(RangeKind::NoAccess) => Ok(()),
-            Marks::Uniform(old) => {
+            PageShadows::Uniform(RangeKind::NoAccess) => Ok(()),
+            PageShadows::Uniform(old) => {
                 let mut mixed = Mixed::filled(alloc, *old)?;
                 mixed.copy(at, source, from, count);
-                *self = Marks::Mixed(mixed);
+                *self = PageShadows::Mixed(mixed);
                 Ok(())
             }
-            Marks::Mixed(mixed) => {
+            PageShadows::Mixed(mixed) => {
                 mixed.copy(at, source, from, count);
                 Ok(())
             }
@@ -458,7 +458,7 @@ impl Marks {
         &mut self,
         alloc: Global,
         at: usize,
-        source: &Marks,
+        source: &PageShadows,
         from: usize,
         count: usize,
     ) -> Result<(), AllocError>
@@ -470,8 +470,8 @@ impl Marks {
         ensures err { OnErr result (AgreeInPage (marks_in self.new) (marks_in self.old)) }
     {
         match source {
-            Marks::Uniform(kind) => self.take(alloc, at, at + count, *kind),
-            Marks::Mixed(mixed) => {
+            PageShadows::Uniform(kind) => self.take(alloc, at, at + count, *kind),
+            PageShadows::Mixed(mixed) => {
                 self.copy_mixed(alloc, at, mixed, from, count)?;
                 self.fold(RangeKind::Defined);
                 Ok(())
@@ -488,8 +488,8 @@ impl Marks {
         ensures whole { AreWhole self.now from result }
     {
         match self {
-            Marks::Uniform(_) => to,
-            Marks::Mixed(mixed) => mixed.codes.whole_end(from, to),
+            PageShadows::Uniform(_) => to,
+            PageShadows::Mixed(mixed) => mixed.codes.whole_end(from, to),
         }
     }
 
@@ -500,8 +500,8 @@ impl Marks {
         ensures { IfSome result (λ kind. (k : ℕ) → from ≤ k → k < to → marks_in self.now k ≡ mark_of kind) }
     {
         match self {
-            Marks::Uniform(kind) => Some(*kind),
-            Marks::Mixed(mixed) => mixed.kind(from, to),
+            PageShadows::Uniform(kind) => Some(*kind),
+            PageShadows::Mixed(mixed) => mixed.kind(from, to),
         }
     }
 
@@ -519,22 +519,22 @@ impl Marks {
         ensures err { OnErr result (AgreeInPage (marks_in self.new) (marks_in self.old)) }
     {
         if from == 0 && to == 4096 {
-            *self = Marks::Uniform(kind);
+            *self = PageShadows::Uniform(kind);
             return Ok(());
         }
         match self {
-            Marks::Mixed(mixed) => {
+            PageShadows::Mixed(mixed) => {
                 mixed.make(from, to, kind);
                 self.fold(kind);
                 Ok(())
             }
-            Marks::Uniform(old) => {
+            PageShadows::Uniform(old) => {
                 if *old == kind {
                     return Ok(());
                 }
                 let mut mixed = Mixed::filled(alloc, *old)?;
                 mixed.make(from, to, kind);
-                *self = Marks::Mixed(mixed);
+                *self = PageShadows::Mixed(mixed);
                 Ok(())
             }
         }

@@ -11,7 +11,7 @@ ghost use Rattle.shadow_memory.specs.Memories.{bytes_in, shadows_in, cells_of, c
 
 use crate::cells::{Cell, RangeKind};
 use crate::directories::Directory;
-use crate::edits::{Each, Edit};
+use crate::edits::{Each, PageEdit};
 use crate::pages::PAGE;
 use crate::slots::PageSlot;
 use crate::views::View;
@@ -92,7 +92,7 @@ impl DirectorySlot {
     }
 
     // Changes cells of one page, in a directory of its own.
-    fn change(&mut self, alloc: Global, at: usize, edit: &Edit<'_>) -> Result<(), AllocError>
+    fn change(&mut self, alloc: Global, at: usize, edit: &PageEdit<'_>) -> Result<(), AllocError>
         requires within { at < 4194304 }
         requires one_page { at % page_len + count_of edit.now ≤ page_len }
         requires fits { Fits edit.now }
@@ -248,7 +248,7 @@ impl Memory {
     }
 
     /// Changes cells of one page, all of them or none.
-    pub(crate) fn change(&mut self, addr: u32, edit: &Edit<'_>) -> Result<(), AllocError>
+    pub(crate) fn change(&mut self, addr: u32, edit: &PageEdit<'_>) -> Result<(), AllocError>
         requires one_page { addr % page_len + count_of edit.now ≤ page_len }
         requires fits { Fits edit.now }
         ensures ok { OnOk result (cells_of self.new ≡ changed_from (cells_of self.old) addr (count_of edit.now) (change_of edit.now)) }

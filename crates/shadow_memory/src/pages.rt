@@ -10,10 +10,10 @@ ghost use Rattle.shadow_memory.specs.Firsts.{IsFirst, NonePass};
 ghost use Rattle.shadow_memory.specs.Shadows.{is_bad, HoldNoWord, IsNextWord};
 ghost use Rattle.shadow_memory.specs.Values.{holds_in_range, HoldNoneInRange, IsNextInRange};
 
-use crate::cells::{Cell, Loaded, Mark, RangeKind, marked_cell};
-use crate::edits::{Each, Edit};
+use crate::cells::{Cell, Loaded, ByteShadow, RangeKind, marked_cell};
+use crate::edits::{Each, PageEdit};
 use crate::laws::all_are;
-use crate::marks::Marks;
+use crate::marks::PageShadows;
 use crate::slices::{fill_at, set_all, write_at};
 use crate::words::{ABSENT, loaded_from, may_lie_within, word};
 use std::alloc::{AllocError, Global};
@@ -25,7 +25,7 @@ pub(crate) const PAGE: usize = 4096;
 #[derive(Drop)]
 pub(crate) struct Page {
     bytes: Vec<u8>,
-    marks: Marks,
+    marks: PageShadows,
     ghost long: { vec_len bytes ≡ page_len },
 }
 
@@ -44,7 +44,7 @@ impl Page {
         let bytes = vec![in alloc; 0u8; PAGE]?;
         Ok(Page {
             bytes,
-            marks: Marks::Uniform(kind),
+            marks: PageShadows::Uniform(kind),
         })
     }
 
@@ -169,7 +169,7 @@ impl Page {
         ensures ok { OnOk result (AgreeInPage (cells_in self.new) (set_at (cells_in self.old) at cell)) }
         ensures err { OnErr result (AgreeInPage (cells_in self.new) (cells_in self.old)) }
     {
-        let mark = Mark {
+        let mark = ByteShadow {
             accessible: cell.accessible,
             undef: cell.undef,
         };
@@ -326,7 +326,7 @@ impl Page {
         &mut self,
         alloc: Global,
         at: usize,
-        edit: &Edit<'_>,
+        edit: &PageEdit<'_>,
     ) -> Result<(), AllocError>
         requires within { at + count_of edit.now ≤ page_len }
         requires fits { Fits edit.now }
@@ -334,11 +334,11 @@ impl Page {
         ensures err { OnErr result (AgreeInPage (cells_in self.new) (cells_in self.old)) }
     {
         match edit {
-            Edit::Set(cell) => self.set(alloc, at, *cell),
-            Edit::All(count, each) => self.all(alloc, at, *count, *each),
-            Edit::Fill(count, bytes) => self.fill(alloc, at, *count, bytes),
-            Edit::Store(bytes) => self.store(alloc, at, bytes),
-            Edit::Copy(source, from, count) => self.copy(alloc, at, source, *from, *count),
+            PageEdit::Set(cell) => self.set(alloc, at, *cell),
+            PageEdit::All(count, each) => self.all(alloc, at, *count, *each),
+            PageEdit::Fill(count, bytes) => self.fill(alloc, at, *count, bytes),
+            PageEdit::Store(bytes) => self.store(alloc, at, bytes),
+            PageEdit::Copy(source, from, count) => self.copy(alloc, at, source, *from, *count),
         }
     }
 }

@@ -9,7 +9,7 @@ ghost use Rattle.shadow_memory.specs.Fronts.{CellsReceived, HasFilled, HasReceiv
 ghost use Rattle.shadow_memory.specs.Memories.{bytes_in, shadows_in, cells_of};
 
 use crate::cells::RangeKind;
-use crate::edits::{Each, Edit};
+use crate::edits::{Each, PageEdit};
 use crate::memory::Memory;
 use std::alloc::AllocError;
 
@@ -73,7 +73,7 @@ impl Memory {
             return self.change_some(at, most, Each::Clear);
         }
         let count = count_in_page(at, most);
-        self.change(at, &Edit::Fill(count as usize, bytes))?;
+        self.change(at, &PageEdit::Fill(count as usize, bytes))?;
         Ok(count)
     }
 
@@ -117,7 +117,7 @@ impl Memory {
             let count = count_in_page(at, len - done);
             let from = done as usize;
             let part = &bytes[from..from + count as usize];
-            self.change(at, &Edit::Store(part))?;
+            self.change(at, &PageEdit::Store(part))?;
             done += count;
         }
         Ok(())

@@ -9,7 +9,7 @@ ghost use Rattle.shadow_memory.specs.Marks.{blank};
 ghost use Rattle.shadow_memory.specs.Pages.{cells_in};
 
 use crate::cells::RangeKind;
-use crate::edits::{Each, Edit};
+use crate::edits::{Each, PageEdit};
 use crate::pages::{PAGE, Page};
 use crate::views::View;
 use std::alloc::{AllocError, Global};
@@ -26,11 +26,11 @@ pub(crate) enum PageSlot {
 
 // The kind that a blank page has after a change, where it stays blank.
 #[tactic(auto, unfolding(crate::specs::Edits::count_of, crate::specs::Edits::change_of))]
-fn blank_after(old: RangeKind, edit: &Edit<'_>) -> Option<RangeKind>
+fn blank_after(old: RangeKind, edit: &PageEdit<'_>) -> Option<RangeKind>
     ensures { IfSome result (LeavesBlank old edit.now) }
 {
     match edit {
-        Edit::All(count, each) => {
+        PageEdit::All(count, each) => {
             let new = each.kind_after(old);
             if *count == PAGE || new == old {
                 Some(new)
@@ -38,20 +38,20 @@ fn blank_after(old: RangeKind, edit: &Edit<'_>) -> Option<RangeKind>
                 None
             }
         }
-        Edit::Fill(PAGE, []) => Some(RangeKind::Defined),
+        PageEdit::Fill(PAGE, []) => Some(RangeKind::Defined),
         _ => None,
     }
 }
 
 // The kind of a page after a change of all of it, where it is known to be zeros of one.
 #[tactic(auto, unfolding(crate::specs::Edits::count_of, crate::specs::Edits::change_of, crate::specs::Edits::each_of))]
-fn cleared_by(page: &Page, edit: &Edit<'_>) -> Option<RangeKind>
+fn cleared_by(page: &Page, edit: &PageEdit<'_>) -> Option<RangeKind>
     ensures whole { IfSome result (λ kind. count_of edit.now ≡ page_len) }
     ensures zeros { IfSome result (λ kind. (k : ℕ) → k < page_len → change_of edit.now k (cells_in page.now k) ≡ blank kind) }
 {
     match edit {
-        Edit::All(PAGE, each) => page.cleared(*each),
-        Edit::Fill(PAGE, []) => Some(RangeKind::Defined),
+        PageEdit::All(PAGE, each) => page.cleared(*each),
+        PageEdit::Fill(PAGE, []) => Some(RangeKind::Defined),
         _ => None,
     }
 }
@@ -105,7 +105,7 @@ impl PageSlot {
         &mut self,
         alloc: Global,
         at: usize,
-        edit: &Edit<'_>,
+        edit: &PageEdit<'_>,
     ) -> Result<(), AllocError>
         requires within { at + count_of edit.now ≤ page_len }
         requires fits { Fits edit.now }

@@ -6,7 +6,7 @@ ghost use Rattle.suppressions.specs.Added.{framed, parameter_rule, leak_rule, ad
 use crate::fault::SuppFault;
 use crate::frames::Frames;
 use crate::leak_kinds::{EACH_KIND, LeakKinds};
-use crate::parts::Parts;
+use text_parts::Parts;
 use crate::subject::Subject;
 use crate::suppression::Suppression;
 use crate::text::Text;

@@ -14,7 +14,6 @@
 //! | [`Suppression::is_on`], [`Suppression::switch`] | its switch |
 //! | [`is_suppressed`] | whether some suppression that is switched on matches |
 //! | [`LeakKinds::from_list`] | the leak kinds that a list of words names |
-//! | [`Parts::new`], [`Parts::next`], [`Parts::fork`] | the parts of a text, as words between spaces; the same parts again |
 //!
 //! [`Target`] is an error's or a leak's kind, [`LeakKinds`] a set of leak kinds, [`SuppFault`] a refusal, and [`TEXT_LIMIT`] how long
 //! a text may be. `matches`, `is_suppressed`, `is_on` and `switch` take no memory and always answer, for any number of names. One
@@ -42,7 +41,7 @@
 //! - `Subjects`, `Rules`: which kinds a suppression is for, and what it matches.
 //! - `Words`, `Added`: the words of a suppression, and those of a session's command.
 //! - `Lines`, `Blocks`, `Texts`: the lines of a text that count, one block, and the whole text with its faults.
-//! - `Initials` and `Parts` are for this crate's proofs.
+//! - `Initials` is for this crate's proofs.
 //!
 //! Each relation stands beside a function that says the same: the relation to be read, the function for filters.
 //!
@@ -57,7 +56,6 @@ mod glob;
 mod leak_kinds;
 mod lines;
 mod parsing;
-mod parts;
 mod pieces;
 mod subject;
 mod suppression;
@@ -69,6 +67,5 @@ pub use fault::SuppFault;
 pub use leak_kinds::LeakKinds;
 pub use lines::TEXT_LIMIT;
 pub use parsing::parse;
-pub use parts::Parts;
 pub use suppression::{Suppression, is_suppressed};
 pub use target::Target;

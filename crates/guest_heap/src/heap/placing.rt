@@ -6,14 +6,16 @@ use crate::entry::Entry;
 use crate::heap::Heap;
 use crate::interval::high_end;
 use crate::region::{GREATEST_SIZE, HEAP_BEGIN, HEAP_END, aligned, slot_of};
-use call_stacks::{Block, Trace};
+use call_stacks::Trace;
+use crate::block::Block;
 use std::alloc::{AllocError, Global};
 use std::rc::Rc;
 
 #[tactic(auto, unfolding(crate::specs::Heaps::blocks_of))]
 impl Heap {
     ghost use Rattle.std.specs.Prelude.{IfOk, OnOk, OnErr};
-    ghost use Rattle.guest_heap.specs.Blocks.{IsPlace, Places, allocated, heap_begin, greatest_size, with_block};
+    ghost use Rattle.guest_heap.specs.Blocks.{IsPlace, Places, allocated, greatest_size, with_block};
+    ghost use Rattle.memory_map.specs.Regions.{heap_begin};
     ghost use Rattle.guest_heap.specs.Steps.{place};
     ghost use Rattle.guest_heap.specs.Heaps.{blocks_of, redzone_in};
     ghost use Rattle.guest_heap.specs.States.{AreNoPlaces};
@@ -44,7 +46,7 @@ impl Heap {
         None
     }
 
-    /// The bounds are those of a red zone.
+    /// The bounds are those of a redzone.
     #[tactic(auto, unfolding(crate::specs::Heaps::blocks_of, crate::specs::Heaps::redzone_in))]
     fn use_redzone(&mut self, redzone: u32) -> Result<(), AllocError>
         ensures same { blocks_of self.new ≡ blocks_of self.old }

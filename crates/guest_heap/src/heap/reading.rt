@@ -1,10 +1,11 @@
 //! What a heap answers of its blocks.
 ghost use Rattle.std.specs.Prelude.{◌≡◌, ◌≤◌, ℕ, None};
-ghost use Rattle.guest_heap.specs.Blocks.{near_of, heap_end, high_end};
+ghost use Rattle.guest_heap.specs.Blocks.{near_of, high_end};
+ghost use Rattle.memory_map.specs.Regions.{heap_end};
 
 use crate::heap::Heap;
 use crate::region::{HEAP_BEGIN, HEAP_END, SLOTS};
-use call_stacks::{Block, Near, Place};
+use crate::block::{Block, Near, Place};
 
 fn near_of(block: &Block, address: u32) -> Near
     requires { high_end block.now ≤ heap_end }

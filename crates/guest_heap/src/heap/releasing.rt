@@ -10,7 +10,8 @@ use crate::heap::Heap;
 use crate::region::{HEAP_BEGIN, SLOTS, aligned, slot_of};
 use crate::released::Released;
 use crate::table::Table;
-use call_stacks::{Block, Trace};
+use call_stacks::Trace;
+use crate::block::Block;
 use std::alloc::{AllocError, Global};
 use std::rc::Rc;
 

@@ -4,7 +4,7 @@ ghost use Rattle.std.specs.Prelude.{◌≡◌, ◌<◌, ◌≤◌, ◌+◌, ◌*
 use crate::heap::Heap;
 use crate::interval::{high_end, low_end};
 use crate::region::{HEAP_BEGIN, HEAP_END, slot_of};
-use call_stacks::Block;
+use crate::block::Block;
 
 #[tactic(auto, unfolding(crate::specs::Heaps::live_in, crate::specs::Heaps::freed_in, crate::specs::Heaps::first_in))]
 impl Heap {
@@ -13,7 +13,8 @@ impl Heap {
     ghost use Rattle.guest_heap.specs.Entries.{IsNext, IsLast};
     ghost use Rattle.guest_heap.specs.States.{kept_at, either, IsNextKept, IsLastKept, MeetsBelow, MeetsFrom, EndsBelow, BeginsAbove};
     ghost use Rattle.guest_heap.specs.Heaps.{blocks_of, live_in, freed_in, first_in};
-    ghost use Rattle.guest_heap.specs.Blocks.{IsKept, Meets, heap_begin, heap_end, high_end};
+    ghost use Rattle.guest_heap.specs.Blocks.{IsKept, Meets, high_end};
+    ghost use Rattle.memory_map.specs.Regions.{heap_begin, heap_end};
 
     /// The kept block of a slot.
     fn kept_in(&self, slot: usize) -> Option<&Block>

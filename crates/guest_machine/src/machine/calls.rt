@@ -16,7 +16,7 @@ use crate::register::Register;
 use crate::setup::Setup;
 use crate::span::Span;
 use crate::status::Status;
-use error_events::{Fault3, Kind, Parameter};
+use error_events::{ParameterFault, Kind, Parameter};
 use guest_elf::Hook;
 use shadow_memory::Bad;
 use std::alloc::AllocError;
@@ -65,7 +65,7 @@ impl Guest {
     {
         let mut r = A0;
         for &parameter in parameters {
-            self.test(Register::new(r), Kind::Param(parameter, Fault3::Contains))?;
+            self.test(Register::new(r), Kind::Param(parameter, ParameterFault::Contains))?;
             r += 1;
         }
         Ok(())
@@ -76,7 +76,7 @@ impl Guest {
     pub(super) fn test_call(&mut self, call: EnvironmentCall) -> Result<(), AllocError>
         ensures { OnOk result (Notes self.old self.new (call_tested (core_of self.old) call) (call_errors (core_of self.old) call)) }
     {
-        let number = Kind::Param(Parameter::SyscallNumber, Fault3::Contains);
+        let number = Kind::Param(Parameter::SyscallNumber, ParameterFault::Contains);
         self.test(Register::new(A7), number)?;
         self.test_parameters(parameters_of(call))
     }
@@ -239,13 +239,13 @@ fn parameters_of(call: EnvironmentCall) -> &'static [Parameter]
 }
 
 /// What is wrong with a byte of a buffer.
-fn fault_of(bad: Bad) -> Fault3
+fn fault_of(bad: Bad) -> ParameterFault
     ensures { result ≡ fault_of bad }
 {
     if bad.accessible {
-        Fault3::Uninit
+        ParameterFault::Uninit
     } else {
-        Fault3::Unaddressable
+        ParameterFault::Unaddressable
     }
 }
 

@@ -11,7 +11,7 @@ use crate::instruction::Comparison;
 use crate::machine::Guest;
 use crate::register::Register;
 use error_events::{Event, Kind, Note};
-use guest_elf::{STACK_BEGIN, STACK_END};
+use memory_map::{STACK_BEGIN, STACK_END};
 use std::alloc::AllocError;
 
 /// What is said of an address that is near no block.

@@ -7,7 +7,7 @@ ghost use Rattle.guest_machine.specs.Doing.{Changes};
 use crate::machine::Guest;
 use crate::register::Register;
 use definedness::Bits;
-use guest_elf::{STACK_BEGIN, STACK_END};
+use memory_map::{STACK_BEGIN, STACK_END};
 use shadow_memory::RangeKind;
 use std::alloc::AllocError;
 

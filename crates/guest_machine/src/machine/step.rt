@@ -53,7 +53,7 @@ impl Used {
 impl Guest {
     /// Carries an instruction out, and notes which bytes it took and which it wrote.
     #[tactic(auto, unfolding(crate::specs::Exec::row_effect, crate::specs::Exec::row_uses, crate::specs::Exec::calls_heap, crate::specs::Exec::row_asks, crate::specs::Exec::call_asks, crate::specs::Doing::note_events))]
-    fn carry_out(
+    fn execute(
         &mut self,
         setup: &Setup,
         row: Option<Instruction>,
@@ -220,7 +220,7 @@ impl Guest {
     {
         let stack_pointer = self.read_register(Register::new(2));
         self.test_word(word.undef)?;
-        self.carry_out(setup, row_of(word.value), used)?;
+        self.execute(setup, row_of(word.value), used)?;
         self.stack_rule(stack_pointer)
     }
 

@@ -1,6 +1,6 @@
 //! Options of the heap and of the report.
 use crate::edits::refused_if;
-use crate::limits::{LARGEST_QUEUE, LARGEST_REDZONE, MOST_CALLERS};
+use crate::limits::{LARGEST_VOLUME, LARGEST_REDZONE, MOST_CALLERS};
 use crate::refusal::Refusal;
 use crate::scenario::Scenario;
 use suppressions::LeakKinds;
@@ -8,7 +8,7 @@ use suppressions::LeakKinds;
 impl<'a> Scenario<'a> {
     ghost use Rattle.std.specs.Prelude.{◌≡◌};
     ghost use Rattle.scenario.specs.Edits.{row, IsTaken};
-    ghost use Rattle.scenario.specs.declared.edit.Edit.TheVariants.{Callers, Redzone, Queue, Show};
+    ghost use Rattle.scenario.specs.declared.edit.Edit.TheVariants.{Callers, Redzone, Volume, Show};
 
     pub(crate) fn callers_refusal(&self, n: u32) -> Option<Refusal>
         ensures { result ≡ (row self.now (Callers n)).refusal }
@@ -22,10 +22,10 @@ impl<'a> Scenario<'a> {
         refused_if(n > LARGEST_REDZONE, Refusal::BadOption)
     }
 
-    pub(crate) fn queue_refusal(&self, n: u32) -> Option<Refusal>
-        ensures { result ≡ (row self.now (Queue n)).refusal }
+    pub(crate) fn volume_refusal(&self, n: u32) -> Option<Refusal>
+        ensures { result ≡ (row self.now (Volume n)).refusal }
     {
-        refused_if(n > LARGEST_QUEUE, Refusal::BadOption)
+        refused_if(n > LARGEST_VOLUME, Refusal::BadOption)
     }
 
     /// Chooses how many addresses of a trace are shown.
@@ -36,7 +36,7 @@ impl<'a> Scenario<'a> {
         self.options.callers = n;
     }
 
-    /// Chooses the red zone of the blocks that are allocated.
+    /// Chooses the redzone of the blocks that are allocated.
     pub(crate) fn set_redzone(&mut self, n: u32)
         ensures { self.new ≡ (row self.old (Redzone n)).after }
     {
@@ -44,8 +44,8 @@ impl<'a> Scenario<'a> {
     }
 
     /// Chooses how many bytes the freed blocks may have.
-    pub(crate) fn set_queue(&mut self, n: u32)
-        ensures { self.new ≡ (row self.old (Queue n)).after }
+    pub(crate) fn set_volume(&mut self, n: u32)
+        ensures { self.new ≡ (row self.old (Volume n)).after }
     {
         self.setup.volume = n;
     }

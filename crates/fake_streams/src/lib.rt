@@ -1,4 +1,10 @@
 //! For tests: a reader and a writer over memory that fail where they are told to.
+//!
+//! A [`Script`] reads some bytes, and fails from a call or from a byte on; [`Interruptions`] says which reads are interrupted. A [`Room`]
+//! takes bytes up to a number of them, and answers what it doesn't take by a [`Refusal`]. Contracts see what a [`Script`] still has to
+//! give, and what a [`Room`] has taken.
+#![tactic(auto)]
+
 use std::alloc::Global;
 use std::io;
 use std::io::{Error, ErrorKind, Read, Write};

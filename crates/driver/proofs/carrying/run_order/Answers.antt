@@ -1,4 +1,4 @@
-use Rattle.driver.proofs.carrying.carry_out.Goals as goal
+use Rattle.driver.proofs.carrying.run_order.Goals as goal
 
 pub returns-in-Report : goal.returns-in-Report
 returns-in-Report g c = rw (c.in-Report.is, c.ended.ensures) c.follow_order.ensures
