@@ -1,5 +1,5 @@
--- Call stacks: lists of frames, newest first, as a stack of return addresses keeps them (RISC-V Unprivileged ISA 20191213,
--- section 2.5, "return-address stack"); the depth of stacks and traces is this project's own.
+-- Call stacks: lists of frames, newest first, as a stack of return addresses keeps them (RISC-V Unprivileged ISA
+-- 20191213, section 2.5, "return-address stack"); the depth of stacks and traces is this project's own.
 use Rattle.std.specs.Prelude.{ℕ, ◌+◌, ◌==◌, List, ◌∷◌, Option, Some, None, map, take, drop, position}
 use Rattle.call_stacks.specs.declared.stack.Frame.{Frame}
 

@@ -1,5 +1,6 @@
 -- What the machine at a step tells of an edit's effect, and how far the edited run goes the same way.
-use Rattle.std.proofs.Common.{◌≡◌, ℕ, ◌+◌, ◌-◌, ◌*◌, ◌<◌, ◌≤◌, nat_lt, Bool, true, false, List, Option, Some, None, refl, ap, sym, ◌∙◌, subst, arith, inl, inr, length, take, min, get_or}
+use Rattle.std.proofs.Common.{◌≡◌, ℕ, ◌+◌, ◌-◌, ◌*◌, ◌<◌, ◌≤◌, nat_lt, Bool, true, false, List, Option, Some, None}
+use Rattle.std.proofs.Common.{refl, ap, sym, ◌∙◌, subst, arith, inl, inr, length, take, min, get_or}
 use Rattle.std.specs.Prelude.{is_some}
 use Rattle.std.proofs.lemmas.Bool.{cases_lt, true≢false, false≢true}
 use Rattle.std.proofs.lemmas.Bool.Decides.{nat_tests}
@@ -19,13 +20,15 @@ use Rattle.checkpoints.specs.Trails.{machines_of, table_of, is_short, IsRightFor
 use Rattle.checkpoints.specs.declared.trail.Trail.{Trail}
 use Rattle.checkpoints.specs.declared.effect.Effect.{Effect}
 use Rattle.checkpoints.specs.declared.effect.Effect.TheVariants.{Nowhere, After, Input, End, Heap, Word}
-use Rattle.checkpoints.proofs.RunSteps.{SameStep, reads-rise, no-calls, unseen-before, same-before-input, same-before-end, same-before-heap, same-before-mark}
+use Rattle.checkpoints.proofs.RunSteps.{SameStep, reads-rise, no-calls, unseen-before, same-before-input}
+use Rattle.checkpoints.proofs.RunSteps.{same-before-end, same-before-heap, same-before-mark}
 use Rattle.checkpoints.proofs.FirstSteps.{first-fewer}
 use Rattle.checkpoints.proofs.TrailSteps.{right-for-fewer, keeps-just, shows-same}
 
 -- ---- what is told
 
-tells : (P : ℕ → Type 0) (k : ℕ) (told : Bool) → (told ≡ true → IsBelowFirst P k → ⊥) → (told ≡ false → IsBelowFirst P k) → Tells P k told
+tells : (P : ℕ → Type 0) (k : ℕ) (told : Bool) → (told ≡ true → IsBelowFirst P k → ⊥)
+    → (told ≡ false → IsBelowFirst P k) → Tells P k told
 tells P k true shown hidden = shown refl
 tells P k false shown hidden = hidden refl
 
@@ -36,42 +39,53 @@ told-after s k n e = tells (MarkShows s) k (nat_lt s n)
     (λ told j l at. let early : n ≤ s = grind (arith, nat_tests) in omega arith)
 
 -- by the position in the input
-pub told-input : ReadsOn → (start : State) (setup : Setup) (marks : List Mark) (offset position k : ℕ) → position ≡ (pre start setup marks k).position
+pub told-input : ReadsOn → (start : State) (setup : Setup) (marks : List Mark) (offset position k : ℕ)
+    → position ≡ (pre start setup marks k).position
     → Tells (InputShows offset start setup marks) k (nat_lt offset position)
-told-input law start setup marks offset position k e = tells (InputShows offset start setup marks) k (nat_lt offset position)
+told-input law start setup marks offset position k e =
+    tells (InputShows offset start setup marks) k (nat_lt offset position)
     (λ told hidden. let past : offset < position = grind (arith, nat_tests) in hidden k (omega arith) (omega arith))
-    (λ told j l read. let unread : position ≤ offset = grind (arith, nat_tests) in let rises = reads-rise law start setup marks k j l in omega arith)
+    (λ told j l read. let unread : position ≤ offset = grind (arith, nat_tests) in
+    let rises = reads-rise law start setup marks k j l in omega arith)
 
 -- by whether the end was seen
-pub told-end : EndStays → (start : State) (setup : Setup) (marks : List Mark) (seen : Bool) (k : ℕ) → seen ≡ (pre start setup marks k).end_seen
+pub told-end : EndStays → (start : State) (setup : Setup) (marks : List Mark) (seen : Bool) (k : ℕ)
+    → seen ≡ (pre start setup marks k).end_seen
     → Tells (EndShows start setup marks) k seen
 told-end law start setup marks seen k e = tells (EndShows start setup marks) k seen
     (λ told hidden. hidden k (omega arith) (sym e ∙ told))
     (λ told j l before. true≢false (sym before ∙ unseen-before law start setup marks k j l (sym e ∙ told)))
 
 -- by the number of heap calls
-pub told-heap : KeepsHeap → (start : State) (setup : Setup) (marks : List Mark) (calls k : ℕ) → calls ≡ (pre start setup marks k).heap_calls
+pub told-heap : KeepsHeap → (start : State) (setup : Setup) (marks : List Mark) (calls k : ℕ)
+    → calls ≡ (pre start setup marks k).heap_calls
     → Tells (HeapShows start setup marks) k (nat_lt 0 calls)
 told-heap law start setup marks calls k e = tells (HeapShows start setup marks) k (nat_lt 0 calls)
     (λ told hidden. let some : 0 < calls = grind (arith, nat_tests) in hidden k (omega arith) (omega arith))
-    (λ told j l called. let few : calls ≤ 0 = grind (arith, nat_tests) in let none = no-calls law start setup marks k j l (omega arith) in omega arith)
+    (λ told j l called. let few : calls ≤ 0 = grind (arith, nat_tests) in
+    let none = no-calls law start setup marks k j l (omega arith) in omega arith)
 
 -- by the word's first use
-pub told-use : (start : State) (setup : Setup) (marks : List Mark) (addr k : ℕ) (found : Option ℕ) → IsFirstBelow (uses_word start setup marks addr) k found
+pub told-use : (start : State) (setup : Setup) (marks : List Mark) (addr k : ℕ) (found : Option ℕ)
+    → IsFirstBelow (uses_word start setup marks addr) k found
     → Tells (PatchShows addr start setup marks) k (is_some found)
 told-use start setup marks addr k None unused = λ j l shown.
     let next = shown.1 in
     false≢true (sym (unused shown.0 (omega arith)) ∙ shown.2)
-told-use start setup marks addr k (Some s) first = λ hidden. let l = first.0 in hidden (s + 1) (omega arith) (s, refl, first.1)
+told-use start setup marks addr k (Some s) first =
+    λ hidden. let l = first.0 in hidden (s + 1) (omega arith) (s, refl, first.1)
 
 pub told-word : (start : State) (setup : Setup) (marks : List Mark) (addr last entry k n : ℕ) → n ≡ k → k ≤ last
-    → IsFirstBelow (uses_word start setup marks addr) last (below last entry) → Tells (PatchShows addr start setup marks) k (is_some (below n entry))
+    → IsFirstBelow (uses_word start setup marks addr) last (below last entry)
+    → Tells (PatchShows addr start setup marks) k (is_some (below n entry))
 told-word start setup marks addr last entry k n e l h =
     subst (λ m. Tells (PatchShows addr start setup marks) k (is_some (below m entry))) (sym e)
-    (told-use start setup marks addr k (below k entry) (first-fewer (uses_word start setup marks addr) last k entry l h))
+    (told-use start setup marks addr k (below k entry)
+    (first-fewer (uses_word start setup marks addr) last k entry l h))
 
 -- no edit shows at step 0
-pub hidden-at-start : (effect : Effect) (trail : Trail) (start : State) (setup : Setup) (marks : List Mark) → IsRightFor trail start setup marks
+pub hidden-at-start : (effect : Effect) (trail : Trail) (start : State) (setup : Setup) (marks : List Mark)
+    → IsRightFor trail start setup marks
     → IsBelowFirst (EffectShows effect start setup marks) 0
 unfolding pre
 hidden-at-start Nowhere trail start setup marks h j l shown = shown
@@ -102,12 +116,14 @@ pub record Laws : Type 0 where
   pub stays : EndStays
   pub heap : KeepsHeap
 
-same-run : (start : State) (setup other : Setup) (marks edited : List Mark) (k : ℕ) → setup ≡ other → marks ≡ edited → SameStep start setup marks other edited k
+same-run : (start : State) (setup other : Setup) (marks edited : List Mark) (k : ℕ) → setup ≡ other → marks ≡ edited
+    → SameStep start setup marks other edited k
 same-run start setup other marks edited k s m =
     subst (λ (o : Setup). SameStep start setup marks o edited k) s
     (subst (λ (ms : List Mark). SameStep start setup marks setup ms k) m (record { touches = refl; exec = refl }))
 
-with-marks : (start : State) (setup other : Setup) (marks edited : List Mark) (k : ℕ) → marks ≡ edited → SameStep start setup marks other marks k
+with-marks : (start : State) (setup other : Setup) (marks edited : List Mark) (k : ℕ) → marks ≡ edited
+    → SameStep start setup marks other marks k
     → SameStep start setup marks other edited k
 with-marks start setup other marks edited k m h = subst (λ (ms : List Mark). SameStep start setup marks other ms k) m h
 
@@ -122,35 +138,47 @@ not-seen true h = absurd (h refl)
 not-seen false h = refl
 
 -- each step before one at which the edit hasn't shown
-pub goes-alike : Laws → (effect : Effect) (start : State) (setup other : Setup) (marks edited : List Mark) (n : ℕ) → DifferBy effect setup marks other edited
-    → IsBelowFirst (EffectShows effect start setup marks) n → (k : ℕ) → k < n → SameStep start setup marks other edited k
-goes-alike laws Nowhere start setup other marks edited n d hidden k l = same-run start setup other marks edited k d.0 d.1
+pub goes-alike : Laws → (effect : Effect) (start : State) (setup other : Setup) (marks edited : List Mark) (n : ℕ)
+    → DifferBy effect setup marks other edited
+    → IsBelowFirst (EffectShows effect start setup marks) n → (k : ℕ) → k < n
+    → SameStep start setup marks other edited k
+goes-alike laws Nowhere start setup other marks edited n d hidden k l =
+    same-run start setup other marks edited k d.0 d.1
 goes-alike laws (After s) start setup other marks edited n d hidden k l =
     let low : n ≤ s = not-past s n (λ past. hidden (s + 1) (omega arith) refl) in
-    subst (λ (o : Setup). SameStep start setup marks o edited k) d.0 (same-before-mark start setup marks edited s d.1 k (omega arith))
+    subst (λ (o : Setup). SameStep start setup marks o edited k) d.0
+    (same-before-mark start setup marks edited s d.1 k (omega arith))
 goes-alike laws (Input offset) start setup other marks edited n d hidden k l =
-    let unread : (pre start setup marks n).position ≤ offset = not-past offset (pre start setup marks n).position (hidden n (omega arith)) in
-    with-marks start setup other marks edited k d.1 (same-before-input laws.input laws.reads start setup other marks offset n d.0 unread k l)
+    let unread : (pre start setup marks n).position ≤ offset = not-past offset (pre start setup marks n).position
+    (hidden n (omega arith)) in
+    with-marks start setup other marks edited k d.1
+    (same-before-input laws.input laws.reads start setup other marks offset n d.0 unread k l)
 goes-alike laws End start setup other marks edited n d hidden k l =
-    let unseen : (pre start setup marks n).end_seen ≡ false = not-seen (pre start setup marks n).end_seen (hidden n (omega arith)) in
-    with-marks start setup other marks edited k d.1 (same-before-end laws.end laws.stays start setup other marks n d.0 unseen k l)
+    let unseen : (pre start setup marks n).end_seen ≡ false = not-seen (pre start setup marks n).end_seen
+    (hidden n (omega arith)) in
+    with-marks start setup other marks edited k d.1
+    (same-before-end laws.end laws.stays start setup other marks n d.0 unseen k l)
 goes-alike laws Heap start setup other marks edited n d hidden k l =
     let few = not-past 0 (pre start setup marks n).heap_calls (hidden n (omega arith)) in
     let none : (pre start setup marks n).heap_calls ≡ 0 = omega arith in
     with-marks start setup other marks edited k d.1 (same-before-heap laws.heap start setup other marks n d.0 none k l)
-goes-alike laws (Word addr word) start setup other marks edited n d hidden k l = same-run start setup other marks edited k d.0 d.1
+goes-alike laws (Word addr word) start setup other marks edited n d hidden k l =
+    same-run start setup other marks edited k d.0 d.1
 
 -- ---- the machines below the effect
 
-pub right-cut : Laws → (effect : Effect) (old new : Trail) (kept : ℕ) → machines_of new ≡ take kept (machines_of old) → table_of new ≡ table_of old → 0 < kept
-    → (start : State) (setup other : Setup) (marks edited : List Mark) → IsBelowFirst (EffectShows effect start setup marks) (1024 * (kept - 1))
+pub right-cut : Laws → (effect : Effect) (old new : Trail) (kept : ℕ) → machines_of new ≡ take kept (machines_of old)
+    → table_of new ≡ table_of old → 0 < kept
+    → (start : State) (setup other : Setup) (marks edited : List Mark)
+    → IsBelowFirst (EffectShows effect start setup marks) (1024 * (kept - 1))
     → DifferBy effect setup marks other edited → IsRightFor old start setup marks → IsRightFor new start other edited
 right-cut laws effect old new kept e t some start setup other marks edited hidden d h =
     right-for-fewer old new kept (1024 * (kept - 1)) start setup marks other edited e t some (omega arith)
     (goes-alike laws effect start setup other marks edited (1024 * (kept - 1)) d hidden) h
 
 pub keeps-cut : (P : ℕ → Type 0) (old new : Trail) (kept : ℕ) → machines_of new ≡ take kept (machines_of old) → 0 < kept
-    → ((i : ℕ) → kept ≤ i → i < length (machines_of old) → IsBelowFirst P (1024 * i) → ⊥) → IsBelowFirst P (1024 * (kept - 1)) → KeepsJust (IsBelowFirst P) old new
+    → ((i : ℕ) → kept ≤ i → i < length (machines_of old) → IsBelowFirst P (1024 * i) → ⊥)
+    → IsBelowFirst P (1024 * (kept - 1)) → KeepsJust (IsBelowFirst P) old new
 keeps-cut P old new kept e some from last =
     keeps-just (IsBelowFirst P) old new kept e some
     (λ i l low j up shown. last j (omega arith) shown)
@@ -162,11 +190,14 @@ keeps-cut P old new kept e some from last =
 -- ---- the run that is led to
 
 -- where a word was written
-pub led-by-word : (addr word : ℕ) (old new : Trail) → IsRightForPoked addr word old new → IsRightForLed (Word addr word) old new
+pub led-by-word : (addr word : ℕ) (old new : Trail) → IsRightForPoked addr word old new
+    → IsRightForLed (Word addr word) old new
 led-by-word addr word old new right one other l h =
-    let poked-start : IsRightFor new (poked one.start addr word) one.setup one.marks = right one.start one.setup one.marks h in
+    let poked-start : IsRightFor new (poked one.start addr word) one.setup one.marks = right one.start one.setup
+    one.marks h in
     let setup = subst (λ (s : Setup). IsRightFor new (poked one.start addr word) s one.marks) l.differ.0 poked-start in
-    let marks = subst (λ (ms : List Mark). IsRightFor new (poked one.start addr word) other.setup ms) l.differ.1 setup in
+    let marks = subst (λ (ms : List Mark). IsRightFor new (poked one.start addr word) other.setup ms) l.differ.1
+    setup in
     subst (λ (s : State). IsRightFor new s other.setup other.marks) (sym l.start) marks
 
 -- and where none was
@@ -181,17 +212,23 @@ unwritten End none s = refl
 unwritten Heap none s = refl
 unwritten (Word addr word) none s = absurd (none addr word refl)
 
-pub led-by-cut : (effect : Effect) → WritesNothing effect → (old new : Trail) → IsRightForEdited effect old new → IsRightForLed effect old new
+pub led-by-cut : (effect : Effect) → WritesNothing effect → (old new : Trail) → IsRightForEdited effect old new
+    → IsRightForLed effect old new
 led-by-cut effect none old new right one other l h =
     let start : other.start ≡ one.start = l.start ∙ unwritten effect none one.start in
-    subst (λ (s : State). IsRightFor new s other.setup other.marks) (sym start) (right one.start one.setup other.setup one.marks other.marks l.differ h)
+    subst (λ (s : State). IsRightFor new s other.setup other.marks) (sym start)
+    (right one.start one.setup other.setup one.marks other.marks l.differ h)
 
-pub followed-by-cut : (effect : Effect) → WritesNothing effect → (old new : Trail) (kept : ℕ) → machines_of new ≡ take kept (machines_of old)
+pub followed-by-cut : (effect : Effect) → WritesNothing effect → (old new : Trail) (kept : ℕ)
+    → machines_of new ≡ take kept (machines_of old)
     → (i : ℕ) → i < length (machines_of new) → HasFollowed effect old new i
 followed-by-cut effect none old new kept e i l d s h =
-    let size : length (machines_of new) ≡ min kept (length (machines_of old)) = ap length e ∙ length-take kept (machines_of old) in
-    let same : get_or (machines_of new) i d ≡ get_or (machines_of old) i d = ap (λ ms. get_or ms i d) e ∙ get_or-take kept (machines_of old) i d (omega arith) in
-    subst (λ (t : State). Shows (get_or (machines_of new) i d) t) (sym (unwritten effect none s)) (shows-same _ _ s (sym same) h)
+    let size : length (machines_of new) ≡ min kept (length (machines_of old)) = ap length e
+    ∙ length-take kept (machines_of old) in
+    let same : get_or (machines_of new) i d ≡ get_or (machines_of old) i d = ap (λ ms. get_or ms i d) e
+    ∙ get_or-take kept (machines_of old) i d (omega arith) in
+    subst (λ (t : State). Shows (get_or (machines_of new) i d) t) (sym (unwritten effect none s))
+    (shows-same _ _ s (sym same) h)
 
 pub whole-by-cut : (effect : Effect) (old new : Trail) → is_short new ≡ is_short old → StaysWhole effect old new
 whole-by-cut Nowhere old new e = e

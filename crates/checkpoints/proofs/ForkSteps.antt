@@ -1,5 +1,6 @@
 -- The last step at which an edit doesn't show, and the edited run up to there.
-use Rattle.std.proofs.Common.{◌≡◌, ℕ, ◌+◌, ◌%◌, ◌<◌, ◌≤◌, Bool, true, false, cond, nat_lt, List, Option, Some, None, refl, ap, sym, ◌∙◌, subst, arith, inl, inr}
+use Rattle.std.proofs.Common.{◌≡◌, ℕ, ◌+◌, ◌%◌, ◌<◌, ◌≤◌, Bool, true, false, cond, nat_lt, List, Option, Some, None}
+use Rattle.std.proofs.Common.{refl, ap, sym, ◌∙◌, subst, arith, inl, inr}
 use Rattle.std.specs.Prelude.{unwrap_or}
 use Rattle.std.proofs.lemmas.Bool.{cases_lt}
 use Rattle.guest_machine.specs.State.{State}
@@ -36,7 +37,8 @@ first-within n e = go (nat_lt e n) refl
     go true t = let low = is-low e n t in omega arith
     go false t = omega arith
 
-pub first-is-last : (addr word last : ℕ) (run : Run) (found : Option ℕ) → IsFirstBelow (uses_word run.start run.setup run.marks addr) last found
+pub first-is-last : (addr word last : ℕ) (run : Run) (found : Option ℕ)
+    → IsFirstBelow (uses_word run.start run.setup run.marks addr) last found
     → IsLastUnshown (Word addr word) run last (unwrap_or found last)
 first-is-last addr word last run None unused = record {
   within = omega arith;
@@ -50,7 +52,8 @@ first-is-last addr word last run (Some s) first = record {
 }
 
 -- a word that isn't used up to a step
-touches-none : (start : State) (setup : Setup) (marks : List Mark) (addr n : ℕ) → addr % 4 ≡ 0 → IsBelowFirst (PatchShows addr start setup marks) n
+touches-none : (start : State) (setup : Setup) (marks : List Mark) (addr n : ℕ) → addr % 4 ≡ 0
+    → IsBelowFirst (PatchShows addr start setup marks) n
     → (j : ℕ) → j < n → TouchesNone (InWord addr) (post start setup marks j) setup
 unfolding uses_word
 touches-none start setup marks addr n aligned hidden j l a e =
@@ -58,14 +61,16 @@ touches-none start setup marks addr n aligned hidden j l a e =
     (not-used (uses_word start setup marks addr j) (λ used. hidden (j + 1) (omega arith) (j, refl, used))) aligned e
 
 -- the state of the edited run before a step at which the edit doesn't show
-pub pre-led : Laws → KeepsPokes → (effect : Effect) (one other : Run) (k : ℕ) → WritesAligned effect → LeadsTo effect one other
+pub pre-led : Laws → KeepsPokes → (effect : Effect) (one other : Run) (k : ℕ) → WritesAligned effect
+    → LeadsTo effect one other
     → IsBelowFirst (EffectShows effect one.start one.setup one.marks) k
     → pre other.start other.setup other.marks k ≡ written_by effect (pre one.start one.setup one.marks k)
 pre-led laws law (Word addr word) one other k aligned l hidden =
     ap (λ (s : State). pre s other.setup other.marks k) l.start
     ∙ ap (λ (s : Setup). pre (poked one.start addr word) s other.marks k) (sym l.differ.0)
     ∙ ap (λ (ms : List Mark). pre (poked one.start addr word) one.setup ms k) (sym l.differ.1)
-    ∙ pre-poked law one.start one.setup one.marks addr word k aligned.0 aligned.1 (touches-none one.start one.setup one.marks addr k aligned.0 hidden) k (omega arith)
+    ∙ pre-poked law one.start one.setup one.marks addr word k aligned.0 aligned.1
+    (touches-none one.start one.setup one.marks addr k aligned.0 hidden) k (omega arith)
 pre-led laws law effect one other k aligned l hidden =
     ap (λ (s : State). pre s other.setup other.marks k) l.start
     ∙ sym (same-pre one.start one.setup one.marks other.setup other.marks k

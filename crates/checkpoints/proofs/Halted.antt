@@ -17,7 +17,8 @@ marks-keep-status [] s = refl
 marks-keep-status (m ∷ ms) s = marks-keep-status ms (marked s m)
 
 -- the marks of a step don't change whether it runs
-pub marked-runs : (k : ℕ) (marks : List Mark) (s : State) → is_running (after_marks k marks s).core.status ≡ is_running s.core.status
+pub marked-runs : (k : ℕ) (marks : List Mark) (s : State)
+    → is_running (after_marks k marks s).core.status ≡ is_running s.core.status
 unfolding after_marks
 marked-runs k marks s = ap is_running (marks-keep-status (marks_at k marks) s)
 
@@ -25,27 +26,35 @@ marked-halted : (k : ℕ) (marks : List Mark) (s : State) → is_running s.core.
     → is_running (after_marks k marks s).core.status ≡ false
 marked-halted k marks s h = marked-runs k marks s ∙ h
 
-module _ (law : StaysHalted) (start : State) (setup : Setup) (marks : List Mark) (from : ℕ) (halted : is_running (pre start setup marks from).core.status ≡ false) where
+module _ (law : StaysHalted) (start : State) (setup : Setup) (marks : List Mark) (from : ℕ)
+    (halted : is_running (pre start setup marks from).core.status ≡ false) where
   -- one more step
-  one-more : (j : ℕ) → is_running (pre start setup marks (from + j)).core.status ≡ false → pre start setup marks (from + suc j) ≡ after_marks (from + j) marks (pre start setup marks (from + j))
+  one-more : (j : ℕ) → is_running (pre start setup marks (from + j)).core.status ≡ false
+      → pre start setup marks (from + suc j) ≡ after_marks (from + j) marks (pre start setup marks (from + j))
   one-more j h =
       let k = from + j in
       let more : from + suc j ≡ k + 1 = omega arith in
-      ap (pre start setup marks) more ∙ pre-more start setup marks k ∙ (law setup (after_marks k marks (pre start setup marks k)) (marked-halted k marks (pre start setup marks k) h)).0
+      ap (pre start setup marks) more ∙ pre-more start setup marks k
+      ∙ (law setup (after_marks k marks (pre start setup marks k))
+      (marked-halted k marks (pre start setup marks k) h)).0
 
   halted-later : (j : ℕ) → is_running (pre start setup marks (from + j)).core.status ≡ false
   halted-later zero = ap (λ k. is_running (pre start setup marks k).core.status) (omega arith) ∙ halted
   halted-later (suc j) =
       let h = halted-later j in
-      ap (λ s. is_running s.core.status) (one-more j h) ∙ marked-halted (from + j) marks (pre start setup marks (from + j)) h
+      ap (λ s. is_running s.core.status) (one-more j h)
+      ∙ marked-halted (from + j) marks (pre start setup marks (from + j)) h
 
-  stays-there : (j : ℕ) → ((k : ℕ) → from ≤ k → k < from + j → marks_at k marks ≡ []) → pre start setup marks (from + j) ≡ pre start setup marks from
+  stays-there : (j : ℕ) → ((k : ℕ) → from ≤ k → k < from + j → marks_at k marks ≡ [])
+      → pre start setup marks (from + j) ≡ pre start setup marks from
   stays-there zero none = ap (pre start setup marks) (omega arith)
   stays-there (suc j) none =
-      one-more j (halted-later j) ∙ after-no_marks (from + j) marks (pre start setup marks (from + j)) (none (from + j) (omega arith) (omega arith))
+      one-more j (halted-later j) ∙ after-no_marks (from + j) marks (pre start setup marks (from + j))
+      (none (from + j) (omega arith) (omega arith))
       ∙ stays-there j (λ k low high. none k low (omega arith))
 
-  pub rests : (to : ℕ) → from ≤ to → ((k : ℕ) → from ≤ k → k < to → marks_at k marks ≡ []) → pre start setup marks to ≡ pre start setup marks from
+  pub rests : (to : ℕ) → from ≤ to → ((k : ℕ) → from ≤ k → k < to → marks_at k marks ≡ [])
+      → pre start setup marks to ≡ pre start setup marks from
   rests to l none =
       let more : to ≡ from + (to - from) = omega arith in
       ap (pre start setup marks) more ∙ stays-there (to - from) (λ k low high. none k low (omega arith))

@@ -1,5 +1,6 @@
 -- The next and the last step at which something holds, as steps are looked at one after another.
-use Rattle.std.proofs.Common.{◌≡◌, ℕ, ◌+◌, ◌<◌, ◌≤◌, ◌||◌, max, Bool, true, false, cond, List, Option, Some, None, length}
+use Rattle.std.proofs.Common.{◌≡◌, ℕ, ◌+◌, ◌<◌, ◌≤◌, ◌||◌, max, Bool, true, false, cond, List, Option, Some, None}
+use Rattle.std.proofs.Common.{length}
 use Rattle.std.proofs.Common.{refl, ap, sym, ◌∙◌, subst, arith, inl, inr}
 use Rattle.std.specs.Prelude.{Decides, is_some}
 use Rattle.std.proofs.lemmas.Bool.{cases_lt, true≢false}
@@ -33,12 +34,15 @@ none-of false true z h = absurd (true≢false h)
 none-of true y z h = absurd (true≢false h)
 
 -- a state that doesn't run does nothing that can be sought
-rests-unhit : StaysHalted → (watch : Watch) (range : Span) (s : State) (setup : Setup) → is_running s.core.status ≡ false
+rests-unhit : StaysHalted → (watch : Watch) (range : Span) (s : State) (setup : Setup)
+    → is_running s.core.status ≡ false
     → HitsIn watch range s setup → ⊥
 unfolding touches
 rests-unhit law Run range s setup h hit = true≢false (sym hit.0 ∙ h)
-rests-unhit law Read range s setup h hit = meets-none range (touched_of s setup).reads (λ a. (none-of _ _ _ ((law setup s h).1 a)).0) hit
-rests-unhit law Write range s setup h hit = meets-none range (touched_of s setup).writes (λ a. (none-of _ _ _ ((law setup s h).1 a)).1) hit
+rests-unhit law Read range s setup h hit =
+    meets-none range (touched_of s setup).reads (λ a. (none-of _ _ _ ((law setup s h).1 a)).0) hit
+rests-unhit law Write range s setup h hit =
+    meets-none range (touched_of s setup).writes (λ a. (none-of _ _ _ ((law setup s h).1 a)).1) hit
 rests-unhit law Error range s setup h hit =
     let same : length (exec s setup).events ≡ length s.events = ap (λ (t : State). length t.events) (law setup s h).0 in
     let more = hit.1 in
@@ -46,10 +50,12 @@ rests-unhit law Error range s setup h hit =
 
 -- nor does a later one
 pub halted-unhit : StaysHalted → (sought : Sought) (start : State) (setup : Setup) (marks : List Mark) (from : ℕ)
-    → is_running (pre start setup marks from).core.status ≡ false → (k : ℕ) → from ≤ k → Hits sought start setup marks k → ⊥
+    → is_running (pre start setup marks from).core.status ≡ false → (k : ℕ) → from ≤ k → Hits sought start setup marks k
+    → ⊥
 unfolding Hits
 halted-unhit law sought start setup marks from halted k l =
-    rests-unhit law sought.watch sought.range (post start setup marks k) setup (halted-after law start setup marks from halted k l)
+    rests-unhit law sought.watch sought.range (post start setup marks k) setup
+    (halted-after law start setup marks from halted k l)
 
 -- one step more that isn't one
 pub none-longer : (P : ℕ → Type 0) (from k : ℕ) → ((j : ℕ) → from ≤ j → j < k → P j → ⊥) → (P k → ⊥)
@@ -60,7 +66,8 @@ none-longer P from k none not j low high p = elim (cases_lt j k) [
 ]
 
 -- one step more, of which a test tells
-pub last-more : (P : ℕ → Type 0) (from k : ℕ) (b : Bool) (last : Option ℕ) → from ≤ k → Decides b (P k) → IsLast P from k last
+pub last-more : (P : ℕ → Type 0) (from k : ℕ) (b : Bool) (last : Option ℕ) → from ≤ k → Decides b (P k)
+    → IsLast P from k last
     → IsLast P from (k + 1) (cond b (Some k) last)
 last-more P from k true last l d h = (l, omega arith, d.0 refl, λ j up low p. absurd (omega arith))
 last-more P from k false None l d h = none-longer P from k h (not-told false (P k) refl d)
@@ -69,7 +76,8 @@ last-more P from k false (Some s) l d h =
       h.0,
       omega arith,
       h.2,
-      λ j up below p. none-longer P (s + 1) k (λ i over under q. h.3 i (omega arith) under q) (not-told false (P k) refl d)
+      λ j up below p. none-longer P (s + 1) k (λ i over under q. h.3 i (omega arith) under q)
+          (not-told false (P k) refl d)
           j (omega arith) below p,
     )
 
@@ -93,12 +101,14 @@ last-further P from k end (Some s) l none h =
 
 -- a window from w on, up to a step from which on there is none: its last one is the last one of all
 pub last-window : (P : ℕ → Type 0) (from w end before : ℕ) (found : Option ℕ) → is_some found ≡ true → end ≤ before
-    → ((j : ℕ) → from ≤ j → end ≤ j → j < before → P j → ⊥) → IsLast P (max from w) end found → IsLast P from before found
+    → ((j : ℕ) → from ≤ j → end ≤ j → j < before → P j → ⊥) → IsLast P (max from w) end found
+    → IsLast P from before found
 last-window P from w end before None some l none h = absurd (true≢false (sym some))
 last-window P from w end before (Some s) some l none h =
     let low = h.0 in
     let high = h.1 in
-    last-further P from end before (Some s) l (λ j after high p. none j (omega arith) after high p) (omega arith, h.1, h.2, h.3)
+    last-further P from end before (Some s) l (λ j after high p. none j (omega arith) after high p)
+    (omega arith, h.1, h.2, h.3)
 
 -- and where it has none, there is none from w on
 pub none-window : (P : ℕ → Type 0) (from w end before : ℕ) (found : Option ℕ) → is_some found ≡ false

@@ -1,5 +1,6 @@
 -- Places of words in a table, and the words that a range meets.
-use Rattle.std.proofs.Common.{◌≡◌, ℕ, zero, suc, ◌+◌, ◌-◌, ◌*◌, ◌/◌, ◌%◌, ◌^◌, ◌<◌, ◌≤◌, ◌||◌, nat_lt, Bool, true, false, cond, List, [], ◌∷◌, refl, ap, sym, add-zero}
+use Rattle.std.proofs.Common.{◌≡◌, ℕ, zero, suc, ◌+◌, ◌-◌, ◌*◌, ◌/◌, ◌%◌, ◌^◌, ◌<◌, ◌≤◌, ◌||◌, nat_lt, Bool, true}
+use Rattle.std.proofs.Common.{false, cond, List, [], ◌∷◌, refl, ap, sym, add-zero}
 use Rattle.std.proofs.Common.{◌++◌, ◌⊎◌, ◌∙◌, inl, inr, arith, min, length, get_or}
 use Rattle.std.proofs.Math.ListN.{set}
 use Rattle.std.proofs.lemmas.Bool.{cases_eq, cases_lt, false≢true}
@@ -10,7 +11,8 @@ use Rattle.guest_machine.specs.Spans.{covers}
 use Rattle.guest_machine.specs.declared.span.Span.{Span}
 use Rattle.guest_machine.specs.declared.setup.Touched.{Touched}
 use Rattle.guest_machine.specs.Exec.{has_touched}
-use Rattle.checkpoints.specs.Words.{meets, has_address, is_among, is_from, IsWordIn, words_in, words_of, has_word, place_in, IsPlaced}
+use Rattle.checkpoints.specs.Words.{meets, has_address, is_among, is_from, IsWordIn, words_in, words_of, has_word}
+use Rattle.checkpoints.specs.Words.{place_in, IsPlaced}
 
 -- words in and out of a range
 inside : (r : Span) (w : ℕ) → has_word r w ≡ true → (r.start / 4 ≤ w) × (w < r.start / 4 + words_in r)
@@ -39,7 +41,8 @@ unfolding place_in words_of
 place-of-address [] a w h e = absurd (false≢true h)
 place-of-address (r ∷ rs) a w h e = go (λ m. place-of-address rs a w m e) (has_address r a) (has_word r w) refl refl h
   where
-    go : (is_among rs a ≡ true → IsPlaced rs w) → (p q : Bool) → has_address r a ≡ p → has_word r w ≡ q → (p || is_among rs a) ≡ true
+    go : (is_among rs a ≡ true → IsPlaced rs w) → (p q : Bool) → has_address r a ≡ p → has_word r w ≡ q
+        → (p || is_among rs a) ≡ true
         → cond q (w - r.start / 4) (words_in r + place_in rs w) < words_in r + words_of rs
     go rest p true k l m = let x = inside r w l in omega arith
     go rest true false k l m = absurd (false≢true (sym l ∙ has-word r a w k e))
@@ -49,12 +52,15 @@ pub placed-word : (rs : List Span) (addr : ℕ) → IsWordIn rs addr → IsPlace
 placed-word rs addr h = place-of-address rs (addr + 0) (addr / 4) (h.loaded 0 (omega arith)) (omega arith)
 
 -- an entry, after a step was entered for a word that has a place
-pub entered-there : (rs : List Span) (ss : List ℕ) (v w step first : ℕ) (d : ℕ) → length ss ≡ words_of rs → IsPlaced rs w → place_in rs v < length ss → first ≡ min (get_or ss (place_in rs v) d) step
-    → get_or (set ss (place_in rs v) first) (place_in rs w) d ≡ cond (is_from v 1 w) (min (get_or ss (place_in rs w) d) step) (get_or ss (place_in rs w) d)
+pub entered-there : (rs : List Span) (ss : List ℕ) (v w step first : ℕ) (d : ℕ) → length ss ≡ words_of rs
+    → IsPlaced rs w → place_in rs v < length ss → first ≡ min (get_or ss (place_in rs v) d) step
+    → get_or (set ss (place_in rs v) first) (place_in rs w) d
+    ≡ cond (is_from v 1 w) (min (get_or ss (place_in rs w) d) step) (get_or ss (place_in rs w) d)
 entered-there rs ss v w step first d size h l e = elim (cases_eq w v) [
   | inl same ↦ (
       let here : place_in rs w ≡ place_in rs v = ap (place_in rs) same in
-      ap (λ k. get_or (set ss (place_in rs v) first) k d) here ∙ get_or-set_same ss (place_in rs v) first d l ∙ e ∙ ap (λ k. min (get_or ss k d) step) (sym here)
+      ap (λ k. get_or (set ss (place_in rs v) first) k d) here ∙ get_or-set_same ss (place_in rs v) first d l ∙ e
+      ∙ ap (λ k. min (get_or ss k d) step) (sym here)
       ∙ sym (ap (λ b. cond b (min (get_or ss (place_in rs w) d) step) (get_or ss (place_in rs w) d)) (is-one same))
       )
   | inr other ↦ (
@@ -83,16 +89,19 @@ unfolding word_in distance
 no-word first w x y = grind (arith, nat_tests)
 
 -- the words from the one that lies i above the first
-reaches : (first i n word w : ℕ) → first < 2 ^ 30 → w < 2 ^ 30 → word ≡ (first + i) % 2 ^ 30 → word + n ≤ 2 ^ 30 → is_from word n w ≡ true → word_in first (i + n) w ≡ true
+reaches : (first i n word w : ℕ) → first < 2 ^ 30 → w < 2 ^ 30 → word ≡ (first + i) % 2 ^ 30 → word + n ≤ 2 ^ 30
+    → is_from word n w ≡ true → word_in first (i + n) w ≡ true
 unfolding word_in distance
 reaches first i n word w a b e c h = grind (arith, nat_tests)
 
-passes : (first i n word w : ℕ) → first < 2 ^ 30 → w < 2 ^ 30 → word ≡ (first + i) % 2 ^ 30 → word + n ≤ 2 ^ 30 → is_from word n w ≡ false → word_in first (i + n) w ≡ word_in first i w
+passes : (first i n word w : ℕ) → first < 2 ^ 30 → w < 2 ^ 30 → word ≡ (first + i) % 2 ^ 30 → word + n ≤ 2 ^ 30
+    → is_from word n w ≡ false → word_in first (i + n) w ≡ word_in first i w
 unfolding word_in distance
 passes first i n word w a b e c h = grind (arith, nat_tests)
 
 -- some more words of a range are entered
-pub next-words : (first i n word w x now new step : ℕ) → first < 2 ^ 30 → w < 2 ^ 30 → word ≡ (first + i) % 2 ^ 30 → word + n ≤ 2 ^ 30
+pub next-words : (first i n word w x now new step : ℕ) → first < 2 ^ 30 → w < 2 ^ 30 → word ≡ (first + i) % 2 ^ 30
+    → word + n ≤ 2 ^ 30
     → now ≡ cond (word_in first i w) (min x step) x → new ≡ cond (is_from word n w) (min now step) now
     → new ≡ cond (word_in first (i + n) w) (min x step) x
 next-words first i n word w x now new step a b is c e f = go (is_from word n w) refl f
@@ -101,8 +110,10 @@ next-words first i n word w x now new step a b is c e f = go (is_from word n w) 
     twice true k = omega arith
     twice false k = omega arith
 
-    go : (t : Bool) → is_from word n w ≡ t → new ≡ cond t (min now step) now → new ≡ cond (word_in first (i + n) w) (min x step) x
-    go true h k = k ∙ twice (word_in first i w) e ∙ sym (ap (λ t. cond t (min x step) x) (reaches first i n word w a b is c h))
+    go : (t : Bool) → is_from word n w ≡ t → new ≡ cond t (min now step) now
+        → new ≡ cond (word_in first (i + n) w) (min x step) x
+    go true h k =
+        k ∙ twice (word_in first i w) e ∙ sym (ap (λ t. cond t (min x step) x) (reaches first i n word w a b is c h))
     go false h k = k ∙ e ∙ sym (ap (λ t. cond t (min x step) x) (passes first i n word w a b is c h))
 
 -- tests of several
@@ -133,7 +144,9 @@ meets-at (suc (suc (suc zero))) p a l h = or-later (p a) _ (or-later (p (a + 1))
 meets-at (suc (suc (suc (suc n)))) p a l h = absurd (omega arith)
 
 pub meets-nowhere : (p : ℕ → Bool) (a : ℕ) → ((j : ℕ) → j < 4 → p (a + j) ≡ false) → meets p a ≡ false
-meets-nowhere p a h = or-none (p a) _ (ap p (sym (add-zero a)) ∙ h 0 (omega arith)) (or-none (p (a + 1)) _ (h 1 (omega arith)) (or-none (p (a + 2)) _ (h 2 (omega arith)) (h 3 (omega arith))))
+meets-nowhere p a h =
+    or-none (p a) _ (ap p (sym (add-zero a)) ∙ h 0 (omega arith))
+    (or-none (p (a + 1)) _ (h 1 (omega arith)) (or-none (p (a + 2)) _ (h 2 (omega arith)) (h 3 (omega arith))))
 
 pub unmet : (p : ℕ → Bool) (addr a : ℕ) → meets p addr ≡ false → addr % 4 ≡ 0 → a / 4 ≡ addr / 4 → p a ≡ false
 unmet p addr a h m e = go (p a) refl
@@ -147,19 +160,25 @@ unmet p addr a h m e = go (p a) refl
 
 pub meets-or : (p q : ℕ → Bool) (a : ℕ) → meets (λ x. p x || q x) a ≡ (meets p a || meets q a)
 meets-or p q a =
-    ap (λ b. (p a || q a) || b) (ap (λ b. (p (a + 1) || q (a + 1)) || b) (or-swap (p (a + 2)) (q (a + 2)) (p (a + 3)) (q (a + 3)))
+    ap (λ b. (p a || q a) || b) (ap (λ b. (p (a + 1) || q (a + 1)) || b)
+    (or-swap (p (a + 2)) (q (a + 2)) (p (a + 3)) (q (a + 3)))
     ∙ or-swap (p (a + 1)) (q (a + 1)) (p (a + 2) || p (a + 3)) (q (a + 2) || q (a + 3)))
     ∙ or-swap (p a) (q a) (p (a + 1) || (p (a + 2) || p (a + 3))) (q (a + 1) || (q (a + 2) || q (a + 3)))
 
-pub meets-touched : (t : Touched) (a : ℕ) → meets (has_touched t) a ≡ (meets (covers t.fetch) a || (meets (covers t.reads) a || meets (covers t.writes) a))
-meets-touched t a = meets-or (covers t.fetch) (λ x. covers t.reads x || covers t.writes x) a ∙ ap (λ b. meets (covers t.fetch) a || b) (meets-or (covers t.reads) (covers t.writes) a)
+pub meets-touched : (t : Touched) (a : ℕ)
+    → meets (has_touched t) a ≡ (meets (covers t.fetch) a || (meets (covers t.reads) a || meets (covers t.writes) a))
+meets-touched t a =
+    meets-or (covers t.fetch) (λ x. covers t.reads x || covers t.writes x) a
+    ∙ ap (λ b. meets (covers t.fetch) a || b) (meets-or (covers t.reads) (covers t.writes) a)
 
 -- the words that a range meets are those from its first on
-offset-first : (start w : ℕ) → start < 2 ^ 32 → w < 2 ^ 30 → distance (start / 4) w ≡ 0 → offset start (4 * w + start % 4) ≡ 0
+offset-first : (start w : ℕ) → start < 2 ^ 32 → w < 2 ^ 30 → distance (start / 4) w ≡ 0
+    → offset start (4 * w + start % 4) ≡ 0
 unfolding distance
 offset-first start w a b e = grind (arith, nat_tests)
 
-offset-word : (start w j : ℕ) → start < 2 ^ 32 → w < 2 ^ 30 → j < 4 → 0 < distance (start / 4) w → offset start (4 * w + j) + start % 4 ≡ 4 * distance (start / 4) w + j
+offset-word : (start w j : ℕ) → start < 2 ^ 32 → w < 2 ^ 30 → j < 4 → 0 < distance (start / 4) w
+    → offset start (4 * w + j) + start % 4 ≡ 4 * distance (start / 4) w + j
 unfolding distance
 offset-word start w j a b l e = grind (arith, nat_tests)
 
@@ -169,13 +188,15 @@ is-in start n a l m = grind (arith, nat_tests)
 not-in : (start n a : ℕ) → n ≤ offset start a → is_in start n a ≡ false
 not-in start n a l = grind (arith, nat_tests)
 
-pub span-words : (span : Span) (w words : ℕ) → span.start < 2 ^ 32 → 0 < span.len → w < 2 ^ 30 → words ≡ words_in span → meets (is_in span.start span.len) (4 * w) ≡ word_in (span.start / 4) words w
+pub span-words : (span : Span) (w words : ℕ) → span.start < 2 ^ 32 → 0 < span.len → w < 2 ^ 30 → words ≡ words_in span
+    → meets (is_in span.start span.len) (4 * w) ≡ word_in (span.start / 4) words w
 unfolding word_in
 span-words span w words small some few size = elim (cases_lt d words) [
   | inl near ↦ (met (cases_lt 0 d) near ∙ sym (near-is near))
   | inr far ↦
       (meets-nowhere (is_in span.start span.len) (4 * w)
-      (λ j l. not-in span.start span.len (4 * w + j) (let o = offset-word span.start w j small few l (omega arith) in omega arith))
+      (λ j l. not-in span.start span.len (4 * w + j) (let o = offset-word span.start w j small few l (omega arith) in
+      omega arith))
       ∙ sym (far-is far))
 ]
   where
@@ -191,13 +212,16 @@ span-words span w words small some few size = elim (cases_lt d words) [
     met : ((0 < d) ⊎ (d ≤ 0)) → d < words → meets (is_in span.start span.len) (4 * w) ≡ true
     met (inl later) near =
         meets-at 0 (is_in span.start span.len) (4 * w) (omega arith)
-        (let o = offset-word span.start w 0 small few (omega arith) later in is-in span.start span.len (4 * w + 0) (omega arith) (omega arith))
+        (let o = offset-word span.start w 0 small few (omega arith) later in
+        is-in span.start span.len (4 * w + 0) (omega arith) (omega arith))
     met (inr first) near =
         meets-at (span.start % 4) (is_in span.start span.len) (4 * w) (omega arith)
-        (let o = offset-first span.start w small few (omega arith) in is-in span.start span.len (4 * w + span.start % 4) (omega arith) (omega arith))
+        (let o = offset-first span.start w small few (omega arith) in
+        is-in span.start span.len (4 * w + span.start % 4) (omega arith) (omega arith))
 
 -- three ranges, one after another
-pub after-three : (f r w : Bool) (x k one two three : ℕ) → one ≡ cond f (min x k) x → two ≡ cond r (min one k) one → three ≡ cond w (min two k) two → three ≡ cond (f || (r || w)) (min x k) x
+pub after-three : (f r w : Bool) (x k one two three : ℕ) → one ≡ cond f (min x k) x → two ≡ cond r (min one k) one
+    → three ≡ cond w (min two k) two → three ≡ cond (f || (r || w)) (min x k) x
 after-three true true true x k one two three a b c = omega arith
 after-three true true false x k one two three a b c = omega arith
 after-three true false true x k one two three a b c = omega arith

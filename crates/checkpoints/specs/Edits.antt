@@ -1,4 +1,5 @@
--- What an edit leaves of a trail, by the edit's effect: for which run the trail is right then, and which of its machines are kept.
+-- What an edit leaves of a trail, by the edit's effect: for which run the trail is right then, and which of its
+-- machines are kept.
 use Rattle.std.specs.Prelude.{◌≡◌, ℕ, ◌⊎◌, List, Bool, Option, true, slice_index_or}
 use Rattle.guest_machine.specs.State.{State}
 use Rattle.guest_machine.specs.Run.{poked}
@@ -21,7 +22,8 @@ IsRightForRun trail run = IsRightFor trail run.start run.setup run.marks
 
 -- for each run to which the edit leads
 abbrev pub IsRightForLed : Effect → Trail → Trail → Type 0
-IsRightForLed effect old new = (one other : Run) → LeadsTo effect one other → IsRightForRun old one → IsRightForRun new other
+IsRightForLed effect old new =
+    (one other : Run) → LeadsTo effect one other → IsRightForRun old one → IsRightForRun new other
 
 -- for that run, but for a word that is still to be written
 abbrev pub IsRightForEdited : Effect → Trail → Trail → Type 0
@@ -32,19 +34,22 @@ IsRightForEdited effect old new =
 -- for a start with a word written
 abbrev pub IsRightForPoked : ℕ → ℕ → Trail → Trail → Type 0
 IsRightForPoked addr word old new =
-    (start : State) (setup : Setup) (marks : List Mark) → IsRightFor old start setup marks → IsRightFor new (poked start addr word) setup marks
+    (start : State) (setup : Setup) (marks : List Mark) → IsRightFor old start setup marks
+    → IsRightFor new (poked start addr word) setup marks
 
 -- machine i of the new trail is that of the old one, with the word written where the edit writes one
 abbrev pub HasFollowed : Effect → Trail → Trail → ℕ → Type 0
 HasFollowed effect old new i =
-    (d : Machine) (s : State) → Shows (slice_index_or (machines_of old) i d) s → Shows (slice_index_or (machines_of new) i d) (written_by effect s)
+    (d : Machine) (s : State) → Shows (slice_index_or (machines_of old) i d) s
+    → Shows (slice_index_or (machines_of new) i d) (written_by effect s)
 
 -- ---- which machines are kept
 
 -- an answer tells, of each run for which a trail is right, whether the edit shows at a step or before it
 abbrev pub TellsShown : Effect → Trail → ℕ → Bool → Type 0
 TellsShown effect trail k told =
-    (start : State) (setup : Setup) (marks : List Mark) → IsRightFor trail start setup marks → Tells (EffectShows effect start setup marks) k told
+    (start : State) (setup : Setup) (marks : List Mark) → IsRightFor trail start setup marks
+    → Tells (EffectShows effect start setup marks) k told
 
 -- just those below the edit's first effect
 abbrev pub KeepsBelowEffect : Effect → Trail → Trail → Type 0
@@ -59,7 +64,8 @@ KeepsBelowEffectOrIsShort effect old new =
     → (KeepsJust (IsBelowFirst (EffectShows effect start setup marks)) old new × (is_short new ≡ is_short old))
     ⊎ (KeepsOnly (IsBelowFirst (EffectShows effect start setup marks)) old new × (is_short new ≡ true))
 
--- none but a written word makes a trail short, and one that is short stays so: said of whether it is short before and after
+-- none but a written word makes a trail short, and one that is short stays so: said of whether it is short before and
+-- after
 abbrev pub MayShorten : Effect → Bool → Bool → Type 0
 MayShorten (Word addr word) old new = old ≡ true → new ≡ true
 MayShorten _ old new = new ≡ old
@@ -70,4 +76,5 @@ StaysWhole effect old new = MayShorten effect (is_short old) (is_short new)
 
 -- where the machines are kept below a step, the last step at which one is held follows from it
 abbrev pub KeepsLower : Type 0
-KeepsLower = (f : Option ℕ) (old new : Trail) → KeepsJust (IsBelow f) old new → last_held new ≡ lowered (last_held old) f
+KeepsLower =
+    (f : Option ℕ) (old new : Trail) → KeepsJust (IsBelow f) old new → last_held new ≡ lowered (last_held old) f

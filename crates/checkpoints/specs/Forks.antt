@@ -1,4 +1,5 @@
--- Where an edited run goes on from the run that it is an edit of: the machine before the last step at which the edit doesn't show yet.
+-- Where an edited run goes on from the run that it is an edit of: the machine before the last step at which the edit
+-- doesn't show yet.
 use Rattle.std.specs.Prelude.{◌≡◌, ℕ, ◌+◌, ◌%◌, ◌^◌, ◌<◌, ◌≤◌, List}
 use Rattle.guest_machine.specs.Run.{pre, post}
 use Rattle.guest_machine.specs.Shows.{Shows}
@@ -31,10 +32,12 @@ pub record IsForkFor (effect : Effect) (run : Run) (last : ℕ) (fork : Fork) : 
   pub shows : Shows fork.machine (pre run.start run.setup run.marks fork.step)
   pub step : IsLastUnshown effect run last fork.step
 
--- a machine shows the state after the marks of a step of each run to which an effect leads from a run that a fork is for
+-- a machine shows the state after the marks of a step of each run to which an effect leads from a run that a fork is
+-- for
 abbrev pub ShowsEdited : Effect → Fork → Setup → List Mark → ℕ → ℕ → Machine → Type 0
 ShowsEdited effect fork setup marks last step machine =
-    (one : Run) (start : State) → LeadsTo effect one (record { start = start; setup = setup; marks = marks }) → IsForkFor effect one last fork
+    (one : Run) (start : State) → LeadsTo effect one (record { start = start; setup = setup; marks = marks })
+    → IsForkFor effect one last fork
     → Shows machine (post start setup marks step)
 
 -- ---- of each run that a trail is right for
@@ -42,9 +45,11 @@ ShowsEdited effect fork setup marks last step machine =
 -- a step is the last one, up to another, at which the edit doesn't show
 abbrev pub IsStepOf : Effect → Trail → Setup → List Mark → ℕ → ℕ → Type 0
 IsStepOf effect trail setup marks last k =
-    (start : State) → IsRightFor trail start setup marks → IsLastUnshown effect (record { start = start; setup = setup; marks = marks }) last k
+    (start : State) → IsRightFor trail start setup marks
+    → IsLastUnshown effect (record { start = start; setup = setup; marks = marks }) last k
 
 -- a fork is one for the run
 abbrev pub IsForkOf : Effect → Trail → Setup → List Mark → ℕ → Fork → Type 0
 IsForkOf effect trail setup marks last fork =
-    (start : State) → IsRightFor trail start setup marks → IsForkFor effect (record { start = start; setup = setup; marks = marks }) last fork
+    (start : State) → IsRightFor trail start setup marks
+    → IsForkFor effect (record { start = start; setup = setup; marks = marks }) last fork

@@ -18,13 +18,14 @@ use Rattle.checkpoints.specs.declared.searches.Sought.{Sought}
 abbrev pub Meets : Span → Option Span → Type 0
 Meets range touched = (a : ℕ) × (is_in range.start range.len a ≡ true) × (covers touched a ≡ true)
 
--- the step of a state runs at an address of a range, reads one of its bytes beside the step's word, writes one, or raises an error at an
--- address of it
+-- the step of a state runs at an address of a range, reads one of its bytes beside the step's word, writes one, or
+-- raises an error at an address of it
 abbrev pub HitsIn : Watch → Span → State → Setup → Type 0
 HitsIn Run range s setup = (is_running s.core.status ≡ true) × (is_in range.start range.len s.core.pc ≡ true)
 HitsIn Read range s setup = Meets range (touched_of s setup).reads
 HitsIn Write range s setup = Meets range (touched_of s setup).writes
-HitsIn Error range s setup = (is_in range.start range.len s.core.pc ≡ true) × (length s.events < length (exec s setup).events)
+HitsIn Error range s setup =
+    (is_in range.start range.len s.core.pc ≡ true) × (length s.events < length (exec s setup).events)
 
 -- step k of a run does what is sought, from the state after its marks
 unfoldable pub Hits : Sought → State → Setup → List Mark → ℕ → Type 0

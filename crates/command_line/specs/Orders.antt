@@ -1,9 +1,11 @@
--- The command line, in `clap`'s own words (`clap`'s specs: what a line of words gives for each argument), and the order that it gives.
+-- The command line, in `clap`'s own words (`clap`'s specs: what a line of words gives for each argument), and the order
+-- that it gives.
 use denote.Ref.{Bor}
 use Rattle.std.specs.Prelude.{◌≡◌, ℕ, pos, List, [], ◌∷◌, Bool, true, false, Option, Some, codes, option_map, IsSomeAnd}
 use Rattle.std.specs.Str.{bytes_eq}
 use Rattle.std.specs.Str.Parse.{digits_value, without_leading_plus}
-use Rattle.clap.specs.Words.{App, Row, Rule, Text, first_of, new_app, new_rule, one_of, subcommand_of, with_rule, with_subcommand}
+use Rattle.clap.specs.Words.{App, Row, Rule, Text, first_of, new_app, new_rule, one_of, subcommand_of, with_rule}
+use Rattle.clap.specs.Words.{with_subcommand}
 use Rattle.clap.specs.Simple.{on_top}
 use Rattle.clap.specs.declared.builder.ValueParser.TheVariants.{Signed}
 use Rattle.clap.specs.declared.builder.action.ArgAction.TheVariants.{SetTrue}
@@ -33,11 +35,16 @@ file_argument = record (new_rule (codes "FILE")) { required = true }
 
 -- a command on a program: its file and two options
 abbrev pub program_command : Text → App
-program_command name = with_rule (with_rule (with_rule (new_app name) file_argument) (option (codes "input"))) (option (codes "supp"))
+program_command name =
+    with_rule (with_rule (with_rule (new_app name) file_argument) (option (codes "input"))) (option (codes "supp"))
 
 -- `--step`, from 0 to 4,194,304, and 1,048,576 where it isn't given
 abbrev pub step_option : Rule
-step_option = record (option (codes "step")) { defaults = codes "1048576" ∷ []; parser = Some (Signed (pos 0) (pos greatest_step)) }
+step_option =
+    record (option (codes "step")) {
+      defaults = codes "1048576" ∷ [];
+      parser = Some (Signed (pos 0) (pos greatest_step));
+    }
 
 -- `run`
 abbrev pub run_command : App
@@ -45,7 +52,9 @@ run_command = with_rule (program_command (codes "run")) step_option
 
 -- the command line with `run` alone
 abbrev pub with_run : App
-with_run = with_subcommand (on_top (λ top. record top { has_version = true; subcommand_required = true }) (new_app (codes "replaycheck"))) run_command.top
+with_run =
+    with_subcommand (on_top (λ top. record top { has_version = true; subcommand_required = true })
+    (new_app (codes "replaycheck"))) run_command.top
 
 -- with `run` and `session`
 abbrev pub with_session : App
@@ -66,11 +75,13 @@ output_flag = record (new_rule (codes "with-output")) { long = Some (codes "with
 -- `sweep`, with the bytes that it edits, and whole
 abbrev pub sweep_of_bytes : App
 sweep_of_bytes =
-    with_rule (with_rule (with_rule (program_command (codes "sweep")) step_option) (option (codes "bytes"))) (default_option (codes "values") (codes "all"))
+    with_rule (with_rule (with_rule (program_command (codes "sweep")) step_option) (option (codes "bytes")))
+    (default_option (codes "values") (codes "all"))
 
 abbrev pub sweep_command : App
 sweep_command =
-    with_rule (with_rule (with_rule (with_rule sweep_of_bytes (option (codes "words"))) (default_option (codes "words-values") (codes "skip"))) output_flag)
+    with_rule (with_rule (with_rule (with_rule sweep_of_bytes (option (codes "words")))
+    (default_option (codes "words-values") (codes "skip"))) output_flag)
     (default_option (codes "part") (codes "1/1"))
 
 -- the command line: `run`, `session`, `look` and `sweep`
@@ -105,7 +116,9 @@ abbrev pub IsTaskOf : Text → List Row → Task → Type 0
 IsTaskOf name rows (Report n) = (bytes_eq name (codes "run") ≡ true) × IsStepOf rows n
 IsTaskOf name rows (Sweep words) = (bytes_eq name (codes "sweep") ≡ true) × IsSweepOf rows words
 IsTaskOf name rows Look = bytes_eq name (codes "look") ≡ true
-IsTaskOf name rows Session = (bytes_eq name (codes "run") ≡ false) × (bytes_eq name (codes "sweep") ≡ false) × (bytes_eq name (codes "look") ≡ false)
+IsTaskOf name rows Session =
+    (bytes_eq name (codes "run") ≡ false) × (bytes_eq name (codes "sweep") ≡ false)
+    × (bytes_eq name (codes "look") ≡ false)
 
 -- the order of what was found for a command's arguments
 pub record IsOrderOf (name : Text) (rows : List Row) (order : Order) : Type 0 where

@@ -1,5 +1,6 @@
 -- What a number is read as where it is written in decimal.
-use Rattle.std.proofs.Common.{◌≡◌, ℕ, ◌^◌, ◌<◌, ◌≤◌, nat_eq, List, [], ◌∷◌, false, Some, refl, length, arith, codes, decimal, bytes_eq}
+use Rattle.std.proofs.Common.{◌≡◌, ℕ, ◌^◌, ◌<◌, ◌≤◌, nat_eq, List, [], ◌∷◌, false, Some, refl, length, arith, codes}
+use Rattle.std.proofs.Common.{decimal, bytes_eq}
 use Rattle.std.specs.List.{starts_with}
 use Rattle.std.specs.Str.Parse.{AllDigits}
 use Rattle.std.proofs.lemmas.Fmt.{decimal_is_IsNumeral, length-decimal-le}
@@ -38,4 +39,5 @@ module _ (n : ℕ) (fits : n < 2 ^ 32) where
   pub number_of_decimal : number (decimal n) ≡ Some n
   unfolding number
   number_of_decimal = rw (not_hexadecimal (decimal n) decimal_digits)
-      (number_of_digits 10 10 n (decimal n) decimal_some decimal_short decimal_digits (decimal_is_IsNumeral n (omega arith)).1 fits)
+      (number_of_digits 10 10 n (decimal n) decimal_some decimal_short decimal_digits
+      (decimal_is_IsNumeral n (omega arith)).1 fits)

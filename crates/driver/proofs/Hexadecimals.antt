@@ -1,5 +1,6 @@
 -- What a number is read as where it is written as an address is: `0x` and eight hexadecimal digits.
-use Rattle.std.proofs.Common.{◌≡◌, ℕ, zero, suc, ◌+◌, ◌*◌, ◌/◌, ◌%◌, ◌^◌, ◌<◌, List, [], ◌∷◌, map, false, Some, refl, sym, ap, ◌∙◌, length, arith, pow-suc, div-one}
+use Rattle.std.proofs.Common.{◌≡◌, ℕ, zero, suc, ◌+◌, ◌*◌, ◌/◌, ◌%◌, ◌^◌, ◌<◌, List, [], ◌∷◌, map, false, Some, refl}
+use Rattle.std.proofs.Common.{sym, ap, ◌∙◌, length, arith, pow-suc, div-one}
 use Rattle.std.specs.Char.{digit_value}
 use Rattle.std.specs.Fmt.{digit_glyph}
 use Rattle.std.specs.Str.Parse.{AllDigits, digits_value, digits_value_after}
@@ -28,14 +29,16 @@ all_hexadecimal n (suc k) = (omega (arith, hex_digit_value n k), all_hexadecimal
 -- a number without its last k digits is one digit and what is left without one more
 one_digit : (n k : ℕ) → n / 16 ^ suc k * 16 + n / 16 ^ k % 16 ≡ n / 16 ^ k
 one_digit n k =
-    let less : n / 16 ^ suc k ≡ n / 16 ^ k / 16 = ap (λ m. n / m) (pow-suc 16 k) ∙ sym (div-div-eq-div-mul n (16 ^ k) 16) in
+    let less : n / 16 ^ suc k ≡ n / 16 ^ k / 16 = ap (λ m. n / m) (pow-suc 16 k)
+    ∙ sym (div-div-eq-div-mul n (16 ^ k) 16) in
     omega (arith, less)
 
 -- what the last k digits write after those before
 value_of_places : (n k : ℕ) → digits_value_after 16 (n / 16 ^ k) (map (hex_digit n) (places k)) ≡ n
 value_of_places n zero = div-one n
 value_of_places n (suc k) =
-    ap (λ m. digits_value_after 16 m (map (hex_digit n) (places k))) (ap (λ d. n / 16 ^ suc k * 16 + d) (hex_digit_value n k) ∙ one_digit n k) ∙ value_of_places n k
+    ap (λ m. digits_value_after 16 m (map (hex_digit n) (places k)))
+    (ap (λ d. n / 16 ^ suc k * 16 + d) (hex_digit_value n k) ∙ one_digit n k) ∙ value_of_places n k
 
 -- what is written of a number below 2^32
 module _ (n : ℕ) (fits : n < 2 ^ 32) where
@@ -46,11 +49,20 @@ module _ (n : ℕ) (fits : n < 2 ^ 32) where
 
   pub number_of_address : number (address_text n) ≡ Some n
   unfolding number address_text
-  number_of_address = number_of_digits 16 8 n (map (hex_digit n) (places 8)) (omega arith) (omega arith) (all_hexadecimal n 8) eight_digits fits
+  number_of_address =
+      number_of_digits 16 8 n (map (hex_digit n) (places 8)) (omega arith) (omega arith) (all_hexadecimal n 8)
+      eight_digits fits
 
   pub address_plain : AllDigits 36 (address_text n)
   unfolding address_text
-  address_plain = (omega arith, (omega arith, in_greater_base 16 36 (map (hex_digit n) (places 8)) (omega arith) (all_hexadecimal n 8)))
+  address_plain = (
+    omega arith,
+    (
+      omega arith,
+      in_greater_base 16 36 (map (hex_digit n) (places 8)) (omega arith)
+          (all_hexadecimal n 8),
+    ),
+  )
 
   pub address_length : length (address_text n) ≡ 10
   unfolding address_text

@@ -11,7 +11,8 @@ module _ (word a b : List ℕ) where
   pub spaced : (word ++ 32 ∷ []) ++ a ++ 32 ∷ [] ++ b ≡ word ++ 32 ∷ (a ++ 32 ∷ b)
   spaced = simp append_assoc
 
-  pub three_fields : AllDigits 36 word → AllDigits 36 a → AllDigits 36 b → fields (word ++ 32 ∷ (a ++ 32 ∷ b)) ≡ word ∷ a ∷ b ∷ []
+  pub three_fields : AllDigits 36 word → AllDigits 36 a → AllDigits 36 b
+      → fields (word ++ 32 ∷ (a ++ 32 ∷ b)) ≡ word ∷ a ∷ b ∷ []
   three_fields w f g =
       let at_space = λ (c : ℕ). c == 32 in
       slice_split_at at_space word 32 (a ++ 32 ∷ b) (no_space word w) refl

@@ -1,5 +1,6 @@
 -- Fields of digits and letters, and the numbers that they write.
-use Rattle.std.proofs.Common.{◌≡◌, ℕ, ◌^◌, ◌<◌, ◌≤◌, ◌==◌, nat_lt, List, [], ◌∷◌, true, false, Some, refl, ◌∙◌, length, arith, lt-ltb}
+use Rattle.std.proofs.Common.{◌≡◌, ℕ, ◌^◌, ◌<◌, ◌≤◌, ◌==◌, nat_lt, List, [], ◌∷◌, true, false, Some, refl, ◌∙◌, length}
+use Rattle.std.proofs.Common.{arith, lt-ltb}
 use Rattle.std.specs.Char.{digit_value}
 use Rattle.std.specs.List.{All, list_all}
 use Rattle.std.specs.Str.Parse.{AllDigits, digits_value}
@@ -26,5 +27,7 @@ no_space (c ∷ cs) d =
     All-cons (λ c. (c == 32) ≡ false) c cs other (no_space cs d.1)
 
 -- the number that some digits write, where it is below 2^32
-pub number_of_digits : (base most n : ℕ) (ds : List ℕ) → 0 < length ds → length ds ≤ most → AllDigits base ds → digits_value base ds ≡ n → n < 2 ^ 32 → number_in base most ds ≡ Some n
-number_of_digits base most n ds some short d is fits = counted_where_digits base most ds some short (all_pass base ds d) ∙ rw (is, lt-ltb n (2 ^ 32) fits)
+pub number_of_digits : (base most n : ℕ) (ds : List ℕ) → 0 < length ds → length ds ≤ most → AllDigits base ds
+    → digits_value base ds ≡ n → n < 2 ^ 32 → number_in base most ds ≡ Some n
+number_of_digits base most n ds some short d is fits =
+    counted_where_digits base most ds some short (all_pass base ds d) ∙ rw (is, lt-ltb n (2 ^ 32) fits)

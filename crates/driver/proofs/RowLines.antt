@@ -1,27 +1,32 @@
 -- The line of a sweep's row, as a session reads it.
-use Rattle.std.proofs.Common.{◌≡◌, ℕ, ◌^◌, ◌<◌, ◌≤◌, nat_eq, nat_le, List, [], ◌∷◌, ◌++◌, false, Some, refl, ap, ◌∙◌, length, length-append, arith, codes, decimal, bytes_eq, lt-ltb, le-ltb}
+use Rattle.std.proofs.Common.{◌≡◌, ℕ, ◌^◌, ◌<◌, ◌≤◌, nat_eq, nat_le, List, [], ◌∷◌, ◌++◌, false, Some, refl, ap, ◌∙◌}
+use Rattle.std.proofs.Common.{length, length-append, arith, codes, decimal, bytes_eq, lt-ltb, le-ltb}
 use Rattle.std.specs.List.{starts_with}
 use Rattle.std.specs.Str.Parse.{AllDigits}
 use Rattle.std.proofs.lemmas.Bool.Decides.{nat_tests}
 use Rattle.replay_report.specs.Text.{address_text}
-use Rattle.replay_session.specs.Commands.{command_of, fields, has_empty, input_of, input_with, number, parsed, patch_of, patch_with, replace_of, taken}
+use Rattle.replay_session.specs.Commands.{command_of, fields, has_empty, input_of, input_with, number, parsed, patch_of}
+use Rattle.replay_session.specs.Commands.{patch_with, replace_of, taken}
 use Rattle.replay_session.specs.Turns.{Turn, accepted, after, if_command, most_lines}
 use Rattle.line_server.specs.Lines.{longest_line}
 use Rattle.sweeps.specs.Tables.{change_text}
 use Rattle.sweeps.specs.declared.change.Change.TheVariants.{Byte, Word}
 use Rattle.driver.specs.Laws.{RowsAreLines}
-use Rattle.driver.proofs.Decimals.{decimal_digits, decimal_plain, decimal_short, decimal_some, not_word, number_of_decimal}
+use Rattle.driver.proofs.Decimals.{decimal_digits, decimal_plain, decimal_short, decimal_some, not_word}
+use Rattle.driver.proofs.Decimals.{number_of_decimal}
 use Rattle.driver.proofs.Hexadecimals.{address_length, address_plain, number_of_address}
 use Rattle.driver.proofs.LineFields.{none_empty, spaced, three_fields}
 
 -- a line with no empty field that adds no suppression is the command of its fields
-by_fields : (line word : List ℕ) (more : List (List ℕ)) → fields line ≡ word ∷ more → has_empty (word ∷ more) ≡ false → starts_with nat_eq line (codes "supp add ") ≡ false
+by_fields : (line word : List ℕ) (more : List (List ℕ)) → fields line ≡ word ∷ more → has_empty (word ∷ more) ≡ false
+    → starts_with nat_eq line (codes "supp add ") ≡ false
     → parsed line ≡ command_of word more
 unfolding parsed
 by_fields line word more are full other = rw (are, full, other)
 
 -- `input` and `patch` with two numbers
-input_command : (a b : List ℕ) (offset byte : ℕ) → AllDigits 10 a → number a ≡ Some offset → number b ≡ Some byte → byte < 256
+input_command : (a b : List ℕ) (offset byte : ℕ) → AllDigits 10 a → number a ≡ Some offset → number b ≡ Some byte
+    → byte < 256
     → command_of (codes "input") (a ∷ b ∷ []) ≡ taken (input_with (Some offset) (Some byte))
 unfolding command_of input_of replace_of
 input_command a b offset byte digits first second small =
@@ -29,7 +34,8 @@ input_command a b offset byte digits first second small =
     let no_cut : bytes_eq a (codes "cut") ≡ false = not_word 99 _ a (omega arith) digits in
     rw (no_append, no_cut, first, second, lt-ltb byte 256 small)
 
-patch_command : (a b : List ℕ) (addr word : ℕ) → number a ≡ Some addr → number b ≡ Some word → command_of (codes "patch") (a ∷ b ∷ []) ≡ taken (patch_with (Some addr) (Some word))
+patch_command : (a b : List ℕ) (addr word : ℕ) → number a ≡ Some addr → number b ≡ Some word
+    → command_of (codes "patch") (a ∷ b ∷ []) ≡ taken (patch_with (Some addr) (Some word))
 unfolding command_of patch_of
 patch_command a b addr word first second = rw (first, second)
 
@@ -44,13 +50,25 @@ module _ (offset byte : ℕ) (fits : offset < 2 ^ 32) (small : byte < 256) where
       let a = decimal offset in
       let b = decimal byte in
       let below : byte < 2 ^ 32 = omega arith in
-      let word : AllDigits 36 (codes "input") = (omega arith, (omega arith, (omega arith, (omega arith, (omega arith, tt))))) in
-      ap parsed byte_text ∙ by_fields _ (codes "input") (a ∷ b ∷ []) (three_fields (codes "input") a b word (decimal_plain offset fits) (decimal_plain byte below))
+      let word : AllDigits 36 (codes "input") = (
+        omega arith,
+        (omega arith, (omega arith, (omega arith, (omega arith, tt)))),
+      ) in
+      ap parsed byte_text ∙ by_fields _ (codes "input") (a ∷ b ∷ [])
+      (three_fields (codes "input") a b word (decimal_plain offset fits) (decimal_plain byte below))
       (none_empty (codes "input") a b (omega arith) (decimal_some offset fits) (decimal_some byte below)) refl
-      ∙ input_command a b offset byte (decimal_digits offset fits) (number_of_decimal offset fits) (number_of_decimal byte below) small
+      ∙ input_command a b offset byte (decimal_digits offset fits) (number_of_decimal offset fits)
+      (number_of_decimal byte below) small
 
   byte_short : length (change_text (Byte offset byte)) ≤ longest_line
-  byte_short = omega (arith, ap length byte_text, length-append (decimal offset) (32 ∷ decimal byte), decimal_short offset fits, decimal_short byte (omega arith))
+  byte_short =
+      omega (
+        arith,
+        ap length byte_text,
+        length-append (decimal offset) (32 ∷ decimal byte),
+        decimal_short offset fits,
+        decimal_short byte (omega arith),
+      )
 
 module _ (addr word : ℕ) (fits : addr < 2 ^ 32) (small : word < 2 ^ 32) where
   word_text : change_text (Word addr word) ≡ codes "patch" ++ 32 ∷ (address_text addr ++ 32 ∷ address_text word)
@@ -61,16 +79,29 @@ module _ (addr word : ℕ) (fits : addr < 2 ^ 32) (small : word < 2 ^ 32) where
   word_parsed =
       let a = address_text addr in
       let b = address_text word in
-      let name : AllDigits 36 (codes "patch") = (omega arith, (omega arith, (omega arith, (omega arith, (omega arith, tt))))) in
-      ap parsed word_text ∙ by_fields _ (codes "patch") (a ∷ b ∷ []) (three_fields (codes "patch") a b name (address_plain addr fits) (address_plain word small))
-      (none_empty (codes "patch") a b (omega arith) (omega (arith, address_length addr fits)) (omega (arith, address_length word small))) refl
+      let name : AllDigits 36 (codes "patch") = (
+        omega arith,
+        (omega arith, (omega arith, (omega arith, (omega arith, tt)))),
+      ) in
+      ap parsed word_text ∙ by_fields _ (codes "patch") (a ∷ b ∷ [])
+      (three_fields (codes "patch") a b name (address_plain addr fits) (address_plain word small))
+      (none_empty (codes "patch") a b (omega arith) (omega (arith, address_length addr fits))
+      (omega (arith, address_length word small))) refl
       ∙ patch_command a b addr word (number_of_address addr fits) (number_of_address word small)
 
   word_short : length (change_text (Word addr word)) ≤ longest_line
-  word_short = omega (arith, ap length word_text, length-append (address_text addr) (32 ∷ address_text word), address_length addr fits, address_length word small)
+  word_short =
+      omega (
+        arith,
+        ap length word_text,
+        length-append (address_text addr) (32 ∷ address_text word),
+        address_length addr fits,
+        address_length word small,
+      )
 
 -- a line that isn't too long is judged by its command, while lines are answered
-judged : (turn : Turn) (line : List ℕ) → turn.lines < most_lines → length line ≤ longest_line → accepted turn line ≡ if_command turn.scenario (parsed line)
+judged : (turn : Turn) (line : List ℕ) → turn.lines < most_lines → length line ≤ longest_line
+    → accepted turn line ≡ if_command turn.scenario (parsed line)
 unfolding accepted
 judged turn line few short =
     let answered : nat_le most_lines turn.lines ≡ false = grind (arith, nat_tests) in
@@ -78,8 +109,10 @@ judged turn line few short =
 
 pub rows_are_lines : RowsAreLines
 rows_are_lines turn (Byte offset byte) few small free =
-    let read = judged turn _ few (byte_short offset byte small.0 small.1) ∙ ap (if_command turn.scenario) (byte_parsed offset byte small.0 small.1) ∙ rw free in
+    let read = judged turn _ few (byte_short offset byte small.0 small.1)
+    ∙ ap (if_command turn.scenario) (byte_parsed offset byte small.0 small.1) ∙ rw free in
     (read, ap (after turn.scenario) read)
 rows_are_lines turn (Word addr word) few small free =
-    let read = judged turn _ few (word_short addr word small.0 small.1) ∙ ap (if_command turn.scenario) (word_parsed addr word small.0 small.1) ∙ rw free in
+    let read = judged turn _ few (word_short addr word small.0 small.1)
+    ∙ ap (if_command turn.scenario) (word_parsed addr word small.0 small.1) ∙ rw free in
     (read, ap (after turn.scenario) read)

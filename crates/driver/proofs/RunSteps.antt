@@ -8,12 +8,37 @@ use Rattle.scenario.specs.Setups.{setup_with}
 use Rattle.driver.specs.Once.{IsReportOnce}
 use Rattle.suppressions.specs.Rules.{Rule}
 
-pub report-once : (image : Image) (input : List ℕ) (rules : List Rule) (setup : Setup) (options : Options) (step : ℕ) → setup ≡ setup_with image input
+pub report-once : (image : Image) (input : List ℕ) (rules : List Rule) (setup : Setup) (options : Options) (step : ℕ)
+    → setup ≡ setup_with image input
     → options.callers ≡ 12 → options.show ≡ true ∷ false ∷ true ∷ false ∷ []
-    → (text : List ℕ) → IsReportOf (record { image = image; words = []; setup = setup; marks = []; rules = rules; options = options; step = step }) text
+    → (text : List ℕ) → IsReportOf (record {
+      image = image;
+      words = [];
+      setup = setup;
+      marks = [];
+      rules = rules;
+      options = options;
+      step = step;
+    }) text
     → IsReportOnce image input rules step text
 unfolding IsReportOnce
 report-once image input rules setup options step plain callers show text told =
-    let all : record { image = image; words = []; setup = setup; marks = []; rules = rules; options = options; step = step } ≡ at_step (begun image input rules) step =
-    λ i. record { image = image; words = []; setup = plain i; marks = []; rules = rules; options = record { callers = callers i; show = show i }; step = step } in
+    let all : record {
+      image = image;
+      words = [];
+      setup = setup;
+      marks = [];
+      rules = rules;
+      options = options;
+      step = step;
+    } ≡ at_step (begun image input rules) step =
+    λ i. record {
+      image = image;
+      words = [];
+      setup = plain i;
+      marks = [];
+      rules = rules;
+      options = record { callers = callers i; show = show i };
+      step = step;
+    } in
     subst (λ (sc : Scenario). IsReportOf sc text) all told

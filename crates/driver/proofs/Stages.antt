@@ -1,5 +1,6 @@
 -- The stages of a command on a program.
-use Rattle.std.proofs.Common.{◌≡◌, ◌⊎◌, ◌∙◌, ℕ, List, [], Bool, false, Option, Some, Result, Ok, Err, IfErr, IsErrAnd, ap, inr, sym, subst}
+use Rattle.std.proofs.Common.{◌≡◌, ◌⊎◌, ◌∙◌, ℕ, List, [], Bool, false, Option, Some, Result, Ok, Err, IfErr, IsErrAnd}
+use Rattle.std.proofs.Common.{ap, inr, sym, subst}
 use Rattle.std.proofs.KnownBytes.{Appends-nil, Consumes-nil}
 use Rattle.std.specs.Io.KnownBytes.{Appends, Consumes}
 use Rattle.command_line.specs.Orders.{input_path, rules_path}
@@ -12,8 +13,10 @@ use Rattle.line_server.specs.Lines.{closed_lines}
 use Rattle.line_server.specs.Answers.{Relation, joined}
 use Rattle.line_server.specs.Served.{StoppedBy}
 use Rattle.line_server.specs.declared.fault.ServeFault.{ServeFault}
-use Rattle.line_server.specs.declared.fault.ServeFault.TheVariants.{ReadFailed, WriteFailed, Endless, NoMemory as ServedNoMemory}
-use Rattle.driver.specs.Carried.{Carried, CarriedWithImage, Does, Giving, HasInput, HasRules, IsFront, NoImage, Reports, Serves, Streams, Untouched}
+use Rattle.line_server.specs.declared.fault.ServeFault.TheVariants.{ReadFailed, WriteFailed, Endless}
+use Rattle.line_server.specs.declared.fault.ServeFault.TheVariants.{NoMemory as ServedNoMemory}
+use Rattle.driver.specs.Carried.{Carried, CarriedWithImage, Does, Giving, HasInput, HasRules, IsFront, NoImage, Reports}
+use Rattle.driver.specs.Carried.{Serves, Streams, Untouched}
 use Rattle.driver.specs.Carried.{most_judged, streams}
 use Rattle.driver.specs.Ends.{end_of, end_of_serve}
 use Rattle.driver.specs.Once.{IsReportOnce}
@@ -39,9 +42,11 @@ pub passed-on : {T : Type 0} (result : Result T End) (end : End) → IsErrAnd re
 passed-on (Ok x) end is = absurd is
 passed-on (Err e) end is = is
 
-pub no-image : {T : Type 0} (gives : Giving) (path front bytes : List ℕ) (fault : ElfFault) → IsFront gives path most_judged front → bytes ≡ front
+pub no-image : {T : Type 0} (gives : Giving) (path front bytes : List ℕ) (fault : ElfFault)
+    → IsFront gives path most_judged front → bytes ≡ front
     → ((fault ≡ Memory) ⊎ (refusal bytes ≡ Some fault))
-    → ((early : ElfFault) → early_refusal bytes ≡ Some early → ◌≡◌ {A = Result T ElfFault} (Err fault) (Err early)) → NoImage gives path (Image fault)
+    → ((early : ElfFault) → early_refusal bytes ≡ Some early → ◌≡◌ {A = Result T ElfFault} (Err fault) (Err early))
+    → NoImage gives path (Image fault)
 no-image gives path front bytes fault read same refused least = (
   front,
   read,
@@ -52,59 +57,81 @@ no-image gives path front bytes fault read same refused least = (
 )
 
 -- where the file gives a program, what becomes of it is what becomes of the command
-pub with-image : (gives : Giving) (order : Order) (action : Action) (front bytes : List ℕ) (image : ProgramImage) (old new : Streams) (end : End)
-    → IsFront gives order.file.now most_judged front → bytes ≡ front → IsImageOf bytes image → CarriedWithImage gives order action image old new end → Carried gives order action old new end
+pub with-image : (gives : Giving) (order : Order) (action : Action) (front bytes : List ℕ) (image : ProgramImage)
+    (old new : Streams) (end : End)
+    → IsFront gives order.file.now most_judged front → bytes ≡ front → IsImageOf bytes image
+    → CarriedWithImage gives order action image old new end → Carried gives order action old new end
 with-image gives order action front bytes image old new end read same is carried =
     inr (image, (front, read, subst (λ (xs : List ℕ). IsImageOf xs image) same is), carried)
 
 -- where all files give what is wanted, what is asked for is done
-pub with-all : (gives : Giving) (order : Order) (action : Action) (front bytes : List ℕ) (image : ProgramImage) (list : List Rule) (input : List ℕ) (old new : Streams) (end : End)
+pub with-all : (gives : Giving) (order : Order) (action : Action) (front bytes : List ℕ) (image : ProgramImage)
+    (list : List Rule) (input : List ℕ) (old new : Streams) (end : End)
     → IsFront gives order.file.now most_judged front → bytes ≡ front → IsImageOf bytes image
-    → HasRules gives (rules_path order) list → HasInput gives (input_path order) input → Does action image list input old new end → Carried gives order action old new end
+    → HasRules gives (rules_path order) list → HasInput gives (input_path order) input
+    → Does action image list input old new end → Carried gives order action old new end
 with-all gives order action front bytes image list input old new end read same is rules given does =
-    with-image gives order action front bytes image old new end read same is (inr (list, rules, inr (input, given, does)))
+    with-image gives order action front bytes image old new end read same is
+    (inr (list, rules, inr (input, given, does)))
 
-pub does-report : (action : Action) (step : ℕ) (image : ProgramImage) (list : List Rule) (input : List ℕ) (left held-old held-new : Option (List ℕ)) (end : End) → action ≡ Report step
-    → Reports (IsReportOnce image input list step) held-old held-new end → Does action image list input (streams left held-old) (streams left held-new) end
+pub does-report : (action : Action) (step : ℕ) (image : ProgramImage) (list : List Rule) (input : List ℕ)
+    (left held-old held-new : Option (List ℕ)) (end : End) → action ≡ Report step
+    → Reports (IsReportOnce image input list step) held-old held-new end
+    → Does action image list input (streams left held-old) (streams left held-new) end
 does-report action step image list input left held-old held-new end is reports =
-    subst (λ (done : Action). Does done image list input (streams left held-old) (streams left held-new) end) (sym is) (Consumes-nil left, reports)
+    subst (λ (done : Action). Does done image list input (streams left held-old) (streams left held-new) end) (sym is)
+    (Consumes-nil left, reports)
 
-pub does-same : (action other : Action) (image : ProgramImage) (list : List Rule) (input : List ℕ) (old new : Streams) (end : End) → action ≡ other
+pub does-same : (action other : Action) (image : ProgramImage) (list : List Rule) (input : List ℕ) (old new : Streams)
+    (end : End) → action ≡ other
     → Does other image list input old new end → Does action image list input old new end
-does-same action other image list input old new end is does = subst (λ (done : Action). Does done image list input old new end) (sym is) does
+does-same action other image list input old new end is does =
+    subst (λ (done : Action). Does done image list input old new end) (sym is) does
 
 -- what holds of the error that was passed on
-pub same-error : {T E : Type 0} (result : Result T E) (error : E) (P : E → Type 0) → IsErrAnd result (λ e. e ≡ error) → P error → IfErr result P
+pub same-error : {T E : Type 0} (result : Result T E) (error : E) (P : E → Type 0) → IsErrAnd result (λ e. e ≡ error)
+    → P error → IfErr result P
 same-error (Ok x) error P is holds = tt
 same-error (Err e) error P is holds = subst P (sym is) holds
 
 -- what a fault of a service comes to, where no lines have no replies
-pub serves-fault : (AreReplies : Relation) (none-of : (replies : List (List ℕ)) → AreReplies [] replies → replies ≡ []) (fault : ServeFault)
-    (left-old left-new held-old held-new : Option (List ℕ)) → StoppedBy fault AreReplies left-old left-new held-old held-new
+pub serves-fault : (AreReplies : Relation) (none-of : (replies : List (List ℕ)) → AreReplies [] replies
+    → replies ≡ []) (fault : ServeFault)
+    (left-old left-new held-old held-new : Option (List ℕ))
+    → StoppedBy fault AreReplies left-old left-new held-old held-new
     → Serves AreReplies (streams left-old held-old) (streams left-new held-new) (end_of_serve fault)
-serves-fault AreReplies none-of (ReadFailed replies bytes) left-old left-new held-old held-new stopped = (replies, bytes, stopped)
-serves-fault AreReplies none-of (Endless replies bytes) left-old left-new held-old held-new stopped = (replies, bytes, stopped)
-serves-fault AreReplies none-of (WriteFailed replies bytes) left-old left-new held-old held-new stopped = (replies, bytes, stopped)
-serves-fault AreReplies none-of (ServedNoMemory replies bytes) left-old left-new held-old held-new (seen, used, (none, whole)) =
-    let no-replies = none-of whole.replies (subst (λ (xs : List ℕ). AreReplies (closed_lines xs) whole.replies) none whole.answers) in (
+serves-fault AreReplies none-of (ReadFailed replies bytes) left-old left-new held-old held-new stopped =
+    (replies, bytes, stopped)
+serves-fault AreReplies none-of (Endless replies bytes) left-old left-new held-old held-new stopped =
+    (replies, bytes, stopped)
+serves-fault AreReplies none-of (WriteFailed replies bytes) left-old left-new held-old held-new stopped =
+    (replies, bytes, stopped)
+serves-fault AreReplies none-of (ServedNoMemory replies bytes) left-old left-new held-old held-new
+    (seen, used, (none, whole)) =
+    let no-replies = none-of whole.replies (subst (λ (xs : List ℕ). AreReplies (closed_lines xs) whole.replies) none
+    whole.answers) in (
       subst (Consumes left-old left-new) none used,
       subst (λ (rs : List (List ℕ)). Appends held-old held-new (joined rs)) no-replies whole.appended,
     )
 
--- a session to which nothing was said but what opened it, and of whose run nothing was made, has a fresh stage; so a fault of
--- what was served of its stage is one of that
+-- a session to which nothing was said but what opened it, and of whose run nothing was made, has a fresh stage; so a
+-- fault of what was served of its stage is one of that
 abbrev stage-with : Turn → Work → Bool → Stage
 stage-with turn work short = record { turn = turn; work = work; short = short }
 
-module _ (session : Session) (turn : Turn) (said : turn_of session ≡ turn) (work : work_on (trail_of session) ≡ no_work) (whole : is_short (trail_of session) ≡ false)
+module _ (session : Session) (turn : Turn) (said : turn_of session ≡ turn) (work : work_on (trail_of session) ≡ no_work)
+    (whole : is_short (trail_of session) ≡ false)
     (left-old left-new held-old held-new : Option (List ℕ)) where
   begins-fresh : stage_of session ≡ fresh turn
   begins-fresh =
       ap (λ (t : Turn). stage-with t (work_on (trail_of session)) (is_short (trail_of session))) said
-      ∙ ap (λ (w : Work). stage-with turn w (is_short (trail_of session))) work ∙ ap (λ (b : Bool). stage-with turn no_work b) whole
+      ∙ ap (λ (w : Work). stage-with turn w (is_short (trail_of session))) work
+      ∙ ap (λ (b : Bool). stage-with turn no_work b) whole
 
-  pub viewed-fault : (fault : ServeFault) → StoppedBy fault (ViewsLines (stage_of session)) left-old left-new held-old held-new
+  pub viewed-fault : (fault : ServeFault)
+      → StoppedBy fault (ViewsLines (stage_of session)) left-old left-new held-old held-new
       → Serves (ViewsLines (fresh turn)) (streams left-old held-old) (streams left-new held-new) (end_of_serve fault)
   viewed-fault fault stopped =
       serves-fault (ViewsLines (fresh turn)) (λ replies none. none) fault left-old left-new held-old held-new
-      (subst (λ (stage : Stage). StoppedBy fault (ViewsLines stage) left-old left-new held-old held-new) begins-fresh stopped)
+      (subst (λ (stage : Stage). StoppedBy fault (ViewsLines stage) left-old left-new held-old held-new) begins-fresh
+      stopped)

@@ -1,5 +1,5 @@
--- What becomes of a command on a program: its files are read in order, each judged before the next, and then a report is printed or lines
--- are answered.
+-- What becomes of a command on a program: its files are read in order, each judged before the next, and then a report
+-- is printed or lines are answered.
 use Rattle.std.specs.Prelude.{ℕ, ◌≡◌, ◌+◌, ◌<◌, ◌≤◌, ◌⊎◌, List, [], Option, Some, None, length, take}
 use Rattle.std.specs.Io.KnownBytes.{Appends, Consumes}
 use Rattle.command_line.specs.Orders.{input_path, rules_path}
@@ -20,7 +20,8 @@ use Rattle.driver.specs.Once.{IsReportOnce, WritesReport, StopsBy}
 use Rattle.driver.specs.declared.carrying.Action.{Action}
 use Rattle.driver.specs.declared.carrying.Action.TheVariants.{Report, Session, Look}
 use Rattle.driver.specs.declared.ends.End.{End}
-use Rattle.driver.specs.declared.ends.End.TheVariants.{Done, CannotRead, CannotReadInput, CannotWrite, Image, Suppressions, SuppressionsTooLong, InputTooLarge, NoMemory}
+use Rattle.driver.specs.declared.ends.End.TheVariants.{Done, CannotRead, CannotReadInput, CannotWrite, Image}
+use Rattle.driver.specs.declared.ends.End.TheVariants.{Suppressions, SuppressionsTooLong, InputTooLarge, NoMemory}
 use Rattle.driver.specs.declared.reporting.RunFault.TheVariants.{WriteFailed as ReportCut}
 use Rattle.suppressions.specs.Rules.{Rule}
 use Rattle.suppressions.specs.Texts.{faults, rules, IsLeast}
@@ -30,7 +31,8 @@ use Rattle.suppressions.specs.declared.fault.SuppFault.TheVariants as Supp
 abbrev pub Giving : Type 1
 Giving = List ℕ → Option (List ℕ) → Type 0
 
--- how many bytes of a program's file are judged, and one more; and the most bytes of a text of suppressions (this project's limits)
+-- how many bytes of a program's file are judged, and one more; and the most bytes of a text of suppressions (this
+-- project's limits)
 abbrev pub most_judged : ℕ
 most_judged = 67108864
 
@@ -59,9 +61,12 @@ NoBytes gives path (CannotRead named) = (named.now ≡ path) × gives path None
 NoBytes gives path NoMemory = Unit {0}
 NoBytes gives path end = ⊥
 
--- why a program is refused: the first of the reasons, or want of memory, which hides none of those that are found without memory
+-- why a program is refused: the first of the reasons, or want of memory, which hides none of those that are found
+-- without memory
 abbrev pub IsRefusedBy : ElfFault → List ℕ → Type 0
-IsRefusedBy fault front = ((fault ≡ Elf.Memory) ⊎ (refusal front ≡ Some fault)) × ((early : ElfFault) → early_refusal front ≡ Some early → fault ≡ early)
+IsRefusedBy fault front =
+    ((fault ≡ Elf.Memory) ⊎ (refusal front ≡ Some fault)) × ((early : ElfFault) → early_refusal front ≡ Some early
+    → fault ≡ early)
 
 -- the program of a file
 abbrev pub HasImage : Giving → List ℕ → ProgramImage → Type 0
@@ -74,13 +79,16 @@ NoImage gives path end = NoBytes gives path end
 -- the suppressions of a file's text, or none where no file is named
 abbrev pub HasRules : Giving → Option (List ℕ) → List Rule → Type 0
 HasRules gives None list = list ≡ []
-HasRules gives (Some path) list = (text : List ℕ) × gives path (Some text) × (length text ≤ longest_text) × (faults text ≡ []) × (list ≡ rules text)
+HasRules gives (Some path) list =
+    (text : List ℕ) × gives path (Some text) × (length text ≤ longest_text) × (faults text ≡ []) × (list ≡ rules text)
 
 abbrev pub NoRules : Giving → Option (List ℕ) → End → Type 0
 NoRules gives None end = ⊥
 NoRules gives (Some path) SuppressionsTooLong = (text : List ℕ) × gives path (Some text) × (longest_text < length text)
-NoRules gives (Some path) (Suppressions (Supp.BadSuppression line)) = (text : List ℕ) × gives path (Some text) × (length text ≤ longest_text) × IsLeast line (faults text)
-NoRules gives (Some path) (Suppressions Supp.Memory) = (text : List ℕ) × gives path (Some text) × (length text ≤ longest_text)
+NoRules gives (Some path) (Suppressions (Supp.BadSuppression line)) =
+    (text : List ℕ) × gives path (Some text) × (length text ≤ longest_text) × IsLeast line (faults text)
+NoRules gives (Some path) (Suppressions Supp.Memory) =
+    (text : List ℕ) × gives path (Some text) × (length text ≤ longest_text)
 NoRules gives (Some path) end = NoBytes gives path end
 
 -- the bytes of an input's file, or none where no file is named
@@ -100,9 +108,11 @@ Reports is_report old new CannotWrite = (sent : ℕ) × StopsBy (ReportCut sent)
 Reports is_report old new NoMemory = Appends old new []
 Reports is_report old new end = ⊥
 
--- lines were answered to their end; or up to where a read failed or found no end, or a write failed; or not at all, for want of memory
+-- lines were answered to their end; or up to where a read failed or found no end, or a write failed; or not at all, for
+-- want of memory
 abbrev pub Serves : Relation → Streams → Streams → End → Type 0
-Serves AreReplies old new Done = ServedAll AreReplies old.left old.held new.held × ServedRead AreReplies old.left new.left old.held new.held
+Serves AreReplies old new Done =
+    ServedAll AreReplies old.left old.held new.held × ServedRead AreReplies old.left new.left old.held new.held
 Serves AreReplies old new CannotReadInput =
     (replies : ℕ) × (bytes : ℕ) × StoppedBy (ReadFailed replies bytes) AreReplies old.left new.left old.held new.held
 Serves AreReplies old new CannotWrite =
@@ -110,9 +120,11 @@ Serves AreReplies old new CannotWrite =
 Serves AreReplies old new NoMemory = Untouched old new
 Serves AreReplies old new end = ⊥
 
--- what is asked for was done with a program, its suppressions and its input: the report of a step, a session, or one that can be looked at
+-- what is asked for was done with a program, its suppressions and its input: the report of a step, a session, or one
+-- that can be looked at
 abbrev pub Does : Action → ProgramImage → List Rule → List ℕ → Streams → Streams → End → Type 0
-Does (Report step) image list input old new end = Consumes old.left new.left [] × Reports (IsReportOnce image input list step) old.held new.held end
+Does (Report step) image list input old new end =
+    Consumes old.left new.left [] × Reports (IsReportOnce image input list step) old.held new.held end
 Does Session image list input old new end = Serves (Answers (fresh (opening image input list))) old new end
 Does Look image list input old new end = Serves (ViewsLines (fresh (opening image input list))) old new end
 
@@ -126,11 +138,13 @@ CarriedWithRules gives order action image list old new end =
 abbrev pub CarriedWithImage : Giving → Order → Action → ProgramImage → Streams → Streams → End → Type 0
 CarriedWithImage gives order action image old new end =
     (NoRules gives (rules_path order) end × Untouched old new)
-    ⊎ ((list : List Rule) × HasRules gives (rules_path order) list × CarriedWithRules gives order action image list old new end)
+    ⊎ ((list : List Rule) × HasRules gives (rules_path order) list
+    × CarriedWithRules gives order action image list old new end)
 
--- an order for the report of a step, or for a session, was carried out: the program is read, and then its suppressions and its input, or the
--- program's file ends the program
+-- an order for the report of a step, or for a session, was carried out: the program is read, and then its suppressions
+-- and its input, or the program's file ends the program
 abbrev pub Carried : Giving → Order → Action → Streams → Streams → End → Type 0
 Carried gives order action old new end =
     (NoImage gives order.file.now end × Untouched old new)
-    ⊎ ((image : ProgramImage) × HasImage gives order.file.now image × CarriedWithImage gives order action image old new end)
+    ⊎ ((image : ProgramImage) × HasImage gives order.file.now image
+    × CarriedWithImage gives order action image old new end)

@@ -6,7 +6,8 @@ use Rattle.guest_elf.specs.declared.fault.ElfFault.{ElfFault}
 use Rattle.guest_elf.specs.declared.fault.ElfFault.TheVariants.{Memory}
 use Rattle.driver.specs.declared.ends.End.{End}
 use Rattle.driver.specs.declared.ends.End.TheVariants.{Done, CannotRead, CannotReadInput, CannotWrite, Usage, NotText}
-use Rattle.driver.specs.declared.ends.End.TheVariants.{BadText, BytesRefused, WordsRefused, Image, Suppressions, SuppressionsTooLong, InputTooLarge, NoMemory}
+use Rattle.driver.specs.declared.ends.End.TheVariants.{BadText, BytesRefused, WordsRefused, Image, Suppressions}
+use Rattle.driver.specs.declared.ends.End.TheVariants.{SuppressionsTooLong, InputTooLarge, NoMemory}
 use Rattle.driver.specs.declared.ends.SweepOption.{SweepOption}
 use Rattle.driver.specs.declared.ends.SweepOption.TheVariants as Sweep
 use Rattle.replay_session.specs.declared.fault.BeginFault.{BeginFault}
@@ -17,7 +18,8 @@ use Rattle.driver.specs.declared.reporting.RunFault.{RunFault}
 use Rattle.driver.specs.declared.reporting.RunFault.TheVariants as Run
 use Rattle.suppressions.specs.declared.fault.SuppFault.TheVariants as Supp
 
--- 0: done, 1: a file or standard input cannot be read, or the output written, 2: the command line, 3: the program, the suppressions or the input is refused, 4: no memory
+-- 0: done, 1: a file or standard input cannot be read, or the output written, 2: the command line, 3: the program, the
+-- suppressions or the input is refused, 4: no memory
 abbrev pub status_of : End → ℕ
 status_of Done = 0
 status_of (CannotRead path) = 1
@@ -69,7 +71,8 @@ line_of BytesRefused = line_with (codes "replaycheck: bytes refused 3") []
 line_of WordsRefused = line_with (codes "replaycheck: words refused 4") []
 line_of (Image fault) = image_line fault
 line_of (Suppressions Supp.Memory) = no_memory_line
-line_of (Suppressions (Supp.BadSuppression line)) = line_with (codes "replaycheck: suppressions refused 13 at line ") (decimal line)
+line_of (Suppressions (Supp.BadSuppression line)) =
+    line_with (codes "replaycheck: suppressions refused 13 at line ") (decimal line)
 line_of SuppressionsTooLong = line_with (codes "replaycheck: suppressions refused 15") []
 line_of InputTooLarge = line_with (codes "replaycheck: input refused 14") []
 line_of NoMemory = no_memory_line

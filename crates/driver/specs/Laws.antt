@@ -20,9 +20,11 @@ IsAcceptedAs turn line (Word addr word) = accepted turn line ≡ taken (patch_wi
 
 -- and leaves the scenario with that edit
 abbrev pub Makes : Turn → List ℕ → Change → Type 0
-Makes turn line change = IsAcceptedAs turn line change × ((applied turn line).scenario ≡ (row turn.scenario (edit_of change)).after)
+Makes turn line change =
+    IsAcceptedAs turn line change × ((applied turn line).scenario ≡ (row turn.scenario (edit_of change)).after)
 
 -- while lines are answered, the line of a row makes the row's change, where its edit isn't refused
 abbrev pub RowsAreLines : Type 0
-RowsAreLines = (turn : Turn) (change : Change) → turn.lines < most_lines → IsSmall change → IsTaken turn.scenario (edit_of change)
+RowsAreLines =
+    (turn : Turn) (change : Change) → turn.lines < most_lines → IsSmall change → IsTaken turn.scenario (edit_of change)
     → Makes turn (change_text change) change

@@ -19,4 +19,5 @@ WritesReport is_report old new = (text : List ℕ) × is_report text × Appends 
 abbrev pub StopsBy : RunFault → (List ℕ → Type 0) → Option (List ℕ) → Option (List ℕ) → Type 0
 StopsBy InputTooLarge is_report old new = Appends old new []
 StopsBy NoMemory is_report old new = Appends old new []
-StopsBy (WriteFailed sent) is_report old new = (text : List ℕ) × is_report text × (sent ≤ length text) × Appends old new (take sent text)
+StopsBy (WriteFailed sent) is_report old new =
+    (text : List ℕ) × is_report text × (sent ≤ length text) × Appends old new (take sent text)

@@ -1,12 +1,14 @@
 -- The places that a request means in a program with an input.
-use Rattle.std.specs.Prelude.{◌≡◌, ℕ, ◌+◌, ◌-◌, ◌*◌, ◌/◌, ◌≤◌, ◌&&◌, nat_lt, nat_le, Bool, true, false, if◌then◌else◌, List, Option, Some, None, is_some}
+use Rattle.std.specs.Prelude.{◌≡◌, ℕ, ◌+◌, ◌-◌, ◌*◌, ◌/◌, ◌≤◌, ◌&&◌, nat_lt, nat_le, Bool, true, false, if◌then◌else◌}
+use Rattle.std.specs.Prelude.{List, Option, Some, None, is_some}
 use Rattle.guest_elf.specs.declared.image.Image.{Image}
 use Rattle.command_line.specs.declared.order.SweepWords.{SweepWords}
 use Rattle.command_line.specs.Orders.{text_of}
 use Rattle.sweeps.specs.Plans.{any_word, count, place_count}
 use Rattle.sweeps.specs.declared.plan.Places.{Places}
 use Rattle.sweeps.specs.declared.plan.Plan.{Plan}
-use Rattle.driver.specs.Requests.{NamesByteValues, NamesNoByteValues, NamesNoWordValues, NamesWordValues, NamesRange, closed_range_of, part_of, range_of}
+use Rattle.driver.specs.Requests.{NamesByteValues, NamesNoByteValues, NamesNoWordValues, NamesWordValues, NamesRange}
+use Rattle.driver.specs.Requests.{closed_range_of, part_of, range_of}
 use Rattle.driver.specs.declared.ends.End.{End}
 use Rattle.driver.specs.declared.ends.End.TheVariants.{BadText, NoMemory}
 use Rattle.driver.specs.declared.ends.SweepOption.{SweepOption}
@@ -57,13 +59,14 @@ bytes_by None false len = inside 0 len len
 unfoldable pub bytes_meant : Request → ℕ → Option Places
 bytes_meant request len = bytes_by request.bytes (is_some request.words) len
 
--- the words of a program that are meant, by a quarter of their addresses: those of the multiples of 4 from one address to another, if one of
--- them is loaded whole
+-- the words of a program that are meant, by a quarter of their addresses: those of the multiples of 4 from one address
+-- to another, if one of them is loaded whole
 abbrev pub loaded_places : Image → Places → Option Places
 loaded_places image words = if any_word image words.first (count words) then Some words else None
 
 abbrev pub words_by : Image → Option Range → Option Places
-words_by image (Some range) = loaded_places image (record { first = (range.first + 3) / 4; end = (end_behind range.last 4294967296 + 3) / 4 })
+words_by image (Some range) =
+    loaded_places image (record { first = (range.first + 3) / 4; end = (end_behind range.last 4294967296 + 3) / 4 })
 words_by image None = Some nowhere
 
 -- the plan of a request for a program and an input of so many bytes

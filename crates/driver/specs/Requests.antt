@@ -1,5 +1,6 @@
 -- Which edits the words of a sweep ask for.
-use Rattle.std.specs.Prelude.{◌≡◌, ℕ, ◌&&◌, ◌||◌, nat_lt, nat_le, ◌==◌, true, false, if◌then◌else◌, List, [], ◌∷◌, ◌++◌, codes, length, Option, Some, None, is_some}
+use Rattle.std.specs.Prelude.{◌≡◌, ℕ, ◌&&◌, ◌||◌, nat_lt, nat_le, ◌==◌, true, false, if◌then◌else◌, List, [], ◌∷◌, ◌++◌}
+use Rattle.std.specs.Prelude.{codes, length, Option, Some, None, is_some}
 use Rattle.std.specs.List.{list_any}
 use Rattle.std.specs.Str.{bytes_eq}
 use Rattle.replay_session.specs.Commands.{number}
@@ -54,7 +55,8 @@ abbrev pub most_parts : ℕ
 most_parts = 1000000
 
 abbrev pub part_by : Option ℕ → Option ℕ → Option Part
-part_by (Some i) (Some n) = if nat_le 1 i && (nat_le i n && nat_le n most_parts) then Some (record { index = i; count = n }) else None
+part_by (Some i) (Some n) =
+    if nat_le 1 i && (nat_le i n && nat_le n most_parts) then Some (record { index = i; count = n }) else None
 part_by _ _ = None
 
 unfoldable pub part_in : List (List ℕ) → Option Part

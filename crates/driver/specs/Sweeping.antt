@@ -1,5 +1,7 @@
--- What a sweep of a program does, and what becomes of a command for one: its words are read, then the files, each judged before the next.
-use Rattle.std.specs.Prelude.{◌≡◌, ℕ, ◌-◌, ◌<◌, ◌≤◌, ◌⊎◌, Bool, true, false, List, [], Option, Some, None, codes, IfSome, length}
+-- What a sweep of a program does, and what becomes of a command for one: its words are read, then the files, each
+-- judged before the next.
+use Rattle.std.specs.Prelude.{◌≡◌, ℕ, ◌-◌, ◌<◌, ◌≤◌, ◌⊎◌, Bool, true, false, List, [], Option, Some, None, codes}
+use Rattle.std.specs.Prelude.{IfSome, length}
 use Rattle.std.specs.Str.{bytes_eq}
 use Rattle.std.specs.Io.KnownBytes.{Appends}
 use Rattle.command_line.specs.Orders.{input_path, rules_path}
@@ -16,11 +18,13 @@ use Rattle.suppressions.specs.Texts.{faults, rules, IsLeast}
 use Rattle.suppressions.specs.declared.fault.SuppFault.TheVariants as Supp
 use Rattle.sweeps.specs.declared.plan.Plan.{Plan}
 use Rattle.driver.specs.declared.carrying.Action.TheVariants as Action
-use Rattle.driver.specs.Carried.{Carried, Giving, HasInput, IsFront, NoBytes, NoImage, NoInput, Streams, longest_text, most_judged}
+use Rattle.driver.specs.Carried.{Carried, Giving, HasInput, IsFront, NoBytes, NoImage, NoInput, Streams, longest_text}
+use Rattle.driver.specs.Carried.{most_judged}
 use Rattle.driver.specs.Planned.{IsNoRequest, IsPlanOf, IsRequestOf, bytes_meant, part_from, part_to, words_by}
 use Rattle.driver.specs.Swept.{Case, Writes, head_text}
 use Rattle.driver.specs.declared.ends.End.{End}
-use Rattle.driver.specs.declared.ends.End.TheVariants.{BytesRefused, CannotReadInput, InputTooLarge, NoMemory, Suppressions, SuppressionsTooLong, Usage, WordsRefused}
+use Rattle.driver.specs.declared.ends.End.TheVariants.{BytesRefused, CannotReadInput, InputTooLarge, NoMemory}
+use Rattle.driver.specs.declared.ends.End.TheVariants.{Suppressions, SuppressionsTooLong, Usage, WordsRefused}
 use Rattle.driver.specs.declared.sweeping.request.Request.{Request}
 
 -- the sweep of a program with an input and suppressions, of which these bytes were read, by the plan of a request
@@ -34,12 +38,14 @@ case_of file text image input list words request plan = record {
 }
 
 -- the places that are meant are refused, and nothing is written; or the table of those of the part is
-abbrev pub Sweeps : List ℕ → List ℕ → ProgramImage → List ℕ → List Rule → SweepWords → Request → Option (List ℕ) → Option (List ℕ) → End → Type 0
+abbrev pub Sweeps : List ℕ → List ℕ → ProgramImage → List ℕ → List Rule → SweepWords → Request → Option (List ℕ)
+    → Option (List ℕ) → End → Type 0
 Sweeps file text image input list words request old new end =
     ((end ≡ BytesRefused) × (bytes_meant request (length input) ≡ None) × Appends old new [])
     ⊎ (((end ≡ WordsRefused) × (words_by image request.words ≡ None) × Appends old new [])
     ⊎ ((plan : Plan) × IsPlanOf request image (length input) plan
-    × Writes (case_of file text image input list words request plan) (part_to plan request.part - part_from plan request.part) old new end))
+    × Writes (case_of file text image input list words request plan)
+    (part_to plan request.part - part_from plan request.part) old new end))
 
 -- the text of suppressions, or none where no file is named
 abbrev pub HasText : Giving → Option (List ℕ) → List ℕ → Type 0

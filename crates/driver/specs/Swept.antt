@@ -1,5 +1,6 @@
 -- The table of a sweep as it is written: its head, and how far it came.
-use Rattle.std.specs.Prelude.{◌≡◌, ℕ, ◌-◌, ◌≤◌, ◌⊎◌, Bool, if◌then◌else◌, nat_lt, List, [], ◌++◌, codes, length, map, Option, Some, None, unwrap_or}
+use Rattle.std.specs.Prelude.{◌≡◌, ℕ, ◌-◌, ◌≤◌, ◌⊎◌, Bool, if◌then◌else◌, nat_lt, List, [], ◌++◌, codes, length, map}
+use Rattle.std.specs.Prelude.{Option, Some, None, unwrap_or}
 use Rattle.std.specs.Fmt.{decimal}
 use Rattle.std.specs.Io.KnownBytes.{Appends}
 use Rattle.hex.specs.Hex.{encode_lower}
@@ -27,20 +28,23 @@ unfoldable pub file_line : List ℕ → List ℕ → List ℕ
 file_line word bytes = word ++ decimal (length bytes) ++ codes " " ++ encode_lower (sha256 bytes) ++ newline
 
 unfoldable pub file_lines : List ℕ → List ℕ → List ℕ → List ℕ
-file_lines program input rules = file_line (codes "program ") program ++ file_line (codes "input ") input ++ file_line (codes "supp ") rules
+file_lines program input rules =
+    file_line (codes "program ") program ++ file_line (codes "input ") input ++ file_line (codes "supp ") rules
 
 -- the bytes that are edited, if some are, and the values that they get
 unfoldable pub bytes_line : Places → List ℕ → List ℕ
 bytes_line bytes values =
     if nat_lt bytes.first bytes.end
-    then codes "bytes " ++ decimal bytes.first ++ codes ".." ++ decimal (bytes.end - 1) ++ codes " " ++ values ++ newline
+    then codes "bytes " ++ decimal bytes.first ++ codes ".." ++ decimal (bytes.end - 1) ++ codes " " ++ values
+    ++ newline
     else []
 
 -- the addresses whose words are edited, if some are, and the values that they get
 unfoldable pub words_line : Option Range → List ℕ → List ℕ
 words_line None values = []
 words_line (Some range) values =
-    codes "words " ++ address_text range.first ++ codes ".." ++ address_text (unwrap_or range.last 4294967295) ++ codes " " ++ values ++ newline
+    codes "words " ++ address_text range.first ++ codes ".." ++ address_text (unwrap_or range.last 4294967295)
+    ++ codes " " ++ values ++ newline
 
 -- the step, whether outcomes have the output's length, and the part
 abbrev pub output_line : Bool → List ℕ
@@ -48,18 +52,21 @@ output_line with_output = if with_output then codes "\noutput yes\npart " else c
 
 unfoldable pub step_lines : ℕ → Bool → Part → List ℕ
 step_lines step with_output part =
-    codes "step " ++ decimal step ++ output_line with_output ++ decimal part.index ++ codes "/" ++ decimal part.count ++ newline
+    codes "step " ++ decimal step ++ output_line with_output ++ decimal part.index ++ codes "/" ++ decimal part.count
+    ++ newline
 
 -- the head of a table
 unfoldable pub head_text : List ℕ → List ℕ → List ℕ → SweepWords → Places → Option Range → Part → List ℕ
 head_text program input rules words bytes named part =
-    codes "sweep 1\n" ++ file_lines program input rules ++ bytes_line bytes words.byte_values.now ++ words_line named words.word_values.now
+    codes "sweep 1\n" ++ file_lines program input rules ++ bytes_line bytes words.byte_values.now
+    ++ words_line named words.word_values.now
     ++ step_lines words.step words.with_output part
 
 -- ---- how far it came
 
 -- these are the edits of so many places from one on, each with its own outcome, and the outcome of the unedited run
-pub record AreOf (with_output : Bool) (sc : Scenario) (plan : Plan) (from n : ℕ) (first : List ℕ) (met : List Met) : Type 0 where
+pub record AreOf (with_output : Bool) (sc : Scenario) (plan : Plan) (from n : ℕ) (first : List ℕ)
+    (met : List Met) : Type 0 where
   pub unedited : IsOutlineOf with_output sc first
   pub changes : map (λ (m : Met). m.change) met ≡ changes_from sc plan from n
   pub right : AreMet with_output sc met
@@ -75,21 +82,24 @@ pub record Case : Type 0 where
 -- the rows of so many places were written, and nothing else
 abbrev pub WritesRows : Case → ℕ → Option (List ℕ) → Option (List ℕ) → Type 0
 WritesRows case n old new =
-    (first : List ℕ) × (met : List Met) × AreOf case.with_output case.sc case.plan case.from n first met × Appends old new (case.head ++ rows_text first met)
+    (first : List ℕ) × (met : List Met) × AreOf case.with_output case.sc case.plan case.from n first met
+    × Appends old new (case.head ++ rows_text first met)
 
 -- the whole table of so many places
 abbrev pub WritesTable : Case → ℕ → Option (List ℕ) → Option (List ℕ) → Type 0
 WritesTable case n old new =
-    (first : List ℕ) × (met : List Met) × AreOf case.with_output case.sc case.plan case.from n first met × Appends old new (case.head ++ table_text first met)
+    (first : List ℕ) × (met : List Met) × AreOf case.with_output case.sc case.plan case.from n first met
+    × Appends old new (case.head ++ table_text first met)
 
 -- a front of the rows of so many places, or of the whole table of all
 abbrev pub WritesFront : Case → ℕ → ℕ → Option (List ℕ) → Option (List ℕ) → Type 0
 WritesFront case n all old new =
     (first : List ℕ) × (met : List Met) × AreOf case.with_output case.sc case.plan case.from n first met
-    × (AppendsFront old new (case.head ++ rows_text first met) ⊎ ((n ≡ all) × AppendsFront old new (case.head ++ table_text first met)))
+    × (AppendsFront old new (case.head ++ rows_text first met)
+    ⊎ ((n ≡ all) × AppendsFront old new (case.head ++ table_text first met)))
 
--- a sweep of so many places: its whole table was written; or a front of it, after which a write failed; or nothing, or the rows of whole
--- places, for want of memory
+-- a sweep of so many places: its whole table was written; or a front of it, after which a write failed; or nothing, or
+-- the rows of whole places, for want of memory
 abbrev pub Writes : Case → ℕ → Option (List ℕ) → Option (List ℕ) → End → Type 0
 Writes case all old new Done = WritesTable case all old new
 Writes case all old new CannotWrite = (n : ℕ) × (n ≤ all) × WritesFront case n all old new
@@ -99,5 +109,7 @@ Writes case all old new end = ⊥
 -- a sweep has met the edits of so many places, and their rows were written
 abbrev pub Reached : Case → ℕ → Option (List ℕ) → Option (List ℕ) → Sweep → Type 0
 Reached case n old now sweep =
-    (scenario_of sweep ≡ case.sc) × (tells_output sweep ≡ case.with_output) × (first : List ℕ) × (met : List Met) × HasMet sweep first met
-    × (map (λ (m : Met). m.change) met ≡ changes_from case.sc case.plan case.from n) × Appends old now (case.head ++ rows_text first met)
+    (scenario_of sweep ≡ case.sc) × (tells_output sweep ≡ case.with_output) × (first : List ℕ) × (met : List Met)
+    × HasMet sweep first met
+    × (map (λ (m : Met). m.change) met ≡ changes_from case.sc case.plan case.from n)
+    × Appends old now (case.head ++ rows_text first met)

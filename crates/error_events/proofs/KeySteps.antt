@@ -1,5 +1,6 @@
 -- Keys: `==` of two keys says that they have one kind and one trace.
-use Rattle.std.proofs.Common.{◌≡◌, ℕ, zero, suc, ◌-◌, List, [], ◌∷◌, ◌++◌, Bool, true, false, ◌&&◌, ◌==◌, nat_eq, refl, ap, ap₂, sym, ◌∙◌, arith, length, replicate}
+use Rattle.std.proofs.Common.{◌≡◌, ℕ, zero, suc, ◌-◌, List, [], ◌∷◌, ◌++◌, Bool, true, false, ◌&&◌, ◌==◌, nat_eq, refl}
+use Rattle.std.proofs.Common.{ap, ap₂, sym, ◌∙◌, arith, length, replicate}
 use Rattle.std.specs.Str.{bytes_eq}
 use Rattle.std.specs.Cmp.Lexicographic.{pointwise}
 use Rattle.std.proofs.lemmas.Bool.Decides.{nat_tests}
@@ -11,8 +12,11 @@ use Rattle.error_events.specs.declared.kind.Kind.TheVariants.{Read, Write, Value
 use Rattle.error_events.specs.declared.kind.ParameterFault.{ParameterFault}
 use Rattle.error_events.specs.declared.kind.ParameterFault.TheVariants.{Contains, Uninit, Unaddressable}
 use Rattle.error_events.specs.declared.parameter.Parameter.{Parameter}
-use Rattle.error_events.specs.declared.parameter.Parameter.TheVariants.{SyscallNumber, ReadFd, ReadBuffer, ReadCount, WriteFd, WriteBuffer, WriteCount, ExitStatus}
-use Rattle.error_events.specs.declared.parameter.Parameter.TheVariants.{ExitGroupStatus, MallocSize, FreePointer, CallocMembers, CallocSize, ReallocPointer, ReallocSize}
+use Rattle.error_events.specs.declared.parameter.Parameter.TheVariants.{SyscallNumber, ReadFd, ReadBuffer, ReadCount}
+use Rattle.error_events.specs.declared.parameter.Parameter.TheVariants.{WriteFd, WriteBuffer, WriteCount, ExitStatus}
+use Rattle.error_events.specs.declared.parameter.Parameter.TheVariants.{ExitGroupStatus, MallocSize, FreePointer}
+use Rattle.error_events.specs.declared.parameter.Parameter.TheVariants.{CallocMembers, CallocSize, ReallocPointer}
+use Rattle.error_events.specs.declared.parameter.Parameter.TheVariants.{ReallocSize}
 use Rattle.error_events.specs.contracts.event.KeyPartialEq.TheImpl.{ghosts}
 use Rattle.error_events.specs.contracts.kind.KindPartialEq.TheImpl.{ghosts as of_kinds}
 use Rattle.error_events.specs.contracts.kind.Fault3PartialEq.TheImpl.{ghosts as of_faults}
@@ -76,13 +80,20 @@ suc-zero : (n : ℕ) → (suc n == 0) ≡ false
 suc-zero n = grind (arith, nat_tests)
 
 -- lists that are filled up with zeros are the same where they were
-pub filled-eq : (xs ys : List ℕ) (m n : ℕ) → (length xs ≡ length ys → m ≡ n) → (pointwise nat_eq (xs ++ replicate m 0) (ys ++ replicate n 0) && (length xs == length ys)) ≡ pointwise nat_eq xs ys
-filled-eq [] [] m n h = ap (λ k. pointwise nat_eq (replicate m 0) (replicate k 0) && true) (sym (h refl)) ∙ ap (λ b. b && true) (zeros-eq m)
-filled-eq [] (y ∷ ys) m n h = ap (λ b. pointwise nat_eq (replicate m 0) (y ∷ (ys ++ replicate n 0)) && b) (zero-suc (length ys)) ∙ and-false _
-filled-eq (x ∷ xs) [] m n h = ap (λ b. pointwise nat_eq (x ∷ (xs ++ replicate m 0)) (replicate n 0) && b) (suc-zero (length xs)) ∙ and-false _
+pub filled-eq : (xs ys : List ℕ) (m n : ℕ) → (length xs ≡ length ys → m ≡ n)
+    → (pointwise nat_eq (xs ++ replicate m 0) (ys ++ replicate n 0) && (length xs == length ys))
+    ≡ pointwise nat_eq xs ys
+filled-eq [] [] m n h =
+    ap (λ k. pointwise nat_eq (replicate m 0) (replicate k 0) && true) (sym (h refl)) ∙ ap (λ b. b && true) (zeros-eq m)
+filled-eq [] (y ∷ ys) m n h =
+    ap (λ b. pointwise nat_eq (replicate m 0) (y ∷ (ys ++ replicate n 0)) && b) (zero-suc (length ys)) ∙ and-false _
+filled-eq (x ∷ xs) [] m n h =
+    ap (λ b. pointwise nat_eq (x ∷ (xs ++ replicate m 0)) (replicate n 0) && b) (suc-zero (length xs)) ∙ and-false _
 filled-eq (x ∷ xs) (y ∷ ys) m n h =
-    and-assoc (nat_eq x y) (pointwise nat_eq (xs ++ replicate m 0) (ys ++ replicate n 0)) (suc (length xs) == suc (length ys))
-    ∙ ap (λ b. nat_eq x y && (pointwise nat_eq (xs ++ replicate m 0) (ys ++ replicate n 0) && b)) (suc-eq (length xs) (length ys))
+    and-assoc (nat_eq x y) (pointwise nat_eq (xs ++ replicate m 0) (ys ++ replicate n 0))
+    (suc (length xs) == suc (length ys))
+    ∙ ap (λ b. nat_eq x y && (pointwise nat_eq (xs ++ replicate m 0) (ys ++ replicate n 0) && b))
+    (suc-eq (length xs) (length ys))
     ∙ ap (λ b. nat_eq x y && b) (filled-eq xs ys m n (λ e. h (ap suc e)))
 
 -- `==` of keys

@@ -11,8 +11,11 @@ use Rattle.error_events.specs.declared.kind.Kind.TheVariants.{Read, Write, Value
 use Rattle.error_events.specs.declared.kind.ParameterFault.{ParameterFault}
 use Rattle.error_events.specs.declared.kind.ParameterFault.TheVariants.{Contains, Uninit, Unaddressable}
 use Rattle.error_events.specs.declared.parameter.Parameter.{Parameter}
-use Rattle.error_events.specs.declared.parameter.Parameter.TheVariants.{SyscallNumber, ReadFd, ReadBuffer, ReadCount, WriteFd, WriteBuffer, WriteCount, ExitStatus}
-use Rattle.error_events.specs.declared.parameter.Parameter.TheVariants.{ExitGroupStatus, MallocSize, FreePointer, CallocMembers, CallocSize, ReallocPointer, ReallocSize}
+use Rattle.error_events.specs.declared.parameter.Parameter.TheVariants.{SyscallNumber, ReadFd, ReadBuffer, ReadCount}
+use Rattle.error_events.specs.declared.parameter.Parameter.TheVariants.{WriteFd, WriteBuffer, WriteCount, ExitStatus}
+use Rattle.error_events.specs.declared.parameter.Parameter.TheVariants.{ExitGroupStatus, MallocSize, FreePointer}
+use Rattle.error_events.specs.declared.parameter.Parameter.TheVariants.{CallocMembers, CallocSize, ReallocPointer}
+use Rattle.error_events.specs.declared.parameter.Parameter.TheVariants.{ReallocSize}
 
 pub left-true : (a b : Bool) → (a && b) ≡ true → a ≡ true
 left-true true b h = refl
@@ -83,7 +86,9 @@ kind-same (Read m) (Read n) h = ap Read (number-same m n h)
 kind-same (Write m) (Write n) h = ap Write (number-same m n h)
 kind-same Value Value h = refl
 kind-same Cond Cond h = refl
-kind-same (Param p f) (Param q g) h = ap₂ Param (parameter-same p q (left-true _ (same_fault f g) h)) (fault-same f g (right-true (bytes_eq (parameter_text p) (parameter_text q)) _ h))
+kind-same (Param p f) (Param q g) h =
+    ap₂ Param (parameter-same p q (left-true _ (same_fault f g) h))
+    (fault-same f g (right-true (bytes_eq (parameter_text p) (parameter_text q)) _ h))
 kind-same Free Free h = refl
 kind-same Jump Jump h = refl
 kind-same _ _ h = cc
@@ -109,7 +114,10 @@ pub record Same (k l : Kind) (s t : List ℕ) : Type 0 where
   pub trace : s ≡ t
 
 pub same-parts : (k l : Kind) (s t : List ℕ) → (same_kind k l && same_trace s t) ≡ true → Same k l s t
-same-parts k l s t h = record { kind = kind-same k l (left-true _ (same_trace s t) h); trace = trace-same s t (right-true (same_kind k l) _ h) }
+same-parts k l s t h = record {
+  kind = kind-same k l (left-true _ (same_trace s t) h);
+  trace = trace-same s t (right-true (same_kind k l) _ h);
+}
 
 pub same-from : (k l : Kind) (s t : List ℕ) → Same k l s t → (same_kind k l && same_trace s t) ≡ true
 same-from k l s t h = both-true _ _

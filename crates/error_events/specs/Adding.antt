@@ -1,4 +1,5 @@
--- Groups, as errors are added to them: the group of the error's kind and trace counts one more, or else a new group comes last.
+-- Groups, as errors are added to them: the group of the error's kind and trace counts one more, or else a new group
+-- comes last.
 use Rattle.std.specs.Prelude.{◌≡◌, ◌+◌, ◌&&◌, Bool, if◌then◌else◌, List, [], ◌∷◌, ◌++◌, min}
 use Rattle.error_events.specs.Groups.{same_kind, same_trace, most, grouped}
 use Rattle.error_events.specs.declared.event.Event.{Event}

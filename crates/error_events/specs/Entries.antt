@@ -6,7 +6,8 @@ use Rattle.std.specs.declared.hash.FoldHasher.{FoldHasher}
 use Rattle.std.specs.declared.hash.BuildHasherDefault.{BuildHasherDefault}
 use Rattle.indexmap.specs.IndexMap.{IndexMap}
 
-abbrev pub entries_of : {K V : Type 0} → Option (Rc (IndexMap K V (BuildHasherDefault FoldHasher)) Global) → List (K × V)
+abbrev pub entries_of : {K V : Type 0} → Option (Rc (IndexMap K V (BuildHasherDefault FoldHasher)) Global)
+    → List (K × V)
 entries_of None = []
 entries_of (Some shared) = shared.value.entries
 

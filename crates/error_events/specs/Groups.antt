@@ -1,6 +1,8 @@
--- Errors, and their groups: for each kind and trace, in order of first occurrence, how many there are, and the first one's note
--- (Valgrind user manual, section 2.4: an error is compared with the earlier ones, and one that is the same is only counted).
-use Rattle.std.specs.Prelude.{ℕ, ◌==◌, ◌&&◌, Bool, true, false, nat_eq, if◌then◌else◌, List, [], ◌∷◌, ◌++◌, map, min, count_by}
+-- Errors, and their groups: for each kind and trace, in order of first occurrence, how many there are, and the first
+-- one's note (Valgrind user manual, section 2.4: an error is compared with the earlier ones, and one that is the same
+-- is only counted).
+use Rattle.std.specs.Prelude.{ℕ, ◌==◌, ◌&&◌, Bool, true, false, nat_eq, if◌then◌else◌, List, [], ◌∷◌, ◌++◌, map, min}
+use Rattle.std.specs.Prelude.{count_by}
 use Rattle.std.specs.List.{list_any}
 use Rattle.std.specs.Str.{bytes_eq}
 use Rattle.std.specs.Cmp.Lexicographic.{pointwise}
@@ -39,7 +41,8 @@ same_key d e = same_kind d.kind e.kind && same_trace d.trace e.trace
 -- those errors that are the first of their key, after these
 unfoldable pub firsts_after : List Event → List Event → List Event
 firsts_after seen [] = []
-firsts_after seen (e ∷ es) = if list_any (λ d. same_key d e) seen then firsts_after seen es else e ∷ firsts_after (seen ++ e ∷ []) es
+firsts_after seen (e ∷ es) =
+    if list_any (λ d. same_key d e) seen then firsts_after seen es else e ∷ firsts_after (seen ++ e ∷ []) es
 
 -- the greatest count
 abbrev pub most : ℕ

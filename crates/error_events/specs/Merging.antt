@@ -1,4 +1,5 @@
--- How groups are regrouped: each group that is kept is added, with the first addresses of its trace, to those before it.
+-- How groups are regrouped: each group that is kept is added, with the first addresses of its trace, to those before
+-- it.
 use Rattle.std.specs.Prelude.{ℕ, Bool, if◌then◌else◌, List, [], ◌∷◌, Option, None, Some, take}
 use Rattle.error_events.specs.Adding.{add_group}
 use Rattle.error_events.specs.declared.event.Group.{Group}

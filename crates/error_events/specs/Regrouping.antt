@@ -1,4 +1,5 @@
--- Groups by fewer addresses, of the errors that are kept (Valgrind user manual, core command-line options, `--num-callers`).
+-- Groups by fewer addresses, of the errors that are kept (Valgrind user manual, core command-line options,
+-- `--num-callers`).
 use Rattle.std.specs.Prelude.{◌≡◌, ℕ, ◌&&◌, Bool, false, if◌then◌else◌, List, [], ◌∷◌, map, filter, take}
 use Rattle.error_events.specs.Groups.{grouped, same_kind, same_trace}
 use Rattle.error_events.specs.declared.kind.Kind.{Kind}
@@ -13,7 +14,8 @@ cut callers e = record { kind = e.kind; trace = take callers e.trace; note = e.n
 unfoldable pub is_kept : List Bool → List Group → Kind → List ℕ → Bool
 is_kept [] gs kind trace = false
 is_kept (keep ∷ keeps) [] kind trace = false
-is_kept (keep ∷ keeps) (g ∷ gs) kind trace = if same_kind kind g.kind && same_trace trace g.trace then keep else is_kept keeps gs kind trace
+is_kept (keep ∷ keeps) (g ∷ gs) kind trace =
+    if same_kind kind g.kind && same_trace trace g.trace then keep else is_kept keeps gs kind trace
 
 -- the errors that are kept
 unfoldable pub kept : List Bool → List Event → List Event
@@ -25,4 +27,6 @@ regrouped callers keeps es = grouped (map (cut callers) (kept keeps es))
 
 -- errors whose groups are kept by a test of kind and trace are those that pass the test
 abbrev pub KeptByTest : Type 0
-KeptByTest = (test : Kind → List ℕ → Bool) (es : List Event) → kept (map (λ g. test g.kind g.trace) (grouped es)) es ≡ filter (λ e. test e.kind e.trace) es
+KeptByTest =
+    (test : Kind → List ℕ → Bool) (es : List Event)
+    → kept (map (λ g. test g.kind g.trace) (grouped es)) es ≡ filter (λ e. test e.kind e.trace) es

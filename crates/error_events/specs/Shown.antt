@@ -9,7 +9,8 @@ use Rattle.error_events.specs.declared.groups.Groups.{Groups}
 unfoldable pub counted : List (Key × Note) → List ℕ → List Group
 counted [] counts = []
 counted (e ∷ es) [] = []
-counted (e ∷ es) (count ∷ counts) = record { kind = e.0.kind; trace = e.0.trace; count = count; note = e.1 } ∷ counted es counts
+counted (e ∷ es) (count ∷ counts) = record { kind = e.0.kind; trace = e.0.trace; count = count; note = e.1 }
+    ∷ counted es counts
 
 unfoldable pub groups_of : Groups → List Group
 groups_of groups = counted groups.known (counts_of groups.counts)

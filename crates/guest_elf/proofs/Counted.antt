@@ -1,5 +1,6 @@
 -- One step of a loop over the entries of a table: what is left at an index, and at the next.
-use Rattle.std.proofs.Common.{◌≡◌, ℕ, suc, ◌+◌, ◌-◌, ◌<◌, ◌≤◌, Bool, cond, ◌||◌, List, [], ◌∷◌, ◌++◌, Some, map, sym, ◌∙◌, ap, append_assoc, arith}
+use Rattle.std.proofs.Common.{◌≡◌, ℕ, suc, ◌+◌, ◌-◌, ◌<◌, ◌≤◌, Bool, cond, ◌||◌, List, [], ◌∷◌, ◌++◌, Some, map, sym}
+use Rattle.std.proofs.Common.{◌∙◌, ap, append_assoc, arith}
 use Rattle.std.proofs.Math.Nat.{sub-zero}
 use Rattle.std.specs.List.{filter, find, list_any, range_with_len}
 

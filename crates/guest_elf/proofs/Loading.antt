@@ -1,5 +1,6 @@
 -- What a segment loads, and what a list of segments does, against what the file loads.
-use Rattle.std.proofs.Common.{◌≡◌, ℕ, zero, suc, ◌+◌, ◌-◌, ◌<◌, ◌≤◌, min, Bool, true, false, cond, ◌&&◌, ◌||◌, not, nat_lt, nat_le, List, [], ◌∷◌, ◌++◌, length, drop}
+use Rattle.std.proofs.Common.{◌≡◌, ℕ, zero, suc, ◌+◌, ◌-◌, ◌<◌, ◌≤◌, min, Bool, true, false, cond, ◌&&◌, ◌||◌, not}
+use Rattle.std.proofs.Common.{nat_lt, nat_le, List, [], ◌∷◌, ◌++◌, length, drop}
 use Rattle.std.proofs.Common.{map, Option, Some, None, refl, sym, ◌∙◌, ap, append_assoc, arith, slice_index}
 use Rattle.std.proofs.lemmas.Bool.Decides.{nat_tests}
 use Rattle.std.proofs.lemmas.List.{get_or_past, get_or-drop, get_or-take, length-drop, length-take, map-append}
@@ -20,7 +21,8 @@ pub record IsGood (file_length : ℕ) (header : ProgramHeader) : Type 0 where
   pub in_space : header.vaddr + header.memsz ≤ 2 ^ 32
 
 good_numbers : (file_length filesz memsz offset vaddr : ℕ) →
-    (nat_lt memsz filesz || (not (filesz == 0) && nat_lt file_length (offset + filesz)) || nat_lt (2 ^ 32) (vaddr + memsz)) ≡ false →
+    (nat_lt memsz filesz || (not (filesz == 0) && nat_lt file_length (offset + filesz))
+    || nat_lt (2 ^ 32) (vaddr + memsz)) ≡ false →
     (filesz ≤ memsz) × (0 < filesz → offset + filesz ≤ file_length) × (vaddr + memsz ≤ 2 ^ 32)
 good_numbers file_length filesz memsz offset vaddr fine = (
   grind (arith, nat_tests),
@@ -28,7 +30,8 @@ good_numbers file_length filesz memsz offset vaddr fine = (
   grind (arith, nat_tests),
 )
 
-pub good_from_test : (file_length : ℕ) (header : ProgramHeader) → is_bad_segment file_length header ≡ false → IsGood file_length header
+pub good_from_test : (file_length : ℕ) (header : ProgramHeader) → is_bad_segment file_length header ≡ false
+    → IsGood file_length header
 unfolding is_bad_segment
 good_from_test file_length header fine =
     let parts = good_numbers file_length header.filesz header.memsz header.offset header.vaddr fine in
@@ -38,10 +41,12 @@ good_from_test file_length header fine =
 same_byte : (vaddr filesz memsz address here there : ℕ) → filesz ≤ memsz →
     (vaddr ≤ address → address < vaddr + filesz → here ≡ there) → (vaddr + filesz ≤ address → here ≡ 0) →
     cond (nat_le vaddr address && nat_lt address (vaddr + memsz)) (Some here) None
-    ≡ cond (nat_lt address vaddr) None (cond (nat_lt address (vaddr + filesz)) (Some there) (cond (nat_lt address (vaddr + memsz)) (Some 0) None))
+    ≡ cond (nat_lt address vaddr) None (cond (nat_lt address (vaddr + filesz)) (Some there)
+    (cond (nat_lt address (vaddr + memsz)) (Some 0) None))
 same_byte vaddr filesz memsz address here there within read past = grind (arith, nat_tests)
 
-all_of_them : (file_length offset filesz : ℕ) → (0 < filesz → offset + filesz ≤ file_length) → min filesz (file_length - offset) ≡ filesz
+all_of_them : (file_length offset filesz : ℕ) → (0 < filesz → offset + filesz ≤ file_length)
+    → min filesz (file_length - offset) ≡ filesz
 all_of_them file_length offset zero inside = omega arith
 all_of_them file_length offset (suc k) inside =
     let fits : offset + suc k ≤ file_length = inside (omega arith) in
@@ -61,8 +66,10 @@ unfolding byte_at
 byte_of_bytes file header i below =
     get_or-take header.filesz (drop header.offset file) i 0 below ∙ get_or-drop header.offset file i 0
 
-loaded_by_is : (file : List ℕ) (header : ProgramHeader) (segment : Segment) → content_of segment ≡ content_in file header →
-    is_bad_segment (length file) header ≡ false → (address : ℕ) → loaded_by segment address ≡ loaded_from file header address
+loaded_by_is : (file : List ℕ) (header : ProgramHeader) (segment : Segment)
+    → content_of segment ≡ content_in file header →
+    is_bad_segment (length file) header ≡ false → (address : ℕ)
+    → loaded_by segment address ≡ loaded_from file header address
 unfolding content_of content_in loaded_by loaded_from
 loaded_by_is file header segment same fine address =
     let same_start : segment.vaddr ≡ header.vaddr = ap (λ (c : SegmentContent). c.vaddr) same in
@@ -73,7 +80,8 @@ loaded_by_is file header segment same fine address =
     let count : length segment.bytes.now ≡ header.filesz = ap length same_bytes ∙ count_of_bytes file header fine in
     ap (λ v. cond (nat_le v address && nat_lt address (v + segment.memsz)) (Some here) None) same_start
     ∙ ap (λ m. cond (nat_le header.vaddr address && nat_lt address (header.vaddr + m)) (Some here) None) same_size
-    ∙ same_byte header.vaddr header.filesz header.memsz address here there (good_from_test (length file) header fine).within
+    ∙ same_byte header.vaddr header.filesz header.memsz address here there
+    (good_from_test (length file) header fine).within
     (λ above below. ap (λ v. slice_index segment.bytes.now (address - v)) same_start
     ∙ ap (λ bytes. slice_index bytes (address - header.vaddr)) same_bytes
     ∙ byte_of_bytes file header (address - header.vaddr) (omega arith))
@@ -95,7 +103,8 @@ loaded_is file (segment ∷ segments) (header ∷ headers) same fine address =
     ∙ ap (option_or (loaded_from file header address)) (loaded_is file segments headers others parts.1 address)
 
 -- the segment of the next program header is added to the list
-pub contents_more : (file : List ℕ) (segments : List Segment) (segment : Segment) (header : ProgramHeader) (headers later : List ProgramHeader) →
+pub contents_more : (file : List ℕ) (segments : List Segment) (segment : Segment) (header : ProgramHeader)
+    (headers later : List ProgramHeader) →
     headers ≡ header ∷ later → content_of segment ≡ content_in file header →
     map content_of (segments ++ segment ∷ []) ++ map (content_in file) later
     ≡ map content_of segments ++ map (content_in file) headers
@@ -105,7 +114,8 @@ contents_more file segments segment header headers later next same =
     ∙ ap (λ (x : SegmentContent). map content_of segments ++ x ∷ map (content_in file) later) same
     ∙ ap (λ xs. map content_of segments ++ map (content_in file) xs) (sym next)
 
-either_some : (b : Bool) (here : ℕ) (rest : Option ℕ) → (b || is_some rest) ≡ is_some (option_or (cond b (Some here) None) rest)
+either_some : (b : Bool) (here : ℕ) (rest : Option ℕ)
+    → (b || is_some rest) ≡ is_some (option_or (cond b (Some here) None) rest)
 either_some true here rest = refl
 either_some false here rest = refl
 
@@ -116,4 +126,5 @@ unfolding loaded loaded_by
 any_loaded [] address = refl
 any_loaded (segment ∷ segments) address =
     ap (λ b. has_address segment address || b) (any_loaded segments address)
-    ∙ either_some (has_address segment address) (slice_index segment.bytes.now (address - segment.vaddr)) (loaded segments address)
+    ∙ either_some (has_address segment address) (slice_index segment.bytes.now (address - segment.vaddr))
+    (loaded segments address)

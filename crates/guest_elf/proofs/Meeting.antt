@@ -1,5 +1,6 @@
 -- Whether segments share an address: by pairs, and by neighbours where they stand in the order of their addresses.
-use Rattle.std.proofs.Common.{◌≡◌, ◌⊎◌, inl, inr, ℕ, suc, ◌+◌, ◌<◌, ◌≤◌, min, max, Bool, true, false, cond, not, ◌&&◌, ◌||◌, ◌==◌, get_or, drop, nat_le, nat_lt, List, []}
+use Rattle.std.proofs.Common.{◌≡◌, ◌⊎◌, inl, inr, ℕ, suc, ◌+◌, ◌<◌, ◌≤◌, min, max, Bool, true, false, cond, not, ◌&&◌}
+use Rattle.std.proofs.Common.{◌||◌, ◌==◌, get_or, drop, nat_le, nat_lt, List, []}
 use Rattle.std.proofs.Common.{◌∷◌, length, refl, sym, ◌∙◌, ap, arith, All}
 use Rattle.std.proofs.Math.Seq.{drop-cons}
 use Rattle.std.proofs.lemmas.List.{drop_all}
@@ -23,7 +24,8 @@ begins_early end (header ∷ headers) = nat_lt header.vaddr end || begins_early 
 -- each has an address, and begins no higher than those after it
 abbrev Rising : List ProgramHeader → Type 0
 Rising [] = Unit {0}
-Rising (header ∷ headers) = (0 < header.memsz) × All (λ (g : ProgramHeader). header.vaddr ≤ g.vaddr) headers × Rising headers
+Rising (header ∷ headers) =
+    (0 < header.memsz) × All (λ (g : ProgramHeader). header.vaddr ≤ g.vaddr) headers × Rising headers
 
 rising_from : (headers : List ProgramHeader) → IsNonDecreasingBy (λ (h : ProgramHeader). h.vaddr) headers →
     All (λ (h : ProgramHeader). 0 < h.memsz) headers → Rising headers
@@ -31,7 +33,8 @@ rising_from [] up some = tt
 rising_from (header ∷ headers) up some = (
   All-head (λ (h : ProgramHeader). 0 < h.memsz) header headers some,
   (λ k d below. up 0 (suc k) d (omega arith) (omega arith)),
-  rising_from headers (λ i j d le lt. up (suc i) (suc j) d (omega arith) (omega arith)) (All-tail (λ (h : ProgramHeader). 0 < h.memsz) header headers some),
+  rising_from headers (λ i j d le lt. up (suc i) (suc j) d (omega arith) (omega arith))
+      (All-tail (λ (h : ProgramHeader). 0 < h.memsz) header headers some),
 )
 
 meets_next : (a m b n : ℕ) → a ≤ b → 0 < n → 0 < m → nat_lt (max a b) (min (a + m) (b + n)) ≡ nat_lt b (a + m)
@@ -55,7 +58,8 @@ two_meet_is : (header : ProgramHeader) (headers : List ProgramHeader) → Rising
 unfolding begins_early segments_meet
 two_meet_is header [] rising = refl
 two_meet_is header (next ∷ headers) rising =
-    let up : header.vaddr ≤ next.vaddr = All-head (λ (g : ProgramHeader). header.vaddr ≤ g.vaddr) next headers rising.1 in
+    let up : header.vaddr ≤ next.vaddr = All-head (λ (g : ProgramHeader). header.vaddr ≤ g.vaddr) next headers
+    rising.1 in
     ap (λ b. (b || list_any (segments_meet header) headers) || any_two_meet (next ∷ headers))
     (meets_next header.vaddr header.memsz next.vaddr next.memsz up rising.2.0 rising.0)
     ∙ either (nat_lt next.vaddr (header.vaddr + header.memsz)) (list_any (segments_meet header) headers) _ _
@@ -95,7 +99,8 @@ covers_same address xs ys moved = sum_by-IsPermutation (λ (h : ProgramHeader). 
 
 -- an address that both have
 shared : (a m b n : ℕ) → nat_lt (max a b) (min (a + m) (b + n)) ≡ true →
-    ((nat_le a (max a b) && nat_lt (max a b) (a + m)) ≡ true) × ((nat_le b (max a b) && nat_lt (max a b) (b + n)) ≡ true)
+    ((nat_le a (max a b) && nat_lt (max a b) (a + m)) ≡ true)
+    × ((nat_le b (max a b) && nat_lt (max a b) (b + n)) ≡ true)
 shared a m b n meet = (grind (arith, nat_tests), grind (arith, nat_tests))
 
 meets_shared : (a m b n c : ℕ) → (nat_le a c && nat_lt c (a + m)) ≡ true → (nat_le b c && nat_lt c (b + n)) ≡ true →
@@ -115,7 +120,8 @@ skipped b n e = ap (λ x. cond x 1 0 + n) e ∙ omega arith
 abbrev Shared : ProgramHeader → List ProgramHeader → Type 0
 Shared header headers = (address : ℕ) × (has address header ≡ true) × (1 ≤ covers address headers)
 
-one_shared : (header : ProgramHeader) (headers : List ProgramHeader) → list_any (segments_meet header) headers ≡ true → Shared header headers
+one_shared : (header : ProgramHeader) (headers : List ProgramHeader) → list_any (segments_meet header) headers ≡ true
+    → Shared header headers
 unfolding segments_meet
 one_shared header [] meet = absurd (false≢true meet)
 one_shared header (other ∷ headers) meet =
@@ -130,7 +136,8 @@ one_shared header (other ∷ headers) meet =
           (found.0, found.1, omega (arith, more, found.2))
     ]
 
-two_covered : (headers : List ProgramHeader) → any_two_meet headers ≡ true → (address : ℕ) × (2 ≤ covers address headers)
+two_covered : (headers : List ProgramHeader) → any_two_meet headers ≡ true
+    → (address : ℕ) × (2 ≤ covers address headers)
 two_covered [] meet = absurd (false≢true meet)
 two_covered (header ∷ headers) meet =
     elim (or_cases (list_any (segments_meet header) headers) (any_two_meet headers) meet) [
@@ -185,7 +192,8 @@ two_meet_moved xs ys moved = same_test _ _ (moved_true ys xs (IsPermutation-sym 
 
 early_step : (headers : List ProgramHeader) (i end : ℕ) (d : ProgramHeader) → i < length headers →
     begins_early end (drop i headers)
-    ≡ (nat_lt (get_or headers i d).vaddr end || begins_early ((get_or headers i d).vaddr + (get_or headers i d).memsz) (drop (i + 1) headers))
+    ≡ (nat_lt (get_or headers i d).vaddr end || begins_early ((get_or headers i d).vaddr + (get_or headers i d).memsz)
+    (drop (i + 1) headers))
 unfolding begins_early
 early_step headers i end d inside =
     let header = get_or headers i d in
@@ -204,16 +212,20 @@ pub early_found : (headers : List ProgramHeader) (i end : ℕ) (d : ProgramHeade
     (get_or headers i d).vaddr < end → begins_early end (drop i headers) ≡ true
 early_found headers i end d inside below =
     early_step headers i end d inside
-    ∙ ap (λ b. b || begins_early ((get_or headers i d).vaddr + (get_or headers i d).memsz) (drop (i + 1) headers)) (early_test _ end below)
+    ∙ ap (λ b. b || begins_early ((get_or headers i d).vaddr + (get_or headers i d).memsz) (drop (i + 1) headers))
+    (early_test _ end below)
 
 pub early_next : (headers : List ProgramHeader) (i end : ℕ) (d : ProgramHeader) → i < length headers →
     end ≤ (get_or headers i d).vaddr →
-    begins_early end (drop i headers) ≡ begins_early ((get_or headers i d).vaddr + (get_or headers i d).memsz) (drop (i + 1) headers)
+    begins_early end (drop i headers) ≡ begins_early ((get_or headers i d).vaddr + (get_or headers i d).memsz)
+    (drop (i + 1) headers)
 early_next headers i end d inside past =
     early_step headers i end d inside
-    ∙ ap (λ b. b || begins_early ((get_or headers i d).vaddr + (get_or headers i d).memsz) (drop (i + 1) headers)) (late_test _ end past)
+    ∙ ap (λ b. b || begins_early ((get_or headers i d).vaddr + (get_or headers i d).memsz) (drop (i + 1) headers))
+    (late_test _ end past)
 
-pub early_none : (headers : List ProgramHeader) (i end : ℕ) → length headers ≤ i → begins_early end (drop i headers) ≡ false
+pub early_none : (headers : List ProgramHeader) (i end : ℕ) → length headers ≤ i
+    → begins_early end (drop i headers) ≡ false
 unfolding begins_early
 early_none headers i end past = ap (begins_early end) (drop_all i headers past)
 
@@ -224,22 +236,28 @@ and_left_true : (a b : Bool) → (a && b) ≡ true → b ≡ true
 and_left_true true b e = e
 and_left_true false b e = absurd (false≢true e)
 
-load_some : (file_length : ℕ) (header : ProgramHeader) → is_load header ≡ true → is_bad_segment file_length header ≡ false → 0 < header.memsz
+load_some : (file_length : ℕ) (header : ProgramHeader) → is_load header ≡ true
+    → is_bad_segment file_length header ≡ false → 0 < header.memsz
 unfolding is_load
 load_some file_length header load good =
     loaded_some header.filesz header.memsz (good_from_test file_length header good).within (and_left_true _ _ load)
 
-loads_keep : (file_length : ℕ) (b : Bool) (header : ProgramHeader) (later : List ProgramHeader) → (b ≡ true → is_load header ≡ true) →
+loads_keep : (file_length : ℕ) (b : Bool) (header : ProgramHeader) (later : List ProgramHeader)
+    → (b ≡ true → is_load header ≡ true) →
     (list_any (is_bad_segment file_length) later ≡ false → All (λ (h : ProgramHeader). 0 < h.memsz) later) →
-    list_any (is_bad_segment file_length) (cond b (header ∷ later) later) ≡ false → All (λ (h : ProgramHeader). 0 < h.memsz) (cond b (header ∷ later) later)
+    list_any (is_bad_segment file_length) (cond b (header ∷ later) later) ≡ false
+    → All (λ (h : ProgramHeader). 0 < h.memsz) (cond b (header ∷ later) later)
 loads_keep file_length true header later load rest good =
     let parts = or_parts (is_bad_segment file_length header) (list_any (is_bad_segment file_length) later) good in
-    All-cons (λ (h : ProgramHeader). 0 < h.memsz) header later (load_some file_length header (load refl) parts.0) (rest parts.1)
+    All-cons (λ (h : ProgramHeader). 0 < h.memsz) header later (load_some file_length header (load refl) parts.0)
+    (rest parts.1)
 loads_keep file_length false header later load rest good = rest good
 
 -- a loaded segment that is not bad has an address
-pub loads_some : (file_length : ℕ) (headers : List ProgramHeader) → list_any (is_bad_segment file_length) (filter is_load headers) ≡ false →
+pub loads_some : (file_length : ℕ) (headers : List ProgramHeader)
+    → list_any (is_bad_segment file_length) (filter is_load headers) ≡ false →
     All (λ (h : ProgramHeader). 0 < h.memsz) (filter is_load headers)
 loads_some file_length [] good = λ k d below. absurd (omega (arith, below))
 loads_some file_length (header ∷ headers) good =
-    loads_keep file_length (is_load header) header (filter is_load headers) (λ e. e) (loads_some file_length headers) good
+    loads_keep file_length (is_load header) header (filter is_load headers) (λ e. e) (loads_some file_length headers)
+    good

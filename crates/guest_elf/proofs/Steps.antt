@@ -1,5 +1,6 @@
 -- One step of a loop over the program headers: what is left at an index, and at the next.
-use Rattle.std.proofs.Common.{◌≡◌, ℕ, suc, ◌+◌, ◌-◌, ◌<◌, ◌≤◌, Bool, true, false, cond, ◌||◌, List, [], ◌∷◌, map, length, refl, sym, ◌∙◌, ap, arith}
+use Rattle.std.proofs.Common.{◌≡◌, ℕ, suc, ◌+◌, ◌-◌, ◌<◌, ◌≤◌, Bool, true, false, cond, ◌||◌, List, [], ◌∷◌, map}
+use Rattle.std.proofs.Common.{length, refl, sym, ◌∙◌, ap, arith}
 use Rattle.std.proofs.Math.Nat.{sub-zero}
 use Rattle.std.proofs.lemmas.Bool.{or_parts}
 use Rattle.std.specs.List.{filter, list_any, range_with_len}
@@ -56,18 +57,21 @@ loads_skip file index listed no_load =
     ap (filter is_load) (headers_step file index listed) ∙ ap (λ b. cond b (header ∷ later) later) no_load
 
 -- the header h at the index is loaded, and the next loads follow it
-pub loads_take_at : (file : List ℕ) (index : ℕ) (h : ProgramHeader) → h ≡ header_at file index → index < header_count file →
+pub loads_take_at : (file : List ℕ) (index : ℕ) (h : ProgramHeader) → h ≡ header_at file index
+    → index < header_count file →
     is_load h ≡ true → loads_after file index ≡ h ∷ loads_after file (index + 1)
 loads_take_at file index h here listed load =
     loads_take file index listed (ap is_load (sym here) ∙ load) ∙ ap (λ g. g ∷ loads_after file (index + 1)) (sym here)
 
 -- the header h at the index is not loaded
-pub loads_skip_at : (file : List ℕ) (index : ℕ) (h : ProgramHeader) → h ≡ header_at file index → index < header_count file →
+pub loads_skip_at : (file : List ℕ) (index : ℕ) (h : ProgramHeader) → h ≡ header_at file index
+    → index < header_count file →
     is_load h ≡ false → loads_after file index ≡ loads_after file (index + 1)
 loads_skip_at file index h here listed no_load = loads_skip file index listed (ap is_load (sym here) ∙ no_load)
 
 -- whether any of a list passes, by its first element
-pub any_cons : (p : ProgramHeader → Bool) (xs : List ProgramHeader) (h : ProgramHeader) (later : List ProgramHeader) (b : Bool) →
+pub any_cons : (p : ProgramHeader → Bool) (xs : List ProgramHeader) (h : ProgramHeader) (later : List ProgramHeader)
+    (b : Bool) →
     xs ≡ h ∷ later → p h ≡ b → list_any p xs ≡ (b || list_any p later)
 any_cons p xs h later b first passes = ap (list_any p) first ∙ ap (λ t. t || list_any p later) passes
 

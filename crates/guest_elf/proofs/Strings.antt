@@ -1,5 +1,6 @@
 -- Where the names of a string table end.
-use Rattle.std.proofs.Common.{◌≡◌, ◌≢◌, ℕ, ◌+◌, ◌-◌, ◌<◌, ◌≤◌, Some, None, refl, sym, take, cond, position, Bool, true, false, not, ◌&&◌, nat_le, nat_lt, List, get_or}
+use Rattle.std.proofs.Common.{◌≡◌, ◌≢◌, ℕ, ◌+◌, ◌-◌, ◌<◌, ◌≤◌, Some, None, refl, sym, take, cond, position, Bool, true}
+use Rattle.std.proofs.Common.{false, not, ◌&&◌, nat_le, nat_lt, List, get_or}
 use Rattle.std.proofs.Common.{length, drop, ◌∙◌, ap, arith, length-drop}
 use Rattle.std.proofs.lemmas.Bool.Decides.{nat_tests}
 use Rattle.std.proofs.lemmas.List.{get_or-drop, get_or_default, take_all}
@@ -24,7 +25,8 @@ ends_below strings end within last later start =
     (λ below.
     let same : start + (end - 1 - start) ≡ end - 1 = omega arith in
     list_any_at is_zero rest (end - 1 - start) 0 (omega (arith, length-drop start strings))
-    (ap is_zero (get_or-drop start strings (end - 1 - start) 0 ∙ ap (λ i. get_or strings i 0) same ∙ last (omega arith))))
+    (ap is_zero (get_or-drop start strings (end - 1 - start) 0 ∙ ap (λ i. get_or strings i 0) same
+    ∙ last (omega arith))))
     (λ past. list_any_none is_zero rest (λ k d inside.
     let there : start + k < length strings = omega (arith, length-drop start strings) in
     ap is_zero (get_or-drop start strings k d ∙ get_or_default strings (start + k) d 0 there)
@@ -33,11 +35,13 @@ ends_below strings end within last later start =
 not_below : (start end : ℕ) → not (nat_lt start end) ≡ nat_le end start
 not_below start end = grind (arith, nat_tests)
 
-pub bad_name_is : (strings : List ℕ) (end : ℕ) → ((start : ℕ) → list_any is_zero (drop start strings) ≡ nat_lt start end) →
+pub bad_name_is : (strings : List ℕ) (end : ℕ)
+    → ((start : ℕ) → list_any is_zero (drop start strings) ≡ nat_lt start end) →
     (symbol : Symbol) → has_bad_name strings symbol ≡ (is_function symbol && nat_le end symbol.name)
 unfolding has_bad_name
 bad_name_is strings end ends symbol =
-    ap (λ b. is_function symbol && not b) (ends symbol.name) ∙ ap (λ b. is_function symbol && b) (not_below symbol.name end)
+    ap (λ b. is_function symbol && not b) (ends symbol.name)
+    ∙ ap (λ b. is_function symbol && b) (not_below symbol.name end)
 
 place_is : (b : Bool) (n i : ℕ) → cond b (Some n) None ≡ Some i → i ≡ n
 place_is true n i e = cc
@@ -51,9 +55,11 @@ no_place : (i n : ℕ) → cond (nat_lt i n) (Some i) None ≡ None → n ≤ i
 no_place i n e = past_place (nat_lt i n) i n e (λ late. grind (arith, nat_tests))
 
 -- the bytes before the first zero byte
-pub name_before : (bytes : List ℕ) (end : ℕ) → position is_zero bytes ≡ Some end → take end bytes ≡ before_first is_zero bytes
+pub name_before : (bytes : List ℕ) (end : ℕ) → position is_zero bytes ≡ Some end
+    → take end bytes ≡ before_first is_zero bytes
 name_before bytes end e = ap (λ n. take n bytes) (place_is _ (position_or_len is_zero bytes) end e)
 
 -- all bytes, where none is zero
 pub name_whole : (bytes : List ℕ) → position is_zero bytes ≡ None → bytes ≡ before_first is_zero bytes
-name_whole bytes e = sym (take_all (position_or_len is_zero bytes) bytes (no_place (position_or_len is_zero bytes) (length bytes) e))
+name_whole bytes e =
+    sym (take_all (position_or_len is_zero bytes) bytes (no_place (position_or_len is_zero bytes) (length bytes) e))

@@ -1,7 +1,9 @@
 -- The numbers of the refusals.
 use Rattle.std.specs.Prelude.{ℕ}
 use Rattle.guest_elf.specs.declared.fault.ElfFault.{ElfFault}
-use Rattle.guest_elf.specs.declared.fault.ElfFault.TheVariants.{Memory, NotElf, NotClass32, NotLittleEndian, BadVersion, NotExecutable, NotRiscV, BadTable, Interpreter, BadSegment, Overlap, TooLarge, BadSymbols}
+use Rattle.guest_elf.specs.declared.fault.ElfFault.TheVariants.{Memory, NotElf, NotClass32, NotLittleEndian, BadVersion}
+use Rattle.guest_elf.specs.declared.fault.ElfFault.TheVariants.{NotExecutable, NotRiscV, BadTable, Interpreter}
+use Rattle.guest_elf.specs.declared.fault.ElfFault.TheVariants.{BadSegment, Overlap, TooLarge, BadSymbols}
 
 -- the number of a refusal
 abbrev pub number_of : ElfFault → ℕ

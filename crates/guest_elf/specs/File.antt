@@ -1,10 +1,14 @@
 -- An ELF32 file as a list of bytes: its fields, the reasons to refuse it, and what it loads.
 -- Sources: System V ABI, edition 4.1, chapters 4 and 5 (ELF-32 object file format); RISC-V ELF psABI 1.0 (e_machine).
-use Rattle.std.specs.Prelude.{◌≡◌, ℕ, ◌+◌, ◌-◌, ◌*◌, ◌^◌, ◌<◌, ◌≤◌, min, max, Bool, false, not, ◌&&◌, ◌||◌, ◌==◌, nat_eq, nat_lt, if◌then◌else◌, List, [], ◌∷◌, length, take, drop, map, filter, sum_by, Option, Some, None}
+use Rattle.std.specs.Prelude.{◌≡◌, ℕ, ◌+◌, ◌-◌, ◌*◌, ◌^◌, ◌<◌, ◌≤◌, min, max, Bool, false, not, ◌&&◌, ◌||◌, ◌==◌}
+use Rattle.std.specs.Prelude.{nat_eq, nat_lt, if◌then◌else◌, List, [], ◌∷◌, length, take, drop, map, filter, sum_by}
+use Rattle.std.specs.Prelude.{Option, Some, None}
 use Rattle.std.specs.List.{list_any, range_with_len, starts_with}
 use Rattle.std.specs.Option.{option_or}
 use Rattle.guest_elf.specs.declared.fault.ElfFault.{ElfFault}
-use Rattle.guest_elf.specs.declared.fault.ElfFault.TheVariants.{NotElf, NotClass32, NotLittleEndian, BadVersion, NotExecutable, NotRiscV, BadTable, Interpreter, BadSegment, Overlap, TooLarge, BadSymbols}
+use Rattle.guest_elf.specs.declared.fault.ElfFault.TheVariants.{NotElf, NotClass32, NotLittleEndian, BadVersion}
+use Rattle.guest_elf.specs.declared.fault.ElfFault.TheVariants.{NotExecutable, NotRiscV, BadTable, Interpreter}
+use Rattle.guest_elf.specs.declared.fault.ElfFault.TheVariants.{BadSegment, Overlap, TooLarge, BadSymbols}
 use Rattle.guest_elf.specs.declared.hook.Hook.{Hook}
 use Rattle.guest_elf.specs.declared.image.Image.{Image}
 use Rattle.guest_elf.specs.declared.program.ProgramHeader.{ProgramHeader}
@@ -188,7 +192,8 @@ contents_in file = map (content_in file) (loads_of file)
 unfoldable pub loaded_from : List ℕ → ProgramHeader → ℕ → Option ℕ
 loaded_from file header address =
     if nat_lt address header.vaddr then None
-    else if nat_lt address (header.vaddr + header.filesz) then Some (byte_at file (header.offset + (address - header.vaddr)))
+    else if nat_lt address (header.vaddr + header.filesz)
+    then Some (byte_at file (header.offset + (address - header.vaddr)))
     else if nat_lt address (header.vaddr + header.memsz) then Some 0
     else None
 

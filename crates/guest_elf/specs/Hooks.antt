@@ -1,7 +1,8 @@
 -- The functions of the heap that a symbol table names, by their addresses.
--- Sources: ISO/IEC 9899 (C), 7.22.3 (the four functions); System V ABI, edition 4.1, chapter 4, "Symbol Table" (st_value is a function's
--- address).
-use Rattle.std.specs.Prelude.{ℕ, ◌<◌, ◌==◌, nat_lt, if◌then◌else◌, List, [], ◌∷◌, length, get_or, Option, Some, None, codes}
+-- Sources: ISO/IEC 9899 (C), 7.22.3 (the four functions); System V ABI, edition 4.1, chapter 4, "Symbol Table"
+-- (st_value is a function's address).
+use Rattle.std.specs.Prelude.{ℕ, ◌<◌, ◌==◌, nat_lt, if◌then◌else◌, List, [], ◌∷◌, length, get_or, Option, Some, None}
+use Rattle.std.specs.Prelude.{codes}
 use Rattle.std.specs.Str.{bytes_eq}
 use Rattle.guest_elf.specs.Sections.{name_from}
 use Rattle.guest_elf.specs.declared.hook.Hook.{Hook}
@@ -33,11 +34,13 @@ hook_put_if address (Some hook) entries = hook_put address hook entries
 -- the functions of the heap that symbols in the order of their table name: one at an address, that of the lowest index
 unfoldable pub hooks_by : List ℕ → List Symbol → List (ℕ × Hook)
 hooks_by strings [] = []
-hooks_by strings (symbol ∷ symbols) = hook_put_if symbol.value (hook_named (name_from strings symbol.name)) (hooks_by strings symbols)
+hooks_by strings (symbol ∷ symbols) =
+    hook_put_if symbol.value (hook_named (name_from strings symbol.name)) (hooks_by strings symbols)
 
 -- each address is below those after it
 unfoldable pub IsRising : List (ℕ × Hook) → Type 0
-IsRising entries = (i j : ℕ) (d : ℕ × Hook) → i < j → j < length entries → (get_or entries i d).0 < (get_or entries j d).0
+IsRising entries =
+    (i j : ℕ) (d : ℕ × Hook) → i < j → j < length entries → (get_or entries i d).0 < (get_or entries j d).0
 
 -- the function that begins at an address: the first one there
 unfoldable pub hook_at : List (ℕ × Hook) → ℕ → Option Hook

@@ -1,6 +1,7 @@
 -- The name of the function at an address, by symbols in the order of their table and by their string table.
 -- Source: System V ABI, edition 4.1, chapter 4, "Symbol Table" (st_value is an address, st_size 0 an unknown size).
-use Rattle.std.specs.Prelude.{ℕ, ◌+◌, ◌&&◌, ◌||◌, ◌==◌, nat_le, nat_lt, if◌then◌else◌, List, [], ◌∷◌, Option, Some, None, codes}
+use Rattle.std.specs.Prelude.{ℕ, ◌+◌, ◌&&◌, ◌||◌, ◌==◌, nat_le, nat_lt, if◌then◌else◌, List, [], ◌∷◌, Option, Some}
+use Rattle.std.specs.Prelude.{None, codes}
 use Rattle.guest_elf.specs.Sections.{name_from}
 use Rattle.guest_elf.specs.declared.names.FunctionNames.{FunctionNames}
 use Rattle.guest_elf.specs.declared.symbols.Symbol.{Symbol}
@@ -21,7 +22,8 @@ nearest (symbol ∷ symbols) address = nearer address symbol (nearest symbols ad
 unfoldable pub name_by : List ℕ → ℕ → Option Symbol → List ℕ
 name_by strings address None = codes "???"
 name_by strings address (Some symbol) =
-    if symbol.size == 0 || nat_lt address (symbol.value + symbol.size) then name_from strings symbol.name else codes "???"
+    if symbol.size == 0 || nat_lt address (symbol.value + symbol.size) then name_from strings symbol.name
+    else codes "???"
 
 -- the name that symbols, which needn't be in a table's order, and their string table give to an address
 unfoldable pub named_by : FunctionNames → ℕ → List ℕ

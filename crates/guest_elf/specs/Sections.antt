@@ -1,6 +1,8 @@
 -- The sections of an ELF32 file, its symbol table and its string table.
 -- Source: System V ABI, edition 4.1, chapter 4, "Sections", "String Table" and "Symbol Table".
-use Rattle.std.specs.Prelude.{ℕ, ◌+◌, ◌*◌, ◌/◌, ◌%◌, ◌<◌, ◌≤◌, Bool, false, not, ◌&&◌, ◌||◌, ◌==◌, nat_le, nat_lt, if◌then◌else◌, List, [], length, drop, take, map, filter, find, slice_index, Option, Some, None}
+use Rattle.std.specs.Prelude.{ℕ, ◌+◌, ◌*◌, ◌/◌, ◌%◌, ◌<◌, ◌≤◌, Bool, false, not, ◌&&◌, ◌||◌, ◌==◌, nat_le, nat_lt}
+use Rattle.std.specs.Prelude.{if◌then◌else◌, List, [], length, drop, take, map, filter, find, slice_index, Option, Some}
+use Rattle.std.specs.Prelude.{None}
 use Rattle.std.specs.List.{list_any, range_with_len, before_first}
 use Rattle.guest_elf.specs.Fields.{byte_at, half_at, word_at}
 use Rattle.guest_elf.specs.declared.sections.SectionHeader.{SectionHeader}

@@ -1,5 +1,6 @@
 -- What a list of segments holds at each address (System V ABI, edition 4.1, chapter 5, "Program Header").
-use Rattle.std.specs.Prelude.{ℕ, Bool, ◌+◌, ◌-◌, ◌^◌, ◌≤◌, ◌&&◌, nat_le, nat_lt, if◌then◌else◌, List, [], ◌∷◌, length, slice_index, Option, Some, None}
+use Rattle.std.specs.Prelude.{ℕ, Bool, ◌+◌, ◌-◌, ◌^◌, ◌≤◌, ◌&&◌, nat_le, nat_lt, if◌then◌else◌, List, [], ◌∷◌, length}
+use Rattle.std.specs.Prelude.{slice_index, Option, Some, None}
 use Rattle.std.specs.Option.{option_or}
 use Rattle.guest_elf.specs.declared.segment.Segment.{Segment}
 

@@ -1,5 +1,6 @@
 -- The bound below which there is no place, as blocks come and go.
-use Rattle.std.proofs.Common.{◌≡◌, ℕ, zero, suc, ◌+◌, ◌-◌, ◌%◌, ◌<◌, ◌≤◌, ◌==◌, inl, inr, max, min, nat_le, Bool, List, [], ◌∷◌, ◌++◌, true, false, cond, Option, Some}
+use Rattle.std.proofs.Common.{◌≡◌, ℕ, zero, suc, ◌+◌, ◌-◌, ◌%◌, ◌<◌, ◌≤◌, ◌==◌, inl, inr, max, min, nat_le, Bool, List}
+use Rattle.std.proofs.Common.{[], ◌∷◌, ◌++◌, true, false, cond, Option, Some}
 use Rattle.std.proofs.Common.{None, length, map, drop, slice_get, set, refl, ap, sym, ◌∙◌, subst, arith, ◌&&◌, nat_lt}
 use Rattle.std.specs.Option.{option_map}
 use Rattle.std.proofs.lemmas.Option.{slice_get-map}
@@ -7,7 +8,8 @@ use Rattle.std.specs.List.{Contains}
 use Rattle.std.proofs.lemmas.Bool.{cases_lt}
 use Rattle.std.proofs.lemmas.Bool.Decides.{nat_tests}
 use Rattle.guest_heap.specs.declared.block.Block.{Block}
-use Rattle.guest_heap.specs.Blocks.{Blocks, IsKept, IsPlace, Places, with_block, queue_with, freed_by, low_end, high_end, Meets}
+use Rattle.guest_heap.specs.Blocks.{Blocks, IsKept, IsPlace, Places, with_block, queue_with, freed_by, low_end}
+use Rattle.guest_heap.specs.Blocks.{high_end, Meets}
 use Rattle.guest_heap.specs.Entries.{Entries}
 use Rattle.guest_heap.specs.Runs.{first_of}
 use Rattle.guest_heap.specs.States.{AreNoPlaces, AreSound, EndsBelow, BeginsAbove, shown}
@@ -26,7 +28,8 @@ pub record SameEnds (blocks : Blocks) (b : Block) : Type 0 where
   pub high : high_end other ≡ high_end b
 
 -- where each interval is kept, no place comes
-pub no_more : (old new : Blocks) (size redzone from to : ℕ) → ((b : Block) → IsKept old b → SameEnds new b) → AreNoPlaces old size redzone from to → AreNoPlaces new size redzone from to
+pub no_more : (old new : Blocks) (size redzone from to : ℕ) → ((b : Block) → IsKept old b → SameEnds new b)
+    → AreNoPlaces old size redzone from to → AreNoPlaces new size redzone from to
 no_more old new size redzone from to kept none q over less place = none q over less (record {
   small = place.small;
   multiple = place.multiple;
@@ -37,13 +40,18 @@ no_more old new size redzone from to kept none q over less place = none q over l
       place.apart s.other s.kept (omega (arith, meets.0, s.high), omega (arith, meets.1, s.low)));
 })
 
-no_more_bounds : (old new : Blocks) (redzone : ℕ) (bounds : List Bound) → ((b : Block) → IsKept old b → SameEnds new b) → AreBounds old redzone bounds → AreBounds new redzone bounds
+no_more_bounds : (old new : Blocks) (redzone : ℕ) (bounds : List Bound) → ((b : Block) → IsKept old b → SameEnds new b)
+    → AreBounds old redzone bounds → AreBounds new redzone bounds
 no_more_bounds old new redzone bounds kept hold i n there =
     let h = hold i n there in
-    record { below = no_more old new n.size redzone 0 n.from kept h.below; between = no_more old new n.size redzone n.next n.until kept h.between }
+    record {
+      below = no_more old new n.size redzone 0 n.from kept h.below;
+      between = no_more old new n.size redzone n.next n.until kept h.between;
+    }
 
 -- one more live block, where none begins
-pub no_more_put : (blocks : Blocks) (b : Block) (redzone : ℕ) (bounds : List Bound) → IsPlace blocks b.size b.redzone b.start → AreBounds blocks redzone bounds
+pub no_more_put : (blocks : Blocks) (b : Block) (redzone : ℕ) (bounds : List Bound)
+    → IsPlace blocks b.size b.redzone b.start → AreBounds blocks redzone bounds
     → AreBounds (with_block blocks b) redzone bounds
 no_more_put blocks b redzone bounds place hold = no_more_bounds blocks (with_block blocks b) redzone bounds still hold
   where
@@ -56,8 +64,14 @@ no_more_put blocks b redzone bounds place hold = no_more_bounds blocks (with_blo
     still : (c : Block) → IsKept blocks c → SameEnds (with_block blocks b) c
     still c (inr h) = record { other = c; kept = inr h; low = refl; high = refl }
     still c (inl h) =
-        let t : (c.start == b.start) ≡ false = (let n : c.start ≡ b.start → ⊥ = apart c (inl h) in grind (arith, nat_tests)) in
-        record { other = c; kept = inl (ap (λ x. cond x (Some b) (blocks.live c.start)) t ∙ h); low = refl; high = refl }
+        let t : (c.start == b.start) ≡ false = (let n : c.start ≡ b.start → ⊥ = apart c (inl h) in
+        grind (arith, nat_tests)) in
+        record {
+          other = c;
+          kept = inl (ap (λ x. cond x (Some b) (blocks.live c.start)) t ∙ h);
+          low = refl;
+          high = refl;
+        }
 
 contains-front : (xs : List Block) (e c : Block) → Contains xs c → Contains (xs ++ e ∷ []) c
 contains-front [] e c (k, p, q) = absurd (let r : k < 0 = p in omega arith)
@@ -72,30 +86,45 @@ contains-last (x ∷ xs) e =
     let (i, r, s) = contains-last xs e in
     (suc i, (let t : suc i < suc (length (xs ++ e ∷ [])) = omega arith in t), s)
 
-pub no_more_freed : (blocks : Blocks) (b : Block) (trace : List ℕ) (redzone : ℕ) (bounds : List Bound) → blocks.live b.start ≡ Some b
+pub no_more_freed : (blocks : Blocks) (b : Block) (trace : List ℕ) (redzone : ℕ) (bounds : List Bound)
+    → blocks.live b.start ≡ Some b
     → AreBounds blocks redzone bounds → AreBounds (queue_with blocks (freed_by trace b)) redzone bounds
-no_more_freed blocks b trace redzone bounds there hold = no_more_bounds blocks (queue_with blocks (freed_by trace b)) redzone bounds still hold
+no_more_freed blocks b trace redzone bounds there hold =
+    no_more_bounds blocks (queue_with blocks (freed_by trace b)) redzone bounds still hold
   where
     freed : SameEnds (queue_with blocks (freed_by trace b)) b
-    freed = record { other = freed_by trace b; kept = inr (contains-last blocks.queue (freed_by trace b)); low = refl; high = refl }
+    freed = record {
+      other = freed_by trace b;
+      kept = inr (contains-last blocks.queue (freed_by trace b));
+      low = refl;
+      high = refl;
+    }
 
     still : (c : Block) → IsKept blocks c → SameEnds (queue_with blocks (freed_by trace b)) c
-    still c (inr h) = record { other = c; kept = inr (contains-front blocks.queue (freed_by trace b) c h); low = refl; high = refl }
+    still c (inr h) = record {
+      other = c;
+      kept = inr (contains-front blocks.queue (freed_by trace b) c h);
+      low = refl;
+      high = refl;
+    }
     still c (inl h) = elim (same_or c.start b.start) [
-      | inl s ↦ (let same : b ≡ c = some-same (sym there ∙ sym (ap blocks.live s) ∙ h) in let P : Block → Type 0 = SameEnds (queue_with blocks (freed_by trace b)) in subst P same freed)
+      | inl s ↦ (let same : b ≡ c = some-same (sym there ∙ sym (ap blocks.live s) ∙ h) in
+          let P : Block → Type 0 = SameEnds (queue_with blocks (freed_by trace b)) in subst P same freed)
       | inr n ↦
           (let t : (c.start == b.start) ≡ false = grind (arith, nat_tests) in
           record { other = c; kept = inl (ap (λ x. cond x None (blocks.live c.start)) t ∙ h); low = refl; high = refl })
     ]
 
-option_map-some : {A B : Type 0} (f : A → B) (o : Option A) (y : B) → option_map f o ≡ Some y → (x : A) × (o ≡ Some x) × (f x ≡ y)
+option_map-some : {A B : Type 0} (f : A → B) (o : Option A) (y : B) → option_map f o ≡ Some y
+    → (x : A) × (o ≡ Some x) × (f x ≡ y)
 option_map-some f None y h = cc
 option_map-some f (Some x) y h = (x, refl, some-same h)
 
 -- the oldest leaves: a place that comes lies in the range round it --
 
 module _ (live : ℕ → Option Block) (queue rest : List Block) (e : Block) (is : queue ≡ e ∷ rest)
-    (apart : (b c : Block) → IsKept (record { live = live; queue = queue }) b → IsKept (record { live = live; queue = queue }) c → b.start < c.start
+    (apart : (b c : Block) → IsKept (record { live = live; queue = queue }) b
+    → IsKept (record { live = live; queue = queue }) c → b.start < c.start
     → high_end b ≤ low_end c) where
   abbrev with_oldest : Blocks
   with_oldest = record { live = live; queue = queue }
@@ -104,11 +133,14 @@ module _ (live : ℕ → Option Block) (queue rest : List Block) (e : Block) (is
   without_oldest = record { live = live; queue = rest }
 
   oldest : IsKept with_oldest e
-  oldest = let P : List Block → Type 0 = λ bs. IsKept (record { live = live; queue = bs }) e in subst P (sym is) (inr (0, (let r : 0 < suc (length rest) = omega arith in r), refl))
+  oldest =
+      let P : List Block → Type 0 = λ bs. IsKept (record { live = live; queue = bs }) e in
+      subst P (sym is) (inr (0, (let r : 0 < suc (length rest) = omega arith in r), refl))
 
   -- the others stay
   still : (b : Block) → IsKept with_oldest b → (b.start ≡ e.start → ⊥) → IsKept without_oldest b
-  still b kept other = go (let P : List Block → Type 0 = λ bs. IsKept (record { live = live; queue = bs }) b in subst P is kept)
+  still b kept other =
+      go (let P : List Block → Type 0 = λ bs. IsKept (record { live = live; queue = bs }) b in subst P is kept)
     where
       go : IsKept (record { live = live; queue = e ∷ rest }) b → IsKept without_oldest b
       go (inl h) = inl h
@@ -116,7 +148,8 @@ module _ (live : ℕ → Option Block) (queue rest : List Block) (e : Block) (is
       go (inr (suc k, p, s)) = inr (k, (let t : suc k < suc (length rest) = p in omega arith), s)
 
   -- it lies above what is below the block
-  above_low : (size redzone q end : ℕ) → EndsBelow with_oldest e.start end → IsPlace without_oldest size redzone q → low_end e < q + max size 1 + redzone → end + redzone ≤ q
+  above_low : (size redzone q end : ℕ) → EndsBelow with_oldest e.start end → IsPlace without_oldest size redzone q
+      → low_end e < q + max size 1 + redzone → end + redzone ≤ q
   above_low size redzone q end (inl h) place meets = let above = place.above in omega arith
   above_low size redzone q end (inr (b, kept, below, ends)) place meets =
       let above = place.above in
@@ -129,7 +162,8 @@ module _ (live : ℕ → Option Block) (queue rest : List Block) (e : Block) (is
       ]
 
   -- and below what is above it
-  below_high : (size redzone q begin : ℕ) → BeginsAbove with_oldest e.start begin → IsPlace without_oldest size redzone q → q - redzone < high_end e → q + max size 1 + redzone ≤ begin
+  below_high : (size redzone q begin : ℕ) → BeginsAbove with_oldest e.start begin
+      → IsPlace without_oldest size redzone q → q - redzone < high_end e → q + max size 1 + redzone ≤ begin
   below_high size redzone q begin (inl h) place meets = let below = place.below in omega arith
   below_high size redzone q begin (inr (b, kept, above, begins)) place meets =
       let clear : high_end e ≤ low_end b = apart e b oldest kept above in
@@ -142,27 +176,34 @@ module _ (live : ℕ → Option Block) (queue rest : List Block) (e : Block) (is
 
   -- where no place lies in that range
   none_comes : (size redzone from to : ℕ) → AreNoPlaces with_oldest size redzone from to
-      → ((q : ℕ) → from ≤ q → q < to → IsPlace without_oldest size redzone q → q - redzone < high_end e → low_end e < q + max size 1 + redzone → ⊥)
+      → ((q : ℕ) → from ≤ q → q < to → IsPlace without_oldest size redzone q → q - redzone < high_end e
+      → low_end e < q + max size 1 + redzone → ⊥)
       → AreNoPlaces without_oldest size redzone from to
   none_comes size redzone from to none outside q over less place = none q over less (record {
     small = place.small;
     multiple = place.multiple;
     above = place.above;
     below = place.below;
-    apart = λ b kept meets. go b (let P : List Block → Type 0 = λ bs. IsKept (record { live = live; queue = bs }) b in subst P is kept) meets;
+    apart =
+        λ b kept meets. go b (let P : List Block → Type 0 = λ bs. IsKept (record { live = live; queue = bs }) b in
+        subst P is kept) meets;
   })
     where
-      go : (b : Block) → IsKept (record { live = live; queue = e ∷ rest }) b → Meets (q - redzone) (q + max size 1 + redzone) b → ⊥
+      go : (b : Block) → IsKept (record { live = live; queue = e ∷ rest }) b
+          → Meets (q - redzone) (q + max size 1 + redzone) b → ⊥
       go b (inl h) meets = place.apart b (inl h) meets
       go b (inr (zero, p, s)) meets =
           let P : Block → Type 0 = λ x. Meets (q - redzone) (q + max size 1 + redzone) x in
           let there : Meets (q - redzone) (q + max size 1 + redzone) e = subst P (sym s) meets in
           outside q over less place there.0 there.1
-      go b (inr (suc k, p, s)) meets = place.apart b (inr (k, (let t : suc k < suc (length rest) = p in omega arith), s)) meets
+      go b (inr (suc k, p, s)) meets =
+          place.apart b (inr (k, (let t : suc k < suc (length rest) = p in omega arith), s)) meets
 
-  module _ (redzone end : ℕ) (o : Opened) (low : EndsBelow with_oldest e.start end) (high : BeginsAbove with_oldest e.start o.end) (even : o.first % 16 ≡ 0)
+  module _ (redzone end : ℕ) (o : Opened) (low : EndsBelow with_oldest e.start end)
+      (high : BeginsAbove with_oldest e.start o.end) (even : o.first % 16 ≡ 0)
       (near : o.first < end + redzone + 16) (fits : o.room ≡ o.end - (o.first + redzone)) where
-    from_first : (size q : ℕ) → IsPlace without_oldest size redzone q → q - redzone < high_end e → low_end e < q + max size 1 + redzone → (o.first ≤ q) × (max size 1 ≤ o.room) × (q < o.end)
+    from_first : (size q : ℕ) → IsPlace without_oldest size redzone q → q - redzone < high_end e
+        → low_end e < q + max size 1 + redzone → (o.first ≤ q) × (max size 1 ≤ o.room) × (q < o.end)
     from_first size q place past under =
         let l : end + redzone ≤ q = above_low size redzone q end low place under in
         let h : q + max size 1 + redzone ≤ o.end = below_high size redzone q o.end high place past in
@@ -172,17 +213,22 @@ module _ (live : ℕ → Option Block) (queue rest : List Block) (e : Block) (is
 
     -- a part of a range without places that lies below the first or from the end on, or where none fits
     part : (size from to from' to' : ℕ) → AreNoPlaces with_oldest size redzone from' to' → from' ≤ from → to ≤ to'
-        → ((q : ℕ) → from ≤ q → q < to → o.first ≤ q → q < o.end → max size 1 ≤ o.room → ⊥) → AreNoPlaces without_oldest size redzone from to
+        → ((q : ℕ) → from ≤ q → q < to → o.first ≤ q → q < o.end → max size 1 ≤ o.room → ⊥)
+        → AreNoPlaces without_oldest size redzone from to
     part size from to from' to' none l h out =
         none_comes size redzone from to
         (λ q over less. none q (omega arith) (omega arith))
         (λ q over less place past under. (let f = from_first size q place past under in out q over less f.0 f.2 f.1))
 
     lowered_holds : (b : Bound) → Holds with_oldest redzone b → Holds without_oldest redzone (lowered o b)
-    lowered_holds b h = go (nat_lt o.room (max b.size 1)) (nat_le b.until b.from && nat_lt o.end b.from) (nat_lt o.end b.until) refl refl refl
+    lowered_holds b h =
+        go (nat_lt o.room (max b.size 1)) (nat_le b.until b.from && nat_lt o.end b.from) (nat_lt o.end b.until) refl
+        refl refl
       where
         front : AreNoPlaces without_oldest b.size redzone 0 (min b.from o.first)
-        front = part b.size 0 (min b.from o.first) 0 b.from h.below (omega arith) (omega arith) (λ q over less f g r. omega arith)
+        front =
+            part b.size 0 (min b.from o.first) 0 b.from h.below (omega arith) (omega arith)
+            (λ q over less f g r. omega arith)
 
         made : Bool → Bool → Bool → Bound
         made x y z =
@@ -190,34 +236,46 @@ module _ (live : ℕ → Option Block) (queue rest : List Block) (e : Block) (is
             (cond z (record { size = b.size; from = min b.from o.first; next = max b.next o.end; until = b.until })
             (record { size = b.size; from = min b.from o.first; next = b.next; until = min b.until o.first })))
 
-        go : (x y z : Bool) → nat_lt o.room (max b.size 1) ≡ x → (nat_le b.until b.from && nat_lt o.end b.from) ≡ y → nat_lt o.end b.until ≡ z → Holds without_oldest redzone (made x y z)
+        go : (x y z : Bool) → nat_lt o.room (max b.size 1) ≡ x → (nat_le b.until b.from && nat_lt o.end b.from) ≡ y
+            → nat_lt o.end b.until ≡ z → Holds without_oldest redzone (made x y z)
         go true y z s t u =
             let none : o.room < max b.size 1 = grind (arith, nat_tests) in
             record {
-              below = part b.size 0 b.from 0 b.from h.below (omega arith) (omega arith) (λ q over less f g r. omega arith);
-              between = part b.size b.next b.until b.next b.until h.between (omega arith) (omega arith) (λ q over less f g r. omega arith);
+              below =
+                  part b.size 0 b.from 0 b.from h.below (omega arith) (omega arith) (λ q over less f g r. omega arith);
+              between =
+                  part b.size b.next b.until b.next b.until h.between (omega arith) (omega arith)
+                  (λ q over less f g r. omega arith);
             }
         go false true z s t u = record {
           below = front;
-          between = part b.size o.end b.from 0 b.from h.below (omega arith) (omega arith) (λ q over less f g r. omega arith);
+          between =
+              part b.size o.end b.from 0 b.from h.below (omega arith) (omega arith) (λ q over less f g r. omega arith);
         }
         go false false true s t u = record {
           below = front;
-          between = part b.size (max b.next o.end) b.until b.next b.until h.between (omega arith) (omega arith) (λ q over less f g r. omega arith);
+          between =
+              part b.size (max b.next o.end) b.until b.next b.until h.between (omega arith) (omega arith)
+              (λ q over less f g r. omega arith);
         }
         go false false false s t u = record {
           below = front;
-          between = part b.size b.next (min b.until o.first) b.next b.until h.between (omega arith) (omega arith) (λ q over less f g r. omega arith);
+          between =
+              part b.size b.next (min b.until o.first) b.next b.until h.between (omega arith) (omega arith)
+              (λ q over less f g r. omega arith);
         }
 
-    bounds_hold : (bounds : List Bound) → AreBounds with_oldest redzone bounds → AreBounds without_oldest redzone (map (lowered o) bounds)
+    bounds_hold : (bounds : List Bound) → AreBounds with_oldest redzone bounds
+        → AreBounds without_oldest redzone (map (lowered o) bounds)
     bounds_hold bounds hold i b there =
-        let (a, at, is) = option_map-some (lowered o) (slice_get bounds i) b (sym (slice_get-map (lowered o) bounds i) ∙ there) in
+        let (a, at, is) = option_map-some (lowered o) (slice_get bounds i) b (sym (slice_get-map (lowered o) bounds i)
+        ∙ there) in
         let P : Bound → Type 0 = Holds without_oldest redzone in
         subst P is (lowered_holds a (hold i a at))
 
 -- nor has a block that isn't less
-pub skipped_too : (blocks : Blocks) (size least redzone from to : ℕ) → AreNoPlaces blocks least redzone from to → max least 1 ≤ max size 1 → AreNoPlaces blocks size redzone from to
+pub skipped_too : (blocks : Blocks) (size least redzone from to : ℕ) → AreNoPlaces blocks least redzone from to
+    → max least 1 ≤ max size 1 → AreNoPlaces blocks size redzone from to
 skipped_too blocks size least redzone from to none less_size q over less place = none q over less (record {
   small = (let small = place.small in omega arith);
   multiple = place.multiple;
@@ -227,7 +285,8 @@ skipped_too blocks size least redzone from to none less_size q over less place =
 })
 
 -- from a bound up to the next multiple of 16 there is no place for a block that isn't less
-pub none_up_to : (blocks : Blocks) (size least redzone bound from : ℕ) → AreNoPlaces blocks least redzone 0 bound → max least 1 ≤ max size 1 → from % 16 ≡ 0
+pub none_up_to : (blocks : Blocks) (size least redzone bound from : ℕ) → AreNoPlaces blocks least redzone 0 bound
+    → max least 1 ≤ max size 1 → from % 16 ≡ 0
     → from < max bound (0x40000000 + redzone) + 16 → (q : ℕ) → q < from → ¬ (IsPlace blocks size redzone q)
 none_up_to blocks size least redzone bound from none less_size even near q less place =
     elim (cases_lt q bound) [
@@ -236,15 +295,18 @@ none_up_to blocks size least redzone bound from none less_size even near q less 
     ]
 
 -- what the bounds say of where a search begins
-pub raised_from : (blocks : Blocks) (bounds : List Bound) (redzone size known from : ℕ) → AreBounds blocks redzone bounds → IsKnown bounds size known
-    → from % 16 ≡ 0 → from < max known (0x40000000 + redzone) + 16 → (q : ℕ) → q < from → ¬ (IsPlace blocks size redzone q)
+pub raised_from : (blocks : Blocks) (bounds : List Bound) (redzone size known from : ℕ)
+    → AreBounds blocks redzone bounds → IsKnown bounds size known
+    → from % 16 ≡ 0 → from < max known (0x40000000 + redzone) + 16 → (q : ℕ) → q < from
+    → ¬ (IsPlace blocks size redzone q)
 raised_from blocks bounds redzone size known from hold (inr (i, b, there, less, is)) even near =
     none_up_to blocks size b.size redzone b.from from (hold i b there).below (omega arith) even (omega arith)
 raised_from blocks bounds redzone size known from hold (inl h) even near =
     none_up_to blocks size size redzone 0 from (λ q over less. absurd (omega arith)) (omega arith) even (omega arith)
 
 -- a bound that was taken holds
-pub taken_holds : (blocks : Blocks) (bounds : List Bound) (redzone : ℕ) (taken : Bound) → AreBounds blocks redzone bounds → IsTaken bounds taken → Holds blocks redzone taken
+pub taken_holds : (blocks : Blocks) (bounds : List Bound) (redzone : ℕ) (taken : Bound)
+    → AreBounds blocks redzone bounds → IsTaken bounds taken → Holds blocks redzone taken
 taken_holds blocks bounds redzone taken hold (inl h) = record {
   below = λ q over less. absurd (omega (arith, h.0));
   between = λ q over less. absurd (omega (arith, h.1));
@@ -252,26 +314,36 @@ taken_holds blocks bounds redzone taken hold (inl h) = record {
 taken_holds blocks bounds redzone taken hold (inr (i, b, there, less, from, next, until)) =
     let h = hold i b there in
     record {
-      below = λ q over under. skipped_too blocks taken.size b.size redzone 0 b.from h.below (omega arith) q over (omega arith);
-      between = λ q over under. skipped_too blocks taken.size b.size redzone b.next b.until h.between (omega arith) q (omega arith) (omega arith);
+      below =
+          λ q over under. skipped_too blocks taken.size b.size redzone 0 b.from h.below (omega arith) q over
+          (omega arith);
+      between =
+          λ q over under. skipped_too blocks taken.size b.size redzone b.next b.until h.between (omega arith) q
+          (omega arith) (omega arith);
     }
 
 -- one bound is written anew
-pub put_holds : (blocks : Blocks) (redzone : ℕ) (bounds : List Bound) (i : ℕ) (b : Bound) → AreBounds blocks redzone bounds → Holds blocks redzone b → AreBounds blocks redzone (set bounds i b)
+pub put_holds : (blocks : Blocks) (redzone : ℕ) (bounds : List Bound) (i : ℕ) (b : Bound)
+    → AreBounds blocks redzone bounds → Holds blocks redzone b → AreBounds blocks redzone (set bounds i b)
 put_holds blocks redzone [] i b hold none k c there = cc
-put_holds blocks redzone (x ∷ xs) zero b hold none zero c there = let P : Bound → Type 0 = Holds blocks redzone in subst P (some-same there) none
+put_holds blocks redzone (x ∷ xs) zero b hold none zero c there =
+    let P : Bound → Type 0 = Holds blocks redzone in subst P (some-same there) none
 put_holds blocks redzone (x ∷ xs) zero b hold none (suc k) c there = hold (suc k) c there
 put_holds blocks redzone (x ∷ xs) (suc i) b hold none zero c there = hold zero c there
-put_holds blocks redzone (x ∷ xs) (suc i) b hold none (suc k) c there = put_holds blocks redzone xs i b (λ j d h. hold (suc j) d h) none k c there
+put_holds blocks redzone (x ∷ xs) (suc i) b hold none (suc k) c there =
+    put_holds blocks redzone xs i b (λ j d h. hold (suc j) d h) none k c there
 
 -- below what a search answers there is no place
-pub none_below : (blocks : Blocks) (size redzone p : ℕ) → Places blocks size redzone (Some p) → AreNoPlaces blocks size redzone 0 p
+pub none_below : (blocks : Blocks) (size redzone p : ℕ) → Places blocks size redzone (Some p)
+    → AreNoPlaces blocks size redzone 0 p
 none_below blocks size redzone p h q over = h.least q
 
-pub none_at_all : (blocks : Blocks) (size redzone p : ℕ) → Places blocks size redzone None → AreNoPlaces blocks size redzone 0 p
+pub none_at_all : (blocks : Blocks) (size redzone p : ℕ) → Places blocks size redzone None
+    → AreNoPlaces blocks size redzone 0 p
 none_at_all blocks size redzone p h q over less = h q
 
-pub same_bounds : (live live' : Entries) (queue queue' : List Entry) (redzone : ℕ) (bounds : List Bound) → live' ≡ live → queue' ≡ queue
+pub same_bounds : (live live' : Entries) (queue queue' : List Entry) (redzone : ℕ) (bounds : List Bound) → live' ≡ live
+    → queue' ≡ queue
     → AreBounds (shown live queue) redzone bounds → AreBounds (shown live' queue') redzone bounds
 same_bounds live live' queue queue' redzone bounds l q hold =
     let P : Entries → Type 0 = λ f. AreBounds (shown f queue') redzone bounds in
@@ -279,10 +351,14 @@ same_bounds live live' queue queue' redzone bounds l q hold =
     subst P (sym l) (subst Q (sym q) hold)
 
 -- the bounds once the oldest entry has left
-pub forgotten_bounds : (live : Entries) (freed : Entries) (queue rest : List Entry) (number : ℕ) (sound : AreSound live freed queue number) (e : Entry)
-    → Some e ≡ first_of queue → rest ≡ drop 1 queue → (redzone end : ℕ) (o : Opened) → EndsBelow (shown live queue) e.block.start end
-    → BeginsAbove (shown live queue) e.block.start o.end → o.first % 16 ≡ 0 → o.first < end + redzone + 16 → o.room ≡ o.end - (o.first + redzone)
-    → (old new : List Bound) → AreBounds (shown live queue) redzone old → new ≡ map (lowered o) old → AreBounds (shown live rest) redzone new
+pub forgotten_bounds : (live : Entries) (freed : Entries) (queue rest : List Entry) (number : ℕ)
+    (sound : AreSound live freed queue number) (e : Entry)
+    → Some e ≡ first_of queue → rest ≡ drop 1 queue → (redzone end : ℕ) (o : Opened)
+    → EndsBelow (shown live queue) e.block.start end
+    → BeginsAbove (shown live queue) e.block.start o.end → o.first % 16 ≡ 0 → o.first < end + redzone + 16
+    → o.room ≡ o.end - (o.first + redzone)
+    → (old new : List Bound) → AreBounds (shown live queue) redzone old → new ≡ map (lowered o) old
+    → AreBounds (shown live rest) redzone new
 forgotten_bounds live freed [] rest number sound e h d redzone end o low high even near fits old new hold made = cc
 forgotten_bounds live freed (x ∷ xs) rest number sound e h d redzone end o low high even near fits old new hold made =
     let same : e ≡ x = some-same h in
@@ -290,13 +366,16 @@ forgotten_bounds live freed (x ∷ xs) rest number sound e h d redzone end o low
     let Q : Entry → Type 0 = λ y. BeginsAbove (shown live (x ∷ xs)) y.block.start o.end in
     let R : List Entry → Type 0 = λ es. AreBounds (shown live es) redzone new in
     let S : List Bound → Type 0 = λ bs. AreBounds (shown live xs) redzone bs in
-    let holds = bounds_hold (shown live (x ∷ xs)).live (map (λ y. y.block) (x ∷ xs)) (map (λ y. y.block) xs) x.block refl sound.apart redzone end o
+    let holds = bounds_hold (shown live (x ∷ xs)).live (map (λ y. y.block) (x ∷ xs)) (map (λ y. y.block) xs) x.block
+    refl sound.apart redzone end o
     (subst P same low) (subst Q same high) even near fits old hold in
     subst R (sym d) (subst S (sym made) holds)
 
 -- a bound that was taken, once it is raised
-pub raised_holds : (blocks : Blocks) (redzone : ℕ) (own : Bound) (size from : ℕ) → own.size ≡ size → AreNoPlaces blocks size redzone 0 from
-    → Holds blocks redzone own → Holds blocks redzone (record { size = own.size; from = from; next = own.next; until = own.until })
+pub raised_holds : (blocks : Blocks) (redzone : ℕ) (own : Bound) (size from : ℕ) → own.size ≡ size
+    → AreNoPlaces blocks size redzone 0 from
+    → Holds blocks redzone own → Holds blocks redzone
+    (record { size = own.size; from = from; next = own.next; until = own.until })
 raised_holds blocks redzone own size from is none hold =
     let P : ℕ → Type 0 = λ n. AreNoPlaces blocks n redzone 0 from in
     record { below = subst P (sym is) none; between = hold.between }

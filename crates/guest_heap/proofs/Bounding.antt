@@ -14,7 +14,8 @@ fresh_replicate (suc n) zero b h = (ap (λ x. x.from) (sym (some-same h)), ap (�
 fresh_replicate (suc n) (suc i) b h = fresh_replicate n i b h
 
 -- bounds that say nothing hold
-pub fresh_bounds : (blocks : Blocks) (redzone : ℕ) (bounds : List Bound) → AreFresh bounds → AreBounds blocks redzone bounds
+pub fresh_bounds : (blocks : Blocks) (redzone : ℕ) (bounds : List Bound) → AreFresh bounds
+    → AreBounds blocks redzone bounds
 fresh_bounds blocks redzone bounds fresh i b there =
     let none = fresh i b there in
     record {

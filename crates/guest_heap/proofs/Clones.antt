@@ -1,5 +1,6 @@
 -- A clone of a table, and a new one.
-use Rattle.std.proofs.Common.{◌≡◌, ℕ, zero, suc, List, [], ◌∷◌, ◌++◌, Option, None, Some, slice_index_or, length, replicate, is_some, true, false, ◌≤◌, ◌*◌, inl, inr, arith, refl, ap, ◌∙◌, ◌/◌, ◌%◌}
+use Rattle.std.proofs.Common.{◌≡◌, ℕ, zero, suc, List, [], ◌∷◌, ◌++◌, Option, None, Some, slice_index_or, length}
+use Rattle.std.proofs.Common.{replicate, is_some, true, false, ◌≤◌, ◌*◌, inl, inr, arith, refl, ap, ◌∙◌, ◌/◌, ◌%◌}
 use Rattle.std.proofs.Math.Path.{fun_ext}
 use Rattle.std.specs.List.{AllZip}
 use Rattle.std.proofs.lemmas.Bool.{cases_lt}
@@ -25,7 +26,8 @@ slot_clone (Some p) (Some q) = q.value ≡ p.value
 
 -- a list and its clone, slot by slot, where a clone of a pointer points to the same value
 module _ {T : Type 0} {S : Type 0} (R : Option (Rc T Global) → Option (Rc T Global) → Type 0)
-    (both : (p q : Rc T Global) → R (Some p) (Some q) → q.value ≡ p.value) (left : (p : Rc T Global) → R (Some p) None → ⊥)
+    (both : (p q : Rc T Global) → R (Some p) (Some q) → q.value ≡ p.value) (left : (p : Rc T Global) → R (Some p) None
+    → ⊥)
     (right : (p : Rc T Global) → R None (Some p) → ⊥) (shown : Option (Rc T Global) → S)
     (by_value : (p q : Rc T Global) → q.value ≡ p.value → shown (Some q) ≡ shown (Some p)) where
   same_slot : (x y : Option (Rc T Global)) → R x y → shown y ≡ shown x
@@ -34,22 +36,27 @@ module _ {T : Type 0} {S : Type 0} (R : Option (Rc T Global) → Option (Rc T Gl
   same_slot (Some p) None h = absurd (left p h)
   same_slot (Some p) (Some q) h = by_value p q (both p q h)
 
-  pub same_slots : (xs ys : List (Option (Rc T Global))) → AllZip R xs ys → (i : ℕ) → shown (slice_index_or ys i None) ≡ shown (slice_index_or xs i None)
+  pub same_slots : (xs ys : List (Option (Rc T Global))) → AllZip R xs ys → (i : ℕ)
+      → shown (slice_index_or ys i None) ≡ shown (slice_index_or xs i None)
   same_slots [] [] h i = refl
   same_slots [] (y ∷ ys) h i = absurd h
   same_slots (x ∷ xs) [] h i = absurd h
   same_slots (x ∷ xs) (y ∷ ys) h zero = same_slot x y h.0
   same_slots (x ∷ xs) (y ∷ ys) h (suc i) = same_slots xs ys h.1 i
 
-pub same_in : (a b : Leaf) → ((i : ℕ) → entry_of (slice_index_or b.slots.items i None) ≡ entry_of (slice_index_or a.slots.items i None)) → entries_in b ≡ entries_in a
+pub same_in : (a b : Leaf) → ((i : ℕ) → entry_of (slice_index_or b.slots.items i None)
+    ≡ entry_of (slice_index_or a.slots.items i None)) → entries_in b ≡ entries_in a
 unfolding entries_in
 same_in a b h = fun_ext h
 
-pub same_under : (a b : Branch) → ((i : ℕ) → entries_at (slice_index_or b.leaves.items i None) ≡ entries_at (slice_index_or a.leaves.items i None)) → entries_under b ≡ entries_under a
+pub same_under : (a b : Branch) → ((i : ℕ)
+    → entries_at (slice_index_or b.leaves.items i None) ≡ entries_at (slice_index_or a.leaves.items i None))
+    → entries_under b ≡ entries_under a
 unfolding entries_under
 same_under a b h = fun_ext (λ n. ap (λ f. f (n % 256)) (h (n / 256)))
 
-pub same_of : (a b : Table) → ((i : ℕ) → entries_below (slice_index_or b.branches.items i None) ≡ entries_below (slice_index_or a.branches.items i None)) → entries_of b ≡ entries_of a
+pub same_of : (a b : Table) → ((i : ℕ) → entries_below (slice_index_or b.branches.items i None)
+    ≡ entries_below (slice_index_or a.branches.items i None)) → entries_of b ≡ entries_of a
 unfolding entries_of
 same_of a b h = fun_ext (λ n. ap (λ f. f (n % 65536)) (h (n / 65536)))
 
@@ -65,7 +72,8 @@ unfolding entries_below
 branch_by_value p q e = rw e refl
 
 -- n slots, each empty: what is at a place, how many there are, and that none is in use
-none_replicated : {T : Type 0} (n k : ℕ) → slice_index_or (replicate n (let none : Option T = None in none)) k None ≡ None
+none_replicated : {T : Type 0} (n k : ℕ) → slice_index_or (replicate n (let none : Option T = None in none)) k None
+    ≡ None
 none_replicated zero k = refl
 none_replicated (suc n) zero = refl
 none_replicated (suc n) (suc k) = none_replicated n k
@@ -80,7 +88,8 @@ none_used slots n e k _ = ap (λ xs. is_some (slice_index_or xs k None)) e ∙ a
 pub none_under : (branch : Branch) (n : ℕ) → branch.leaves.items ≡ replicate n None → entries_under branch ≡ (λ _. None)
 unfolding entries_under entries_at
 none_under branch n e =
-    fun_ext (λ k. ap (λ xs. entries_at (slice_index_or xs (k / 256) None) (k % 256)) e ∙ ap (λ leaf. entries_at leaf (k % 256)) (none_replicated n (k / 256)))
+    fun_ext (λ k. ap (λ xs. entries_at (slice_index_or xs (k / 256) None) (k % 256)) e
+    ∙ ap (λ leaf. entries_at leaf (k % 256)) (none_replicated n (k / 256)))
 
 -- a leaf of nothing
 pub none_in : (leaf : Leaf) (n : ℕ) → leaf.slots.items ≡ replicate n None → entries_in leaf ≡ (λ _. None)
@@ -103,7 +112,8 @@ same-use None (Some q) c = absurd c
 same-use (Some p) None c = absurd c
 same-use (Some p) (Some q) c = refl
 
-pub same_uses : {T : Type 0} (us vs : List (Option (Rc T Global))) → AllZip slot_clone us vs → (i : ℕ) → is_some (slice_index_or vs i None) ≡ is_some (slice_index_or us i None)
+pub same_uses : {T : Type 0} (us vs : List (Option (Rc T Global))) → AllZip slot_clone us vs → (i : ℕ)
+    → is_some (slice_index_or vs i None) ≡ is_some (slice_index_or us i None)
 same_uses [] [] c i = refl
 same_uses [] (v ∷ vs) c i = absurd c
 same_uses (u ∷ us) [] c i = absurd c
@@ -111,7 +121,8 @@ same_uses (u ∷ us) (v ∷ vs) c zero = same-use u v c.0
 same_uses (u ∷ us) (v ∷ vs) c (suc i) = same_uses us vs c.1 i
 
 -- a table's rest, which has no branches
-pub none_in_table : (table : Table) (at i : ℕ) → AreNone (entries_of table) at (i * 65536) → length table.branches.items ≤ i → AreNone (entries_of table) at 33554432
+pub none_in_table : (table : Table) (at i : ℕ) → AreNone (entries_of table) at (i * 65536)
+    → length table.branches.items ≤ i → AreNone (entries_of table) at 33554432
 unfolding entries_of entries_below
 none_in_table table at i before done k low high = elim (cases_lt k (i * 65536)) [
   | inl l ↦ before k low l
@@ -126,14 +137,17 @@ unfolding entries_of entries_below
 none_of table e = fun_ext (λ k. ap (λ branches. entries_below (slice_index_or branches (k / 65536) None) (k % 65536)) e)
 
 -- a table with one more slot, which is empty, and one whose slots are the same
-one-more : {T : Type 0} (xs : List (Option T)) (i : ℕ) → slice_index_or (xs ++ (None ∷ [])) i None ≡ slice_index_or xs i None
+one-more : {T : Type 0} (xs : List (Option T)) (i : ℕ)
+    → slice_index_or (xs ++ (None ∷ [])) i None ≡ slice_index_or xs i None
 one-more [] zero = refl
 one-more [] (suc i) = refl
 one-more (x ∷ xs) zero = refl
 one-more (x ∷ xs) (suc i) = one-more xs i
 
 pub grown_same : (a b : Table) → b.branches.items ≡ a.branches.items ++ (None ∷ []) → entries_of b ≡ entries_of a
-grown_same a b e = same_of a b (λ i. ap (λ branches. entries_below (slice_index_or branches i None)) e ∙ ap entries_below (one-more a.branches.items i))
+grown_same a b e =
+    same_of a b (λ i. ap (λ branches. entries_below (slice_index_or branches i None)) e
+    ∙ ap entries_below (one-more a.branches.items i))
 
 pub kept_same : (a b : Table) → b.branches.items ≡ a.branches.items → entries_of b ≡ entries_of a
 kept_same a b e = same_of a b (λ i. ap (λ branches. entries_below (slice_index_or branches i None)) e)

@@ -1,5 +1,6 @@
 -- Where a table has no branches any more.
-use Rattle.std.proofs.Common.{◌≡◌, ℕ, ◌*◌, ◌/◌, ◌%◌, ◌<◌, ◌≤◌, inl, inr, Option, Some, None, length, vec_len, rules, ap, arith}
+use Rattle.std.proofs.Common.{◌≡◌, ℕ, ◌*◌, ◌/◌, ◌%◌, ◌<◌, ◌≤◌, inl, inr, Option, Some, None, length, vec_len, rules, ap}
+use Rattle.std.proofs.Common.{arith}
 use Rattle.std.proofs.lemmas.List.{get_or_past}
 use Rattle.std.proofs.lemmas.Bool.{cases_lt}
 use Rattle.guest_heap.specs.Entries.{Entries, AreNone, IsLast}
@@ -14,8 +15,10 @@ none_past table at k low high =
     let past : length xs ≤ k / 65536 = omega arith in
     ap (λ branch. entries_below branch (k % 65536)) (get_or_past xs (k / 65536) None past)
 
-pub last_wide : (entries : Entries) (m used at : ℕ) (result : Option ℕ) → m ≤ at → ((k : ℕ) → m ≤ k → k < at → used ≤ k) → AreNone entries used at → IsLast entries m result → IsLast entries at result
-last_wide entries m used at None within past none h = λ k low high. elim (cases_lt k m) [ inl l ↦ h k low l | inr g ↦ none k (past k g high) high ]
+pub last_wide : (entries : Entries) (m used at : ℕ) (result : Option ℕ) → m ≤ at → ((k : ℕ) → m ≤ k → k < at → used ≤ k)
+    → AreNone entries used at → IsLast entries m result → IsLast entries at result
+last_wide entries m used at None within past none h =
+    λ k low high. elim (cases_lt k m) [ inl l ↦ h k low l | inr g ↦ none k (past k g high) high ]
 last_wide entries m used at (Some n) within past none h =
     let below = h.below in
     record {

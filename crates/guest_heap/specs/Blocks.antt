@@ -1,8 +1,9 @@
 -- What a heap holds, and what the heap calls do to it.
--- Sources: Memcheck manual, section 4.3, `--freelist-vol` (freed blocks are kept in a queue, whose sizes sum to at most a volume);
--- Valgrind core manual, section 2.6, `--redzone-size` (padding before and after each block). Where blocks lie is this project's own
--- rule: each at the lowest place of all.
-use Rattle.std.specs.Prelude.{ℕ, ◌+◌, ◌-◌, ◌%◌, ◌<◌, ◌≤◌, ◌≡◌, ◌==◌, ◌⊎◌, nat_lt, nat_le, max, Option, Some, None, List, [], ◌∷◌, ◌++◌, Contains, drop, sum_by, if◌then◌else◌}
+-- Sources: Memcheck manual, section 4.3, `--freelist-vol` (freed blocks are kept in a queue, whose sizes sum to at most
+-- a volume); Valgrind core manual, section 2.6, `--redzone-size` (padding before and after each block). Where blocks
+-- lie is this project's own rule: each at the lowest place of all.
+use Rattle.std.specs.Prelude.{ℕ, ◌+◌, ◌-◌, ◌%◌, ◌<◌, ◌≤◌, ◌≡◌, ◌==◌, ◌⊎◌, nat_lt, nat_le, max, Option, Some, None, List}
+use Rattle.std.specs.Prelude.{[], ◌∷◌, ◌++◌, Contains, drop, sum_by, if◌then◌else◌}
 use Rattle.guest_heap.specs.declared.block.Block.{Block}
 use Rattle.guest_heap.specs.declared.block.Near.{Near}
 use Rattle.guest_heap.specs.declared.block.Place.TheVariants.{Before, Inside, After}
@@ -10,7 +11,8 @@ use Rattle.memory_map.specs.Regions.{heap_begin, heap_end}
 use Rattle.guest_heap.specs.declared.released.Released.{Released}
 use Rattle.guest_heap.specs.declared.released.Released.TheVariants.{Done, Nothing, Invalid}
 
--- the blocks that are kept: the live block that begins at an address, and those freed that are not forgotten yet, oldest first
+-- the blocks that are kept: the live block that begins at an address, and those freed that are not forgotten yet,
+-- oldest first
 pub record Blocks : Type 0 where
   pub live : ℕ → Option Block
   pub queue : List Block
@@ -66,7 +68,8 @@ with_block blocks b = record { live = with_live blocks.live b.start (Some b); qu
 -- a new live block at a place, if there is one
 abbrev pub allocated : Blocks → Option ℕ → ℕ → List ℕ → ℕ → Blocks
 allocated blocks None size trace redzone = blocks
-allocated blocks (Some p) size trace redzone = with_block blocks (record { start = p; size = size; redzone = redzone; trace = trace; freed = None })
+allocated blocks (Some p) size trace redzone =
+    with_block blocks (record { start = p; size = size; redzone = redzone; trace = trace; freed = None })
 
 -- release --
 

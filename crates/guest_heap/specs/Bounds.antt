@@ -1,5 +1,6 @@
 -- What is known of places, by sizes.
-use Rattle.std.specs.Prelude.{ℕ, ◌≡◌, ◌≤◌, ◌<◌, ◌⊎◌, nat_lt, nat_le, min, max, List, Some, slice_get, ◌&&◌, if◌then◌else◌}
+use Rattle.std.specs.Prelude.{ℕ, ◌≡◌, ◌≤◌, ◌<◌, ◌⊎◌, nat_lt, nat_le, min, max, List, Some, slice_get, ◌&&◌}
+use Rattle.std.specs.Prelude.{if◌then◌else◌}
 use Rattle.guest_heap.specs.Blocks.{Blocks}
 use Rattle.guest_heap.specs.States.{AreNoPlaces}
 use Rattle.guest_heap.specs.declared.bounds.Bound.{Bound}

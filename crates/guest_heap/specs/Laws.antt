@@ -2,7 +2,8 @@
 use Rattle.std.specs.Prelude.{ℕ, ◌+◌, ◌≡◌, ◌↔◌, Some, None, IfSome, IfNone, List, [], ◌∷◌, Contains}
 use Rattle.guest_heap.specs.declared.block.Block.{Block}
 use Rattle.guest_heap.specs.Blocks.{Blocks, IsKept, Holds, Places, near_of, no_blocks, IsLongestFitting}
-use Rattle.guest_heap.specs.Steps.{AreInRegion, AreApart, place, allocated_blocks, queue_after, released_blocks, near, live_from, live_list, live_above}
+use Rattle.guest_heap.specs.Steps.{AreInRegion, AreApart, place, allocated_blocks, queue_after, released_blocks, near}
+use Rattle.guest_heap.specs.Steps.{live_from, live_list, live_above}
 
 -- the place that is answered is the least
 abbrev pub PlaceIsLeast : Type 0
@@ -13,18 +14,21 @@ PlaceIsLeast =
 -- the queue that is left is the longest that fits, and the only such one
 abbrev pub QueueIsLongest : Type 0
 QueueIsLongest =
-    (volume : ℕ) (whole suffix : List Block) → IsLongestFitting volume whole suffix ↔ (suffix ≡ queue_after volume whole)
+    (volume : ℕ) (whole suffix : List Block)
+    → IsLongestFitting volume whole suffix ↔ (suffix ≡ queue_after volume whole)
 
 -- what is near an address is a kept block that has it, if there is one
 pub record NearHolds : Type 0 where
   pub kept : (blocks : Blocks) (a : ℕ) → AreInRegion blocks → IfSome (near blocks a) (λ n. IsKept blocks n.block)
   pub holds : (blocks : Blocks) (a : ℕ) → IfSome (near blocks a) (λ n. Holds n.block a)
   pub place : (blocks : Blocks) (a : ℕ) → IfSome (near blocks a) (λ n. n ≡ near_of n.block a)
-  pub none : (blocks : Blocks) (a : ℕ) → AreInRegion blocks → IfNone (near blocks a) ((b : Block) → IsKept blocks b → ¬ (Holds b a))
+  pub none : (blocks : Blocks) (a : ℕ) → AreInRegion blocks
+      → IfNone (near blocks a) ((b : Block) → IsKept blocks b → ¬ (Holds b a))
 
 -- the list of live blocks: it has them all and no others, and `live_from` goes along it
 pub record LiveGoesOn : Type 0 where
-  pub listed : (blocks : Blocks) (b : Block) → AreInRegion blocks → Contains (live_list blocks) b ↔ (blocks.live b.start ≡ Some b)
+  pub listed : (blocks : Blocks) (b : Block) → AreInRegion blocks
+      → Contains (live_list blocks) b ↔ (blocks.live b.start ≡ Some b)
   pub all : (blocks : Blocks) → live_above blocks 0 ≡ live_list blocks
   pub some :
       (blocks : Blocks) (from : ℕ) (b : Block) →

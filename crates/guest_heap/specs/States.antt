@@ -1,6 +1,7 @@
--- How a heap keeps its blocks: live ones in one table, freed ones in another, and the queue of the freed. The place of a block is the
--- number of its start among the multiples of 16 of the heap region.
-use Rattle.std.specs.Prelude.{ℕ, ◌+◌, ◌-◌, ◌*◌, ◌/◌, ◌<◌, ◌≤◌, ◌≡◌, ◌==◌, ◌⊎◌, nat_le, Option, Some, None, List, map, is_some, option_map, true, slice_get, if◌then◌else◌}
+-- How a heap keeps its blocks: live ones in one table, freed ones in another, and the queue of the freed. The place of
+-- a block is the number of its start among the multiples of 16 of the heap region.
+use Rattle.std.specs.Prelude.{ℕ, ◌+◌, ◌-◌, ◌*◌, ◌/◌, ◌<◌, ◌≤◌, ◌≡◌, ◌==◌, ◌⊎◌, nat_le, Option, Some, None, List, map}
+use Rattle.std.specs.Prelude.{is_some, option_map, true, slice_get, if◌then◌else◌}
 use Rattle.guest_heap.specs.declared.block.Block.{Block}
 use Rattle.guest_heap.specs.Blocks.{Blocks, IsKept, IsPlace, low_end, high_end, volume_of}
 use Rattle.memory_map.specs.Regions.{heap_begin, heap_end}
@@ -92,11 +93,13 @@ AreNoPlaces blocks size redzone from to = (q : ℕ) → from ≤ q → q < to �
 
 -- where a kept block's interval ends that begins below an address, or the region begins
 abbrev pub EndsBelow : Blocks → ℕ → ℕ → Type 0
-EndsBelow blocks start end = (end ≡ heap_begin) ⊎ ((b : Block) × IsKept blocks b × (b.start < start) × (high_end b ≡ end))
+EndsBelow blocks start end =
+    (end ≡ heap_begin) ⊎ ((b : Block) × IsKept blocks b × (b.start < start) × (high_end b ≡ end))
 
 -- where a kept block's interval begins that begins above an address, or the region ends
 abbrev pub BeginsAbove : Blocks → ℕ → ℕ → Type 0
-BeginsAbove blocks start begin = (begin ≡ heap_end) ⊎ ((b : Block) × IsKept blocks b × (start < b.start) × (low_end b ≡ begin))
+BeginsAbove blocks start begin =
+    (begin ≡ heap_end) ⊎ ((b : Block) × IsKept blocks b × (start < b.start) × (low_end b ≡ begin))
 
 -- the sizes of entries
 abbrev pub volume_in : List Entry → ℕ
@@ -128,4 +131,5 @@ pub record AreSound (live freed : Entries) (queue : List Entry) (first : ℕ) : 
   pub lives : (k : ℕ) (e : Entry) → live k ≡ Some e → IsLiveAt e k
   pub queues : (i : ℕ) (e : Entry) → slice_get queue i ≡ Some e → IsQueuedAt live freed first i e
   pub finds : (k : ℕ) (e : Entry) → freed k ≡ Some e → first ≤ e.number → live k ≡ None → IsFoundAt queue first k e
-  pub apart : (b c : Block) → IsKept (shown live queue) b → IsKept (shown live queue) c → b.start < c.start → high_end b ≤ low_end c
+  pub apart : (b c : Block) → IsKept (shown live queue) b → IsKept (shown live queue) c → b.start < c.start
+      → high_end b ≤ low_end c

@@ -1,10 +1,13 @@
 -- The heap calls as functions of the blocks.
-use Rattle.std.specs.Prelude.{ℕ, zero, suc, ◌+◌, ◌-◌, ◌%◌, ◌<◌, ◌≤◌, ◌≡◌, nat_lt, nat_le, max, Bool, ◌&&◌, if◌then◌else◌, Option, Some, None, is_none, is_some, true, ◌⊎◌, Contains, List, [], ◌∷◌, ◌++◌}
+use Rattle.std.specs.Prelude.{ℕ, zero, suc, ◌+◌, ◌-◌, ◌%◌, ◌<◌, ◌≤◌, ◌≡◌, nat_lt, nat_le, max, Bool, ◌&&◌}
+use Rattle.std.specs.Prelude.{if◌then◌else◌, Option, Some, None, is_none, is_some, true, ◌⊎◌, Contains, List, [], ◌∷◌}
+use Rattle.std.specs.Prelude.{◌++◌}
 use Rattle.std.specs.List.{filter, filter_map, find}
 use Rattle.std.specs.Option.{option_map}
 use Rattle.guest_heap.specs.declared.block.Block.{Block}
 use Rattle.guest_heap.specs.declared.block.Near.{Near}
-use Rattle.guest_heap.specs.Blocks.{Blocks, IsKept, low_end, high_end, near_of, allocated, with_live, volume_of, released_at, greatest_size}
+use Rattle.guest_heap.specs.Blocks.{Blocks, IsKept, low_end, high_end, near_of, allocated, with_live, volume_of}
+use Rattle.guest_heap.specs.Blocks.{released_at, greatest_size}
 use Rattle.memory_map.specs.Regions.{heap_begin, heap_end}
 use Rattle.guest_heap.specs.declared.released.Released.{Released}
 use Rattle.guest_heap.specs.declared.released.Released.TheVariants.{Done, Nothing, Invalid}
@@ -85,7 +88,10 @@ queue_after volume (b ∷ bs) = if nat_le (volume_of (b ∷ bs)) volume then b �
 
 -- the blocks after a release, by what it answers
 abbrev pub after_release : Released → ℕ → Blocks → Blocks
-after_release (Done b) volume blocks = record { live = with_live blocks.live b.start None; queue = queue_after volume (blocks.queue ++ b ∷ []) }
+after_release (Done b) volume blocks = record {
+  live = with_live blocks.live b.start None;
+  queue = queue_after volume (blocks.queue ++ b ∷ []);
+}
 after_release Nothing volume blocks = blocks
 after_release Invalid volume blocks = blocks
 

@@ -1,23 +1,28 @@
 -- A machine that doesn't run stays as it is, and touches nothing.
-use Rattle.std.proofs.Common.{◌≡◌, ℕ, ◌+◌, ◌++◌, ◌&&◌, List, length, false, cond, Some, None, ap, ◌∙◌, add-zero, append-nil}
+use Rattle.std.proofs.Common.{◌≡◌, ℕ, ◌+◌, ◌++◌, ◌&&◌, List, length, false, cond, Some, None, ap, ◌∙◌, add-zero}
+use Rattle.std.proofs.Common.{append-nil}
 use Rattle.std.specs.Prelude.{is_none}
 use Rattle.guest_elf.specs.declared.hook.Hook.{Hook}
 use Rattle.guest_elf.specs.Hooks.{hook_at}
 use Rattle.shadow_memory.specs.Ranges.{window, little_word}
 use Rattle.guest_machine.specs.State.{State, Core}
-use Rattle.guest_machine.specs.Exec.{exec, touches, touched_at, uses_at, intake_at, effect_at, has_touched, Deed, deed_by, deed_at, called_here, fetched, fetches}
-use Rattle.guest_machine.specs.Exec.{fetch_span, fetch_fault, unfetched, jump_fault, is_running, is_aligned, is_heap_deed, plan, outcome, deed_terms, deed_asks}
+use Rattle.guest_machine.specs.Exec.{exec, touches, touched_at, uses_at, intake_at, effect_at, has_touched, Deed}
+use Rattle.guest_machine.specs.Exec.{deed_by, deed_at, called_here, fetched, fetches}
+use Rattle.guest_machine.specs.Exec.{fetch_span, fetch_fault, unfetched, jump_fault, is_running, is_aligned}
+use Rattle.guest_machine.specs.Exec.{is_heap_deed, plan, outcome, deed_terms, deed_asks}
 use Rattle.guest_machine.specs.Exec.{intake_of, left_at, given_at, taken_from, written_to, seen_also, counted}
 use Rattle.guest_machine.specs.Effects.{Effect, quiet, stops}
 use Rattle.guest_machine.specs.Laws.{StaysHalted}
 use Rattle.guest_machine.specs.declared.status.Stop.TheVariants.{Misaligned}
 use Rattle.guest_machine.specs.declared.setup.Setup.{Setup}
 
-halts : (core : Core) (bytes : ℕ → ℕ) (hooks : List (ℕ × Hook)) → is_running core.status ≡ false → deed_at core bytes hooks ≡ Deed.Halts
+halts : (core : Core) (bytes : ℕ → ℕ) (hooks : List (ℕ × Hook)) → is_running core.status ≡ false
+    → deed_at core bytes hooks ≡ Deed.Halts
 unfolding called_here fetched fetches
 halts core bytes hooks h =
     ap (λ b. deed_by (cond (b && is_aligned core.pc) (hook_at hooks core.pc) None) (fetched core bytes)) h
-    ∙ ap (λ b. deed_by None (cond (b && (is_aligned core.pc && is_none (fetch_fault core))) (Some (little_word (window bytes core.pc 4))) None)) h
+    ∙ ap (λ b. deed_by None (cond (b && (is_aligned core.pc && is_none (fetch_fault core)))
+    (Some (little_word (window bytes core.pc 4))) None)) h
 
 touches-nothing : (s : State) (setup : Setup) (a : ℕ) → is_running s.core.status ≡ false → touches s setup a ≡ false
 unfolding touches touched_at uses_at
@@ -61,7 +66,8 @@ halted-step s setup h =
     let by : Deed → State = λ deed.
     let terms = deed_terms s.core deed s.position n setup in
     let uses = plan s.core terms deed in
-    let effect = outcome s.core terms deed (given_at s.position terms.intake.count setup) (taken_from s.bytes uses.reads) in
+    let effect = outcome s.core terms deed (given_at s.position terms.intake.count setup)
+    (taken_from s.bytes uses.reads) in
     let intake = intake_of (deed_asks s.core deed) (left_at s.position setup) in
     record {
       bytes = written_to s.bytes uses.writes effect.made;
@@ -73,7 +79,8 @@ halted-step s setup h =
       events = s.events ++ effect.raised;
     } in
     ap by (halts s.core s.bytes setup.hooks h)
-    ∙ ap (λ b. after s (cond b (cond (is_aligned s.core.pc) (jump_fault s.core (fetch_fault s.core)) (stops s.core Misaligned)) (quiet s.core))) h
+    ∙ ap (λ b. after s (cond b (cond (is_aligned s.core.pc) (jump_fault s.core (fetch_fault s.core))
+    (stops s.core Misaligned)) (quiet s.core))) h
     ∙ after-quiet s
 
 pub stays-halted : StaysHalted

@@ -18,7 +18,8 @@ pub upper_product : (a b x y : ℤ) → a ≡ x → b ≡ y → mag x < 2 ^ 31 �
 upper_product a b x y e f h k few =
     ap₂ (λ m n. upper_word (int_wrapping_mul w64 m n)) e f
     ∙ ap upper_word (wrapping_mul_is w64 x y (record { sfits = omega arith }) (record { sfits = k })
-    ∙ int_wrap_fits w64 (x *ℤ y) (fits_signed_mul w64 x y (2 ^ 31) (2 ^ 32 - 1) (abs_le x h) (omega arith) (omega arith)))
+    ∙ int_wrap_fits w64 (x *ℤ y) (fits_signed_mul w64 x y (2 ^ 31) (2 ^ 32 - 1) (abs_le x h) (omega arith)
+    (omega arith)))
 
 pub abs_few : (z : ℤ) → mag z < 2 ^ 31 → unsigned_abs z < 2 ^ 32
 abs_few z h = let near : unsigned_abs z ≤ 2 ^ 31 = abs_le z h in omega arith

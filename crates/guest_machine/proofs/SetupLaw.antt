@@ -1,11 +1,14 @@
 -- A step goes the same way under setups that differ where it doesn't look.
-use Rattle.std.proofs.Common.{◌≡◌, ℕ, zero, suc, ◌+◌, ◌-◌, ◌<◌, ◌≤◌, nat_lt, min, Bool, true, false, List, [], ◌∷◌, ◌++◌, cond, refl, ap, ap₂, sym, ◌∙◌, take, drop}
+use Rattle.std.proofs.Common.{◌≡◌, ℕ, zero, suc, ◌+◌, ◌-◌, ◌<◌, ◌≤◌, nat_lt, min, Bool, true, false, List, [], ◌∷◌}
+use Rattle.std.proofs.Common.{◌++◌, cond, refl, ap, ap₂, sym, ◌∙◌, take, drop}
 use Rattle.std.proofs.Common.{length, length-append, Option, Some, None, arith}
 use Rattle.std.proofs.lemmas.Bool.Decides.{nat_tests}
 use Rattle.std.specs.Prelude.{slice_get}
 use Rattle.guest_machine.specs.State.{State}
-use Rattle.guest_machine.specs.Exec.{Deed, Terms, Intake, exec, plan, outcome, intake_of, intake_at, left_at, seen_also, uses_at, effect_at, touches, touched_at}
-use Rattle.guest_machine.specs.Exec.{has_touched, deed_at, deed_asks, deed_terms, is_heap_deed, given_at, taken_from, written_to, counted, fetch_span}
+use Rattle.guest_machine.specs.Exec.{Deed, Terms, Intake, exec, plan, outcome, intake_of, intake_at, left_at, seen_also}
+use Rattle.guest_machine.specs.Exec.{uses_at, effect_at, touches, touched_at}
+use Rattle.guest_machine.specs.Exec.{has_touched, deed_at, deed_asks, deed_terms, is_heap_deed, given_at, taken_from}
+use Rattle.guest_machine.specs.Exec.{written_to, counted, fetch_span}
 use Rattle.guest_machine.specs.Laws.{KeepsInput, KeepsHeap, KeepsEnd, EndStays, Extends, is_heap_step}
 use Rattle.guest_machine.specs.declared.setup.Setup.{Setup}
 
@@ -25,8 +28,13 @@ unfolding seen taken-under exec intake_at touches touched_at uses_at effect_at
 same-step one other s k t g =
     let d : Deed = deed_at s.core s.bytes one.hooks in
     let same : d ≡ deed_at s.core s.bytes other.hooks = ap (λ hooks. deed_at s.core s.bytes hooks) k in (
-      (λ i. has_touched (record { fetch = fetch_span s.core (same i); reads = (plan s.core (t i) (same i)).reads; writes = (plan s.core (t i) (same i)).writes })),
-      (ap (λ xs. step-of d (seen s one) xs) g ∙ (λ i. step-of (same i) (t i) (given_at s.position (t i).intake.count other))),
+      (λ i. has_touched (record {
+        fetch = fetch_span s.core (same i);
+        reads = (plan s.core (t i) (same i)).reads;
+        writes = (plan s.core (t i) (same i)).writes;
+      })),
+      (ap (λ xs. step-of d (seen s one) xs) g
+          ∙ (λ i. step-of (same i) (t i) (given_at s.position (t i).intake.count other))),
     )
   where
     -- the step for what is done, what is seen and what is read
@@ -49,7 +57,8 @@ none-some : (x : ℕ) → ◌≡◌ {A = Option ℕ} None (Some x) → ⊥
 none-some x e = cc
 
 -- lists that are equal below a place have equal parts there
-same-part : (xs ys : List ℕ) (p n : ℕ) → ((i : ℕ) → i < p + n → slice_get xs i ≡ slice_get ys i) → take n (drop p xs) ≡ take n (drop p ys)
+same-part : (xs ys : List ℕ) (p n : ℕ) → ((i : ℕ) → i < p + n → slice_get xs i ≡ slice_get ys i)
+    → take n (drop p xs) ≡ take n (drop p ys)
 same-part [] [] p n h = refl
 same-part [] (y ∷ ys) zero zero h = refl
 same-part [] (y ∷ ys) zero (suc n) h = absurd (none-some y (h zero (omega arith)))
@@ -65,7 +74,8 @@ same-part (x ∷ xs) (y ∷ ys) zero (suc n) h =
 same-part (x ∷ xs) (y ∷ ys) (suc p) n h = same-part xs ys p n (λ i k. h (suc i) (omega arith))
 
 -- what is given is the same where it doesn't reach the end of what is left
-front-intake : (asks : Option ℕ) (rest less more : ℕ) → rest < less → rest ≤ more → (intake_of asks less).count ≤ rest → intake_of asks less ≡ intake_of asks more
+front-intake : (asks : Option ℕ) (rest less more : ℕ) → rest < less → rest ≤ more → (intake_of asks less).count ≤ rest
+    → intake_of asks less ≡ intake_of asks more
 front-intake None rest less more l m h = refl
 front-intake (Some n) rest less more l m h =
     let same : min n less ≡ min n more = omega arith in
@@ -79,22 +89,40 @@ keeps-input one other offset s d h =
     let enough = d.enough in
     let asks = deed_asks s.core (deed_at s.core s.bytes one.hooks) in
     let same : intake_of asks (length one.input - s.position) ≡ intake_of asks (length other.input - s.position) =
-    front-intake asks (offset - s.position) (length one.input - s.position) (length other.input - s.position) (omega arith) (omega arith) (omega arith) in
-    let given : intake_of asks (length one.input - s.position) ≡ intake_of (deed_asks s.core (deed_at s.core s.bytes other.hooks)) (length other.input - s.position) =
-    same ∙ ap (λ hooks. intake_of (deed_asks s.core (deed_at s.core s.bytes hooks)) (length other.input - s.position)) d.hooks in
+    front-intake asks (offset - s.position) (length one.input - s.position) (length other.input - s.position)
+    (omega arith) (omega arith) (omega arith) in
+    let given : intake_of asks (length one.input - s.position)
+    ≡ intake_of (deed_asks s.core (deed_at s.core s.bytes other.hooks)) (length other.input - s.position) =
+    same ∙ ap (λ hooks. intake_of (deed_asks s.core (deed_at s.core s.bytes hooks)) (length other.input - s.position))
+    d.hooks in
     let t : seen s one ≡ seen s other = λ i.
     let heap = is_heap_step s (d.hooks i) in
-    record { intake = given i; written = length s.output; redzone = cond heap (d.redzone i) 0; volume = cond heap (d.volume i) 0 } in
-    same-step one other s d.hooks t (same-part one.input other.input s.position (taken-under s one).count (λ i k. d.bytes i (omega arith)))
+    record {
+      intake = given i;
+      written = length s.output;
+      redzone = cond heap (d.redzone i) 0;
+      volume = cond heap (d.volume i) 0;
+    } in
+    same-step one other s d.hooks t (same-part one.input other.input s.position (taken-under s one).count
+    (λ i k. d.bytes i (omega arith)))
 
-heap-same : (one other : Setup) (s : State) → one.input ≡ other.input → one.hooks ≡ other.hooks → is_heap_step s one.hooks ≡ false → (touches s one ≡ touches s other) × (exec s one ≡ exec s other)
+heap-same : (one other : Setup) (s : State) → one.input ≡ other.input → one.hooks ≡ other.hooks
+    → is_heap_step s one.hooks ≡ false → (touches s one ≡ touches s other) × (exec s one ≡ exec s other)
 unfolding seen taken-under intake_at
 heap-same one other s e k f =
-    let closed : (setup : Setup) → is_heap_step s setup.hooks ≡ false → seen s setup ≡ record { intake = taken-under s setup; written = length s.output; redzone = 0; volume = 0 } =
-    λ setup none. ap (λ b. record { intake = taken-under s setup; written = length s.output; redzone = cond b setup.redzone 0; volume = cond b setup.volume 0 }) none in
-    let between : taken-under s one ≡ taken-under s other = λ i. intake_of (deed_asks s.core (deed_at s.core s.bytes (k i))) (length (e i) - s.position) in
+    let closed : (setup : Setup) → is_heap_step s setup.hooks ≡ false
+    → seen s setup ≡ record { intake = taken-under s setup; written = length s.output; redzone = 0; volume = 0 } =
+    λ setup none. ap (λ b. record {
+      intake = taken-under s setup;
+      written = length s.output;
+      redzone = cond b setup.redzone 0;
+      volume = cond b setup.volume 0;
+    }) none in
+    let between : taken-under s one ≡ taken-under s other = λ i. intake_of
+    (deed_asks s.core (deed_at s.core s.bytes (k i))) (length (e i) - s.position) in
     let t : seen s one ≡ seen s other =
-    closed one f ∙ ap (λ intake. record { intake = intake; written = length s.output; redzone = 0; volume = 0 }) between ∙ sym (closed other (ap (λ hooks. is_heap_step s hooks) (sym k) ∙ f)) in
+    closed one f ∙ ap (λ intake. record { intake = intake; written = length s.output; redzone = 0; volume = 0 }) between
+    ∙ sym (closed other (ap (λ hooks. is_heap_step s hooks) (sym k) ∙ f)) in
     same-step one other s k t (ap (λ xs. take (taken-under s one).count (drop s.position xs)) e)
 
 pub keeps-heap : KeepsHeap
@@ -143,16 +171,26 @@ module _ (one other : Setup) (s : State) (x : Extends one other) where
   end-same : (taken-under s one).ends ≡ false → (touches s one ≡ touches s other) × (exec s one ≡ exec s other)
   unfolding seen taken-under intake_at longer
   end-same e =
-      let asks : deed_asks s.core (deed_at s.core s.bytes one.hooks) ≡ deed_asks s.core (deed_at s.core s.bytes other.hooks) = ap (λ hooks. deed_asks s.core (deed_at s.core s.bytes hooks)) x.hooks in
+      let asks : deed_asks s.core (deed_at s.core s.bytes one.hooks)
+      ≡ deed_asks s.core (deed_at s.core s.bytes other.hooks) = ap
+      (λ hooks. deed_asks s.core (deed_at s.core s.bytes hooks)) x.hooks in
       let l = longer in
       let more : left_at s.position one ≤ left_at s.position other = omega arith in
-      let a = unended (deed_asks s.core (deed_at s.core s.bytes one.hooks)) (left_at s.position one) (left_at s.position other) more e in
-      let same : taken-under s one ≡ taken-under s other = a.same ∙ ap (λ o. intake_of o (left_at s.position other)) asks in
+      let a = unended (deed_asks s.core (deed_at s.core s.bytes one.hooks)) (left_at s.position one)
+      (left_at s.position other) more e in
+      let same : taken-under s one ≡ taken-under s other = a.same
+      ∙ ap (λ o. intake_of o (left_at s.position other)) asks in
       let t : seen s one ≡ seen s other =
       λ i. let heap = is_heap_step s (x.hooks i) in
-      record { intake = same i; written = length s.output; redzone = cond heap (x.redzone i) 0; volume = cond heap (x.volume i) 0 } in
+      record {
+        intake = same i;
+        written = length s.output;
+        redzone = cond heap (x.redzone i) 0;
+        volume = cond heap (x.volume i) 0;
+      } in
       let n = (taken-under s one).count in
-      same-step one other s x.hooks t (front-part one.input x.input.0 s.position n a.within ∙ ap (λ xs. take n (drop s.position xs)) (sym x.input.1))
+      same-step one other s x.hooks t (front-part one.input x.input.0 s.position n a.within
+      ∙ ap (λ xs. take n (drop s.position xs)) (sym x.input.1))
 
 pub keeps-end : KeepsEnd
 unfolding exec taken-under

@@ -1,5 +1,6 @@
 -- From what is done to a guest, to the states that it holds.
-use Rattle.std.proofs.Common.{◌≡◌, ℕ, suc, ◌<◌, ◌≤◌, Bool, true, false, nat_lt, arith, ap, sym, refl, ◌∙◌, ◌+◌, List, []}
+use Rattle.std.proofs.Common.{◌≡◌, ℕ, suc, ◌<◌, ◌≤◌, Bool, true, false, nat_lt, arith, ap, sym, refl, ◌∙◌, ◌+◌, List}
+use Rattle.std.proofs.Common.{[]}
 use Rattle.std.proofs.Common.{◌∷◌, ◌++◌, length, length-append, slice_index_or}
 use Rattle.std.proofs.lemmas.Bool.Decides.{nat_tests}
 use Rattle.std.proofs.lemmas.List.FromFn.{length-map-range_with_len}
@@ -10,7 +11,8 @@ use Rattle.shadow_memory.specs.Shadows.{made_so}
 use Rattle.shadow_memory.specs.Ranges.{written, byte_of}
 use Rattle.shadow_memory.specs.Memories.{bytes_in, shadows_in}
 use Rattle.guest_heap.specs.Heaps.{blocks_of}
-use Rattle.guest_machine.specs.Exec.{exec, uses_at, effect_at, touched_at, touched_of, written_to, counted, is_heap_deed, deed_at}
+use Rattle.guest_machine.specs.Exec.{exec, uses_at, effect_at, touched_at, touched_of, written_to, counted}
+use Rattle.guest_machine.specs.Exec.{is_heap_deed, deed_at}
 use Rattle.guest_machine.specs.Exec.{seen_also, intake_at}
 use Rattle.guest_machine.specs.Run.{marked, poked}
 use Rattle.error_events.specs.Adding.{add_event, add_events, GroupsGrowBy}
@@ -59,12 +61,29 @@ length_taken taken n = length-map-range_with_len taken 0 n
 
 -- the state that a guest holds, with the output and the errors of another
 shown : Guest → State → State
-shown m s = record { bytes = bytes_of m; core = core_of m; position = m.progress.position; end_seen = m.progress.end_seen; output = s.output; heap_calls = m.progress.heap_calls; events = s.events }
+shown m s = record {
+  bytes = bytes_of m;
+  core = core_of m;
+  position = m.progress.position;
+  end_seen = m.progress.end_seen;
+  output = s.output;
+  heap_calls = m.progress.heap_calls;
+  events = s.events;
+}
 
 -- a state that a guest holds is that one
 shown-is : (m : Guest) (s : State) → Holds m s → shown m s ≡ s
 unfolding shown
-shown-is m s h = λ i. record { bytes = h.bytes i; core = h.core i; position = h.position i; end_seen = h.end_seen i; output = s.output; heap_calls = h.heap_calls i; events = s.events }
+shown-is m s h =
+    λ i. record {
+      bytes = h.bytes i;
+      core = h.core i;
+      position = h.position i;
+      end_seen = h.end_seen i;
+      output = s.output;
+      heap_calls = h.heap_calls i;
+      events = s.events;
+    }
 
 -- what a step does to a guest holds exec of each state that it held
 pub holds_exec : GroupsGrowBy → (old new : Guest) (setup : Setup)
@@ -82,9 +101,14 @@ holds_exec grow old new setup d s h =
       bytes = d.bytes ∙ (λ i. written_to (h.bytes i) (usages i).writes (effects i).made);
       core = d.core ∙ ap (λ x. x.core) effects;
       position = d.position ∙ (λ i. h.position i + (intake_at (h.core i) (h.bytes i) (h.position i) setup).count);
-      end_seen = d.end_seen ∙ (λ i. seen_also (h.end_seen i) (intake_at (h.core i) (h.bytes i) (h.position i) setup).ends);
-      output = d.output ∙ (λ i. h.output i + length (effects i).output) ∙ sym (length-append s.output (effect_at s.core s.bytes s.position (length s.output) setup).output);
-      heap_calls = d.heap_calls ∙ (λ i. counted (h.heap_calls i) (is_heap_deed (h.core i) (deed_at (h.core i) (h.bytes i) setup.hooks)));
+      end_seen =
+          d.end_seen ∙ (λ i. seen_also (h.end_seen i) (intake_at (h.core i) (h.bytes i) (h.position i) setup).ends);
+      output =
+          d.output ∙ (λ i. h.output i + length (effects i).output)
+          ∙ sym (length-append s.output (effect_at s.core s.bytes s.position (length s.output) setup).output);
+      heap_calls =
+          d.heap_calls ∙ (λ i. counted (h.heap_calls i)
+          (is_heap_deed (h.core i) (deed_at (h.core i) (h.bytes i) setup.hooks)));
       groups =
           ap (λ (noted : List Group × Bool). noted.0) d.noted
           ∙ noted-groups (noted_of old.noted) effect.raised
@@ -93,7 +117,8 @@ holds_exec grow old new setup d s h =
     }
 
 -- it raised an error if it notes one and none was noted before
-pub raised_exec : (old new : Guest) (setup : Setup) → DoesStep old new setup → old.noted.raised ≡ false → (s : State) → Holds old s
+pub raised_exec : (old new : Guest) (setup : Setup) → DoesStep old new setup → old.noted.raised ≡ false → (s : State)
+    → Holds old s
     → new.noted.raised ≡ nat_lt (length s.events) (length (exec s setup).events)
 unfolding exec
 raised_exec old new setup d fresh s h =
@@ -104,7 +129,8 @@ raised_exec old new setup d fresh s h =
     ∙ ap (λ (b : Bool). (note_events ((noted_of old.noted).0, b) effect.raised).1) fresh
     ∙ noted-raised (noted_of old.noted).0 effect.raised (length s.events)
     ∙ (λ i. nat_lt (length s.events) (length s.events + length (effects i).raised))
-    ∙ ap (nat_lt (length s.events)) (sym (length-append s.events (effect_at s.core s.bytes s.position (length s.output) setup).raised))
+    ∙ ap (nat_lt (length s.events)) (sym
+    (length-append s.events (effect_at s.core s.bytes s.position (length s.output) setup).raised))
 
 -- and the ranges that it touched are those that the state's step touches
 pub touched_exec : (old : Guest) (setup : Setup) (t : Touched) → t ≡ touched_by old setup
@@ -112,13 +138,23 @@ pub touched_exec : (old : Guest) (setup : Setup) (t : Touched) → t ≡ touched
 touched_exec old setup t e s h = e ∙ (λ i. touched_at (h.core i) (h.bytes i) (h.position i) (h.output i) setup)
 
 -- a guest with a range made so
-pub holds-marked : (m : Guest) (memory : Memory) (mark : Mark) → bytes_in memory ≡ bytes_in m.memory → shadows_in memory ≡ made_so (shadows_in m.memory) mark.addr mark.len mark.kind
-    → (zero : slice_index_or m.registers 0 (known 0) ≡ known 0) (s : State) → Holds m s → Holds (record m { memory = memory; zero = zero }) (marked s mark)
+pub holds-marked : (m : Guest) (memory : Memory) (mark : Mark) → bytes_in memory ≡ bytes_in m.memory
+    → shadows_in memory ≡ made_so (shadows_in m.memory) mark.addr mark.len mark.kind
+    → (zero : slice_index_or m.registers 0 (known 0) ≡ known 0) (s : State) → Holds m s
+    → Holds (record m { memory = memory; zero = zero }) (marked s mark)
 unfolding marked
 holds-marked m memory mark b c zero s h =
     record {
       bytes = b ∙ h.bytes;
-      core = (λ i. record { shadow = c i; registers = m.registers; pc = m.pc; status = m.status; frames = m.frames; blocks = blocks_of m.heap })
+      core =
+          (λ i. record {
+            shadow = c i;
+            registers = m.registers;
+            pc = m.pc;
+            status = m.status;
+            frames = m.frames;
+            blocks = blocks_of m.heap;
+          })
           ∙ (λ i. record (h.core i) { shadow = made_so (h.core i).shadow mark.addr mark.len mark.kind });
       position = h.position;
       end_seen = h.end_seen;
@@ -128,13 +164,23 @@ holds-marked m memory mark b c zero s h =
     }
 
 -- a guest with four byte values written
-pub holds-poked : (m : Guest) (memory : Memory) (addr word : ℕ) → bytes_in memory ≡ written (bytes_in m.memory) addr 4 (byte_of word) → shadows_in memory ≡ shadows_in m.memory
-    → (zero : slice_index_or m.registers 0 (known 0) ≡ known 0) (s : State) → Holds m s → Holds (record m { memory = memory; zero = zero }) (poked s addr word)
+pub holds-poked : (m : Guest) (memory : Memory) (addr word : ℕ)
+    → bytes_in memory ≡ written (bytes_in m.memory) addr 4 (byte_of word) → shadows_in memory ≡ shadows_in m.memory
+    → (zero : slice_index_or m.registers 0 (known 0) ≡ known 0) (s : State) → Holds m s
+    → Holds (record m { memory = memory; zero = zero }) (poked s addr word)
 unfolding poked
 holds-poked m memory addr word b c zero s h =
     record {
       bytes = b ∙ ap (λ f. written f addr 4 (byte_of word)) h.bytes;
-      core = (λ i. record { shadow = c i; registers = m.registers; pc = m.pc; status = m.status; frames = m.frames; blocks = blocks_of m.heap }) ∙ h.core;
+      core =
+          (λ i. record {
+            shadow = c i;
+            registers = m.registers;
+            pc = m.pc;
+            status = m.status;
+            frames = m.frames;
+            blocks = blocks_of m.heap;
+          }) ∙ h.core;
       position = h.position;
       end_seen = h.end_seen;
       output = h.output;

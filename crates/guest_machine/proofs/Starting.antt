@@ -25,11 +25,15 @@ use Rattle.shadow_memory.specs.declared.memory.Memory.{Memory}
 use Rattle.error_events.specs.declared.groups.Groups.{Groups}
 use Rattle.guest_machine.specs.declared.status.Status.TheVariants.{Running}
 
-pub holds-start : (alloc : Global) (image : Image) (fresh loaded memory : Memory) (groups : Groups) (frames : List Frame) (heap : Heap) (segments : List Segment) (pc : ℕ) (zeros top : Bits)
+pub holds-start : (alloc : Global) (image : Image) (fresh loaded memory : Memory) (groups : Groups)
+    (frames : List Frame) (heap : Heap) (segments : List Segment) (pc : ℕ) (zeros top : Bits)
     → bytes_in fresh ≡ (λ a. 0) → shadows_in fresh ≡ (λ a. shadow_of NoAccess)
-    → bytes_in loaded ≡ loaded_bytes segments (bytes_in fresh) → shadows_in loaded ≡ loaded_shadows segments (shadows_in fresh)
-    → bytes_in memory ≡ written (bytes_in loaded) stack_start 16 (slice_index []) → shadows_in memory ≡ made_so (shadows_in loaded) stack_start 16 Defined
-    → segments ≡ segments_of image → pc ≡ entry_of image → zeros ≡ known 0 → top ≡ known stack_start → groups_of groups ≡ [] → frames ≡ [] → blocks_of heap ≡ no_blocks
+    → bytes_in loaded ≡ loaded_bytes segments (bytes_in fresh)
+    → shadows_in loaded ≡ loaded_shadows segments (shadows_in fresh)
+    → bytes_in memory ≡ written (bytes_in loaded) stack_start 16 (slice_index [])
+    → shadows_in memory ≡ made_so (shadows_in loaded) stack_start 16 Defined
+    → segments ≡ segments_of image → pc ≡ entry_of image → zeros ≡ known 0 → top ≡ known stack_start
+    → groups_of groups ≡ [] → frames ≡ [] → blocks_of heap ≡ no_blocks
     → (zero : slice_index_or (slice_set (replicate 32 zeros) 2 top) 0 (known 0) ≡ known 0)
     → Holds (record {
       alloc = alloc;
@@ -45,7 +49,8 @@ pub holds-start : (alloc : Global) (image : Image) (fresh loaded memory : Memory
     })
     (start_state image)
 unfolding start_state loaded_bytes loaded_shadows loaded_at grouped firsts_after
-holds-start alloc image fresh loaded memory groups frames heap segments pc zeros top b0 s0 b1 s1 b2 s2 same at z t g calls none zero =
+holds-start alloc image fresh loaded memory groups frames heap segments pc zeros top b0 s0 b1 s1 b2 s2 same at z t g
+    calls none zero =
     record {
       bytes = b2 ∙ ap₂ (λ f m. written f stack_start 16 m) (b1 ∙ ap₂ loaded_bytes same b0) (fun_ext (λ i. refl));
       core = λ i. record {

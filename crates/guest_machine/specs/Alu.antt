@@ -1,5 +1,5 @@
--- What an instruction computes of two numbers, with the undefined bits of the result; what a branch compares; and the sign
--- extension of what a load takes.
+-- What an instruction computes of two numbers, with the undefined bits of the result; what a branch compares; and the
+-- sign extension of what a load takes.
 use Rattle.std.specs.Prelude.{ℕ, ◌+◌, ◌-◌, ◌*◌, ◌^◌, ◌==◌, nat_lt, not, Bool, true, false, if◌then◌else◌}
 use Rattle.definedness.specs.declared.Bits.{Bits}
 use Rattle.definedness.specs.declared.Shift.TheVariants.{Left, Right, Arith}
@@ -8,9 +8,14 @@ use Rattle.definedness.specs.Undefined as Undef
 use Rattle.guest_machine.specs.Widths.{width_len}
 use Rattle.guest_machine.specs.declared.width.Width.{Width}
 use Rattle.guest_machine.specs.declared.instruction.Comparison.{Comparison}
-use Rattle.guest_machine.specs.declared.instruction.Comparison.TheVariants.{Equal, NotEqual, Less, GreaterEqual, LessUnsigned, GreaterEqualUnsigned}
+use Rattle.guest_machine.specs.declared.instruction.Comparison.TheVariants.{Equal, NotEqual, Less, GreaterEqual}
+use Rattle.guest_machine.specs.declared.instruction.Comparison.TheVariants.{LessUnsigned, GreaterEqualUnsigned}
 use Rattle.guest_machine.specs.declared.instruction.Operation.{Operation}
-use Rattle.guest_machine.specs.declared.instruction.Operation.TheVariants.{Add, Sub, ShiftLeft, SetLess, SetLessUnsigned, Xor, ShiftRight, ShiftArith, Or, And, Mul, MulHigh, MulHighSignedUnsigned, MulHighUnsigned, Div, DivUnsigned, Rem, RemUnsigned}
+use Rattle.guest_machine.specs.declared.instruction.Operation.TheVariants.{Add, Sub, ShiftLeft, SetLess}
+use Rattle.guest_machine.specs.declared.instruction.Operation.TheVariants.{SetLessUnsigned, Xor, ShiftRight, ShiftArith}
+use Rattle.guest_machine.specs.declared.instruction.Operation.TheVariants.{Or, And, Mul, MulHigh, MulHighSignedUnsigned}
+use Rattle.guest_machine.specs.declared.instruction.Operation.TheVariants.{MulHighUnsigned, Div, DivUnsigned, Rem}
+use Rattle.guest_machine.specs.declared.instruction.Operation.TheVariants.{RemUnsigned}
 
 -- 1 for true
 abbrev pub number_of : Bool → ℕ

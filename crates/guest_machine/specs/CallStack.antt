@@ -1,5 +1,5 @@
--- What a jump does to the call stack: the hints for a return-address stack (RISC-V Unprivileged ISA 20191213, section 2.5, table 2.1).
--- A link register is x1 or x5.
+-- What a jump does to the call stack: the hints for a return-address stack (RISC-V Unprivileged ISA 20191213, section
+-- 2.5, table 2.1). A link register is x1 or x5.
 use Rattle.std.specs.Prelude.{ℕ, ◌+◌, ◌%◌, ◌^◌, ◌==◌, ◌||◌, Bool, true, false, List}
 use Rattle.call_stacks.specs.Frames.{called, returned}
 use Rattle.call_stacks.specs.declared.stack.Frame.{Frame}

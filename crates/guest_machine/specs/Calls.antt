@@ -1,10 +1,16 @@
--- The calls that a program makes of its environment by ECALL (RISC-V Unprivileged ISA 20191213, section 2.8), numbered as in
--- Linux for RISC-V, and from 2001 on the heap's: the number is in a7 (x17), the arguments in a0 (x10) and on, and the answer goes to a0.
-use Rattle.std.specs.Prelude.{ℕ, ◌+◌, ◌-◌, ◌^◌, ◌%◌, ◌==◌, ◌||◌, ◌&&◌, Bool, true, false, nat_le, min, if◌then◌else◌, List, [], ◌∷◌, ◌++◌, map, slice_index}
+-- The calls that a program makes of its environment by ECALL (RISC-V Unprivileged ISA 20191213, section 2.8), numbered
+-- as in Linux for RISC-V, and from 2001 on the heap's: the number is in a7 (x17), the arguments in a0 (x10) and on, and
+-- the answer goes to a0.
+use Rattle.std.specs.Prelude.{ℕ, ◌+◌, ◌-◌, ◌^◌, ◌%◌, ◌==◌, ◌||◌, ◌&&◌, Bool, true, false, nat_le, min, if◌then◌else◌}
+use Rattle.std.specs.Prelude.{List, [], ◌∷◌, ◌++◌, map, slice_index}
 use Rattle.std.specs.List.{range_with_len}
 use Rattle.error_events.specs.declared.event.Event.{Event}
 use Rattle.error_events.specs.declared.parameter.Parameter.{Parameter}
-use Rattle.error_events.specs.declared.parameter.Parameter.TheVariants.{SyscallNumber, ReadFd, ReadBuffer, ReadCount, WriteFd, WriteBuffer, WriteCount, ExitStatus, ExitGroupStatus, MallocSize, FreePointer, CallocMembers, CallocSize, ReallocPointer, ReallocSize}
+use Rattle.error_events.specs.declared.parameter.Parameter.TheVariants.{SyscallNumber, ReadFd, ReadBuffer, ReadCount}
+use Rattle.error_events.specs.declared.parameter.Parameter.TheVariants.{WriteFd, WriteBuffer, WriteCount, ExitStatus}
+use Rattle.error_events.specs.declared.parameter.Parameter.TheVariants.{ExitGroupStatus, MallocSize, FreePointer}
+use Rattle.error_events.specs.declared.parameter.Parameter.TheVariants.{CallocMembers, CallocSize, ReallocPointer}
+use Rattle.error_events.specs.declared.parameter.Parameter.TheVariants.{ReallocSize}
 use Rattle.guest_machine.specs.State.{Core}
 use Rattle.guest_machine.specs.Registers.{known, register, set_register, tested}
 use Rattle.guest_machine.specs.Errors.{parameter_errors, buffer_errors}
@@ -12,7 +18,8 @@ use Rattle.guest_machine.specs.Effects.{Effect, no_bytes, raising, advanced, exi
 use Rattle.guest_elf.specs.declared.hook.Hook.{Hook}
 use Rattle.guest_elf.specs.declared.hook.Hook.TheVariants.{Malloc, Free, Calloc, Realloc}
 use Rattle.guest_machine.specs.declared.environment_call.EnvironmentCall.{EnvironmentCall}
-use Rattle.guest_machine.specs.declared.environment_call.EnvironmentCall.TheVariants.{Read, Write, Exit, ExitGroup, Heap, Unknown}
+use Rattle.guest_machine.specs.declared.environment_call.EnvironmentCall.TheVariants.{Read, Write, Exit, ExitGroup}
+use Rattle.guest_machine.specs.declared.environment_call.EnvironmentCall.TheVariants.{Heap, Unknown}
 
 -- which call --
 
@@ -67,7 +74,8 @@ tested_from core r (parameter ∷ parameters) = tested_from (tested core r) (r +
 -- and their errors, each at the register that the tests before have left
 unfoldable pub errors_from : Core → ℕ → List Parameter → List Event
 errors_from core r [] = []
-errors_from core r (parameter ∷ parameters) = parameter_errors core r parameter ++ errors_from (tested core r) (r + 1) parameters
+errors_from core r (parameter ∷ parameters) =
+    parameter_errors core r parameter ++ errors_from (tested core r) (r + 1) parameters
 
 -- the number is tested first, and then the parameters in order
 abbrev pub call_tested : Core → EnvironmentCall → Core
@@ -109,8 +117,8 @@ most_moved = 4096
 unfoldable pub moved_len : Core → ℕ
 moved_len core = min (argument core 12) most_moved
 
--- the buffer is tested as far as the count goes, and the n bytes that are given of the input are stored all the same, with no undefined
--- bits. Descriptor 0 is the input
+-- the buffer is tested as far as the count goes, and the n bytes that are given of the input are stored all the same,
+-- with no undefined bits. Descriptor 0 is the input
 unfoldable pub read_call : Core → ℕ → List ℕ → Effect
 read_call core n given =
     if argument core 10 == 0

@@ -5,7 +5,11 @@ use Rattle.guest_machine.specs.Effects.{Effect}
 use Rattle.guest_machine.specs.Calls.{read_call, write_call}
 use Rattle.guest_machine.specs.HeapCalls.{Resizing, heap_work, heap_call}
 use Rattle.guest_machine.specs.NamedCalls.{returns, named_call}
-use Rattle.guest_machine.specs.Exec.{Uses, Terms, Intake, no_intake, intake_of, intake_at, seen_also, left_at, row_asks, call_asks, counted, written_to, row_uses, row_effect, rounded, calls_heap, read_uses, write_uses, work_uses, heap_uses, named_uses, moved_from, moved_into, terms_of, given_at, taken_from, is_heap_deed, deed_at, uses_at, effect_at, touched_at}
+use Rattle.guest_machine.specs.Exec.{Uses, Terms, Intake, no_intake, intake_of, intake_at, seen_also, left_at, row_asks}
+use Rattle.guest_machine.specs.Exec.{call_asks, counted, written_to, row_uses, row_effect, rounded, calls_heap}
+use Rattle.guest_machine.specs.Exec.{read_uses, write_uses, work_uses, heap_uses, named_uses, moved_from, moved_into}
+use Rattle.guest_machine.specs.Exec.{terms_of, given_at, taken_from, is_heap_deed, deed_at, uses_at, effect_at}
+use Rattle.guest_machine.specs.Exec.{touched_at}
 use Rattle.guest_machine.specs.Shows.{core_of, bytes_of}
 use Rattle.error_events.specs.Adding.{add_event}
 use Rattle.error_events.specs.Shown.{groups_of}
@@ -76,7 +80,8 @@ used_in_move what p size = record { reads = moved_from what p size; writes = mov
 
 -- an instruction carried out by a machine: what it sees of the setup, what it uses, and that new is old after it
 abbrev pub row_terms : Guest → Option Instruction → Setup → Terms
-row_terms m row setup = terms_of (calls_heap (core_of m) row) (row_asks (core_of m) row) m.progress.position m.progress.output_len setup
+row_terms m row setup =
+    terms_of (calls_heap (core_of m) row) (row_asks (core_of m) row) m.progress.position m.progress.output_len setup
 
 abbrev pub uses_by : Guest → Option Instruction → Setup → Uses
 uses_by m row setup = row_uses (core_of m) row (row_terms m row setup)
@@ -86,7 +91,8 @@ DoesRow old new row setup =
     let uses = uses_by old row setup in
     let intake = (row_terms old row setup).intake in
     let given = given_at old.progress.position intake.count setup in
-    Does old new (row_effect (core_of old) row (row_terms old row setup) given (taken_from (bytes_of old) uses.reads)) uses (calls_heap (core_of old) row) intake
+    Does old new (row_effect (core_of old) row (row_terms old row setup) given (taken_from (bytes_of old) uses.reads))
+    uses (calls_heap (core_of old) row) intake
 
 -- the same between the test of its word and the stack pointer rule
 abbrev pub DoesRound : Guest → Guest → Option Instruction → Setup → Type 0
@@ -117,23 +123,27 @@ read_intake m setup = intake_of (call_asks (core_of m) Read) (left_at m.progress
 abbrev pub DoesRead : Guest → Guest → Setup → Type 0
 DoesRead old new setup =
     let intake = read_intake old setup in
-    Does old new (read_call (core_of old) intake.count (given_at old.progress.position intake.count setup)) (read_uses (core_of old) intake.count) false intake
+    Does old new (read_call (core_of old) intake.count (given_at old.progress.position intake.count setup))
+    (read_uses (core_of old) intake.count) false intake
 
 abbrev pub DoesWrite : Guest → Guest → Type 0
 DoesWrite old new =
     let uses = write_uses (core_of old) old.progress.output_len in
-    Does old new (write_call (core_of old) old.progress.output_len (taken_from (bytes_of old) uses.reads)) uses false no_intake
+    Does old new (write_call (core_of old) old.progress.output_len (taken_from (bytes_of old) uses.reads)) uses false
+    no_intake
 
 -- what a heap call does; and the call by number, and by name
 abbrev pub DoesWork : Guest → Guest → Hook → ℕ → ℕ → Setup → Type 0
 DoesWork old new function x y setup =
     let uses = work_uses function (core_of old).blocks x y setup.redzone in
-    Does old new (heap_work function (core_of old) x y setup.redzone setup.volume (taken_from (bytes_of old) uses.reads)) uses true no_intake
+    Does old new (heap_work function (core_of old) x y setup.redzone setup.volume
+    (taken_from (bytes_of old) uses.reads)) uses true no_intake
 
 abbrev pub DoesHeapCall : Guest → Guest → Hook → Setup → Type 0
 DoesHeapCall old new function setup =
     let uses = heap_uses function (core_of old) setup.redzone in
-    Does old new (heap_call function (core_of old) setup.redzone setup.volume (taken_from (bytes_of old) uses.reads)) uses true no_intake
+    Does old new (heap_call function (core_of old) setup.redzone setup.volume (taken_from (bytes_of old) uses.reads))
+    uses true no_intake
 
 abbrev pub named_terms : Guest → Setup → Terms
 named_terms m setup = terms_of (returns (core_of m)) None m.progress.position m.progress.output_len setup
@@ -145,4 +155,5 @@ abbrev pub DoesNamed : Guest → Guest → Hook → Setup → Type 0
 DoesNamed old new function setup =
     let terms = named_terms old setup in
     let uses = uses_by_name old function setup in
-    Does old new (named_call function (core_of old) terms.redzone terms.volume (taken_from (bytes_of old) uses.reads)) uses (returns (core_of old)) no_intake
+    Does old new (named_call function (core_of old) terms.redzone terms.volume (taken_from (bytes_of old) uses.reads))
+    uses (returns (core_of old)) no_intake

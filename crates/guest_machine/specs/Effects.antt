@@ -1,5 +1,5 @@
--- What each instruction does, as a function of what decides it, of the input that it reads and of the bytes that it takes
--- (RISC-V Unprivileged ISA 20191213, chapters 2 and 7; undefined bits as in Memcheck).
+-- What each instruction does, as a function of what decides it, of the input that it reads and of the bytes that it
+-- takes (RISC-V Unprivileged ISA 20191213, chapters 2 and 7; undefined bits as in Memcheck).
 use Rattle.std.specs.Prelude.{ℕ, ◌+◌, ◌*◌, ◌/◌, ◌%◌, ◌^◌, ◌==◌, Bool, true, false, not, if◌then◌else◌, List, [], ◌++◌}
 use Rattle.definedness.specs.declared.Bits.{Bits}
 use Rattle.shadow_memory.specs.Ranges.{little_word}
@@ -21,8 +21,8 @@ use Rattle.guest_machine.specs.declared.status.Stop.TheVariants.{Misaligned}
 use Rattle.error_events.specs.declared.event.Event.{Event}
 use Rattle.error_events.specs.declared.kind.Kind.TheVariants.{Read, Write, Cond}
 
--- what a step leaves: the new core, the errors that it raises, the byte for each offset of the range that it writes, and the
--- bytes that it writes out
+-- what a step leaves: the new core, the errors that it raises, the byte for each offset of the range that it writes,
+-- and the bytes that it writes out
 pub record Effect : Type 0 where
   pub core : Core
   pub raised : List Event
@@ -78,23 +78,29 @@ compute core operation rd rs1 rs2 = results_in core rd (computed operation (regi
 unfoldable pub target : Core → ℕ → ℕ → ℕ
 target core rs1 imm = ((register core rs1).value + imm) % 2 ^ 32
 
--- loads (section 2.6): rs1 is tested, and then the bytes; they are taken all the same, and the sign bit and its undefined bit are
--- repeated together
+-- loads (section 2.6): rs1 is tested, and then the bytes; they are taken all the same, and the sign bit and its
+-- undefined bit are repeated together
 abbrev pub load : Core → Width → Bool → ℕ → ℕ → ℕ → (ℕ → ℕ) → Effect
 load core width signed rd rs1 imm taken =
     let now = tested core rs1 in
     let start = target core rs1 imm in
     let undef = taken_undef now start (width_len width) in
-    let bits : Bits = record { value = extended width signed (little_word taken); undef = extended width signed undef } in
-    raising (advanced (set_register now rd bits)) (value_errors core rs1 ++ access_errors now (Read (width_len width)) start (width_len width))
+    let bits : Bits = record {
+      value = extended width signed (little_word taken);
+      undef = extended width signed undef;
+    } in
+    raising (advanced (set_register now rd bits)) (value_errors core rs1
+    ++ access_errors now (Read (width_len width)) start (width_len width))
 
--- stores (section 2.6): rs1 is tested, and then the bytes; the low bytes of rs2 are stored all the same, with their undefined bits
+-- stores (section 2.6): rs1 is tested, and then the bytes; the low bytes of rs2 are stored all the same, with their
+-- undefined bits
 abbrev pub store : Core → Width → ℕ → ℕ → ℕ → Effect
 store core width rs1 rs2 imm =
     let now = tested core rs1 in
     record {
       core = advanced (stored_core now (target core rs1 imm) (width_len width) (register now rs2).undef);
-      raised = value_errors core rs1 ++ access_errors now (Write (width_len width)) (target core rs1 imm) (width_len width);
+      raised =
+          value_errors core rs1 ++ access_errors now (Write (width_len width)) (target core rs1 imm) (width_len width);
       made = byte_of (register now rs2).value;
       output = [];
     }
@@ -123,20 +129,23 @@ branched false core to = advanced core
 abbrev pub branch : Core → Comparison → ℕ → ℕ → ℕ → Effect
 branch core test rs1 rs2 imm =
     raising
-    (branched (passes test (register core rs1).value (register core rs2).value) (branch_tested core test rs1 rs2) ((core.pc + imm) % 2 ^ 32))
+    (branched (passes test (register core rs1).value (register core rs2).value) (branch_tested core test rs1 rs2)
+    ((core.pc + imm) % 2 ^ 32))
     (branch_errors core test rs1 rs2)
 
 -- the calls that the machine is in, by what a jump hints
 abbrev pub followed : Core → StackHint → ℕ → Core
 followed core hint to = record core { frames = hinted hint core.pc to core.frames }
 
--- a jump that leaves the address after it in rd; one to an address that is no multiple of 4 stops the machine, and leaves rd
--- and the calls
+-- a jump that leaves the address after it in rd; one to an address that is no multiple of 4 stops the machine, and
+-- leaves rd and the calls
 unfoldable pub linked_jump : Core → StackHint → ℕ → ℕ → Core
 linked_jump core hint rd to =
-    if to % 4 == 0 then moved_to (set_register (followed core hint to) rd (known ((core.pc + 4) % 2 ^ 32))) to else stopped core Misaligned
+    if to % 4 == 0 then moved_to (set_register (followed core hint to) rd (known ((core.pc + 4) % 2 ^ 32))) to
+    else stopped core Misaligned
 
--- JAL and JALR (section 2.5): JALR's register is tested; its target is computed before rd is written, and its lowest bit is cleared
+-- JAL and JALR (section 2.5): JALR's register is tested; its target is computed before rd is written, and its lowest
+-- bit is cleared
 abbrev pub jump : Core → ℕ → ℕ → Effect
 jump core rd imm = quiet (linked_jump core (jal_hint rd) rd ((core.pc + imm) % 2 ^ 32))
 

@@ -1,5 +1,5 @@
--- The errors that a step raises (Valgrind user manual, section 4.2). Each has the trace of the instruction: its address, and the
--- sites of the calls that led to it.
+-- The errors that a step raises (Valgrind user manual, section 4.2). Each has the trace of the instruction: its
+-- address, and the sites of the calls that led to it.
 use Rattle.std.specs.Prelude.{ℕ, ◌==◌, ◌&&◌, Bool, nat_le, nat_lt, if◌then◌else◌, List, [], ◌∷◌, Option, Some, None}
 use Rattle.shadow_memory.specs.Ranges.{little_word, window}
 use Rattle.shadow_memory.specs.Shadows.{first_bad, first_inaccessible, loaded_undef}
@@ -75,7 +75,8 @@ fault_of bad = if bad.accessible then Uninit else Unaddressable
 
 unfoldable pub buffer_event : Blocks → List ℕ → Parameter → Option Bad → List Event
 buffer_event blocks trace parameter None = []
-buffer_event blocks trace parameter (Some bad) = event_of trace (Param parameter (fault_of bad)) (note_at blocks bad.addr) ∷ []
+buffer_event blocks trace parameter (Some bad) =
+    event_of trace (Param parameter (fault_of bad)) (note_at blocks bad.addr) ∷ []
 
 -- of the n bytes of a buffer, the first that may not be accessed or, where its value is asked for, has an undefined bit
 abbrev pub buffer_errors : Core → Parameter → Bool → ℕ → ℕ → List Event

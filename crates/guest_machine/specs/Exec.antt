@@ -1,15 +1,19 @@
--- One step, in three parts: what it does, by the word at pc and the functions that are called by name; what it uses, by this and
--- what decides the step; and what it leaves, by these, the input that it reads and the bytes that it takes. No other byte value
--- and no other part of the setup enters.
-use Rattle.std.specs.Prelude.{nat_lt, ◌≡◌, ℕ, ◌+◌, ◌-◌, ◌*◌, ◌%◌, ◌==◌, ◌&&◌, ◌||◌, Bool, true, false, if◌then◌else◌, List, ◌++◌, take, drop, length, min, Option, Some, None, is_none}
+-- One step, in three parts: what it does, by the word at pc and the functions that are called by name; what it uses, by
+-- this and what decides the step; and what it leaves, by these, the input that it reads and the bytes that it takes. No
+-- other byte value and no other part of the setup enters.
+use Rattle.std.specs.Prelude.{nat_lt, ◌≡◌, ℕ, ◌+◌, ◌-◌, ◌*◌, ◌%◌, ◌==◌, ◌&&◌, ◌||◌, Bool, true, false, if◌then◌else◌}
+use Rattle.std.specs.Prelude.{List, ◌++◌, take, drop, length, min, Option, Some, None, is_none}
 use Rattle.shadow_memory.specs.Ranges.{window, little_word, written}
 use Rattle.guest_machine.specs.Spans.{span_at, covers}
 use Rattle.shadow_memory.specs.Shadows.{first_inaccessible}
 use Rattle.guest_machine.specs.Widths.{width_len}
 use Rattle.guest_machine.specs.State.{Core, State}
 use Rattle.guest_machine.specs.Instructions.{row_of}
-use Rattle.guest_machine.specs.Effects.{Effect, no_bytes, quiet, raising, advanced, stopped, target, load_upper, add_upper, compute_immediate, compute, load, store, branch, jump, jump_register, stops}
-use Rattle.guest_machine.specs.Calls.{argument, call_at, is_heap, moved_len, appends, read_call, write_call, exit_call, unknown_call}
+use Rattle.guest_machine.specs.Effects.{Effect, no_bytes, quiet, raising, advanced, stopped, target, load_upper}
+use Rattle.guest_machine.specs.Effects.{add_upper, compute_immediate, compute, load, store, branch, jump, jump_register}
+use Rattle.guest_machine.specs.Effects.{stops}
+use Rattle.guest_machine.specs.Calls.{argument, call_at, is_heap, moved_len, appends, read_call, write_call, exit_call}
+use Rattle.guest_machine.specs.Calls.{unknown_call}
 use Rattle.guest_elf.specs.Hooks.{hook_at}
 use Rattle.guest_machine.specs.NamedCalls.{returns, named_call}
 use Rattle.guest_machine.specs.Errors.{here, event_about, fetch_undef, fetch_errors}
@@ -17,7 +21,12 @@ use Rattle.guest_machine.specs.StackPointer.{stack_ruled}
 use Rattle.definedness.specs.declared.Bits.{Bits}
 use Rattle.guest_machine.specs.Registers.{register}
 use Rattle.guest_machine.specs.declared.environment_call.EnvironmentCall.{EnvironmentCall}
-use Rattle.guest_machine.specs.declared.environment_call.EnvironmentCall.TheVariants.{Read as ReadCall, Write as WriteCall, Exit as ExitCall, ExitGroup as ExitGroupCall, Heap as HeapCall, Unknown as UnknownCall}
+use Rattle.guest_machine.specs.declared.environment_call.EnvironmentCall.TheVariants.{Read as ReadCall}
+use Rattle.guest_machine.specs.declared.environment_call.EnvironmentCall.TheVariants.{Write as WriteCall}
+use Rattle.guest_machine.specs.declared.environment_call.EnvironmentCall.TheVariants.{Exit as ExitCall}
+use Rattle.guest_machine.specs.declared.environment_call.EnvironmentCall.TheVariants.{ExitGroup as ExitGroupCall}
+use Rattle.guest_machine.specs.declared.environment_call.EnvironmentCall.TheVariants.{Heap as HeapCall}
+use Rattle.guest_machine.specs.declared.environment_call.EnvironmentCall.TheVariants.{Unknown as UnknownCall}
 use Rattle.std.specs.Option.{option_map}
 use Rattle.guest_elf.specs.declared.hook.Hook.{Hook}
 use Rattle.guest_elf.specs.declared.hook.Hook.TheVariants.{Malloc, Free, Calloc, Realloc}
@@ -29,7 +38,10 @@ use Rattle.guest_machine.specs.declared.span.Span.{Span}
 use Rattle.guest_machine.specs.declared.setup.Setup.{Setup}
 use Rattle.guest_machine.specs.declared.setup.Touched.{Touched}
 use Rattle.guest_machine.specs.declared.instruction.Instruction.{Instruction}
-use Rattle.guest_machine.specs.declared.instruction.Instruction.TheVariants.{LoadUpper, AddUpper, Jump, JumpRegister, Branch, Load, Store, Immediate, Registers, Fence, CallEnvironment as CallRow, Breakpoint}
+use Rattle.guest_machine.specs.declared.instruction.Instruction.TheVariants.{LoadUpper, AddUpper, Jump, JumpRegister}
+use Rattle.guest_machine.specs.declared.instruction.Instruction.TheVariants.{Branch, Load, Store, Immediate, Registers}
+use Rattle.guest_machine.specs.declared.instruction.Instruction.TheVariants.{Fence, CallEnvironment as CallRow}
+use Rattle.guest_machine.specs.declared.instruction.Instruction.TheVariants.{Breakpoint}
 use Rattle.guest_machine.specs.declared.status.Status.{Status}
 use Rattle.guest_machine.specs.declared.status.Status.TheVariants.{Running, Exited, Stopped}
 use Rattle.guest_machine.specs.declared.status.Stop.TheVariants.{Jump as JumpStop, Break, Illegal, Misaligned}
@@ -65,7 +77,8 @@ pub record IsFetched (core : Core) (bytes : ℕ → ℕ) (word : Bits) : Type 0 
 
 -- what a step does --
 
--- it takes a word, and carries it out; or it does the heap call in place of a function, which is called by name; or neither
+-- it takes a word, and carries it out; or it does the heap call in place of a function, which is called by name; or
+-- neither
 pub data Deed : Type 0 where
   Takes : ℕ → Deed
   CallsByName : Hook → Deed
@@ -104,8 +117,8 @@ abbrev pub intake_of : Option ℕ → ℕ → Intake
 intake_of None left = no_intake
 intake_of (Some asked) left = record { count = min asked left; ends = nat_lt (min asked left) asked }
 
--- what a step may see of the setup and of what adds up: what it is given of the input, how much output there is, and, at a heap call
--- alone, the redzone and the volume
+-- what a step may see of the setup and of what adds up: what it is given of the input, how much output there is, and,
+-- at a heap call alone, the redzone and the volume
 pub record Terms : Type 0 where
   pub intake : Intake
   pub written : ℕ
@@ -134,7 +147,11 @@ read_uses core count =
 -- write takes what it appends
 abbrev pub write_uses : Core → ℕ → Uses
 write_uses core written =
-    record { reads = if appends core written then Some (span_at (argument core 11) (moved_len core)) else None; writes = None }
+    record {
+      reads = if appends core written then Some (span_at (argument core 11) (moved_len core))
+          else None;
+      writes = None;
+    }
 
 -- calloc writes its zeros
 abbrev pub calloc_uses : Blocks → ℕ → ℕ → Uses
@@ -292,7 +309,8 @@ terms_of heap asks position written setup =
 
 -- and by what it does
 abbrev pub deed_terms : Core → Deed → ℕ → ℕ → Setup → Terms
-deed_terms core deed position written setup = terms_of (is_heap_deed core deed) (deed_asks core deed) position written setup
+deed_terms core deed position written setup =
+    terms_of (is_heap_deed core deed) (deed_asks core deed) position written setup
 
 -- so much of the input, from a position on
 abbrev pub given_at : ℕ → ℕ → Setup → List ℕ
@@ -315,7 +333,8 @@ uses_at core bytes position written setup =
 
 -- what it is given of the input
 unfoldable pub intake_at : Core → (ℕ → ℕ) → ℕ → Setup → Intake
-intake_at core bytes position setup = intake_of (deed_asks core (deed_at core bytes setup.hooks)) (left_at position setup)
+intake_at core bytes position setup =
+    intake_of (deed_asks core (deed_at core bytes setup.hooks)) (left_at position setup)
 
 -- and what it leaves
 unfoldable pub effect_at : Core → (ℕ → ℕ) → ℕ → ℕ → Setup → Effect

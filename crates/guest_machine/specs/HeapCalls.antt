@@ -1,7 +1,8 @@
--- The calls of the heap: malloc, free, calloc and realloc as the C standard (ISO/IEC 9899, 7.22.3) has them, over blocks that are kept
--- as Memcheck's replacement of malloc keeps them (Memcheck manual, section 4.1): redzones round each, freed ones in a queue. A
--- program asks for them by number or by name; what they do is the same.
-use Rattle.std.specs.Prelude.{ℕ, ◌+◌, ◌-◌, ◌*◌, ◌==◌, min, max, if◌then◌else◌, List, [], ◌++◌, Option, Some, None, Bool, true, false}
+-- The calls of the heap: malloc, free, calloc and realloc as the C standard (ISO/IEC 9899, 7.22.3) has them, over
+-- blocks that are kept as Memcheck's replacement of malloc keeps them (Memcheck manual, section 4.1): redzones round
+-- each, freed ones in a queue. A program asks for them by number or by name; what they do is the same.
+use Rattle.std.specs.Prelude.{ℕ, ◌+◌, ◌-◌, ◌*◌, ◌==◌, min, max, if◌then◌else◌, List, [], ◌++◌, Option, Some, None, Bool}
+use Rattle.std.specs.Prelude.{true, false}
 use Rattle.shadow_memory.specs.Shadows.{copied_undef}
 use Rattle.shadow_memory.specs.declared.cells.RangeKind.{RangeKind}
 use Rattle.shadow_memory.specs.declared.cells.RangeKind.TheVariants.{NoAccess, Undefined, Defined}
@@ -51,7 +52,8 @@ given_block core size redzone kind = block_at core (place core.blocks size redzo
 
 -- a block that was live is inaccessible, and goes to the queue; else nothing changes
 unfoldable pub freed : Core → Released → ℕ → Core
-freed core (Done b) volume = record (ranged core b.start b.size NoAccess) { blocks = after_release (Done b) volume core.blocks }
+freed core (Done b) volume =
+    record (ranged core b.start b.size NoAccess) { blocks = after_release (Done b) volume core.blocks }
 freed core Nothing volume = core
 freed core Invalid volume = core
 
@@ -72,7 +74,8 @@ free_errors core Invalid p = event_about core.blocks (here core) FreeError (Some
 
 -- resizing --
 
--- what realloc comes to: an allocation; an error; a release; nothing, for want of a place; or a move of a block to a place
+-- what realloc comes to: an allocation; an error; a release; nothing, for want of a place; or a move of a block to a
+-- place
 pub data Resizing : Type 0 where
   Allocates : Resizing
   Refuses : Resizing
@@ -124,20 +127,32 @@ resize_errors core p _ = []
 
 -- what the calls do --
 
--- at the core that the tests have left, with the values of a0 and a1: the answer is in a0, and pc stays. Of malloc the bytes are
--- undefined; calloc takes the product of its two numbers as a whole number, and its bytes are zeros, and defined
+-- at the core that the tests have left, with the values of a0 and a1: the answer is in a0, and pc stays. Of malloc the
+-- bytes are undefined; calloc takes the product of its two numbers as a whole number, and its bytes are zeros, and
+-- defined
 unfoldable pub heap_work : Hook → Core → ℕ → ℕ → ℕ → ℕ → (ℕ → ℕ) → Effect
 heap_work Malloc core x y redzone volume taken = quiet (given_block core x redzone Undefined)
 heap_work Free core x y redzone volume taken =
-    let released = released_here core x in raising (answered (freed core released volume) 0) (free_errors core released x)
+    let released = released_here core x in
+    raising (answered (freed core released volume) 0) (free_errors core released x)
 heap_work Calloc core x y redzone volume taken = quiet (given_block core (x * y) redzone Defined)
 heap_work Realloc core x y redzone volume taken =
     let what = resizing core.blocks x y redzone in
-    record { core = resized core x y redzone volume what; raised = resize_errors core x what; made = taken; output = [] }
+    record {
+      core = resized core x y redzone volume what;
+      raised = resize_errors core x what;
+      made = taken;
+      output = [];
+    }
 
 -- an effect after the errors of tests, and before a last change of the core
 abbrev pub between : List Event → Effect → (Core → Core) → Effect
-between errors effect last = record { core = last effect.core; raised = errors ++ effect.raised; made = effect.made; output = effect.output }
+between errors effect last = record {
+  core = last effect.core;
+  raised = errors ++ effect.raised;
+  made = effect.made;
+  output = effect.output;
+}
 
 -- a call by number, at ECALL: the number is tested, and then the parameters
 abbrev pub heap_call : Hook → Core → ℕ → ℕ → (ℕ → ℕ) → Effect

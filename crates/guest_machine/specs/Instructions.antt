@@ -1,10 +1,13 @@
--- The instructions in classes: each of the 48 names of the instruction table, with what tells it from the others of its class.
+-- The instructions in classes: each of the 48 names of the instruction table, with what tells it from the others of its
+-- class.
 use Rattle.std.specs.Prelude.{ℕ, true, false, Option, Some, None}
 use Rattle.rv_decode.specs.Table.{insn}
 use Rattle.rv_decode.specs.declared.Insn.{Insn}
 use Rattle.rv_decode.specs.declared.Op.{Op}
 use Rattle.guest_machine.specs.declared.instruction.Instruction.{Instruction}
-use Rattle.guest_machine.specs.declared.instruction.Instruction.TheVariants.{LoadUpper, AddUpper, Jump, JumpRegister, Branch, Load, Store, Immediate, Registers, Fence, CallEnvironment, Breakpoint}
+use Rattle.guest_machine.specs.declared.instruction.Instruction.TheVariants.{LoadUpper, AddUpper, Jump, JumpRegister}
+use Rattle.guest_machine.specs.declared.instruction.Instruction.TheVariants.{Branch, Load, Store, Immediate, Registers}
+use Rattle.guest_machine.specs.declared.instruction.Instruction.TheVariants.{Fence, CallEnvironment, Breakpoint}
 use Rattle.guest_machine.specs.declared.instruction.Comparison.TheVariants as Comparison
 use Rattle.guest_machine.specs.declared.instruction.Operation.TheVariants as Operation
 use Rattle.guest_machine.specs.declared.width.Width.TheVariants.{Byte, Half, Word}

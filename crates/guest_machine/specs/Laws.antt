@@ -1,5 +1,6 @@
 -- Laws of one step, which follow from its form and not from any instruction.
-use Rattle.std.specs.Prelude.{◌≡◌, ℕ, ◌/◌, ◌%◌, ◌^◌, ◌<◌, ◌≤◌, true, false, Bool, List, [], ◌∷◌, ◌++◌, length, slice_get}
+use Rattle.std.specs.Prelude.{◌≡◌, ℕ, ◌/◌, ◌%◌, ◌^◌, ◌<◌, ◌≤◌, true, false, Bool, List, [], ◌∷◌, ◌++◌, length}
+use Rattle.std.specs.Prelude.{slice_get}
 use Rattle.guest_elf.specs.declared.hook.Hook.{Hook}
 use Rattle.guest_machine.specs.State.{State}
 use Rattle.guest_machine.specs.Run.{poked}
@@ -51,15 +52,18 @@ is_heap_step s hooks = is_heap_deed s.core (deed_at s.core s.bytes hooks)
 
 -- a step that is no heap call doesn't look at the redzone nor at the volume; and the state counts its heap calls
 pub record KeepsHeap : Type 0 where
-  pub same : (one other : Setup) (s : State) → one.input ≡ other.input → one.hooks ≡ other.hooks → is_heap_step s one.hooks ≡ false
+  pub same : (one other : Setup) (s : State) → one.input ≡ other.input → one.hooks ≡ other.hooks
+      → is_heap_step s one.hooks ≡ false
       → (touches s one ≡ touches s other) × (exec s one ≡ exec s other)
-  pub counts : (setup : Setup) (s : State) → (exec s setup).heap_calls ≡ counted s.heap_calls (is_heap_step s setup.hooks)
+  pub counts : (setup : Setup) (s : State)
+      → (exec s setup).heap_calls ≡ counted s.heap_calls (is_heap_step s setup.hooks)
 
 -- a word may be poked before a step that doesn't touch it or after it, and the step touches the same
 abbrev pub KeepsPokes : Type 0
 KeepsPokes =
     (setup : Setup) (addr word : ℕ) (s : State) → addr % 4 ≡ 0 → addr < 2 ^ 32 → TouchesNone (InWord addr) s setup
-    → (touches s setup ≡ touches (poked s addr word) setup) × (exec (poked s addr word) setup ≡ poked (exec s setup) addr word)
+    → (touches s setup ≡ touches (poked s addr word) setup)
+    × (exec (poked s addr word) setup ≡ poked (exec s setup) addr word)
 
 -- a step gives no input back
 abbrev pub ReadsOn : Type 0
@@ -74,7 +78,9 @@ pub record Extends (one other : Setup) : Type 0 where
 
 -- a step goes the same way with one byte more at the end of the input where it hasn't seen the end without that byte
 abbrev pub KeepsEnd : Type 0
-KeepsEnd = (one other : Setup) (s : State) → Extends one other → (exec s one).end_seen ≡ false → (touches s one ≡ touches s other) × (exec s one ≡ exec s other)
+KeepsEnd =
+    (one other : Setup) (s : State) → Extends one other → (exec s one).end_seen ≡ false
+    → (touches s one ≡ touches s other) × (exec s one ≡ exec s other)
 
 -- the end of the input, once seen, stays seen
 abbrev pub EndStays : Type 0
@@ -82,4 +88,6 @@ EndStays = (setup : Setup) (s : State) → s.end_seen ≡ true → (exec s setup
 
 -- a step of a machine that doesn't run leaves the state as it is, and touches nothing
 abbrev pub StaysHalted : Type 0
-StaysHalted = (setup : Setup) (s : State) → is_running s.core.status ≡ false → (exec s setup ≡ s) × ((a : ℕ) → touches s setup a ≡ false)
+StaysHalted =
+    (setup : Setup) (s : State) → is_running s.core.status ≡ false
+    → (exec s setup ≡ s) × ((a : ℕ) → touches s setup a ≡ false)

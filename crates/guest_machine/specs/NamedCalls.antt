@@ -1,7 +1,7 @@
--- The calls of the heap by name: a step at the first address of a function that is called malloc, free, calloc or realloc does what
--- the heap call does, in place of the function, and returns to the function's caller (Valgrind replaces these functions by name too:
--- Memcheck manual, section 4.1). Arguments and answer are in a0 and a1, and the address to return to is in ra, x1 (RISC-V ELF psABI
--- specification, "Integer Calling Convention").
+-- The calls of the heap by name: a step at the first address of a function that is called malloc, free, calloc or
+-- realloc does what the heap call does, in place of the function, and returns to the function's caller (Valgrind
+-- replaces these functions by name too: Memcheck manual, section 4.1). Arguments and answer are in a0 and a1, and the
+-- address to return to is in ra, x1 (RISC-V ELF psABI specification, "Integer Calling Convention").
 use Rattle.std.specs.Prelude.{ℕ, ◌*◌, ◌/◌, ◌%◌, ◌==◌, Bool, true, false, List, ◌++◌}
 use Rattle.error_events.specs.declared.event.Event.{Event}
 use Rattle.guest_elf.specs.declared.hook.Hook.{Hook}

@@ -11,7 +11,8 @@ unfoldable pub register : Core → ℕ → Bits
 register core r = if r == 0 then known 0 else slice_index_or core.registers r (known 0)
 
 unfoldable pub set_register : Core → ℕ → Bits → Core
-set_register core r bits = record core { registers = if r == 0 then core.registers else slice_set core.registers r bits }
+set_register core r bits =
+    record core { registers = if r == 0 then core.registers else slice_set core.registers r bits }
 
 -- a register made defined
 abbrev pub defined : Core → ℕ → Core

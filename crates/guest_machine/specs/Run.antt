@@ -1,5 +1,6 @@
 -- A run from step zero, with marks between steps.
-use Rattle.std.specs.Prelude.{ℕ, false, zero, suc, ◌==◌, List, filter, fold, unwrap_or, is_some, if◌then◌else◌, replicate, slice_set, []}
+use Rattle.std.specs.Prelude.{ℕ, false, zero, suc, ◌==◌, List, filter, fold, unwrap_or, is_some, if◌then◌else◌}
+use Rattle.std.specs.Prelude.{replicate, slice_set, []}
 use Rattle.guest_elf.specs.declared.image.Image.{Image}
 use Rattle.guest_heap.specs.Blocks.{no_blocks}
 use Rattle.guest_elf.specs.Images.{loaded_at, entry_of}

@@ -10,7 +10,14 @@ use Rattle.guest_machine.specs.declared.machine.Machine.{Machine}
 
 -- what decides a step, beside the byte values
 abbrev pub core_of : Guest → Core
-core_of g = record { shadow = shadows_in g.memory; registers = g.registers; pc = g.pc; status = g.status; frames = g.frames; blocks = blocks_of g.heap }
+core_of g = record {
+  shadow = shadows_in g.memory;
+  registers = g.registers;
+  pc = g.pc;
+  status = g.status;
+  frames = g.frames;
+  blocks = blocks_of g.heap;
+}
 
 -- the byte values
 abbrev pub bytes_of : Guest → ℕ → ℕ

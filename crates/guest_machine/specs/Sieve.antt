@@ -1,4 +1,5 @@
--- A sieve of functions: marks that tell of most addresses at once that no function begins there. Of this crate's proofs alone.
+-- A sieve of functions: marks that tell of most addresses at once that no function begins there. Of this crate's proofs
+-- alone.
 use Rattle.std.specs.Prelude.{◌≡◌, ℕ, ◌/◌, ◌%◌, ◌<◌, Bool, true, false, List, slice_index_or}
 use Rattle.guest_elf.specs.declared.hook.Hook.{Hook}
 
@@ -8,4 +9,5 @@ slot_of address = address / 4 % 64
 
 -- the first n of the functions have their marks
 abbrev pub AreMarked : List Bool → List (ℕ × Hook) → ℕ → Type 0
-AreMarked sieve hooks n = (k : ℕ) (d : ℕ × Hook) → k < n → slice_index_or sieve (slot_of (slice_index_or hooks k d).0) false ≡ true
+AreMarked sieve hooks n =
+    (k : ℕ) (d : ℕ × Hook) → k < n → slice_index_or sieve (slot_of (slice_index_or hooks k d).0) false ≡ true

@@ -1,5 +1,6 @@
--- The stack pointer rule: bytes that the stack pointer passes become part of the stack, or leave it (Valgrind user manual, section
--- 4.5.2; `--main-stacksize` and `--max-stackframe` of section 2.6 tell a new stack frame from a switch of stacks).
+-- The stack pointer rule: bytes that the stack pointer passes become part of the stack, or leave it (Valgrind user
+-- manual, section 4.5.2; `--main-stacksize` and `--max-stackframe` of section 2.6 tell a new stack frame from a switch
+-- of stacks).
 use Rattle.std.specs.Prelude.{ℕ, ◌-◌, ◌==◌, ◌&&◌, Bool, nat_le, nat_lt, if◌then◌else◌}
 use Rattle.definedness.specs.declared.Bits.{Bits}
 use Rattle.shadow_memory.specs.Shadows.{made_so}
@@ -29,7 +30,8 @@ ranged core start n kind = record core { shadow = made_so core.shadow start n ki
 unfoldable pub framed : Core → ℕ → ℕ → RangeKind → Core
 framed core low high kind = if nat_le (high - low) largest_frame then ranged core low (high - low) kind else core
 
--- the stack pointer moved: where it fell, the bytes are of the stack and undefined; where it rose, they are inaccessible
+-- the stack pointer moved: where it fell, the bytes are of the stack and undefined; where it rose, they are
+-- inaccessible
 unfoldable pub stack_moved : Core → ℕ → ℕ → Core
 stack_moved core old new =
     if nat_lt new old then framed core new old Undefined

@@ -29,4 +29,5 @@ load_back = 5 ∷ 0 ∷ 0 ∷ 0 ∷ 4 ∷ 0 ∷ 0 ∷ 0 ∷ []
 -- the file of these words, with so many bytes in memory
 unfoldable pub file_of : List ℕ → ℕ → List ℕ
 file_of words memsz =
-    elf_header ++ load_front ++ to_le_bytes w32 (words_size (length words)) ++ to_le_bytes w32 memsz ++ load_back ++ bytes_of words
+    elf_header ++ load_front ++ to_le_bytes w32 (words_size (length words)) ++ to_le_bytes w32 memsz ++ load_back
+    ++ bytes_of words

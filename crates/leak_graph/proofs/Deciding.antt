@@ -31,21 +31,30 @@ lost_path links within a b p lost = (p.0, lost_follows links within a p.0 b p.1 
 any_path : (links : Links) (a b : ℕ) → HasPath (LostEdge links) a b → HasPath links.edge a b
 any_path links a b p = path_map (LostEdge links) links.edge (λ x y e. e.2) a b p
 
-pub kind_reachable : (links : Links) (reachable : List Bool) (b : ℕ) → Reaches links.start_root links.start_edge reachable
+pub kind_reachable : (links : Links) (reachable : List Bool) (b : ℕ)
+    → Reaches links.start_root links.start_edge reachable
     → IsMarked reachable b → HasKind links b Reachable
 kind_reachable links reachable b r m = r.sound b m
 
-pub kind_possible : (links : Links) (reachable found : List Bool) (b : ℕ) → Reaches links.start_root links.start_edge reachable
-    → Reaches links.root links.edge found → get_or reachable b false ≡ false → IsMarked found b → HasKind links b Possible
-kind_possible links reachable found b r f clear m =
-    (f.sound b m, λ held_so. false≢true (sym clear ∙ reaches_all links.start_root links.start_edge reachable r b held_so))
+pub kind_possible : (links : Links) (reachable found : List Bool) (b : ℕ)
+    → Reaches links.start_root links.start_edge reachable
+    → Reaches links.root links.edge found → get_or reachable b false ≡ false → IsMarked found b
+    → HasKind links b Possible
+kind_possible links reachable found b r f clear m = (
+  f.sound b m,
+  λ held_so. false≢true (sym clear
+      ∙ reaches_all links.start_root links.start_edge reachable r b held_so),
+)
 
 lost_where : (links : Links) (found : List Bool) (b : ℕ) → Reaches links.root links.edge found → b < links.count
     → get_or found b false ≡ false → IsLost links b
-lost_where links found b f less clear = (less, λ held_so. false≢true (sym clear ∙ reaches_all links.root links.edge found f b held_so))
+lost_where links found b f less clear =
+    (less, λ held_so. false≢true (sym clear ∙ reaches_all links.root links.edge found f b held_so))
 
-pub kind_definite : (links : Links) (found heads definite : List Bool) (b : ℕ) → ((a b : ℕ) → links.edge a b → a < links.count)
-    → Reaches links.root links.edge found → HeadsOf links.edge links.count found heads → DefiniteOf links.edge heads definite
+pub kind_definite : (links : Links) (found heads definite : List Bool) (b : ℕ)
+    → ((a b : ℕ) → links.edge a b → a < links.count)
+    → Reaches links.root links.edge found → HeadsOf links.edge links.count found heads
+    → DefiniteOf links.edge heads definite
     → b < links.count → get_or found b false ≡ false → IsMarked definite b → HasKind links b Definite
 kind_definite links found heads definite b within f of d less clear m = (
   lost_where links found b f less clear,
@@ -62,8 +71,10 @@ kind_definite links found heads definite b within f of d less clear m = (
       ],
 )
 
-pub kind_indirect : (links : Links) (found heads definite : List Bool) (b : ℕ) → ((a b : ℕ) → links.edge a b → a < links.count)
-    → Reaches links.root links.edge found → HeadsOf links.edge links.count found heads → DefiniteOf links.edge heads definite
+pub kind_indirect : (links : Links) (found heads definite : List Bool) (b : ℕ)
+    → ((a b : ℕ) → links.edge a b → a < links.count)
+    → Reaches links.root links.edge found → HeadsOf links.edge links.count found heads
+    → DefiniteOf links.edge heads definite
     → b < links.count → get_or found b false ≡ false → get_or definite b false ≡ false → HasKind links b Indirect
 kind_indirect links found heads definite b within f of d less clear undecided =
     let lost = lost_where links found b f less clear in

@@ -1,5 +1,6 @@
--- The leak kind of each block: what points to what decides, by paths (Memcheck manual, section 4.2, "Memory leak detection").
--- Of a ring that no other lost block leads to, the block of lowest address is definitely lost, which is this project's own rule.
+-- The leak kind of each block: what points to what decides, by paths (Memcheck manual, section 4.2, "Memory leak
+-- detection"). Of a ring that no other lost block leads to, the block of lowest address is definitely lost, which is
+-- this project's own rule.
 use Rattle.std.specs.Prelude.{ℕ, ◌<◌, ◌≢◌, ◌⊎◌}
 use Rattle.leak_graph.specs.Paths.{HasPath, IsReached}
 use Rattle.leak_graph.specs.declared.leak_kind.LeakKind.{LeakKind}

@@ -1,5 +1,6 @@
 -- What the private functions say of their marks: lists of one `Bool` a block.
-use Rattle.std.specs.Prelude.{◌≡◌, ℕ, ◌+◌, ◌<◌, ◌≤◌, ◌≢◌, Bool, true, false, List, length, ◌⊎◌, slice_index_or, slice_get, Some, not, count_by}
+use Rattle.std.specs.Prelude.{◌≡◌, ℕ, ◌+◌, ◌<◌, ◌≤◌, ◌≢◌, Bool, true, false, List, length, ◌⊎◌, slice_index_or}
+use Rattle.std.specs.Prelude.{slice_get, Some, not, count_by}
 use Rattle.std.specs.Prelude.{if◌then◌else◌}
 use Rattle.std.specs.List.{Contains}
 use Rattle.leak_graph.specs.declared.leak_kind.LeakKind.{LeakKind}
@@ -51,7 +52,8 @@ pub record HeadsOf (edge : ℕ → ℕ → Type 0) (n : ℕ) (found heads : List
 pub record DefiniteOf (edge : ℕ → ℕ → Type 0) (heads definite : List Bool) : Type 0 where
   pub among : (h : ℕ) → IsMarked definite h → IsMarked heads h
   pub alone : (h k : ℕ) → IsMarked definite h → IsMarked heads k → k ≢ h → HasPath edge k h → ⊥
-  pub others : (h : ℕ) → IsMarked heads h → IsMarked definite h ⊎ ((k : ℕ) × IsMarked heads k × (h < k) × HasPath edge k h)
+  pub others : (h : ℕ) → IsMarked heads h → IsMarked definite h
+      ⊎ ((k : ℕ) × IsMarked heads k × (h < k) × HasPath edge k h)
 
 -- the kind of a block by its marks
 unfoldable pub kind_by : Bool → Bool → Bool → LeakKind

@@ -1,5 +1,6 @@
 -- Which block a value points to, and whose a word is.
-use Rattle.std.proofs.Common.{◌≡◌, ℕ, ◌+◌, ◌-◌, ◌<◌, ◌≤◌, ◌%◌, inl, inr, List, true, false, Some, length, get_or, arith, sym, ◌∙◌, subst, slice_get, nat_le}
+use Rattle.std.proofs.Common.{◌≡◌, ℕ, ◌+◌, ◌-◌, ◌<◌, ◌≤◌, ◌%◌, inl, inr, List, true, false, Some, length, get_or, arith}
+use Rattle.std.proofs.Common.{sym, ◌∙◌, subst, slice_get, nat_le}
 use Rattle.std.proofs.lemmas.Bool.{cases_lt, cases_eq}
 use Rattle.std.proofs.lemmas.Bool.Decides.{nat_tests}
 use Rattle.std.proofs.lemmas.Option.{same_Some, slice_get-get_or, slice_get_within, get_or_from_slice_get}
@@ -17,14 +18,16 @@ true_le m n h = grind (arith, nat_tests)
 false_lt : (m n : ℕ) → nat_le m n ≡ false → n < m
 false_lt m n h = grind (arith, nat_tests)
 
-pub partitioned : (blocks : List Block) (addr : ℕ) → AreOrdered blocks → IsPartitionedBy (λ b. nat_le b.start addr) blocks
+pub partitioned : (blocks : List Block) (addr : ℕ) → AreOrdered blocks
+    → IsPartitionedBy (λ b. nat_le b.start addr) blocks
 partitioned blocks addr apart i j d le within h =
     elim (cases_eq i j) [
       | inl e ↦ subst (λ (x : ℕ). nat_le (get_or blocks x d).start addr ≡ true) (sym e) h
       | inr ne ↦
           let less : i < j = omega arith in
           let before : i < length blocks = omega arith in
-          let lower = apart.lower i j (get_or blocks i d) (get_or blocks j d) less (slice_get-get_or blocks i d before) (slice_get-get_or blocks j d within) in
+          let lower = apart.lower i j (get_or blocks i d) (get_or blocks j d) less (slice_get-get_or blocks i d before)
+          (slice_get-get_or blocks j d within) in
           let under = true_le (get_or blocks j d).start addr h in
           le_true (get_or blocks i d).start addr (omega arith)
     ]
@@ -36,11 +39,13 @@ last_some blocks addr count bound some point = record {
   within = omega arith;
   here =
       λ b at. (let h = point.0 (count - 1) b (omega arith) (omega arith) in
-      true_le b.start addr (subst (λ (x : Block). nat_le x.start addr ≡ true) (get_or_from_slice_get blocks (count - 1) b b at) h));
+      true_le b.start addr (subst (λ (x : Block). nat_le x.start addr ≡ true)
+      (get_or_from_slice_get blocks (count - 1) b b at) h));
   after = λ j b less at.
       (let within = slice_get_within blocks j b at in
       let h = point.1 j b (omega arith) within in
-      false_lt b.start addr (subst (λ (x : Block). nat_le x.start addr ≡ false) (get_or_from_slice_get blocks j b b at) h));
+      false_lt b.start addr (subst (λ (x : Block). nat_le x.start addr ≡ false) (get_or_from_slice_get blocks j b b at)
+      h));
 }
 
 pub last_none : (blocks : List Block) (addr count : ℕ) → count ≡ 0
@@ -64,16 +69,28 @@ only_last blocks value k apart last b block at p =
           let below = apart.below b k block there less at is in
           let here = last.here there is in
           absurd (elim p as (λ _. ⊥) [ inl e ↦ omega arith | inr w ↦ (let over = w.1 in omega arith) ])
-      | inr le ↦ elim (cases_eq k b) [ inl e ↦ e | inr ne ↦ (let above = last.after b block (omega arith) at in absurd (omega arith)) ]
+      | inr le ↦ elim (cases_eq k b) [
+        | inl e ↦ e
+        | inr ne ↦ (let above = last.after b block (omega arith) at in
+            absurd (omega arith))
+      ]
     ]
 
 -- a word of a block begins at a pointer into it
 word_points : (blocks : List Block) (w a : ℕ) (word : IsWordIn blocks w a) → IsPointer false w word.0
 word_points blocks w a word =
-    elim (cases_eq w word.0.start) [ inl e ↦ inl e | inr ne ↦ inr (let low = word.2 in omega arith, let high = word.3 in omega arith) ]
+    elim (cases_eq w word.0.start) [
+      | inl e ↦ inl e
+      | inr ne ↦ inr (
+        let low = word.2 in omega arith,
+        let high = word.3 in
+            omega arith,
+      )
+    ]
 
 -- and holds its first byte
-not_outside : (blocks : List Block) (w a : ℕ) (block : Block) → slice_get blocks a ≡ Some block → block.start ≤ w → w < block.start + block.size
+not_outside : (blocks : List Block) (w a : ℕ) (block : Block) → slice_get blocks a ≡ Some block → block.start ≤ w
+    → w < block.start + block.size
     → IsInNoBlock blocks w → ⊥
 not_outside blocks w a block at low high none = none a block at 0 (omega arith) (omega arith, omega arith)
 
@@ -88,7 +105,8 @@ pub outside_none : (blocks : List Block) (w : ℕ) → AreOrdered blocks → w %
     → IsInNoBlock blocks w × ((a : ℕ) → IsWordIn blocks w a → ⊥)
 outside_none blocks w apart aligned above =
     let none : IsInNoBlock blocks w = λ a block at i four holds.
-    (let far = next_multiple w block.start aligned (apart.aligned a block at) (above a block at) in let low = holds.0 in omega arith) in
+    (let far = next_multiple w block.start aligned (apart.aligned a block at) (above a block at) in let low = holds.0 in
+    omega arith) in
     (none, no_word blocks w none)
 
 pub outside_past : (blocks : List Block) (w k : ℕ) (block : Block) → AreOrdered blocks → w % 4 ≡ 0 → IsLastAt blocks w k
@@ -98,10 +116,12 @@ outside_past blocks w k block apart aligned last at past =
     let none : IsInNoBlock blocks w = λ a there is i four holds.
     (let low = holds.0 in let high = holds.1 in
     elim (cases_lt k a) [
-      | inl less ↦ (let far = next_multiple w there.start aligned (apart.aligned a there is) (last.after a there less is) in omega arith)
+      | inl less ↦ (let far = next_multiple w there.start aligned (apart.aligned a there is)
+          (last.after a there less is) in omega arith)
       | inr le ↦ elim (cases_eq k a) [
         | inl e ↦
-            let same : there ≡ block = same_Some there block (sym is ∙ subst (λ (x : ℕ). slice_get blocks x ≡ Some block) e at) in
+            let same : there ≡ block = same_Some there block (sym is
+            ∙ subst (λ (x : ℕ). slice_get blocks x ≡ Some block) e at) in
             let end : there.start + there.size ≤ w = subst (λ (x : Block). x.start + x.size ≤ w) (sym same) past in
             omega arith
         | inr ne ↦
@@ -115,17 +135,22 @@ outside_past blocks w k block apart aligned last at past =
 pub inside_is : (blocks : List Block) (w k : ℕ) (block : Block) → AreOrdered blocks → IsLastAt blocks w k
     → slice_get blocks k ≡ Some block → block.start ≤ w → w + 4 ≤ block.start + block.size
     → IsWordIn blocks w k × ((a : ℕ) → IsWordIn blocks w a → k ≡ a) × (IsInNoBlock blocks w → ⊥)
-inside_is blocks w k block apart last at low high =
-    ((block, at, low, high), (λ a word. only_last blocks w k apart last a word.0 word.1 (word_points blocks w a word)), not_outside blocks w k block at low (omega arith))
+inside_is blocks w k block apart last at low high = (
+  (block, at, low, high),
+  (λ a word. only_last blocks w k apart last a word.0 word.1 (word_points blocks w a word)),
+  not_outside blocks w k block at low (omega arith),
+)
 
 pub across_is : (blocks : List Block) (w k : ℕ) (block : Block) → AreOrdered blocks → IsLastAt blocks w k
-    → slice_get blocks k ≡ Some block → block.start ≤ w → w < block.start + block.size → block.start + block.size < w + 4
+    → slice_get blocks k ≡ Some block → block.start ≤ w → w < block.start + block.size
+    → block.start + block.size < w + 4
     → (IsInNoBlock blocks w → ⊥) × ((a : ℕ) → IsWordIn blocks w a → ⊥)
 across_is blocks w k block apart last at low high over = (
   not_outside blocks w k block at low high,
   λ a word.
       (let same : k ≡ a = only_last blocks w k apart last a word.0 word.1 (word_points blocks w a word) in
-      let there : word.0 ≡ block = same_Some word.0 block (sym word.1 ∙ subst (λ (x : ℕ). slice_get blocks x ≡ Some block) same at) in
+      let there : word.0 ≡ block = same_Some word.0 block (sym word.1
+      ∙ subst (λ (x : ℕ). slice_get blocks x ≡ Some block) same at) in
       let end : w + 4 ≤ block.start + block.size = subst (λ (x : Block). w + 4 ≤ x.start + x.size) there word.3 in
       omega arith),
 )

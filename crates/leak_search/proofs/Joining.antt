@@ -1,5 +1,6 @@
 -- From the gathered pointers to the links of the scene.
-use Rattle.std.proofs.Common.{◌≡◌, ℕ, ◌<◌, ◌⊎◌, inl, inr, List, [], Bool, Option, true, false, Some, length, get_or, take, drop, ◌++◌, arith, refl, sym, ◌∙◌, subst, ap, slice_get}
+use Rattle.std.proofs.Common.{◌≡◌, ℕ, ◌<◌, ◌⊎◌, inl, inr, List, [], Bool, Option, true, false, Some, length, get_or}
+use Rattle.std.proofs.Common.{take, drop, ◌++◌, arith, refl, sym, ◌∙◌, subst, ap, slice_get}
 use Rattle.std.proofs.lemmas.Bool.{false≢true}
 use Rattle.std.proofs.Math.Seq.{take-append_seam}
 use Rattle.std.proofs.lemmas.Option.{none-some, slice_get-get_or, slice_get_within}
@@ -29,7 +30,8 @@ pub roots_join : (scene : Scene) (old mid new : List Pointer)
     → Gains (RegisterBelow scene.register scene.blocks 32) old mid
     → Gains (RootAny scene.word scene.blocks) mid new → Gains (RootPointsTo scene) old new
 roots_join scene old mid new p q =
-    gains_as (λ starts b. RegisterBelow scene.register scene.blocks 32 starts b ⊎ RootAny scene.word scene.blocks starts b) (RootPointsTo scene) old new
+    gains_as (λ starts b. RegisterBelow scene.register scene.blocks 32 starts b
+    ⊎ RootAny scene.word scene.blocks starts b) (RootPointsTo scene) old new
     (λ starts b t. elim t [
       | inl r ↦ ((scene.register r.0).value, inl (r.0, r.1, r.2, r.3, refl), r.4)
       | inr w ↦ (w.0, inr w.1, w.2)
@@ -41,7 +43,8 @@ roots_join scene old mid new p q =
     (gains_then (RegisterBelow scene.register scene.blocks 32) (RootAny scene.word scene.blocks) old mid new p q)
 
 -- what held no edge holds as many as nothing
-pub edges_fresh : (target : Bool → ℕ → ℕ → Type 0) (old new : List (Vec Pointer Global)) → HasNoEdge old → EdgesGain target old new → EdgesGain target [] new
+pub edges_fresh : (target : Bool → ℕ → ℕ → Type 0) (old new : List (Vec Pointer Global)) → HasNoEdge old
+    → EdgesGain target old new → EdgesGain target [] new
 edges_fresh target old new none p = record {
   keeps = λ starts a b h. absurd (none-some h.0 h.1);
   gains = p.gains;
@@ -53,31 +56,37 @@ no_pointer starts b h = let less = h.1.1 in omega arith
 
 pub target_of : (target : Bool → ℕ → Type 0) (pointers : List Pointer) → Gains target [] pointers
     → (starts : Bool) (b : ℕ) → HasPointer starts pointers b → target starts b
-target_of target pointers p starts b h = elim (p.sound starts b h) [ inl o ↦ absurd (no_pointer starts b o) | inr t ↦ t ]
+target_of target pointers p starts b h =
+    elim (p.sound starts b h) [ inl o ↦ absurd (no_pointer starts b o) | inr t ↦ t ]
 
 pub edge_of : (target : Bool → ℕ → ℕ → Type 0) (edges : List (Vec Pointer Global)) → EdgesGain target [] edges
     → (starts : Bool) (a b : ℕ) → HasEdge starts edges a b → target starts a b
 edge_of target edges p starts a b h = elim (p.sound starts a b h) [ inl o ↦ absurd (none-some o.0 o.1) | inr t ↦ t ]
 
-itself : (pointers : List Pointer) (k : ℕ) (d : Pointer) → k < length pointers → HasPointer false pointers (get_or pointers k d).block
+itself : (pointers : List Pointer) (k : ℕ) (d : Pointer) → k < length pointers
+    → HasPointer false pointers (get_or pointers k d).block
 itself pointers k d h = (get_or pointers k d, Contains-get_or pointers k d h, (refl, λ e. absurd (false≢true e)))
 
-pub roots_within : (scene : Scene) (roots : List Pointer) (n : ℕ) → length scene.blocks ≡ n → Gains (RootPointsTo scene) [] roots → GoWithin roots n
+pub roots_within : (scene : Scene) (roots : List Pointer) (n : ℕ) → length scene.blocks ≡ n
+    → Gains (RootPointsTo scene) [] roots → GoWithin roots n
 roots_within scene roots n len p k d h =
     let t = target_of (RootPointsTo scene) roots p false (get_or roots k d).block (itself roots k d h) in
     let within = slice_get_within scene.blocks (get_or roots k d).block t.2.0 t.2.1 in
     omega arith
 
-pub edges_within : (scene : Scene) (edges : List (Vec Pointer Global)) (n : ℕ) → length scene.blocks ≡ n → EdgesGain (BlockPointsTo scene) [] edges → AllGoWithin edges n
+pub edges_within : (scene : Scene) (edges : List (Vec Pointer Global)) (n : ℕ) → length scene.blocks ≡ n
+    → EdgesGain (BlockPointsTo scene) [] edges → AllGoWithin edges n
 edges_within scene edges n len p k d h i e less =
     let row = get_or edges k d in
     let b = (get_or row.items i e).block in
-    let t = edge_of (BlockPointsTo scene) edges p false k b (row, slice_get-get_or edges k d h, itself row.items i e less) in
+    let t = edge_of (BlockPointsTo scene) edges p false k b
+    (row, slice_get-get_or edges k d h, itself row.items i e less) in
     let within = slice_get_within scene.blocks b t.2.0 t.2.1 in
     omega arith
 
 -- the kinds by the graph are those by the scene
-pub joined : (scene : Scene) (roots : List Pointer) (edges : List (Vec Pointer Global)) → length edges ≡ length scene.blocks
+pub joined : (scene : Scene) (roots : List Pointer) (edges : List (Vec Pointer Global))
+    → length edges ≡ length scene.blocks
     → Gains (RootPointsTo scene) [] roots → EdgesGain (BlockPointsTo scene) [] edges
     → (b : ℕ) (kind : LeakKind) → HasKind (links_of roots edges) b kind → HasKind (links_in scene) b kind
 unfolding links_of links_in
@@ -98,7 +107,8 @@ joined scene roots edges len p q b kind k =
     } in
     kind_on (links_of roots edges) (links_in scene) to back b kind k
 
-pub all_records : (scene : Scene) (blocks : List Block) (roots : List Pointer) (edges : List (Vec Pointer Global)) (kinds : List LeakKind) (entries : List LeakRecord)
+pub all_records : (scene : Scene) (blocks : List Block) (roots : List Pointer) (edges : List (Vec Pointer Global))
+    (kinds : List LeakKind) (entries : List LeakRecord)
     → blocks ≡ scene.blocks → length edges ≡ length blocks
     → Gains (RootPointsTo scene) [] roots → EdgesGain (BlockPointsTo scene) [] edges
     → ((b : ℕ) (kind : LeakKind) → slice_get kinds b ≡ Some kind → HasKind (links_of roots edges) b kind)
@@ -118,7 +128,8 @@ all_records scene blocks roots edges kinds entries e len p q each by = record {
 }
 
 -- what is written back to a vector that was lent as a slice
-pub edges_back : (target : Bool → ℕ → ℕ → Type 0) (n : ℕ) (old new : List (Vec Pointer Global)) → n ≡ length new → HasNoEdge old
+pub edges_back : (target : Bool → ℕ → ℕ → Type 0) (n : ℕ) (old new : List (Vec Pointer Global)) → n ≡ length new
+    → HasNoEdge old
     → EdgesGain target old new → EdgesGain target [] (take n (new ++ drop (length new) old))
 edges_back target n old new e none p =
     let same : take n (new ++ drop (length new) old) ≡ new = rw e (take-append_seam new (drop (length new) old)) in
@@ -129,11 +140,19 @@ abbrev seen : (ℕ → Option ℕ) → (ℕ → Bits) → List Block → Scene
 seen word register blocks = record { word = word; register = register; blocks = blocks }
 
 root_on : (word : ℕ → Option ℕ) (one two : ℕ → Bits) (blocks : List Block) → ((r : ℕ) → r < 32 → one r ≡ two r)
-    → (starts : Bool) (b : ℕ) → RootPointsTo (seen word one blocks) starts b → RootPointsTo (seen word two blocks) starts b
+    → (starts : Bool) (b : ℕ) → RootPointsTo (seen word one blocks) starts b
+    → RootPointsTo (seen word two blocks) starts b
 root_on word one two blocks same starts b t = (
   t.0,
   elim t.1 [
-    | inl r ↦ inl (r.0, r.1, r.2, ap (λ x. x.undef) (sym (same r.0 r.2)) ∙ r.3, ap (λ x. x.value) (sym (same r.0 r.2)) ∙ r.4)
+    | inl r ↦ inl (
+      r.0,
+      r.1,
+      r.2,
+      ap (λ x. x.undef) (sym (same r.0 r.2)) ∙ r.3,
+      ap (λ x. x.value) (sym (same r.0 r.2))
+          ∙ r.4,
+    )
     | inr w ↦ inr w
   ],
   t.2,
@@ -151,7 +170,8 @@ links_on word one two blocks same = record {
 }
 
 -- of the registers only x0 to x31 count
-records_on : (word : ℕ → Option ℕ) (one two : ℕ → Bits) (blocks : List Block) (entries : List LeakRecord) → ((r : ℕ) → r < 32 → one r ≡ two r)
+records_on : (word : ℕ → Option ℕ) (one two : ℕ → Bits) (blocks : List Block) (entries : List LeakRecord)
+    → ((r : ℕ) → r < 32 → one r ≡ two r)
     → AreRecordsIn (seen word one blocks) entries → AreRecordsIn (seen word two blocks) entries
 records_on word one two blocks entries same p =
     let to = links_on word one two blocks same in
@@ -166,16 +186,20 @@ records_on word one two blocks entries same p =
             start = w.start;
             size = w.size;
             trace = w.trace;
-            kind = kind_on (links_in (seen word one blocks)) (links_in (seen word two blocks)) to back k entry.kind w.kind;
+            kind =
+                kind_on (links_in (seen word one blocks)) (links_in (seen word two blocks)) to back k entry.kind w.kind;
           });
     }
 
 -- the records of a scene with all that a state has are the state's
-pub records_of : (s : State) (word : ℕ → Option ℕ) (registers : ℕ → Bits) (blocks : List Block) (entries : List LeakRecord)
-    → word ≡ word_at s.bytes s.core.shadow → ((r : ℕ) → r < 32 → registers r ≡ register s.core r) → blocks ≡ live_list s.core.blocks
+pub records_of : (s : State) (word : ℕ → Option ℕ) (registers : ℕ
+    → Bits) (blocks : List Block) (entries : List LeakRecord)
+    → word ≡ word_at s.bytes s.core.shadow → ((r : ℕ) → r < 32 → registers r ≡ register s.core r)
+    → blocks ≡ live_list s.core.blocks
     → AreRecordsIn (seen word registers blocks) entries → AreRecordsOf s entries
 unfolding AreRecordsOf
 records_of s word registers blocks entries words same all p =
     let first = subst (λ (x : ℕ → Option ℕ). AreRecordsIn (seen x registers blocks) entries) words p in
-    let second = subst (λ (x : List Block). AreRecordsIn (seen (word_at s.bytes s.core.shadow) registers x) entries) all first in
+    let second = subst (λ (x : List Block). AreRecordsIn (seen (word_at s.bytes s.core.shadow) registers x) entries) all
+    first in
     records_on (word_at s.bytes s.core.shadow) registers (register s.core) (live_list s.core.blocks) entries same second

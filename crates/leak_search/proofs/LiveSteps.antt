@@ -1,5 +1,6 @@
 -- The live blocks one after another, and the lists of no pointers.
-use Rattle.std.proofs.Common.{◌≡◌, ℕ, zero, suc, ◌+◌, ◌<◌, ◌≤◌, max, ◌⊎◌, inl, inr, List, [], ◌∷◌, ◌++◌, Some, None, length, append_assoc, append-nil, arith, refl, sym, ◌∙◌, subst, ap, slice_get}
+use Rattle.std.proofs.Common.{◌≡◌, ℕ, zero, suc, ◌+◌, ◌<◌, ◌≤◌, max, ◌⊎◌, inl, inr, List, [], ◌∷◌, ◌++◌, Some, None}
+use Rattle.std.proofs.Common.{length, append_assoc, append-nil, arith, refl, sym, ◌∙◌, subst, ap, slice_get}
 use Rattle.std.proofs.lemmas.Option.{same_Some, none-some, slice_get_within}
 use Rattle.std.specs.declared.vec.Vec.{Vec}
 use Rattle.std.specs.declared.alloc.Global.{Global}
@@ -23,7 +24,8 @@ pub record FoundBelow (blocks : Blocks) (found : List Block) (from : ℕ) : Type
   pub rest : found ++ live_above blocks from ≡ live_list blocks
   pub under : (k : ℕ) (b : Block) → slice_get found k ≡ Some b → b.start < from
   pub there : (k : ℕ) (b : Block) → slice_get found k ≡ Some b → blocks.live b.start ≡ Some b
-  pub order : (j k : ℕ) (a b : Block) → j < k → slice_get found j ≡ Some a → slice_get found k ≡ Some b → a.start < b.start
+  pub order : (j k : ℕ) (a b : Block) → j < k → slice_get found j ≡ Some a → slice_get found k ≡ Some b
+      → a.start < b.start
 
 pub found_start : (blocks : Blocks) → LiveGoesOn → FoundBelow blocks [] 0
 found_start blocks law = record {
@@ -33,9 +35,11 @@ found_start blocks law = record {
   order = λ j k a b less at other. absurd (none-some a at);
 }
 
-found_order : (found : List Block) (block : Block) → ((k : ℕ) (b : Block) → slice_get found k ≡ Some b → b.start < block.start)
+found_order : (found : List Block) (block : Block)
+    → ((k : ℕ) (b : Block) → slice_get found k ≡ Some b → b.start < block.start)
     → ((j k : ℕ) (a b : Block) → j < k → slice_get found j ≡ Some a → slice_get found k ≡ Some b → a.start < b.start)
-    → (j k : ℕ) (a b : Block) → j < k → slice_get (found ++ block ∷ []) j ≡ Some a → slice_get (found ++ block ∷ []) k ≡ Some b → a.start < b.start
+    → (j k : ℕ) (a b : Block) → j < k → slice_get (found ++ block ∷ []) j ≡ Some a
+    → slice_get (found ++ block ∷ []) k ≡ Some b → a.start < b.start
 found_order found block under order j k a b less x y =
     elim (row_push found block j a x) [
       | inl first ↦ elim (row_push found block k b y) [
@@ -75,12 +79,14 @@ pub found_next : (blocks : Blocks) (old new : List Block) (from next : ℕ) → 
     → GoesOn blocks from (Some next) old new → FoundBelow blocks old from → FoundBelow blocks new next
 found_next blocks old new from next law region g s =
     let step = found_step blocks old from g.0 law region g.1 g.2 s in
-    let here : FoundBelow blocks (old ++ g.0 ∷ []) next = subst (λ (x : ℕ). FoundBelow blocks (old ++ g.0 ∷ []) x) (sym g.3) step in
+    let here : FoundBelow blocks (old ++ g.0 ∷ []) next = subst (λ (x : ℕ). FoundBelow blocks (old ++ g.0 ∷ []) x)
+    (sym g.3) step in
     subst (λ (x : List Block). FoundBelow blocks x next) (sym g.4) here
 
 pub found_end : (blocks : Blocks) (found : List Block) (from : ℕ) → LiveGoesOn → live_from blocks from ≡ None
     → FoundBelow blocks found from → found ≡ live_list blocks
-found_end blocks found from law e s = sym (append-nil found) ∙ ap (λ x. found ++ x) (sym (law.none blocks from e)) ∙ s.rest
+found_end blocks found from law e s =
+    sym (append-nil found) ∙ ap (λ x. found ++ x) (sym (law.none blocks from e)) ∙ s.rest
 
 clear_below : (a b : Block) → a.start < b.start → high_end a ≤ low_end b → a.start + a.size ≤ b.start
 clear_below a b less h = omega (max, arith)
@@ -89,7 +95,8 @@ clear_above : (a b : Block) → a.start < b.start → high_end b ≤ low_end a �
 clear_above a b less h = omega (max, arith)
 
 -- the blocks that were found lie apart, in order
-pub found_ordered : (blocks : Blocks) (found : List Block) (from : ℕ) → AreInRegion blocks → AreApart blocks → FoundBelow blocks found from → AreOrdered found
+pub found_ordered : (blocks : Blocks) (found : List Block) (from : ℕ) → AreInRegion blocks → AreApart blocks
+    → FoundBelow blocks found from → AreOrdered found
 found_ordered blocks found from region apart s = record {
   lower = s.order;
   below = λ j k a b less x y.
@@ -103,14 +110,17 @@ found_ordered blocks found from region apart s = record {
 }
 
 -- the address after a live block's first is one
-pub start_small : (blocks : Blocks) (from : ℕ) (b : Block) → AreInRegion blocks → IsFirstLive blocks.live from b → b.start < 0x60000000
+pub start_small : (blocks : Blocks) (from : ℕ) (b : Block) → AreInRegion blocks → IsFirstLive blocks.live from b
+    → b.start < 0x60000000
 start_small blocks from b region f = (region.live b.start b f.there).below
 
-pub no_edge_more : (edges : List (Vec Pointer Global)) (row : Vec Pointer Global) → row.items ≡ [] → HasNoEdge edges → HasNoEdge (edges ++ row ∷ [])
+pub no_edge_more : (edges : List (Vec Pointer Global)) (row : Vec Pointer Global) → row.items ≡ [] → HasNoEdge edges
+    → HasNoEdge (edges ++ row ∷ [])
 no_edge_more edges row empty none starts a b has =
     elim (row_push edges row a has.0 has.1) [
       | inl old ↦ none starts a b (has.0, old, has.2)
       | inr w ↦
-          let blank : HasPointer starts [] b = subst (λ (ps : List Pointer). HasPointer starts ps b) (ap (λ r. r.items) (sym w.1) ∙ empty) has.2 in
+          let blank : HasPointer starts [] b = subst (λ (ps : List Pointer). HasPointer starts ps b)
+          (ap (λ r. r.items) (sym w.1) ∙ empty) has.2 in
           let h = blank.1.1 in absurd (omega arith)
     ]

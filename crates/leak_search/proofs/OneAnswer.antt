@@ -1,5 +1,6 @@
 -- The records of a scene are one list.
-use Rattle.std.proofs.Common.{◌≡◌, ℕ, suc, inl, List, [], ◌∷◌, Some, length, true, false, arith, refl, sym, ◌∙◌, ap, slice_get}
+use Rattle.std.proofs.Common.{◌≡◌, ℕ, suc, inl, List, [], ◌∷◌, Some, length, true, false, arith, refl, sym, ◌∙◌, ap}
+use Rattle.std.proofs.Common.{slice_get}
 use Rattle.std.proofs.lemmas.Option.{same_Some}
 use Rattle.guest_heap.specs.declared.block.Block.{Block}
 use Rattle.leak_graph.specs.declared.leak_kind.LeakKind.{LeakKind}
@@ -13,7 +14,8 @@ use Rattle.leak_search.specs.Records.{scene_of, AreRecordsOf}
 use Rattle.leak_search.specs.Laws.{RecordsAreOne}
 
 -- a block has one kind, where what is reachable is found
-one_kind : (links : Links) (b : ℕ) → (IsReachable links b → IsFound links b) → (one two : LeakKind) → HasKind links b one → HasKind links b two → one ≡ two
+one_kind : (links : Links) (b : ℕ) → (IsReachable links b → IsFound links b) → (one two : LeakKind)
+    → HasKind links b one → HasKind links b two → one ≡ two
 one_kind links b found Reachable Reachable h k = refl
 one_kind links b found Reachable Possible h k = absurd (k.1 h)
 one_kind links b found Reachable Indirect h k = absurd (k.0.1 (found h))
@@ -38,7 +40,8 @@ any_sort blocks value b p = (p.0, p.1, inl p.2)
 reachable_found : (scene : Scene) (b : ℕ) → IsReachable (links_in scene) b → IsFound (links_in scene) b
 unfolding links_in
 reachable_found scene b r =
-    reached_map (RootPointsTo scene true) (RootPointsTo scene false) (BlockPointsTo scene true) (BlockPointsTo scene false)
+    reached_map (RootPointsTo scene true) (RootPointsTo scene false) (BlockPointsTo scene true)
+    (BlockPointsTo scene false)
     (λ c h. (h.0, h.1, any_sort scene.blocks h.0 c h.2)) (λ a c h. (h.0, h.1, any_sort scene.blocks h.0 c h.2)) b r
 
 -- two records of a block are equal

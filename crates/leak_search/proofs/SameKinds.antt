@@ -15,7 +15,8 @@ pub record HasAll (one two : Links) : Type 0 where
   pub edge : (a b : ℕ) → one.edge a b → two.edge a b
 
 reachable_on : (one two : Links) → HasAll one two → (b : ℕ) → IsReachable one b → IsReachable two b
-reachable_on one two h b r = reached_map one.start_root two.start_root one.start_edge two.start_edge h.start_root h.start_edge b r
+reachable_on one two h b r =
+    reached_map one.start_root two.start_root one.start_edge two.start_edge h.start_root h.start_edge b r
 
 found_on : (one two : Links) → HasAll one two → (b : ℕ) → IsFound one b → IsFound two b
 found_on one two h b r = reached_map one.root two.root one.edge two.edge h.root h.edge b r
@@ -26,7 +27,8 @@ lost_on one two h back b l = (subst (λ (n : ℕ). b < n) h.count l.0, λ f. l.1
 lost_edge_on : (one two : Links) → HasAll one two → HasAll two one → (a b : ℕ) → LostEdge one a b → LostEdge two a b
 lost_edge_on one two h back a b e = (lost_on one two h back a e.0, lost_on one two h back b e.1, h.edge a b e.2)
 
-lost_path_on : (one two : Links) → HasAll one two → HasAll two one → (a b : ℕ) → HasPath (LostEdge one) a b → HasPath (LostEdge two) a b
+lost_path_on : (one two : Links) → HasAll one two → HasAll two one → (a b : ℕ) → HasPath (LostEdge one) a b
+    → HasPath (LostEdge two) a b
 lost_path_on one two h back a b p = path_map (LostEdge one) (LostEdge two) (lost_edge_on one two h back) a b p
 
 held_on : (one two : Links) → HasAll one two → HasAll two one → (b c : ℕ) → IsHeldBy one b c → IsHeldBy two b c
@@ -37,7 +39,8 @@ held_on one two h back b c held = (
   elim held.3 [ inl none ↦ inl (λ p. none (lost_path_on two one back h b c p)) | inr less ↦ inr less ],
 )
 
-pub kind_on : (one two : Links) → HasAll one two → HasAll two one → (b : ℕ) (kind : LeakKind) → HasKind one b kind → HasKind two b kind
+pub kind_on : (one two : Links) → HasAll one two → HasAll two one → (b : ℕ) (kind : LeakKind) → HasKind one b kind
+    → HasKind two b kind
 kind_on one two h back b Reachable k = reachable_on one two h b k
 kind_on one two h back b Possible k = (found_on one two h b k.0, λ r. k.1 (reachable_on two one back b r))
 kind_on one two h back b Indirect k = (lost_on one two h back b k.0, (k.1.0, held_on one two h back b k.1.0 k.1.1))

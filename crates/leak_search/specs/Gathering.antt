@@ -1,5 +1,6 @@
 -- What the private functions say of the pointers that they gather.
-use Rattle.std.specs.Prelude.{◌≡◌, ℕ, ◌<◌, ◌+◌, ◌≤◌, ◌%◌, ◌^◌, ◌==◌, ◌&&◌, ◌⊎◌, nat_lt, if◌then◌else◌, Bool, List, [], ◌∷◌, ◌++◌, Option, Some, None, slice_get, slice_index_or, length}
+use Rattle.std.specs.Prelude.{◌≡◌, ℕ, ◌<◌, ◌+◌, ◌≤◌, ◌%◌, ◌^◌, ◌==◌, ◌&&◌, ◌⊎◌, nat_lt, if◌then◌else◌, Bool, List, []}
+use Rattle.std.specs.Prelude.{◌∷◌, ◌++◌, Option, Some, None, slice_get, slice_index_or, length}
 use Rattle.std.specs.declared.vec.Vec.{Vec}
 use Rattle.std.specs.declared.alloc.Global.{Global}
 use Rattle.guest_heap.specs.declared.block.Block.{Block}
@@ -23,8 +24,10 @@ use Rattle.leak_search.specs.Pointing.{PointsTo, IsInNoBlock, IsWordIn}
 
 -- of two blocks the one of lower number lies wholly below, and each starts at a multiple of 4 above 0
 pub record AreOrdered (blocks : List Block) : Type 0 where
-  pub lower : (j k : ℕ) (a b : Block) → j < k → slice_get blocks j ≡ Some a → slice_get blocks k ≡ Some b → a.start < b.start
-  pub below : (j k : ℕ) (a b : Block) → j < k → slice_get blocks j ≡ Some a → slice_get blocks k ≡ Some b → a.start + a.size ≤ b.start
+  pub lower : (j k : ℕ) (a b : Block) → j < k → slice_get blocks j ≡ Some a → slice_get blocks k ≡ Some b
+      → a.start < b.start
+  pub below : (j k : ℕ) (a b : Block) → j < k → slice_get blocks j ≡ Some a → slice_get blocks k ≡ Some b
+      → a.start + a.size ≤ b.start
   pub aligned : (k : ℕ) (b : Block) → slice_get blocks k ≡ Some b → b.start % 4 ≡ 0
   pub positive : (k : ℕ) (b : Block) → slice_get blocks k ≡ Some b → 0 < b.start
 
@@ -32,7 +35,8 @@ pub record AreOrdered (blocks : List Block) : Type 0 where
 abbrev pub GoesOn : Blocks → ℕ → Option ℕ → List Block → List Block → Type 0
 GoesOn blocks from None old new = (live_from blocks from ≡ None) × (new ≡ old)
 GoesOn blocks from (Some next) old new =
-    (b : Block) × (live_from blocks from ≡ Some b) × IsFirstLive blocks.live from b × (next ≡ b.start + 1) × (new ≡ old ++ b ∷ [])
+    (b : Block) × (live_from blocks from ≡ Some b) × IsFirstLive blocks.live from b × (next ≡ b.start + 1)
+    × (new ≡ old ++ b ∷ [])
 
 -- the words of a memory
 abbrev pub words_in : Memory → ℕ → Option ℕ
@@ -41,7 +45,8 @@ words_in memory = word_at (bytes_in memory) (shadows_in memory)
 -- the words whose values lie from low up to, not with, high
 unfoldable pub word_within : (ℕ → ℕ) → (ℕ → Shadow) → ℕ → ℕ → ℕ → Option ℕ
 word_within bytes shadows low high w =
-    if nat_lt w (2 ^ 32) && (w % 4 == 0 && holds_in_range bytes shadows low high w) then Some (value_at bytes w) else None
+    if nat_lt w (2 ^ 32) && (w % 4 == 0 && holds_in_range bytes shadows low high w) then Some (value_at bytes w)
+    else None
 
 -- those of a memory
 abbrev pub words_within : Memory → ℕ → ℕ → ℕ → Option ℕ

@@ -1,5 +1,6 @@
--- What a value points to, and which words are a block's (Memcheck manual, section 4.2, "Memory leak detection": start-pointers and
--- interior-pointers). That a value one past a block, or a word half in one, counts for nothing is this project's own rule.
+-- What a value points to, and which words are a block's (Memcheck manual, section 4.2, "Memory leak detection":
+-- start-pointers and interior-pointers). That a value one past a block, or a word half in one, counts for nothing is
+-- this project's own rule.
 use Rattle.std.specs.Prelude.{◌≡◌, ℕ, ◌+◌, ◌<◌, ◌≤◌, ◌⊎◌, Bool, true, false, List, Some, slice_get}
 use Rattle.guest_heap.specs.declared.block.Block.{Block}
 
@@ -23,8 +24,10 @@ HoldsByte block addr = (block.start ≤ addr) × (addr < block.start + block.siz
 
 -- none of the four bytes from w on is in a block
 abbrev pub IsInNoBlock : List Block → ℕ → Type 0
-IsInNoBlock blocks w = (a : ℕ) (block : Block) → slice_get blocks a ≡ Some block → (i : ℕ) → i < 4 → HoldsByte block (w + i) → ⊥
+IsInNoBlock blocks w =
+    (a : ℕ) (block : Block) → slice_get blocks a ≡ Some block → (i : ℕ) → i < 4 → HoldsByte block (w + i) → ⊥
 
 -- the four bytes from w on lie wholly in the block of number a
 abbrev pub IsWordIn : List Block → ℕ → ℕ → Type 0
-IsWordIn blocks w a = (block : Block) × (slice_get blocks a ≡ Some block) × (block.start ≤ w) × (w + 4 ≤ block.start + block.size)
+IsWordIn blocks w a =
+    (block : Block) × (slice_get blocks a ≡ Some block) × (block.start ≤ w) × (w + 4 ≤ block.start + block.size)

@@ -9,7 +9,11 @@ use Rattle.leak_search.specs.Search.{Scene, AreRecordsIn}
 
 -- what a search looks at in a state
 abbrev pub scene_of : State → Scene
-scene_of s = record { word = word_at s.bytes s.core.shadow; register = register s.core; blocks = live_list s.core.blocks }
+scene_of s = record {
+  word = word_at s.bytes s.core.shadow;
+  register = register s.core;
+  blocks = live_list s.core.blocks;
+}
 
 -- one record for each live block of a state, in order of address
 unfoldable pub AreRecordsOf : State → List LeakRecord → Type 0

@@ -1,5 +1,5 @@
--- The records of a leak search (Memcheck manual, section 4.2, "Memory leak detection"), of what it looks at. A word that lies half in a
--- block is neither a root nor a word of the block.
+-- The records of a leak search (Memcheck manual, section 4.2, "Memory leak detection"), of what it looks at. A word
+-- that lies half in a block is neither a root nor a word of the block.
 use Rattle.std.specs.Prelude.{◌≡◌, ℕ, ◌<◌, ◌≤◌, ◌⊎◌, Bool, true, false, List, Option, Some, slice_get, length}
 use Rattle.definedness.specs.declared.Bits.{Bits}
 use Rattle.guest_heap.specs.declared.block.Block.{Block}
@@ -7,8 +7,8 @@ use Rattle.leak_graph.specs.Leaks.{Links, HasKind}
 use Rattle.leak_search.specs.declared.record.LeakRecord.{LeakRecord}
 use Rattle.leak_search.specs.Pointing.{PointsTo, IsInNoBlock, IsWordIn}
 
--- what a search looks at: the value of the word at each address, where there is one, the registers by their numbers, and the live
--- blocks in order of address
+-- what a search looks at: the value of the word at each address, where there is one, the registers by their numbers,
+-- and the live blocks in order of address
 pub record Scene : Type 0 where
   pub word : ℕ → Option ℕ
   pub register : ℕ → Bits
@@ -34,7 +34,8 @@ abbrev pub RootPointsTo : Scene → Bool → ℕ → Type 0
 RootPointsTo scene starts b = (value : ℕ) × IsRoot scene value × PointsTo starts scene.blocks value b
 
 abbrev pub BlockPointsTo : Scene → Bool → ℕ → ℕ → Type 0
-BlockPointsTo scene starts a b = (value : ℕ) × IsHeldIn scene.word scene.blocks a value × PointsTo starts scene.blocks value b
+BlockPointsTo scene starts a b =
+    (value : ℕ) × IsHeldIn scene.word scene.blocks a value × PointsTo starts scene.blocks value b
 
 -- the links between the live blocks, which are numbered in order of address
 unfoldable pub links_in : Scene → Links

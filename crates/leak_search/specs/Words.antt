@@ -1,5 +1,5 @@
--- Words: the four bytes at a multiple of 4, where all are accessible and defined (Memcheck manual, section 4.2, "Memory leak
--- detection": pointers are looked for in aligned words that are addressable and initialised).
+-- Words: the four bytes at a multiple of 4, where all are accessible and defined (Memcheck manual, section 4.2, "Memory
+-- leak detection": pointers are looked for in aligned words that are addressable and initialised).
 use Rattle.std.specs.Prelude.{ℕ, ◌+◌, ◌%◌, ◌^◌, ◌==◌, ◌&&◌, nat_lt, if◌then◌else◌, Option, Some, None}
 use Rattle.shadow_memory.specs.Ranges.{little_word}
 use Rattle.shadow_memory.specs.Shadows.{Shadow, holds_word}

@@ -29,7 +29,8 @@ module _ {L S : Type 0} (answers : L → List ℕ → L → Type 0) (reply : L �
   )
 
 module _ (P Q : Relation) (to : (lines replies : List (List ℕ)) → P lines replies → Q lines replies) where
-  whole-to : (seen : List ℕ) (held-old held-new : Option (List ℕ)) (count bytes : ℕ) → WholeReplies P seen held-old held-new count bytes
+  whole-to : (seen : List ℕ) (held-old held-new : Option (List ℕ)) (count bytes : ℕ)
+      → WholeReplies P seen held-old held-new count bytes
       → WholeReplies Q seen held-old held-new count bytes
   whole-to seen held-old held-new count bytes h = record {
     replies = h.replies;
@@ -53,7 +54,8 @@ module _ (P Q : Relation) (to : (lines replies : List (List ℕ)) → P lines re
     bytes_is = h.bytes_is;
   }
 
-  stops-to : (fault : ServeFault) (seen : List ℕ) (left held-old held-new : Option (List ℕ)) → StopsBy fault P seen left held-old held-new
+  stops-to : (fault : ServeFault) (seen : List ℕ) (left held-old held-new : Option (List ℕ))
+      → StopsBy fault P seen left held-old held-new
       → StopsBy fault Q seen left held-old held-new
   stops-to (ReadFailed count bytes) seen left held-old held-new h = whole-to seen held-old held-new count bytes h
   stops-to (Endless count bytes) seen left held-old held-new h = whole-to seen held-old held-new count bytes h
@@ -61,17 +63,22 @@ module _ (P Q : Relation) (to : (lines replies : List (List ℕ)) → P lines re
       inl (cut-to (closed_lines seen) held-old held-new count bytes h)
   stops-to (WriteFailed count bytes) seen left held-old held-new (inr (at-end, h)) =
       inr (at-end, cut-to _ held-old held-new count bytes h)
-  stops-to (NoMemory count bytes) seen left held-old held-new (none, h) = (none, whole-to seen held-old held-new count bytes h)
+  stops-to (NoMemory count bytes) seen left held-old held-new (none, h) =
+      (none, whole-to seen held-old held-new count bytes h)
 
-  pub all-to : (left held-old held-new : Option (List ℕ)) → ServedAll P left held-old held-new → ServedAll Q left held-old held-new
+  pub all-to : (left held-old held-new : Option (List ℕ)) → ServedAll P left held-old held-new
+      → ServedAll Q left held-old held-new
   all-to None held-old held-new h = tt
   all-to (Some input) held-old held-new (replies, h, appended) = (replies, to _ _ h, appended)
 
-  pub read-to : (left-old left-new held-old held-new : Option (List ℕ)) → ServedRead P left-old left-new held-old held-new
+  pub read-to : (left-old left-new held-old held-new : Option (List ℕ))
+      → ServedRead P left-old left-new held-old held-new
       → ServedRead Q left-old left-new held-old held-new
-  read-to left-old left-new held-old held-new (seen, used, (replies, h, appended)) = (seen, used, (replies, to _ _ h, appended))
+  read-to left-old left-new held-old held-new (seen, used, (replies, h, appended)) =
+      (seen, used, (replies, to _ _ h, appended))
 
   pub stopped-to : (fault : ServeFault) (left-old left-new held-old held-new : Option (List ℕ))
       → StoppedBy fault P left-old left-new held-old held-new
       → StoppedBy fault Q left-old left-new held-old held-new
-  stopped-to fault left-old left-new held-old held-new (seen, used, h) = (seen, used, stops-to fault seen left-new held-old held-new h)
+  stopped-to fault left-old left-new held-old held-new (seen, used, h) =
+      (seen, used, stops-to fault seen left-new held-old held-new h)

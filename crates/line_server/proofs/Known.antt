@@ -1,5 +1,6 @@
 -- Known bytes that grow.
-use Rattle.std.proofs.Common.{Result, Ok, Err, IfErr, IsErrAnd, ◌≡◌, ℕ, List, [], ◌++◌, Option, None, Some, ◌∙◌, refl, ap, sym}
+use Rattle.std.proofs.Common.{Result, Ok, Err, IfErr, IsErrAnd, ◌≡◌, ℕ, List, [], ◌++◌, Option, None, Some, ◌∙◌, refl}
+use Rattle.std.proofs.Common.{ap, sym}
 use Rattle.std.proofs.Common.{append_assoc, arith, ◌+◌, ◌-◌, ◌<◌, ◌≤◌, length, take, drop, length-drop, subst}
 use Rattle.std.proofs.Math.Seq.{take-add, take-length}
 use Rattle.std.specs.Io.KnownBytes.{Appends, Consumes, Keeps}
@@ -22,7 +23,8 @@ pub from-on : (at : ℕ) (xs : List ℕ) → take (length xs - at) (drop at xs) 
 from-on at xs = rw (← length-drop at xs) (take-length (drop at xs))
 
 -- a step of a loop that writes what is left
-pub sent-step : (a b c : Option (List ℕ)) (at n : ℕ) (xs : List ℕ) → at < length xs → n ≤ length (take (length xs - at) (drop at xs))
+pub sent-step : (a b c : Option (List ℕ)) (at n : ℕ) (xs : List ℕ) → at < length xs
+    → n ≤ length (take (length xs - at) (drop at xs))
     → Appends a b (take at xs)
     → Appends b c (take n (take (length xs - at) (drop at xs))) → (at + n ≤ length xs) × Appends a c (take (at + n) xs)
 sent-step a b c at n xs inside bound so more =
@@ -36,7 +38,8 @@ consumes-keeps (Some x) None c p f k = absurd f
 consumes-keeps (Some x) (Some y) None p f k = absurd k
 consumes-keeps (Some x) (Some y) (Some z) p f k = f ∙ ap (λ w. p ++ w) (sym k)
 
-pub consumes-nothing : (a b : Option (List ℕ)) (n : ℕ) (buf : List ℕ) → n ≡ 0 → Consumes a b (take n buf) → Consumes a b []
+pub consumes-nothing : (a b : Option (List ℕ)) (n : ℕ) (buf : List ℕ) → n ≡ 0 → Consumes a b (take n buf)
+    → Consumes a b []
 consumes-nothing a b n buf zero f = subst (λ m. Consumes a b (take m buf)) zero f
 
 -- all of the bytes
@@ -59,6 +62,7 @@ at_refusal (Ok x) p = tt
 at_refusal (Err e) p = p
 
 -- what holds of the error that was passed on
-pub at_error : {T E : Type 0} (r : Result T E) (error : E) (P : E → Type 0) → IsErrAnd r (λ e. e ≡ error) → P error → IfErr r P
+pub at_error : {T E : Type 0} (r : Result T E) (error : E) (P : E → Type 0) → IsErrAnd r (λ e. e ≡ error) → P error
+    → IfErr r P
 at_error (Ok x) error P is holds = tt
 at_error (Err e) error P is holds = subst P (sym is) holds

@@ -1,5 +1,6 @@
 -- The lines of bytes, of the first of which a front stands already.
-use Rattle.std.proofs.Common.{◌≡◌, ℕ, List, [], ◌∷◌, ◌++◌, Bool, true, false, not, refl, sym, ap, ◌∙◌, cond, append-nil, append_assoc}
+use Rattle.std.proofs.Common.{◌≡◌, ℕ, List, [], ◌∷◌, ◌++◌, Bool, true, false, not, refl, sym, ap, ◌∙◌, cond, append-nil}
+use Rattle.std.proofs.Common.{append_assoc}
 use Rattle.std.proofs.Common.{◌==◌, length, map}
 use Rattle.std.specs.List.{slice_split, onto_first}
 use Rattle.std.specs.Str.Lines.{lines, lines_of_parts, strip_carriage_return}
@@ -48,7 +49,8 @@ nonempty p (b ∷ bytes) = pick (p b) (slice_split p bytes) where
 
 by-first : (t last : Bool) (front : List ℕ) (b : ℕ) (parts fresh longer : List (List ℕ)) → after_front [] parts ≡ parts
     → fresh ≡ read_parts last (after_front [] parts) → longer ≡ read_parts last (after_front (front ++ b ∷ []) parts)
-    → cond t (strip_carriage_return front ∷ fresh) longer ≡ read_parts last (after_front front (cond t ([] ∷ parts) (onto_first b parts)))
+    → cond t (strip_carriage_return front ∷ fresh) longer
+    ≡ read_parts last (after_front front (cond t ([] ∷ parts) (onto_first b parts)))
 by-first true last front b parts fresh longer same e f =
     read-cons last front parts fresh e ∙ ap (λ (ps : List (List ℕ)). read_parts last (front ∷ ps)) same ∙ ap
     (λ (w : List ℕ). read_parts last (w ∷ parts)) (sym (append-nil front))
@@ -56,9 +58,11 @@ by-first false last front b parts fresh longer same e f = f ∙ ap (read_parts l
 
 pub lines_by-is : (last : Bool) (bytes front : List ℕ)
     → lines_by last front bytes ≡ read_parts last (after_front front (slice_split (λ b. b == 10) bytes))
-lines_by-is last [] front = read-last last front ∙ ap (λ (w : List ℕ). read_parts last (w ∷ [])) (sym (append-nil front))
+lines_by-is last [] front =
+    read-last last front ∙ ap (λ (w : List ℕ). read_parts last (w ∷ [])) (sym (append-nil front))
 lines_by-is last (b ∷ bytes) front =
-    by-first (b == 10) last front b (slice_split (λ b. b == 10) bytes) _ _ (nonempty (λ b. b == 10) bytes) (lines_by-is last bytes [])
+    by-first (b == 10) last front b (slice_split (λ b. b == 10) bytes) _ _ (nonempty (λ b. b == 10) bytes)
+    (lines_by-is last bytes [])
     (lines_by-is last bytes (front ++ b ∷ []))
 
 pub lines-is : (bytes : List ℕ) → lines_by true [] bytes ≡ lines bytes
@@ -66,4 +70,5 @@ lines-is bytes = lines_by-is true bytes [] ∙ ap lines_of_parts (nonempty (λ b
 
 pub closed_lines-is : (bytes : List ℕ) → lines_by false [] bytes ≡ closed_lines bytes
 closed_lines-is bytes =
-    lines_by-is false bytes [] ∙ ap (λ (ps : List (List ℕ)). map strip_carriage_return (all_but_last ps)) (nonempty (λ b. b == 10) bytes)
+    lines_by-is false bytes [] ∙ ap (λ (ps : List (List ℕ)). map strip_carriage_return (all_but_last ps))
+    (nonempty (λ b. b == 10) bytes)

@@ -7,8 +7,9 @@ use Rattle.line_server.specs.Lines.{longest_line}
 abbrev pub Relation : Type 1
 Relation = List (List ℕ) → List (List ℕ) → Type 0
 
--- one reply for each line, up to the first that is told that there were too many; the next line meets what is left after it. What lines
--- meet and leave is of any type: `Replies` says which reply to a line leaves what, and `is_over` whether all were given that are answered
+-- one reply for each line, up to the first that is told that there were too many; the next line meets what is left
+-- after it. What lines meet and leave is of any type: `Replies` says which reply to a line leaves what, and `is_over`
+-- whether all were given that are answered
 abbrev pub AnswersBy : {S : Type 0} → (S → List ℕ → List ℕ → S → Type 0) → (S → Bool) → S → Relation
 AnswersBy Replies is_over stage [] replies = replies ≡ []
 AnswersBy Replies is_over stage (line ∷ lines) [] = ⊥
@@ -27,7 +28,8 @@ Answers answers reply over = AnswersBy (Says answers reply) over
 -- two lines that are longer than the longest leave the same of a listener
 abbrev pub AreLongAlike : {L : Type 0} → (L → List ℕ → L → Type 0) → Type 0
 AreLongAlike {L} answers =
-    (old new : L) (a b : List ℕ) → longest_line < length a → longest_line < length b → answers old a new → answers old b new
+    (old new : L) (a b : List ℕ) → longest_line < length a → longest_line < length b → answers old a new
+    → answers old b new
 
 -- replies, one after another
 abbrev pub joined : List (List ℕ) → List ℕ

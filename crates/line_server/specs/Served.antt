@@ -1,5 +1,6 @@
 -- What was written for the bytes that were read, over any relation between lines and their replies.
-use Rattle.std.specs.Prelude.{ℕ, ◌≡◌, ◌+◌, ◌-◌, ◌^◌, ◌≤◌, ◌==◌, ◌⊎◌, List, [], ◌∷◌, ◌++◌, Option, IfSome, length, take, min}
+use Rattle.std.specs.Prelude.{ℕ, ◌≡◌, ◌+◌, ◌-◌, ◌^◌, ◌≤◌, ◌==◌, ◌⊎◌, List, [], ◌∷◌, ◌++◌, Option, IfSome, length, take}
+use Rattle.std.specs.Prelude.{min}
 use Rattle.std.specs.Prelude.{if◌then◌else◌}
 use Rattle.std.specs.Io.KnownBytes.{Appends, Consumes, IsAtEnd}
 use Rattle.std.specs.Str.Lines.{lines}
@@ -27,7 +28,8 @@ ServedRead AreReplies left-old left-new held-old held-new =
     (seen : List ℕ) × Consumes left-old left-new seen × Served AreReplies seen held-old held-new
 
 -- the whole replies to all lines whose newline was read were written, this many and of this many bytes
-pub record WholeReplies (AreReplies : Relation) (seen : List ℕ) (held-old held-new : Option (List ℕ)) (count bytes : ℕ) : Type 0 where
+pub record WholeReplies (AreReplies : Relation) (seen : List ℕ) (held-old held-new : Option (List ℕ))
+    (count bytes : ℕ) : Type 0 where
   pub replies : List (List ℕ)
   pub answers : AreReplies (closed_lines seen) replies
   pub appended : Appends held-old held-new (joined replies)
@@ -35,7 +37,8 @@ pub record WholeReplies (AreReplies : Relation) (seen : List ℕ) (held-old held
   pub bytes_is : bytes ≡ standing (length (joined replies))
 
 -- whole replies to the first lines were written, and a front of the reply to the next, this many whole ones and bytes
-pub record CutReplies (AreReplies : Relation) (lines : List (List ℕ)) (held-old held-new : Option (List ℕ)) (count bytes : ℕ) : Type 0 where
+pub record CutReplies (AreReplies : Relation) (lines : List (List ℕ)) (held-old held-new : Option (List ℕ))
+    (count bytes : ℕ) : Type 0 where
   pub whole : List (List ℕ)
   pub next : List ℕ
   pub sent : ℕ
@@ -45,10 +48,13 @@ pub record CutReplies (AreReplies : Relation) (lines : List (List ℕ)) (held-ol
   pub count_is : count ≡ standing (length whole + (if sent == length next then 1 else 0))
   pub bytes_is : bytes ≡ standing (length (joined whole) + sent)
 
--- what each fault says of the bytes that were read and of those that are left: bytes after the last newline are a line at the end alone
+-- what each fault says of the bytes that were read and of those that are left: bytes after the last newline are a line
+-- at the end alone
 abbrev pub StopsBy : ServeFault → Relation → List ℕ → Option (List ℕ) → Option (List ℕ) → Option (List ℕ) → Type 0
-StopsBy (ReadFailed count bytes) AreReplies seen left held-old held-new = WholeReplies AreReplies seen held-old held-new count bytes
-StopsBy (Endless count bytes) AreReplies seen left held-old held-new = WholeReplies AreReplies seen held-old held-new count bytes
+StopsBy (ReadFailed count bytes) AreReplies seen left held-old held-new =
+    WholeReplies AreReplies seen held-old held-new count bytes
+StopsBy (Endless count bytes) AreReplies seen left held-old held-new =
+    WholeReplies AreReplies seen held-old held-new count bytes
 StopsBy (WriteFailed count bytes) AreReplies seen left held-old held-new =
     CutReplies AreReplies (closed_lines seen) held-old held-new count bytes
     ⊎ (IsAtEnd left × CutReplies AreReplies (lines seen) held-old held-new count bytes)
@@ -56,6 +62,7 @@ StopsBy (NoMemory count bytes) AreReplies seen left held-old held-new =
     (seen ≡ []) × WholeReplies AreReplies seen held-old held-new count bytes
 
 -- some bytes were read, and what a fault says of them holds
-abbrev pub StoppedBy : ServeFault → Relation → Option (List ℕ) → Option (List ℕ) → Option (List ℕ) → Option (List ℕ) → Type 0
+abbrev pub StoppedBy : ServeFault → Relation → Option (List ℕ) → Option (List ℕ) → Option (List ℕ) → Option (List ℕ)
+    → Type 0
 StoppedBy fault AreReplies left-old left-new held-old held-new =
     (seen : List ℕ) × Consumes left-old left-new seen × StopsBy fault AreReplies seen left-new held-old held-new

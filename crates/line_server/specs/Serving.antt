@@ -1,5 +1,6 @@
 -- What serving some bytes does, between two reads.
-use Rattle.std.specs.Prelude.{ℕ, ◌≡◌, ◌+◌, ◌^◌, ◌<◌, ◌≤◌, ◌==◌, ◌⊎◌, List, [], ◌∷◌, ◌++◌, Bool, true, false, Option, length, take}
+use Rattle.std.specs.Prelude.{ℕ, ◌≡◌, ◌+◌, ◌^◌, ◌<◌, ◌≤◌, ◌==◌, ◌⊎◌, List, [], ◌∷◌, ◌++◌, Bool, true, false, Option}
+use Rattle.std.specs.Prelude.{length, take}
 use Rattle.std.specs.Prelude.{if◌then◌else◌}
 use Rattle.std.specs.Io.KnownBytes.{Appends, Consumes, IsAtEnd}
 use Rattle.line_server.specs.Answers.{Relation, joined}
@@ -24,9 +25,10 @@ pub record Cut (old new : Written) (held-old held-new : Option (List ℕ)) (repl
   pub replies : new.replies ≡ standing (old.replies + (if sent == length reply then 1 else 0))
   pub bytes : new.bytes ≡ standing (old.bytes + sent)
 
--- the bytes are served, and more may come: replies were written, to which those to the first lines of what comes are joined. What is
--- answered from the first of these bytes on, and what after them, are two relations
-pub record Fed (from after : Relation) (old new : Server) (held-old held-new : Option (List ℕ)) (bytes : List ℕ) : Type 0 where
+-- the bytes are served, and more may come: replies were written, to which those to the first lines of what comes are
+-- joined. What is answered from the first of these bytes on, and what after them, are two relations
+pub record Fed (from after : Relation) (old new : Server) (held-old held-new : Option (List ℕ)) (bytes : List ℕ) : Type
+    0 where
   pub done : List (List ℕ)
   pub appended : Appends held-old held-new (joined done)
   pub replies : standing new.written.replies ≡ standing (old.written.replies + length done)
@@ -42,13 +44,15 @@ pub record Over (from : Relation) (old : Server) (held-old held-new : Option (Li
   pub answers : (last : Bool) (more : List ℕ) → from (lines_by last old.kept.items (bytes ++ more)) done
 
 -- a write failed: whole replies to the first of the lines were written, and a front of the reply to the next
-pub record Broken (from : Relation) (old new : Server) (held-old held-new : Option (List ℕ)) (lines : List (List ℕ)) : Type 0 where
+pub record Broken (from : Relation) (old new : Server) (held-old held-new : Option (List ℕ))
+    (lines : List (List ℕ)) : Type 0 where
   pub done : List (List ℕ)
   pub last : List ℕ
   pub sent : ℕ
   pub within : sent ≤ length last
   pub appended : Appends held-old held-new (joined done ++ take sent last)
-  pub replies : standing new.written.replies ≡ standing (old.written.replies + length done + (if sent == length last then 1 else 0))
+  pub replies : standing new.written.replies
+      ≡ standing (old.written.replies + length done + (if sent == length last then 1 else 0))
   pub written : standing new.written.bytes ≡ standing (old.written.bytes + length (joined done) + sent)
   pub answers : from (take (length done + 1) lines) (done ++ last ∷ [])
 
@@ -66,14 +70,16 @@ IsFresh server = (server.kept.items ≡ []) × (server.written.replies ≡ 0) ×
 abbrev pub Reads : Option (List ℕ) → Option (List ℕ) → (List ℕ → Type 0) → Type 0
 Reads left-old left-new P = (seen : List ℕ) × Consumes left-old left-new seen × P seen
 
--- it has ended with the bytes that were read: all lines were given that are answered, or they are none since there are no more
+-- it has ended with the bytes that were read: all lines were given that are answered, or they are none since there are
+-- no more
 abbrev pub Ends : Relation → Server → Option (List ℕ) → Option (List ℕ) → Option (List ℕ) → List ℕ → Type 0
 Ends from old left held-old held-new seen =
     Over from old held-old held-new seen ⊎ ((seen ≡ []) × IsAtEnd left × Ended from old held-old held-new)
 
 -- these are the numbers of replies and of bytes that were written
 abbrev pub Counts : Written → ℕ → ℕ → Type 0
-Counts written replies bytes = (replies ≡ written.replies) × (bytes ≡ written.bytes) × (replies < 2 ^ 64) × (bytes < 2 ^ 64)
+Counts written replies bytes =
+    (replies ≡ written.replies) × (bytes ≡ written.bytes) × (replies < 2 ^ 64) × (bytes < 2 ^ 64)
 
 -- a fault tells that a write failed, and what was written
 abbrev pub IsWriteFailure : Written → ServeFault → Type 0
@@ -86,7 +92,8 @@ IsEndlessFault written (Endless replies bytes) = Counts written replies bytes
 IsEndlessFault written fault = ⊥
 
 -- a read failed, or a write did: of the reply to a line whose newline was read, or to the last line at the end
-abbrev pub Halts : ServeFault → Relation → Relation → Server → Server → Option (List ℕ) → Option (List ℕ) → Option (List ℕ) → List ℕ
+abbrev pub Halts : ServeFault → Relation → Relation → Server → Server → Option (List ℕ) → Option (List ℕ)
+    → Option (List ℕ) → List ℕ
     → Type 0
 Halts (ReadFailed replies bytes) from after old new left held-old held-new seen =
     Counts new.written replies bytes × Fed from after old new held-old held-new seen

@@ -8,9 +8,11 @@ unfolding joined_below
 no_more text begun out so = so ∙ sym (append-nil begun)
 
 -- one text more
-pub one_more : (text : ℕ → List ℕ) (n : ℕ) (begun out new : List ℕ) → out ≡ begun ++ joined_below text n → new ≡ out ++ text n
+pub one_more : (text : ℕ → List ℕ) (n : ℕ) (begun out new : List ℕ) → out ≡ begun ++ joined_below text n
+    → new ≡ out ++ text n
     → new ≡ begun ++ joined_below text (n + 1)
 unfolding joined_below
 one_more text n begun out new so more =
     let next : suc n ≡ n + 1 = omega arith in
-    more ∙ ap (λ xs. xs ++ text n) so ∙ append_assoc begun (joined_below text n) (text n) ∙ ap (λ m. begun ++ joined_below text m) next
+    more ∙ ap (λ xs. xs ++ text n) so ∙ append_assoc begun (joined_below text n) (text n)
+    ∙ ap (λ m. begun ++ joined_below text m) next

@@ -20,16 +20,20 @@ last-fails false b c h = refl
 
 too-long : (turn : Turn) (line : List ℕ) → longest_line < length line → looks turn line ≡ false
 unfolding looks
-too-long turn line h = last-fails (starts_with nat_eq line (codes "look ")) (not (is_over turn)) _ (lt-leb (length line) longest_line h)
+too-long turn line h =
+    last-fails (starts_with nat_eq line (codes "look ")) (not (is_over turn)) _ (lt-leb (length line) longest_line h)
 
 -- a line that doesn't look is answered as in a session
 module _ (old new : Stage) (line text : List ℕ) (no : looks old.turn line ≡ false) where
   pub as_in_session : Replies old line text new → Views old line text new
-  as_in_session h = subst (λ (t : Bool). MatchBool t (Looked old (asked line) text new) (Replies old line text new)) (sym no) h
+  as_in_session h =
+      subst (λ (t : Bool). MatchBool t (Looked old (asked line) text new) (Replies old line text new)) (sym no) h
 
   in-session : Views old line text new → Replies old line text new
   in-session h = subst (λ (t : Bool). MatchBool t (Looked old (asked line) text new) (Replies old line text new)) no h
 
-pub long_alike : (old new : Stage) (a b text : List ℕ) → longest_line < length a → longest_line < length b → Views old a text new → Views old b text new
+pub long_alike : (old new : Stage) (a b text : List ℕ) → longest_line < length a → longest_line < length b
+    → Views old a text new → Views old b text new
 long_alike old new a b text f g views =
-    as_in_session old new b text (too-long old.turn b g) (session_alike old new a b text f g (in-session old new a text (too-long old.turn a f) views))
+    as_in_session old new b text (too-long old.turn b g)
+    (session_alike old new a b text f g (in-session old new a text (too-long old.turn a f) views))

@@ -1,5 +1,6 @@
 -- What a look asks for, and the line that asks for it.
-use Rattle.std.specs.Prelude.{ℕ, ◌+◌, ◌^◌, ◌&&◌, nat_eq, nat_le, nat_lt, Bool, not, if◌then◌else◌, List, [], ◌∷◌, length, Option, Some, None, option_map, Result, Ok, Err, codes}
+use Rattle.std.specs.Prelude.{ℕ, ◌+◌, ◌^◌, ◌&&◌, nat_eq, nat_le, nat_lt, Bool, not, if◌then◌else◌, List, [], ◌∷◌}
+use Rattle.std.specs.Prelude.{length, Option, Some, None, option_map, Result, Ok, Err, codes}
 use Rattle.std.specs.List.{starts_with}
 use Rattle.std.specs.Str.{bytes_eq}
 use Rattle.checkpoints.specs.declared.searches.Sought.{Sought}
@@ -59,7 +60,8 @@ search_with (Some sought) None = None
 search_with None bound = None
 
 unfoldable pub search_of : List (List ℕ) → Option Search
-search_of (kind ∷ addr ∷ len ∷ bound ∷ []) = search_with (sought_with (watch_of kind) (span_with (number addr) (number len))) (number bound)
+search_of (kind ∷ addr ∷ len ∷ bound ∷ []) =
+    search_with (sought_with (watch_of kind) (span_with (number addr) (number len))) (number bound)
 search_of _ = None
 
 -- the look of the word after `look`, and the fields after that

@@ -20,7 +20,8 @@ joined_below text (suc n) = joined_below text n ++ text n
 
 -- a register: its value and its undefined bits
 unfoldable pub register_line : ℕ → Bits → List ℕ
-register_line r bits = codes "x" ++ decimal r ++ codes " " ++ address_text bits.value ++ codes " " ++ address_text bits.undef ++ newline
+register_line r bits =
+    codes "x" ++ decimal r ++ codes " " ++ address_text bits.value ++ codes " " ++ address_text bits.undef ++ newline
 
 -- x1 and those after it, so many
 abbrev pub register_lines : Core → ℕ → List ℕ
@@ -44,17 +45,20 @@ undefs_text shadows start n = joined_below (λ i. undef_text (shadows (start + i
 -- the bytes of a range, and below each its undefined bits
 unfoldable pub memory_text : State → Span → List ℕ
 memory_text s range =
-    codes "bytes " ++ bytes_text s.bytes range.start range.len ++ codes "\nundef " ++ undefs_text s.core.shadow range.start range.len ++ newline
+    codes "bytes " ++ bytes_text s.bytes range.start range.len ++ codes "\nundef "
+    ++ undefs_text s.core.shadow range.start range.len ++ newline
 
 -- a step that was found, if one was
 unfoldable pub step_text : Option ℕ → List ℕ
 step_text None = codes "none\n"
 step_text (Some step) = codes "step " ++ decimal step ++ newline
 
--- a text is what a look tells at the chosen step of one run from step zero: of its state; or which step from it on is the first, or before it
--- the last, that does what is sought
+-- a text is what a look tells at the chosen step of one run from step zero: of its state; or which step from it on is
+-- the first, or before it the last, that does what is sought
 abbrev pub Tells : Scenario → Look → List ℕ → Type 0
 Tells sc Registers text = text ≡ registers_text (chosen_state sc)
 Tells sc (Memory range) text = text ≡ memory_text (chosen_state sc) range
-Tells sc (Next search) text = (found : Option ℕ) × IsNext (Finds sc search.sought) sc.step search.bound found × (text ≡ step_text found)
-Tells sc (Last search) text = (found : Option ℕ) × IsLast (Finds sc search.sought) search.bound sc.step found × (text ≡ step_text found)
+Tells sc (Next search) text =
+    (found : Option ℕ) × IsNext (Finds sc search.sought) sc.step search.bound found × (text ≡ step_text found)
+Tells sc (Last search) text =
+    (found : Option ℕ) × IsLast (Finds sc search.sought) search.bound sc.step found × (text ≡ step_text found)

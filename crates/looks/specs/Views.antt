@@ -20,7 +20,8 @@ pub record Leaves (old new : Stage) : Type 0 where
 -- the reply to a look: what it tells, and the work is moved as by a report at that step; or memory was wanting
 abbrev pub Told : Stage → Look → List ℕ → Stage → Type 0
 Told old look text new =
-    (Tells old.turn.scenario look text × ReportMoves old.turn.scenario.step old.work new.work) ⊎ (text ≡ refused_line Memory)
+    (Tells old.turn.scenario look text × ReportMoves old.turn.scenario.step old.work new.work)
+    ⊎ (text ≡ refused_line Memory)
 
 -- the reply to a line that looks, or would but is refused
 abbrev pub Looked : Stage → Result Look Fault → List ℕ → Stage → Type 0

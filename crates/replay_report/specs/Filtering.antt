@@ -1,5 +1,5 @@
--- Which errors a report shows, and how they are grouped (Valgrind user manual, section 2.5 for suppressions, and `--num-callers` of
--- section 2.6). A suppression sees the whole trace; errors are grouped by its first addresses.
+-- Which errors a report shows, and how they are grouped (Valgrind user manual, section 2.5 for suppressions, and
+-- `--num-callers` of section 2.6). A suppression sees the whole trace; errors are grouped by its first addresses.
 use Rattle.std.specs.Prelude.{ℕ, Bool, not, List, map, filter}
 use Rattle.guest_elf.specs.declared.image.Image.{Image}
 use Rattle.guest_elf.specs.Images.{name_at}

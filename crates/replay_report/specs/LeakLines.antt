@@ -1,4 +1,5 @@
--- The lines of a report on leaked blocks, each with its newline (Memcheck manual, section 4.2, "Memory leak detection").
+-- The lines of a report on leaked blocks, each with its newline (Memcheck manual, section 4.2, "Memory leak
+-- detection").
 use Rattle.std.specs.Prelude.{ℕ, Bool, if◌then◌else◌, List, [], ◌++◌, codes}
 use Rattle.std.specs.List.{flat_map}
 use Rattle.std.specs.Fmt.{decimal}
@@ -50,4 +51,5 @@ total_lines shown hidden =
 unfoldable pub leak_section : Image → List Rule → Options → List LeakRecord → List ℕ
 leak_section image rules options records =
     let shown = shown_records rules image records in
-    flat_map (leak_lines image options.show) (leak_groups options.callers shown) ++ total_lines shown (hidden_records rules image records)
+    flat_map (leak_lines image options.show) (leak_groups options.callers shown)
+    ++ total_lines shown (hidden_records rules image records)

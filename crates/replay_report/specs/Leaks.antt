@@ -1,6 +1,7 @@
--- The live blocks that a report shows as leaked, how they are grouped, and how much they are (Memcheck manual, section 4.2, "Memory leak
--- detection", and options `--show-leak-kinds` and `--num-callers`).
-use Rattle.std.specs.Prelude.{ℕ, ◌+◌, ◌&&◌, Bool, true, false, not, if◌then◌else◌, List, [], ◌∷◌, filter, fold, length, min, sum_by, take, slice_index_or}
+-- The live blocks that a report shows as leaked, how they are grouped, and how much they are (Memcheck manual, section
+-- 4.2, "Memory leak detection", and options `--show-leak-kinds` and `--num-callers`).
+use Rattle.std.specs.Prelude.{ℕ, ◌+◌, ◌&&◌, Bool, true, false, not, if◌then◌else◌, List, [], ◌∷◌, filter, fold, length}
+use Rattle.std.specs.Prelude.{min, sum_by, take, slice_index_or}
 use Rattle.guest_elf.specs.declared.image.Image.{Image}
 use Rattle.error_events.specs.Groups.{same_trace, most}
 use Rattle.leak_graph.specs.declared.leak_kind.LeakKind.{LeakKind}

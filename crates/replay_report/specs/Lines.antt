@@ -73,7 +73,8 @@ error_line count kind = codes "error " ++ decimal count ++ codes ": " ++ kind_te
 
 -- `   at A: NAME` and `   by A: NAME`
 unfoldable pub frame_line : List ℕ → Image → ℕ → List ℕ
-frame_line word image a = codes "   " ++ word ++ codes " " ++ address_text a ++ codes ": " ++ shown_name (name_at image a) ++ newline
+frame_line word image a =
+    codes "   " ++ word ++ codes " " ++ address_text a ++ codes ": " ++ shown_name (name_at image a) ++ newline
 
 -- the lines of a trace
 unfoldable pub trace_lines : Image → List ℕ → List ℕ
@@ -96,7 +97,8 @@ last_trace block = unwrap_or block.freed block.trace
 
 -- ` Address A is I bytes inside` and ` a block of size S alloc'd`
 unfoldable pub near_front : ℕ → NearBlock → List ℕ
-near_front a near = codes " Address " ++ address_text a ++ codes " is " ++ decimal near.distance ++ place_text near.place
+near_front a near =
+    codes " Address " ++ address_text a ++ codes " is " ++ decimal near.distance ++ place_text near.place
 
 unfoldable pub near_back : Block → List ℕ
 near_back block = codes " a block of size " ++ decimal block.size ++ state_text block.freed ++ newline
@@ -109,12 +111,14 @@ unfoldable pub note_lines : Image → ℕ → Note → List ℕ
 note_lines image callers Absent = []
 note_lines image callers (Near a near) = near_line a near ++ trace_lines image (take callers (last_trace near.block))
 note_lines image callers (Stack a) = codes " Address " ++ address_text a ++ codes " is in the stack region" ++ newline
-note_lines image callers (Elsewhere a) = codes " Address " ++ address_text a ++ codes " is not stack'd, malloc'd or (recently) free'd" ++ newline
+note_lines image callers (Elsewhere a) =
+    codes " Address " ++ address_text a ++ codes " is not stack'd, malloc'd or (recently) free'd" ++ newline
 
 -- the lines of a group of errors: traces are cut to so many addresses
 unfoldable pub group_lines : Image → ℕ → Group → List ℕ
 group_lines image callers group =
-    error_line group.count group.kind ++ trace_lines image (take callers group.trace) ++ note_lines image callers group.note
+    error_line group.count group.kind ++ trace_lines image (take callers group.trace)
+    ++ note_lines image callers group.note
 
 -- how many errors there are; the sum stands still at the greatest 64-bit number
 abbrev pub error_total : List Group → ℕ
@@ -122,10 +126,14 @@ error_total groups = min (sum_by (λ g. g.count) groups) 18446744073709551615
 
 -- `ERROR SUMMARY: E errors from C contexts (suppressed: E2 from C2)`
 unfoldable pub shown_summary : List Group → List ℕ
-shown_summary groups = codes "ERROR SUMMARY: " ++ decimal (error_total groups) ++ codes " errors from " ++ decimal (length groups) ++ codes " contexts"
+shown_summary groups =
+    codes "ERROR SUMMARY: " ++ decimal (error_total groups) ++ codes " errors from " ++ decimal (length groups)
+    ++ codes " contexts"
 
 unfoldable pub hidden_summary : List Group → List ℕ
-hidden_summary groups = codes " (suppressed: " ++ decimal (error_total groups) ++ codes " from " ++ decimal (length groups) ++ codes ")" ++ newline
+hidden_summary groups =
+    codes " (suppressed: " ++ decimal (error_total groups) ++ codes " from " ++ decimal (length groups) ++ codes ")"
+    ++ newline
 
 abbrev pub summary_line : List Group → List Group → List ℕ
 summary_line shown hidden = shown_summary shown ++ hidden_summary hidden

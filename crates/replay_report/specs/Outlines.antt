@@ -1,5 +1,6 @@
--- The outline of a state: how the machine ended, and each error and each leak that its report shows, without what differs among runs that
--- came to the same: how far they came, how often an error was met, how large blocks are, and what is noted of an address.
+-- The outline of a state: how the machine ended, and each error and each leak that its report shows, without what
+-- differs among runs that came to the same: how far they came, how often an error was met, how large blocks are, and
+-- what is noted of an address.
 use Rattle.std.specs.Prelude.{◌≡◌, ℕ, Bool, if◌then◌else◌, List, [], ◌++◌, codes, drop, take, length, map}
 use Rattle.std.specs.List.{flat_map}
 use Rattle.std.specs.Fmt.{decimal}
@@ -41,20 +42,24 @@ told_trace _ trace = trace
 
 -- what an error is called, and its trace, cut to so many addresses
 unfoldable pub error_outline : Image → ℕ → Group → List ℕ
-error_outline image callers group = kind_text group.kind ++ newline ++ trace_lines image (told_trace group.kind (take callers group.trace))
+error_outline image callers group =
+    kind_text group.kind ++ newline ++ trace_lines image (told_trace group.kind (take callers group.trace))
 
 -- how blocks were lost, or that they were not, and where they were allocated, if their kind is shown
 unfoldable pub leak_outline : Image → List Bool → LeakKey → List ℕ
-leak_outline image show key = if is_shown show key.kind then leak_text key.kind ++ newline ++ trace_lines image key.trace else []
+leak_outline image show key =
+    if is_shown show key.kind then leak_text key.kind ++ newline ++ trace_lines image key.trace else []
 
 -- how the machine ended, and how many bytes were written, if that is asked for
 unfoldable pub outline_head : State → Bool → List ℕ
-outline_head s with_output = end_line s.core.status s.core.pc ++ (if with_output then output_line (length s.output) else [])
+outline_head s with_output =
+    end_line s.core.status s.core.pc ++ (if with_output then output_line (length s.output) else [])
 
 -- the leaks, where these are the records of the live blocks
 unfoldable pub leak_outlines : Image → List Rule → Options → List LeakRecord → List ℕ
 leak_outlines image rules options records =
-    flat_map (leak_outline image options.show) (map (λ g. g.0) (leak_groups options.callers (shown_records rules image records)))
+    flat_map (leak_outline image options.show)
+    (map (λ g. g.0) (leak_groups options.callers (shown_records rules image records)))
 
 -- the outline, where these are the records of the live blocks
 unfoldable pub outline_text : State → Image → List Rule → Options → Bool → List LeakRecord → List ℕ
@@ -66,4 +71,5 @@ outline_text s image rules options with_output records =
 -- a text is the outline of a state: that with the records of its live blocks, whose kinds are told by paths of pointers
 unfoldable pub IsOutline : State → Image → List Rule → Options → Bool → List ℕ → Type 0
 IsOutline s image rules options with_output text =
-    (records : List LeakRecord) × AreRecordsOf s records × (text ≡ outline_text s image rules options with_output records)
+    (records : List LeakRecord) × AreRecordsOf s records
+    × (text ≡ outline_text s image rules options with_output records)

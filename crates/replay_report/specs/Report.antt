@@ -14,7 +14,8 @@ use Rattle.replay_report.specs.declared.options.Options.{Options}
 -- the first lines: the step, what the machine does, its input and its output
 unfoldable pub head_lines : State → ℕ → ℕ → List ℕ
 head_lines s step input_len =
-    step_line step ++ state_line s.core.status s.core.pc ++ input_line s.position input_len ++ output_line (length s.output)
+    step_line step ++ state_line s.core.status s.core.pc ++ input_line s.position input_len
+    ++ output_line (length s.output)
 
 -- the report at a step, for an input of so many bytes, where these are the records of the live blocks
 unfoldable pub report_text : State → Image → List Rule → Options → ℕ → ℕ → List LeakRecord → List ℕ
@@ -28,7 +29,8 @@ report_text s image rules options step input_len records =
 -- a text is the report of a state: that with the records of its live blocks, whose kinds are told by paths of pointers
 unfoldable pub IsReport : State → Image → List Rule → Options → ℕ → ℕ → List ℕ → Type 0
 IsReport s image rules options step input_len text =
-    (records : List LeakRecord) × AreRecordsOf s records × (text ≡ report_text s image rules options step input_len records)
+    (records : List LeakRecord) × AreRecordsOf s records
+    × (text ≡ report_text s image rules options step input_len records)
 
 -- a report, and nothing else, was put at the end
 abbrev pub AppendsReport : (List ℕ → Type 0) → List ℕ → List ℕ → Type 0

@@ -1,5 +1,6 @@
 -- The laws of the steps that lines make.
-use Rattle.std.proofs.Common.{◌≡◌, ℕ, zero, suc, ◌+◌, ◌%◌, ◌≤◌, ◌==◌, nat_lt, Bool, true, false, List, [], ◌∷◌, ◌++◌, Some, Result, Ok, Err}
+use Rattle.std.proofs.Common.{◌≡◌, ℕ, zero, suc, ◌+◌, ◌%◌, ◌≤◌, ◌==◌, nat_lt, Bool, true, false, List, [], ◌∷◌, ◌++◌}
+use Rattle.std.proofs.Common.{Some, Result, Ok, Err}
 use Rattle.std.proofs.Common.{refl, ap, sym, ◌∙◌, subst, arith, min, inl, inr, append_assoc, append-nil}
 use Rattle.std.specs.Prelude.{◌⊎◌, ◌↔◌}
 use Rattle.std.proofs.lemmas.Bool.{cases_lt, false≢true}
@@ -17,7 +18,8 @@ use Rattle.scenario.specs.Scenario.{Scenario, run_of}
 use Rattle.scenario.proofs.FrontSteps.{nothing_read, nothing_ended, nothing_called}
 use Rattle.replay_session.specs.Turns.{Turn, accepted, applied}
 use Rattle.replay_session.specs.Work.{ShowsAt, MovesWork, LineMoves, no_work}
-use Rattle.replay_session.specs.LinesWork.{Given, outcome_of, given_from, Reaches, Spares, IsKept, IsHeldAfter, IsLastHeld, Adds, AddUp, LinesMove, HeldByLines, MadeByLines, WorkIsOne}
+use Rattle.replay_session.specs.LinesWork.{Given, outcome_of, given_from, Reaches, Spares, IsKept, IsHeldAfter}
+use Rattle.replay_session.specs.LinesWork.{IsLastHeld, Adds, AddUp, LinesMove, HeldByLines, MadeByLines, WorkIsOne}
 use Rattle.replay_session.specs.declared.fault.Fault.{Fault}
 use Rattle.replay_session.specs.declared.command.Command.{Command}
 use Rattle.replay_session.specs.declared.command.Command.TheVariants.{Report, Edit}
@@ -34,7 +36,8 @@ patch_test uses (suc j) = uses j
 patch-decided : (uses : ℕ → Bool) → DecidesEach (patch_test uses) (λ k. (j : ℕ) × (k ≡ j + 1) × (uses j ≡ true))
 unfolding patch_test
 patch-decided uses zero = (λ e. absurd (false≢true e), λ x. absurd (let e = x.1 in omega arith))
-patch-decided uses (suc j) = (λ e. (j, omega arith, e), λ x. let e = x.1 in let same : j ≡ x.0 = omega arith in ap uses same ∙ x.2)
+patch-decided uses (suc j) =
+    (λ e. (j, omega arith, e), λ x. let e = x.1 in let same : j ≡ x.0 = omega arith in ap uses same ∙ x.2)
 
 -- where something shows is decided step by step, and it never shows at step 0
 record Tested (P : ℕ → Type 0) : Type 0 where
@@ -42,7 +45,8 @@ record Tested (P : ℕ → Type 0) : Type 0 where
   decides : DecidesEach test P
   later : P 0 → ⊥
 
-tested-by : (effect : Effect) (run : Run) → (run.start.position ≡ 0) × (run.start.end_seen ≡ false) × (run.start.heap_calls ≡ 0)
+tested-by : (effect : Effect) (run : Run) → (run.start.position ≡ 0) × (run.start.end_seen ≡ false)
+    × (run.start.heap_calls ≡ 0)
     → Tested (EffectShows effect run.start run.setup run.marks)
 unfolding pre
 tested-by Nowhere run fresh = record { test = λ k. false; decides = nowhere; later = λ x. absurd x }
@@ -73,7 +77,8 @@ tested-by (Word addr word) run fresh = record {
 }
 
 tested : (sc : Scenario) (command : Command) → Tested (ShowsAt sc command)
-tested sc (Edit edit) = tested-by (row sc edit).effect (run_of sc) (nothing_read sc, nothing_ended sc, nothing_called sc)
+tested sc (Edit edit) =
+    tested-by (row sc edit).effect (run_of sc) (nothing_read sc, nothing_ended sc, nothing_called sc)
 tested sc _ = record { test = λ k. false; decides = nowhere; later = λ x. absurd x }
 
 -- a report moves the work as a report does, all else by where it shows
@@ -83,22 +88,26 @@ by-kind : (sc : Scenario) (command : Command) (old new : Work) → MovesWork sc 
 by-kind sc Report old new h = inl (refl, h)
 by-kind sc _ old new h = inr (λ e. absurd cc, h)
 
-adds-none : (past : List Given) (turn : Turn) (outcome : Result Command Fault) → (outcome ≡ Ok Report → ⊥) → Adds past turn outcome 0
+adds-none : (past : List Given) (turn : Turn) (outcome : Result Command Fault) → (outcome ≡ Ok Report → ⊥)
+    → Adds past turn outcome 0
 adds-none past turn (Ok Report) other = absurd (other refl)
 adds-none past turn (Ok _) other = refl
 adds-none past turn (Err fault) other = refl
 
 -- what one line more keeps
-kept-from : (lines : List Given) (g : Given) (h : ℕ) → IsKept (lines ++ g ∷ []) h → Reaches h g ⊎ (IsKept lines h × Spares h g)
+kept-from : (lines : List Given) (g : Given) (h : ℕ) → IsKept (lines ++ g ∷ []) h
+    → Reaches h g ⊎ (IsKept lines h × Spares h g)
 kept-from [] g h (inl r) = inl r.0
 kept-from [] g h (inr none) = absurd none
-kept-from (x ∷ xs) g h (inl r) = let all = All-pop (Spares h) (xs ++ g ∷ []) xs (Some g) refl r.1 in inr (inl (r.0, all.0), all.1)
+kept-from (x ∷ xs) g h (inl r) =
+    let all = All-pop (Spares h) (xs ++ g ∷ []) xs (Some g) refl r.1 in inr (inl (r.0, all.0), all.1)
 kept-from (x ∷ xs) g h (inr k) = (elim (kept-from xs g h k) [
   | inl r ↦ inl r
   | inr both ↦ inr (inr both.0, both.1)
 ])
 
-kept-to : (lines : List Given) (g : Given) (h : ℕ) → Reaches h g ⊎ (IsKept lines h × Spares h g) → IsKept (lines ++ g ∷ []) h
+kept-to : (lines : List Given) (g : Given) (h : ℕ) → Reaches h g ⊎ (IsKept lines h × Spares h g)
+    → IsKept (lines ++ g ∷ []) h
 kept-to [] g h (inl r) = inl (r, All-nil (Spares h))
 kept-to [] g h (inr both) = absurd both.0
 kept-to (x ∷ xs) g h (inl r) = inr (kept-to xs g h (inl r))
@@ -140,17 +149,21 @@ more lines g last after up round kept = (round, λ h at. (λ l. to h at ((kept h
 
 -- a line that isn't an accepted edit spares each step
 spares-refused : (g : Given) (fault : Fault) (h : ℕ) → outcome_of g ≡ Err fault → Spares h g
-spares-refused g fault h e command told = absurd (let x : ◌≡◌ {A = Result Command Fault} (Err fault) (Ok command) = sym e ∙ told in cc)
+spares-refused g fault h e command told =
+    absurd (let x : ◌≡◌ {A = Result Command Fault} (Err fault) (Ok command) = sym e ∙ told in cc)
 
 same-command : (a b : Command) (r : Result Command Fault) → r ≡ Ok a → r ≡ Ok b → b ≡ a
 same-command a b r p q = let x : ◌≡◌ {A = Result Command Fault} (Ok a) (Ok b) = sym p ∙ q in cc
 
-spares-where : (g : Given) (command : Command) (h : ℕ) → outcome_of g ≡ Ok command → IsBelowFirst (ShowsAt g.turn.scenario command) h → Spares h g
+spares-where : (g : Given) (command : Command) (h : ℕ) → outcome_of g ≡ Ok command
+    → IsBelowFirst (ShowsAt g.turn.scenario command) h → Spares h g
 spares-where g command h e below other told =
-    let P : Command → Type 0 = λ c. IsBelowFirst (ShowsAt g.turn.scenario c) h in subst P (sym (same-command command other (outcome_of g) e told)) below
+    let P : Command → Type 0 = λ c. IsBelowFirst (ShowsAt g.turn.scenario c) h in
+    subst P (sym (same-command command other (outcome_of g) e told)) below
 
 -- what one line does to where machines are held
-line-holds : (lines : List Given) (g : Given) (old new : Work) → UpTo lines old.last → LineMoves g.turn.scenario (outcome_of g) old new → UpTo (lines ++ g ∷ []) new.last
+line-holds : (lines : List Given) (g : Given) (old new : Work) → UpTo lines old.last
+    → LineMoves g.turn.scenario (outcome_of g) old new → UpTo (lines ++ g ∷ []) new.last
 line-holds lines g old new up moves = go (outcome_of g) refl moves
   where
     stays : (fault : Fault) → outcome_of g ≡ Err fault → new.last ≡ old.last → UpTo (lines ++ g ∷ []) new.last
@@ -162,7 +175,8 @@ line-holds lines g old new up moves = go (outcome_of g) refl moves
       ]),
     ))
 
-    reports : outcome_of g ≡ Ok Report → new.last ≡ reached old.last g.turn.scenario.step → UpTo (lines ++ g ∷ []) new.last
+    reports : outcome_of g ≡ Ok Report → new.last ≡ reached old.last g.turn.scenario.step
+        → UpTo (lines ++ g ∷ []) new.last
     reports e is = more lines g old.last new.last up (let r = up.0 in omega arith) (λ h at. (
       (λ l. (elim (cases_lt old.last h) [
         | inl above ↦ inl (e, omega arith)
@@ -174,7 +188,8 @@ line-holds lines g old new up moves = go (outcome_of g) refl moves
       ]),
     ))
 
-    edits : (command : Command) → outcome_of g ≡ Ok command → (command ≡ Report → ⊥) → EditMoves (ShowsAt g.turn.scenario command) old new → UpTo (lines ++ g ∷ []) new.last
+    edits : (command : Command) → outcome_of g ≡ Ok command → (command ≡ Report → ⊥)
+        → EditMoves (ShowsAt g.turn.scenario command) old new → UpTo (lines ++ g ∷ []) new.last
     edits command e other m =
         let t = tested g.turn.scenario command in
         let kept = kept-by (ShowsAt g.turn.scenario command) t.test old.last new.last t.decides t.later up.0 m.0 in
@@ -186,7 +201,8 @@ line-holds lines g old new up moves = go (outcome_of g) refl moves
           ]),
         ))
 
-    go : (outcome : Result Command Fault) → outcome_of g ≡ outcome → LineMoves g.turn.scenario outcome old new → UpTo (lines ++ g ∷ []) new.last
+    go : (outcome : Result Command Fault) → outcome_of g ≡ outcome → LineMoves g.turn.scenario outcome old new
+        → UpTo (lines ++ g ∷ []) new.last
     go (Err fault) e m = stays fault e m.0
     go (Ok command) e m = (elim (by-kind g.turn.scenario command old new m) [
       | inl report ↦ reports (e ∙ ap Ok report.0) report.1.0
@@ -194,7 +210,8 @@ line-holds lines g old new up moves = go (outcome_of g) refl moves
     ])
 
 -- and how many steps it adds
-line-adds : (lines : List Given) (turn : Turn) (outcome : Result Command Fault) (old new : Work) → UpTo lines old.last → LineMoves turn.scenario outcome old new → old.made ≤ 18446744073709551615
+line-adds : (lines : List Given) (turn : Turn) (outcome : Result Command Fault) (old new : Work) → UpTo lines old.last
+    → LineMoves turn.scenario outcome old new → old.made ≤ 18446744073709551615
     → (steps : ℕ) × Adds lines turn outcome steps × (new.made ≡ min (old.made + steps) 18446744073709551615)
 line-adds lines turn (Err fault) old new up moves low = (0, refl, (let e = moves.1 in omega arith))
 line-adds lines turn (Ok command) old new up moves low = (elim (by-kind turn.scenario command old new moves) [
@@ -205,26 +222,41 @@ line-adds lines turn (Ok command) old new up moves low = (elim (by-kind turn.sce
     last-held : (n : ℕ) → IsLastHeld lines n (min old.last (floor n))
     last-held n =
         let r = up.0 in
-        let at : min old.last (floor n) % 1024 ≡ 0 = omega arith in
-        ((up.1 _ at).0 (omega arith), omega arith, λ k held l. let low = (up.1 k held.0).1 held in let at = held.0 in omega arith)
+        let at : min old.last (floor n) % 1024 ≡ 0 = omega arith in (
+          (up.1 _ at).0 (omega arith),
+          omega arith,
+          λ k held l. let low = (up.1 k held.0).1 held in let at = held.0 in
+              omega arith,
+        )
 
     reports : command ≡ Report → new.made ≡ min (old.made + steps_made old.last turn.scenario.step) 18446744073709551615
         → (steps : ℕ) × Adds lines turn (Ok command) steps × (new.made ≡ min (old.made + steps) 18446744073709551615)
     reports e is =
-        let P : Command → Type 0 = λ c. Adds lines turn (Ok c) (steps_made old.last turn.scenario.step) in
-        (steps_made old.last turn.scenario.step, subst P (sym e) (min old.last (floor turn.scenario.step), last-held turn.scenario.step, refl), is)
+        let P : Command → Type 0 = λ c. Adds lines turn (Ok c) (steps_made old.last turn.scenario.step) in (
+          steps_made old.last turn.scenario.step,
+          subst P (sym e)
+              (min old.last (floor turn.scenario.step), last-held turn.scenario.step, refl),
+          is,
+        )
 
 -- what lines do to both, one after another
 abbrev Comes : List Given → List Given → Work → Work → Type 0
-Comes past lines old new = UpTo (past ++ lines) new.last × ((steps : ℕ) × AddUp past lines steps × (new.made ≡ min (old.made + steps) 18446744073709551615))
+Comes past lines old new =
+    UpTo (past ++ lines) new.last × ((steps : ℕ) × AddUp past lines steps
+    × (new.made ≡ min (old.made + steps) 18446744073709551615))
 
-comes-none : (past : List Given) (old new : Work) → UpTo past old.last → old.made ≤ 18446744073709551615 → new ≡ old → Comes past [] old new
+comes-none : (past : List Given) (old new : Work) → UpTo past old.last → old.made ≤ 18446744073709551615 → new ≡ old
+    → Comes past [] old new
 comes-none past old new up low e =
     let made : new.made ≡ old.made = ap (λ (w : Work). w.made) e in
-    let P : List Given → Type 0 = λ gs. UpTo gs new.last in
-    (subst P (sym (append-nil past)) (let Q : ℕ → Type 0 = λ l. UpTo past l in subst Q (sym (ap (λ (w : Work). w.last) e)) up), (0, refl, omega arith))
+    let P : List Given → Type 0 = λ gs. UpTo gs new.last in (
+      subst P (sym (append-nil past)) (let Q : ℕ → Type 0 = λ l. UpTo past l in
+          subst Q (sym (ap (λ (w : Work). w.last) e)) up),
+      (0, refl, omega arith),
+    )
 
-comes : (turn : Turn) (lines : List (List ℕ)) (past : List Given) (old new : Work) → UpTo past old.last → old.made ≤ 18446744073709551615 → LinesMove turn lines old new
+comes : (turn : Turn) (lines : List (List ℕ)) (past : List Given) (old new : Work) → UpTo past old.last
+    → old.made ≤ 18446744073709551615 → LinesMove turn lines old new
     → Comes past (given_from turn lines) old new
 comes turn [] past old new up low e = comes-none past old new up low e
 comes turn (line ∷ lines) past old new up low h =
@@ -233,14 +265,16 @@ comes turn (line ∷ lines) past old new up low h =
     let first = line-adds past turn (accepted turn line) old next up h.1 low in
     let made = first.2 in
     let under : next.made ≤ 18446744073709551615 = omega arith in
-    let rest = comes (applied turn line) lines (past ++ g ∷ []) next new (line-holds past g old next up h.1) under h.2 in
+    let rest = comes (applied turn line) lines (past ++ g ∷ []) next new (line-holds past g old next up h.1) under
+    h.2 in
     let P : List Given → Type 0 = λ gs. UpTo gs new.last in
     let last = rest.1.2 in (
       subst P (append_assoc past (g ∷ []) (given_from (applied turn line) lines)) rest.0,
       (first.0 + rest.1.0, (first.0, rest.1.0, first.1, rest.1.1, refl), omega arith),
     )
 
-from-none : (turn : Turn) (lines : List (List ℕ)) (work : Work) → LinesMove turn lines no_work work → Comes [] (given_from turn lines) no_work work
+from-none : (turn : Turn) (lines : List (List ℕ)) (work : Work) → LinesMove turn lines no_work work
+    → Comes [] (given_from turn lines) no_work work
 from-none turn lines work h = comes turn lines [] no_work work up-to-none (omega arith) h
 
 pub held_by_lines : HeldByLines
@@ -253,7 +287,8 @@ made_by_lines turn lines work h =
     (made.0, made.1, omega arith)
 
 -- a line adds one number of steps
-adds-one : (past : List Given) (turn : Turn) (outcome : Result Command Fault) (m n : ℕ) → Adds past turn outcome m → Adds past turn outcome n → m ≡ n
+adds-one : (past : List Given) (turn : Turn) (outcome : Result Command Fault) (m n : ℕ) → Adds past turn outcome m
+    → Adds past turn outcome n → m ≡ n
 adds-one past turn (Ok Report) m n g h =
     let up = h.1.2 g.0 g.1.0 g.1.1 in
     let down = g.1.2 h.0 h.1.0 h.1.1 in

@@ -14,7 +14,8 @@ use Rattle.replay_session.specs.declared.session.Session.{Session}
 use Rattle.replay_session.specs.declared.reply.Reply.{Reply}
 
 -- what is written is a reply
-text-is : (sc : Scenario) (work : ℕ) (says : Result Command Fault) (out : List ℕ) → AppendsFor sc says [] out → IsReplyTo sc work says (text_of (replied work says) out)
+text-is : (sc : Scenario) (work : ℕ) (says : Result Command Fault) (out : List ℕ) → AppendsFor sc says [] out
+    → IsReplyTo sc work says (text_of (replied work says) out)
 text-is sc work (Ok Report) out h = let P : List ℕ → Type 0 = IsReportOf sc in subst P (sym h.2) h.1
 text-is sc work (Ok Worked) out h = refl
 text-is sc work (Ok _) out h = refl
@@ -26,10 +27,12 @@ unfolding work_of trail_of
 told-work session = refl
 
 -- a line was answered, where nothing was written before
-said : (new : Session) (turn : Turn) (line : List ℕ) (result : Result Reply Fault) (out text : List ℕ) → Meets new turn line result [] out → text ≡ text_of result out
+said : (new : Session) (turn : Turn) (line : List ℕ) (result : Result Reply Fault) (out text : List ℕ)
+    → Meets new turn line result [] out → text ≡ text_of result out
     → Says turn (work_of new) line text (turn_of new)
 said new turn line result out text (inl a) is =
-    let whole : text ≡ text_of (replied (work_of new) (accepted turn line)) out = is ∙ ap (λ r. text_of r out) a.replies in
+    let whole : text ≡ text_of (replied (work_of new) (accepted turn line)) out = is
+    ∙ ap (λ r. text_of r out) a.replies in
     let P : List ℕ → Type 0 = IsReplyTo turn.scenario (work_of new) (accepted turn line) in
     inl (subst P (sym whole) (text-is turn.scenario (work_of new) (accepted turn line) out a.appends), a.has)
 said new turn line result out text (inr w) is = inr (w.may, is ∙ ap (λ r. text_of r out) w.replies, w.has)
@@ -37,14 +40,18 @@ said new turn line result out text (inr w) is = inr (w.may, is ∙ ap (λ r. tex
 -- a line that isn't answered `refused 1` moves the work
 moved : (old new : Session) (line text out : List ℕ) (result : Result Reply Fault) → text ≡ text_of result out
     → WorksLine old new line result → Moves (stage_of old) line text (stage_of new)
-moved old new line text out result is works wanted whole = works.moves (λ e. wanted (is ∙ ap (λ r. text_of r out) e)) whole
+moved old new line text out result is works wanted whole =
+    works.moves (λ e. wanted (is ∙ ap (λ r. text_of r out) e)) whole
 
 pub replied-to : (old new : Session) (line : List ℕ) (result : Result Reply Fault) (none out text : List ℕ)
-    → Meets new (turn_of old) line result none out → WorksLine old new line result → none ≡ [] → text ≡ text_of result out
+    → Meets new (turn_of old) line result none out → WorksLine old new line result → none ≡ []
+    → text ≡ text_of result out
     → Replies (stage_of old) line text (stage_of new)
 replied-to old new line result none out text meets works empty is =
-    let met : Meets new (turn_of old) line result [] out = subst (λ (ns : List ℕ). Meets new (turn_of old) line result ns out) empty meets in (
-      subst (λ n. Says (turn_of old) n line text (turn_of new)) (told-work new) (said new (turn_of old) line result out text met is),
+    let met : Meets new (turn_of old) line result [] out = subst
+    (λ (ns : List ℕ). Meets new (turn_of old) line result ns out) empty meets in (
+      subst (λ n. Says (turn_of old) n line text (turn_of new)) (told-work new)
+          (said new (turn_of old) line result out text met is),
       moved old new line text out result is works,
       works.whole,
     )

@@ -14,21 +14,27 @@ use Rattle.checkpoints.specs.declared.trail.Trail.{Trail}
 use Rattle.scenario.specs.Edits.{Follows, IsTaken, row}
 use Rattle.scenario.specs.Scenario.{Scenario, run_of}
 use Rattle.scenario.specs.declared.edit.Edit.{Edit as AnEdit}
-use Rattle.scenario.specs.declared.edit.Edit.TheVariants.{Input, Append, Cut, Patch, Mark, Unmark, Switch, Add, Callers, Redzone, Volume, Show}
+use Rattle.scenario.specs.declared.edit.Edit.TheVariants.{Input, Append, Cut, Patch, Mark, Unmark, Switch, Add, Callers}
+use Rattle.scenario.specs.declared.edit.Edit.TheVariants.{Redzone, Volume, Show}
 use Rattle.scenario.proofs.EditLaws.{cut-appended, image_kept}
 
 -- ---- edits
 
 -- the trail goes over to the run of the edited scenario
-pub followed : Follows → (sc after : Scenario) (edit : AnEdit) (effect : Effect) (old new : Trail) → IsTaken sc edit → effect ≡ (row sc edit).effect → after ≡ (row sc edit).after
+pub followed : Follows → (sc after : Scenario) (edit : AnEdit) (effect : Effect) (old new : Trail) → IsTaken sc edit
+    → effect ≡ (row sc edit).effect → after ≡ (row sc edit).after
     → IsRightForLed effect old new → IsRightForRun old (run_of sc) → IsRightForRun new (run_of after)
 followed law sc after edit effect old new taken is left led right =
-    let leads : LeadsTo effect (run_of sc) (run_of after) = transport (λ i. LeadsTo (sym is i) (run_of sc) (run_of (sym left i))) (law sc edit taken) in
+    let leads : LeadsTo effect (run_of sc) (run_of after) = transport
+    (λ i. LeadsTo (sym is i) (run_of sc) (run_of (sym left i))) (law sc edit taken) in
     led (run_of sc) (run_of after) leads right
 
-pub loads-followed : (sc after : Scenario) (edit : AnEdit) (old new : Trail) → after ≡ (row sc edit).after → loaded_of new ≡ loaded_of old → LoadsAs old sc.image → LoadsAs new after.image
+pub loads-followed : (sc after : Scenario) (edit : AnEdit) (old new : Trail) → after ≡ (row sc edit).after
+    → loaded_of new ≡ loaded_of old → LoadsAs old sc.image → LoadsAs new after.image
 loads-followed sc after edit old new left same loads a =
-    ap (λ ranges. is_among ranges a) same ∙ loads a ∙ ap (λ (image : Image). is_some (loaded_at image a)) (sym (ap (λ (s : Scenario). s.image) left ∙ image_kept sc edit))
+    ap (λ ranges. is_among ranges a) same ∙ loads a
+    ∙ ap (λ (image : Image). is_some (loaded_at image a))
+    (sym (ap (λ (s : Scenario). s.image) left ∙ image_kept sc edit))
 
 -- what holds of a result that is no error
 pub no-error : {T E P : Type 0} (r : Result T E) → is_err r ≡ false → OnOk r P → P
@@ -43,7 +49,8 @@ an-error (Err e) h p = p
 -- a word that is written and taken off again leaves what was said
 pub word-dropped : (sc : Scenario) (edit : AnEdit) → IsWrite (row sc edit).effect
     → record (row sc edit).after { words = take (length (row sc edit).after.words - 1) (row sc edit).after.words } ≡ sc
-word-dropped sc (Patch addr word) h = ap (λ ws. record sc { words = ws }) (cut-appended sc.words (record { addr = addr; word = word }))
+word-dropped sc (Patch addr word) h =
+    ap (λ ws. record sc { words = ws }) (cut-appended sc.words (record { addr = addr; word = word }))
 word-dropped sc (Input offset byte) h = absurd h
 word-dropped sc (Append byte) h = absurd h
 word-dropped sc Cut h = absurd h

@@ -32,7 +32,8 @@ below-first P (Some f) k first = (
 )
 
 -- an edit that keeps the machines below the least step at which it shows, and the meter, moves the work by it
-moves-kept : KeepsLower → (P : ℕ → Type 0) (old new : Trail) → KeepsJust (IsBelowFirst P) old new → meter_of new ≡ meter_of old → EditMoves P (work_on old) (work_on new)
+moves-kept : KeepsLower → (P : ℕ → Type 0) (old new : Trail) → KeepsJust (IsBelowFirst P) old new
+    → meter_of new ≡ meter_of old → EditMoves P (work_on old) (work_on new)
 moves-kept law P old new kept meter = (
   (λ f first. law f old new (λ k.
       let same = below-first P f k first in (
@@ -43,7 +44,8 @@ moves-kept law P old new kept meter = (
 )
 
 -- a trail that followed an edit, and isn't short after it, moved the work by the edit's effect
-pub moves-followed : KeepsLower → (effect : Effect) (sc : Scenario) (old new : Trail) → IsRightForRun old (run_of sc) → KeepsBelowEffectOrIsShort effect old new
+pub moves-followed : KeepsLower → (effect : Effect) (sc : Scenario) (old new : Trail) → IsRightForRun old (run_of sc)
+    → KeepsBelowEffectOrIsShort effect old new
     → meter_of new ≡ meter_of old → is_short new ≡ false
     → EditMoves (EffectShows effect (run_of sc).start sc.setup sc.marks) (work_on old) (work_on new)
 moves-followed law effect sc old new right kept meter whole = (elim (kept (run_of sc).start sc.setup sc.marks right) [

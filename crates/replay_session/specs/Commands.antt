@@ -1,5 +1,6 @@
 -- The command language of a session: one line, its fields, and the command that they are.
-use Rattle.std.specs.Prelude.{ℕ, ◌≡◌, ◌⊎◌, IsOkAnd, ◌==◌, ◌&&◌, ◌^◌, nat_eq, nat_le, nat_lt, Bool, true, false, if◌then◌else◌, List, [], ◌∷◌, length, drop, Option, Some, None, Result, Ok, Err, codes}
+use Rattle.std.specs.Prelude.{ℕ, ◌≡◌, ◌⊎◌, IsOkAnd, ◌==◌, ◌&&◌, ◌^◌, nat_eq, nat_le, nat_lt, Bool, true, false}
+use Rattle.std.specs.Prelude.{if◌then◌else◌, List, [], ◌∷◌, length, drop, Option, Some, None, Result, Ok, Err, codes}
 use Rattle.std.specs.Char.{digit_value}
 use Rattle.std.specs.List.{list_all, list_any, starts_with}
 use Rattle.std.specs.Str.{bytes_eq}
@@ -11,7 +12,8 @@ use Rattle.text_parts.specs.Parts.{parts}
 use Rattle.suppressions.specs.Rules.{Rule}
 use Rattle.suppressions.specs.Words.{leak_kinds}
 use Rattle.suppressions.specs.declared.leak_kinds.LeakKinds.{LeakKinds}
-use Rattle.scenario.specs.declared.edit.Edit.TheVariants.{Input, Append, Cut, Patch, Mark, Unmark, Switch, Add, Callers, Redzone, Volume, Show}
+use Rattle.scenario.specs.declared.edit.Edit.TheVariants.{Input, Append, Cut, Patch, Mark, Unmark, Switch, Add, Callers}
+use Rattle.scenario.specs.declared.edit.Edit.TheVariants.{Redzone, Volume, Show}
 use Rattle.scenario.specs.declared.edit.Edit.{Edit as AnEdit}
 use Rattle.replay_session.specs.declared.command.Command.{Command}
 use Rattle.replay_session.specs.declared.command.Command.TheVariants.{Goto, Report, Worked, Edit}
@@ -28,12 +30,14 @@ has_empty words = list_any (λ word. length word == 0) words
 
 -- is a field one to so many digits of a base, letters in either case?
 abbrev pub is_numeral : ℕ → ℕ → List ℕ → Bool
-is_numeral base most field = nat_lt 0 (length field) && (nat_le (length field) most && list_all (λ c. nat_lt (digit_value c) base) field)
+is_numeral base most field =
+    nat_lt 0 (length field) && (nat_le (length field) most && list_all (λ c. nat_lt (digit_value c) base) field)
 
 -- the number of so many digits at most, where it is below 2^32
 unfoldable pub number_in : ℕ → ℕ → List ℕ → Option ℕ
 number_in base most field =
-    if is_numeral base most field && nat_lt (digits_value base field) (2 ^ 32) then Some (digits_value base field) else None
+    if is_numeral base most field && nat_lt (digits_value base field) (2 ^ 32) then Some (digits_value base field)
+    else None
 
 -- a number: one to ten decimal digits, or `0x` and one to eight hexadecimal ones
 unfoldable pub number : List ℕ → Option ℕ
@@ -121,7 +125,8 @@ patch_of _ = None
 
 -- `mark STEP ADDR LEN KIND`
 abbrev pub mark_with : Option ℕ → Option ℕ → Option ℕ → Option RangeKind → Option Command
-mark_with (Some step) (Some addr) (Some len) (Some kind) = Some (Edit (Mark (record { step = step; addr = addr; len = len; kind = kind })))
+mark_with (Some step) (Some addr) (Some len) (Some kind) =
+    Some (Edit (Mark (record { step = step; addr = addr; len = len; kind = kind })))
 mark_with (Some step) (Some addr) (Some len) None = None
 mark_with (Some step) (Some addr) None kind = None
 mark_with (Some step) None len kind = None

@@ -3,7 +3,10 @@ use Rattle.std.specs.Prelude.{ℕ}
 use Rattle.scenario.specs.declared.refusal.Refusal.{Refusal}
 use Rattle.scenario.specs.declared.refusal.Refusal.TheVariants as Edit
 use Rattle.replay_session.specs.declared.fault.Fault.{Fault}
-use Rattle.replay_session.specs.declared.fault.Fault.TheVariants.{Memory, BadCommand, OutsideInput, NotPatchable, StepLimit, BadRange, NoSuchMark, NoSuchSuppression, BadOption, TooManyMarks, LineTooLong, TooManyCommands, BadSuppression, InputTooLarge}
+use Rattle.replay_session.specs.declared.fault.Fault.TheVariants.{Memory, BadCommand, OutsideInput, NotPatchable}
+use Rattle.replay_session.specs.declared.fault.Fault.TheVariants.{StepLimit, BadRange, NoSuchMark, NoSuchSuppression}
+use Rattle.replay_session.specs.declared.fault.Fault.TheVariants.{BadOption, TooManyMarks, LineTooLong, TooManyCommands}
+use Rattle.replay_session.specs.declared.fault.Fault.TheVariants.{BadSuppression, InputTooLarge}
 
 abbrev pub number_of : Fault → ℕ
 number_of Memory = 1

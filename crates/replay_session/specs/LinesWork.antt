@@ -1,5 +1,5 @@
--- What lines cost in steps, said of the list of lines alone: where machines are held when a line is given, and from which of them a report
--- goes on. No trail is in it.
+-- What lines cost in steps, said of the list of lines alone: where machines are held when a line is given, and from
+-- which of them a report goes on. No trail is in it.
 use Rattle.std.specs.Prelude.{◌≡◌, ℕ, ◌+◌, ◌-◌, ◌%◌, ◌≤◌, ◌⊎◌, ◌↔◌, false, List, [], ◌∷◌, ◌++◌, Result, Ok, length, min}
 use Rattle.std.specs.List.{All}
 use Rattle.checkpoints.specs.FirstEffects.{IsBelowFirst}
@@ -31,7 +31,8 @@ Reaches h given = (outcome_of given ≡ Ok Report) × (h ≤ given.turn.scenario
 
 -- a line is no edit with a first effect at or below h
 abbrev pub Spares : ℕ → Given → Type 0
-Spares h given = (command : Command) → outcome_of given ≡ Ok command → IsBelowFirst (ShowsAt given.turn.scenario command) h
+Spares h given =
+    (command : Command) → outcome_of given ≡ Ok command → IsBelowFirst (ShowsAt given.turn.scenario command) h
 
 -- some report was at step h or later, and no edit since has a first effect at or below h
 abbrev pub IsKept : List Given → ℕ → Type 0
@@ -46,7 +47,8 @@ IsHeldAfter lines h = (h % 1024 ≡ 0) × ((h ≡ 0) ⊎ IsKept lines h)
 abbrev pub IsLastHeld : List Given → ℕ → ℕ → Type 0
 IsLastHeld lines n h = IsHeldAfter lines h × (h ≤ n) × ((k : ℕ) → IsHeldAfter lines k → k ≤ n → k ≤ h)
 
--- how many steps an outcome adds after some lines: a report at step n those from the last held step that isn't above n, all else none
+-- how many steps an outcome adds after some lines: a report at step n those from the last held step that isn't above n,
+-- all else none
 abbrev pub Adds : List Given → Turn → Result Command Fault → ℕ → Type 0
 Adds past turn (Ok Report) steps = (h : ℕ) × IsLastHeld past turn.scenario.step h × (steps ≡ turn.scenario.step - h)
 Adds past turn outcome steps = steps ≡ 0
@@ -55,15 +57,17 @@ Adds past turn outcome steps = steps ≡ 0
 abbrev pub AddUp : List Given → List Given → ℕ → Type 0
 AddUp past [] steps = steps ≡ 0
 AddUp past (given ∷ later) steps =
-    (first rest : ℕ) × Adds past given.turn (outcome_of given) first × AddUp (past ++ given ∷ []) later rest × (steps ≡ first + rest)
+    (first rest : ℕ) × Adds past given.turn (outcome_of given) first × AddUp (past ++ given ∷ []) later rest
+    × (steps ≡ first + rest)
 
 -- lines move the work, one after another
 abbrev pub LinesMove : Turn → List (List ℕ) → Work → Work → Type 0
 LinesMove turn [] old new = new ≡ old
-LinesMove turn (line ∷ lines) old new = (next : Work) × LineMoves turn.scenario (accepted turn line) old next × LinesMove (applied turn line) lines next new
+LinesMove turn (line ∷ lines) old new =
+    (next : Work) × LineMoves turn.scenario (accepted turn line) old next × LinesMove (applied turn line) lines next new
 
--- the law of held machines: after any lines, they are held up to the last step that the work tells, at each step that the list of lines says and
--- at no other
+-- the law of held machines: after any lines, they are held up to the last step that the work tells, at each step that
+-- the list of lines says and at no other
 abbrev pub HeldByLines : Type 0
 HeldByLines = (turn : Turn) (lines : List (List ℕ)) (work : Work) → LinesMove turn lines no_work work
     → (h : ℕ) → h % 1024 ≡ 0 → (h ≤ work.last) ↔ IsHeldAfter (given_from turn lines) h
@@ -80,14 +84,17 @@ WorkIsOne = (past lines : List Given) (m n : ℕ) → AddUp past lines m → Add
 abbrev pub Leads : Stage → List (List ℕ) → List (List ℕ) → Stage → Type 0
 Leads old [] replies new = (replies ≡ []) × (new ≡ old)
 Leads old (line ∷ lines) [] new = ⊥
-Leads old (line ∷ lines) (reply ∷ replies) new = (next : Stage) × Replies old line reply next × Leads next lines replies new
+Leads old (line ∷ lines) (reply ∷ replies) new =
+    (next : Stage) × Replies old line reply next × Leads next lines replies new
 
 -- answers lead from stage to stage, where there is one for each line
 abbrev pub AnswersLead : Type 0
-AnswersLead = (old : Stage) (lines replies : List (List ℕ)) → Answers old lines replies → length replies ≡ length lines → (new : Stage) × Leads old lines replies new
+AnswersLead =
+    (old : Stage) (lines replies : List (List ℕ)) → Answers old lines replies → length replies ≡ length lines
+    → (new : Stage) × Leads old lines replies new
 
--- the law of `worked`: after lines of which none was answered `refused 1`, and where the trail isn't short, it tells the steps that the list of
--- lines says
+-- the law of `worked`: after lines of which none was answered `refused 1`, and where the trail isn't short, it tells
+-- the steps that the list of lines says
 abbrev pub TellsWork : Type 0
 TellsWork = (turn : Turn) (lines replies : List (List ℕ)) (stage next : Stage) (line text : List ℕ)
     → Leads (fresh turn) lines replies stage → All HadMemory replies → stage.short ≡ false

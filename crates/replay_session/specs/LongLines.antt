@@ -11,7 +11,8 @@ use Rattle.replay_session.specs.declared.command.Command.{Command}
 use Rattle.replay_session.specs.declared.fault.Fault.{Fault}
 
 -- two lines that are accepted alike have the same replies
-says-alike : (turn : Turn) (made : ℕ) (next : Turn) (a b text : List ℕ) → accepted turn a ≡ accepted turn b → Says turn made a text next
+says-alike : (turn : Turn) (made : ℕ) (next : Turn) (a b text : List ℕ) → accepted turn a ≡ accepted turn b
+    → Says turn made a text next
     → Says turn made b text next
 says-alike turn made next a b text same (inl h) =
     let P : Result Command Fault → Type 0 = λ r. IsReplyTo turn.scenario made r text in
@@ -20,20 +21,25 @@ says-alike turn made next a b text same (inr h) =
     let P : Result Command Fault → Type 0 = λ r. IsOkAnd r (TakesMemory turn.scenario) in
     inr (subst P same h.0, h.1, h.2)
 
-replies-alike : (stage next : Stage) (a b text : List ℕ) → accepted stage.turn a ≡ accepted stage.turn b → Replies stage a text next
+replies-alike : (stage next : Stage) (a b text : List ℕ) → accepted stage.turn a ≡ accepted stage.turn b
+    → Replies stage a text next
     → Replies stage b text next
 replies-alike stage next a b text same (says, moves, shortens) = (
   says-alike stage.turn next.work.made next.turn a b text same says,
-  (λ wanted whole. subst (λ (r : Result Command Fault). LineMoves stage.turn.scenario r stage.work next.work) same (moves wanted whole)),
+  (λ wanted whole. subst (λ (r : Result Command Fault). LineMoves stage.turn.scenario r stage.work next.work) same
+      (moves wanted whole)),
   subst (λ (r : Result Command Fault). MayShorten stage.turn.scenario r stage.short next.short) same shortens,
 )
 
-accepted-alike : (turn : Turn) (a b : List ℕ) → nat_lt longest_line (length a) ≡ true → nat_lt longest_line (length b) ≡ true
+accepted-alike : (turn : Turn) (a b : List ℕ) → nat_lt longest_line (length a) ≡ true
+    → nat_lt longest_line (length b) ≡ true
     → accepted turn a ≡ accepted turn b
 unfolding accepted
 accepted-alike turn a b f g = rw (f, g) refl
 
-pub long_alike : (old new : Stage) (a b text : List ℕ) → longest_line < length a → longest_line < length b → Replies old a text new
+pub long_alike : (old new : Stage) (a b text : List ℕ) → longest_line < length a → longest_line < length b
+    → Replies old a text new
     → Replies old b text new
 long_alike old new a b text f g =
-    replies-alike old new a b text (accepted-alike old.turn a b (lt-ltb longest_line (length a) f) (lt-ltb longest_line (length b) g))
+    replies-alike old new a b text (accepted-alike old.turn a b (lt-ltb longest_line (length a) f)
+    (lt-ltb longest_line (length b) g))

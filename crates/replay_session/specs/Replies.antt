@@ -1,5 +1,6 @@
 -- What is written for a line, and for one line after another.
-use Rattle.std.specs.Prelude.{ℕ, ◌≡◌, ◌⊎◌, ◌++◌, List, [], ◌∷◌, Bool, false, Result, Ok, Err, IsOkAnd, codes, decimal, nat_le}
+use Rattle.std.specs.Prelude.{ℕ, ◌≡◌, ◌⊎◌, ◌++◌, List, [], ◌∷◌, Bool, false, Result, Ok, Err, IsOkAnd, codes, decimal}
+use Rattle.std.specs.Prelude.{nat_le}
 use Rattle.line_server.specs.Answers.{AnswersBy, Relation}
 use Rattle.replay_session.specs.Faults.{number_of}
 use Rattle.scenario.specs.Scenario.{Scenario, IsReportOf}
@@ -37,12 +38,13 @@ IsReplyTo sc made (Ok Worked) text = text ≡ worked_line made
 IsReplyTo sc made (Ok _) text = text ≡ done_line
 IsReplyTo sc made (Err fault) text = text ≡ refused_line fault
 
--- one line, its reply, and what is left after it, where so many steps were made: as the scenario says, or memory was wanting where it may be, and the
--- line only counts
+-- one line, its reply, and what is left after it, where so many steps were made: as the scenario says, or memory was
+-- wanting where it may be, and the line only counts
 abbrev pub Says : Turn → ℕ → List ℕ → List ℕ → Turn → Type 0
 Says turn made line text after =
     (IsReplyTo turn.scenario made (accepted turn line) text × (after ≡ applied turn line))
-    ⊎ (IsOkAnd (accepted turn line) (TakesMemory turn.scenario) × (text ≡ refused_line Memory) × (after ≡ passed turn turn.scenario))
+    ⊎ (IsOkAnd (accepted turn line) (TakesMemory turn.scenario) × (text ≡ refused_line Memory)
+    × (after ≡ passed turn turn.scenario))
 
 -- a reply isn't `refused 1`
 abbrev pub HadMemory : List ℕ → Type 0
@@ -64,7 +66,8 @@ Replies old line text new =
 abbrev pub is_over : Turn → Bool
 is_over turn = nat_le most_lines turn.lines
 
--- one reply for each line, up to the first that is told that there were too many; the next line meets the stage after it
+-- one reply for each line, up to the first that is told that there were too many; the next line meets the stage after
+-- it
 abbrev pub Answers : Stage → Relation
 Answers = AnswersBy Replies (λ stage. is_over stage.turn)
 

@@ -14,5 +14,6 @@ abbrev pub ServedRead : Stage → Option (List ℕ) → Option (List ℕ) → Op
 ServedRead stage = ServedReadBy (Answers stage)
 
 -- some bytes were read, and what a fault says of them holds
-abbrev pub StoppedBy : ServeFault → Stage → Option (List ℕ) → Option (List ℕ) → Option (List ℕ) → Option (List ℕ) → Type 0
+abbrev pub StoppedBy : ServeFault → Stage → Option (List ℕ) → Option (List ℕ) → Option (List ℕ) → Option (List ℕ)
+    → Type 0
 StoppedBy fault stage = StoppedByFault fault (Answers stage)

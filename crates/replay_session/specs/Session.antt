@@ -58,33 +58,39 @@ AppendsFor sc (Ok Report) old new = AppendsReport (IsReportOf sc) old new
 AppendsFor sc _ old new = new ≡ old
 
 -- the line was answered as the scenario says
-pub record Answered (new : Session) (turn : Turn) (line : List ℕ) (result : Result Reply Fault) (out-old out-new : List ℕ) : Type 0 where
+pub record Answered (new : Session) (turn : Turn) (line : List ℕ) (result : Result Reply Fault)
+    (out-old out-new : List ℕ) : Type 0 where
   pub replies : result ≡ replied (work_of new) (accepted turn line)
   pub appends : AppendsFor turn.scenario (accepted turn line) out-old out-new
   pub has : turn_of new ≡ applied turn line
 
 -- or memory was wanting, at a line that isn't refused and may want it: the line counts, and nothing else changes
-pub record Wanting (new : Session) (turn : Turn) (line : List ℕ) (result : Result Reply Fault) (out-old out-new : List ℕ) : Type 0 where
+pub record Wanting (new : Session) (turn : Turn) (line : List ℕ) (result : Result Reply Fault)
+    (out-old out-new : List ℕ) : Type 0 where
   pub replies : result ≡ Err Memory
   pub may : IsOkAnd (accepted turn line) (TakesMemory turn.scenario)
   pub keeps : out-new ≡ out-old
   pub has : turn_of new ≡ passed turn turn.scenario
 
 abbrev pub Meets : Session → Turn → List ℕ → Result Reply Fault → List ℕ → List ℕ → Type 0
-Meets new turn line result out-old out-new = Answered new turn line result out-old out-new ⊎ Wanting new turn line result out-old out-new
+Meets new turn line result out-old out-new =
+    Answered new turn line result out-old out-new ⊎ Wanting new turn line result out-old out-new
 
 -- the same of an accepted command: it was carried out
-pub record Done (new : Session) (turn : Turn) (command : Command) (result : Result Reply Fault) (out-old out-new : List ℕ) : Type 0 where
+pub record Done (new : Session) (turn : Turn) (command : Command) (result : Result Reply Fault)
+    (out-old out-new : List ℕ) : Type 0 where
   pub replies : result ≡ Ok (reply_to (work_of new) command)
   pub appends : AppendsFor turn.scenario (Ok command) out-old out-new
   pub has : turn_of new ≡ record turn { scenario = changed turn.scenario command }
 
 -- or memory was wanting, and nothing changed
-pub record Failed (new : Session) (turn : Turn) (command : Command) (result : Result Reply Fault) (out-old out-new : List ℕ) : Type 0 where
+pub record Failed (new : Session) (turn : Turn) (command : Command) (result : Result Reply Fault)
+    (out-old out-new : List ℕ) : Type 0 where
   pub replies : result ≡ Err Memory
   pub may : TakesMemory turn.scenario command
   pub keeps : out-new ≡ out-old
   pub has : turn_of new ≡ turn
 
 abbrev pub Carried : Session → Turn → Command → Result Reply Fault → List ℕ → List ℕ → Type 0
-Carried new turn command result out-old out-new = Done new turn command result out-old out-new ⊎ Failed new turn command result out-old out-new
+Carried new turn command result out-old out-new =
+    Done new turn command result out-old out-new ⊎ Failed new turn command result out-old out-new

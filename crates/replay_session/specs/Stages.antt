@@ -29,4 +29,8 @@ ForEachStage session P = (stage : Stage) → HasStage session stage → P stage
 
 -- which is one alone
 abbrev pub stage_of : Session → Stage
-stage_of session = record { turn = turn_of session; work = work_on (trail_of session); short = is_short (trail_of session) }
+stage_of session = record {
+  turn = turn_of session;
+  work = work_on (trail_of session);
+  short = is_short (trail_of session);
+}

@@ -1,5 +1,7 @@
--- Whose turn it is: the scenario that a line meets, and how many lines were given before it. Which command a line is, and what it leaves.
-use Rattle.std.specs.Prelude.{ℕ, ◌+◌, nat_le, nat_lt, if◌then◌else◌, List, length, Option, Some, None, option_map, Result, Ok, Err}
+-- Whose turn it is: the scenario that a line meets, and how many lines were given before it. Which command a line is,
+-- and what it leaves.
+use Rattle.std.specs.Prelude.{ℕ, ◌+◌, nat_le, nat_lt, if◌then◌else◌, List, length, Option, Some, None, option_map}
+use Rattle.std.specs.Prelude.{Result, Ok, Err}
 use Rattle.guest_elf.specs.declared.image.Image.{Image}
 use Rattle.line_server.specs.Lines.{longest_line}
 use Rattle.suppressions.specs.Rules.{Rule}
@@ -38,7 +40,8 @@ abbrev pub if_command : Scenario → Result Command Fault → Result Command Fau
 if_command sc (Err fault) = Err fault
 if_command sc (Ok command) = accepted_by (command_refusal sc command) command
 
--- the command that a line is, or why it is refused: too many lines, a line that is too long, no command, and then the command's own
+-- the command that a line is, or why it is refused: too many lines, a line that is too long, no command, and then the
+-- command's own
 unfoldable pub accepted : Turn → List ℕ → Result Command Fault
 accepted turn line =
     if nat_le most_lines turn.lines then Err TooManyCommands

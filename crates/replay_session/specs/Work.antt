@@ -39,12 +39,14 @@ abbrev pub LineMoves : Scenario → Result Command Fault → Work → Work → T
 LineMoves sc (Ok command) old new = MovesWork sc command old new
 LineMoves sc (Err fault) old new = LeavesWork old new
 
--- an edit may make a trail short as its effect says, and no other line does: said of whether it is short before and after
+-- an edit may make a trail short as its effect says, and no other line does: said of whether it is short before and
+-- after
 abbrev pub MayShorten : Scenario → Result Command Fault → Bool → Bool → Type 0
 MayShorten sc (Ok (Edit edit)) old new = ShortenedBy (row sc edit).effect old new
 MayShorten sc outcome old new = new ≡ old
 
--- so does an accepted command of a session, and it moves the work so, unless memory was wanting or the trail is short after it
+-- so does an accepted command of a session, and it moves the work so, unless memory was wanting or the trail is short
+-- after it
 pub record Works (old new : Session) (command : Command) (result : Result Reply Fault) : Type 0 where
   pub whole : MayShorten (scenario_of old) (Ok command) (is_short (trail_of old)) (is_short (trail_of new))
   pub moves : (result ≡ Err Memory → ⊥) → is_short (trail_of new) ≡ false
@@ -52,6 +54,7 @@ pub record Works (old new : Session) (command : Command) (result : Result Reply 
 
 -- and so does a line
 pub record WorksLine (old new : Session) (line : List ℕ) (result : Result Reply Fault) : Type 0 where
-  pub whole : MayShorten (scenario_of old) (accepted (turn_of old) line) (is_short (trail_of old)) (is_short (trail_of new))
+  pub whole : MayShorten (scenario_of old) (accepted (turn_of old) line) (is_short (trail_of old))
+      (is_short (trail_of new))
   pub moves : (result ≡ Err Memory → ⊥) → is_short (trail_of new) ≡ false
       → LineMoves (scenario_of old) (accepted (turn_of old) line) (work_on (trail_of old)) (work_on (trail_of new))

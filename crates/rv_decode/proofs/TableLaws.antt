@@ -1,5 +1,6 @@
 -- What holds of every instruction of the table.
-use Rattle.std.proofs.Common.{◌≡◌, ℕ, suc, ◌<◌, Bool, true, false, cond, List, [], ◌∷◌, Option, Some, None, IfSome, IfNone, All, Any, Contains, bit_and, get_or, refl}
+use Rattle.std.proofs.Common.{◌≡◌, ℕ, suc, ◌<◌, Bool, true, false, cond, List, [], ◌∷◌, Option, Some, None, IfSome}
+use Rattle.std.proofs.Common.{IfNone, All, Any, Contains, bit_and, get_or, refl}
 use Rattle.std.proofs.Common.{sym, ap, subst, arith, inl, inr, zero}
 use Rattle.std.specs.Prelude.{find, ◌==◌, ◌&&◌}
 use Rattle.std.specs.List.{list_all, AllPairs}
@@ -10,7 +11,8 @@ use Rattle.std.proofs.lemmas.List.Kept.{AllPairs-cons}
 use Rattle.std.proofs.lemmas.Option.{IfSome_then}
 use Rattle.rv_decode.specs.declared.Insn.{Insn}
 use Rattle.rv_decode.specs.declared.Op.{Op}
-use Rattle.rv_decode.specs.Table.{Form, R, I, Shift, S, B, U, J, Bare, Row, rows, HasFixedBits, has_fixed_bits, with_fields, insn_of, insn, IsOfRow, Excludes, OneRow}
+use Rattle.rv_decode.specs.Table.{Form, R, I, Shift, S, B, U, J, Bare, Row, rows, HasFixedBits, has_fixed_bits}
+use Rattle.rv_decode.specs.Table.{with_fields, insn_of, insn, IsOfRow, Excludes, OneRow}
 use Rattle.rv_decode.proofs.TableLemmas.{shared_bits}
 
 -- ---- registers
@@ -31,7 +33,8 @@ with_fields-HasRegisters J op word = (omega arith, omega arith, omega arith)
 with_fields-HasRegisters Bare op word = (omega arith, omega arith, omega arith)
 
 -- so are those of a row that is found
-pub option_map-HasRegisters : (word : ℕ) (found : Option Row) → IfSome (option_map (λ row. insn_of row word) found) HasRegisters
+pub option_map-HasRegisters : (word : ℕ) (found : Option Row)
+    → IfSome (option_map (λ row. insn_of row word) found) HasRegisters
 option_map-HasRegisters word None = tt
 option_map-HasRegisters word (Some row) = with_fields-HasRegisters row.form row.op word
 
@@ -52,21 +55,25 @@ IfNone_then None holds then = then holds
 IfNone_then (Some x) holds then = tt
 
 -- what is found passes the test
-find-Any : {X Y : Type 0} (p : X → Bool) (f : X → Y) (P : Y → X → Type 0) → ((x : X) → p x ≡ true → P (f x) x) → (xs : List X) → IfSome (option_map f (find p xs)) (λ y. Any (P y) xs)
+find-Any : {X Y : Type 0} (p : X → Bool) (f : X → Y) (P : Y → X → Type 0) → ((x : X) → p x ≡ true → P (f x) x)
+    → (xs : List X) → IfSome (option_map f (find p xs)) (λ y. Any (P y) xs)
 find-Any p f P passes [] = tt
 find-Any p f P passes (x ∷ xs) =
     elim (cases_Bool (p x)) [
       | inl passed ↦ rw passed (0, x, omega arith, refl, passes x passed)
-      | inr failed ↦ rw failed (IfSome_then (option_map f (find p xs)) (find-Any p f P passes xs) (λ y. Any-tail (P y) x xs))
+      | inr failed ↦ rw failed (IfSome_then (option_map f (find p xs)) (find-Any p f P passes xs)
+          (λ y. Any-tail (P y) x xs))
     ]
 
 -- where nothing is found each element fails
-find-All : {X Y : Type 0} (p : X → Bool) (f : X → Y) (P : X → Type 0) → ((x : X) → p x ≡ false → P x) → (xs : List X) → IfNone (option_map f (find p xs)) (All P xs)
+find-All : {X Y : Type 0} (p : X → Bool) (f : X → Y) (P : X → Type 0) → ((x : X) → p x ≡ false → P x) → (xs : List X)
+    → IfNone (option_map f (find p xs)) (All P xs)
 find-All p f P fails [] = All-nil P
 find-All p f P fails (x ∷ xs) =
     elim (cases_Bool (p x)) [
       | inl passed ↦ rw passed tt
-      | inr failed ↦ rw failed (IfNone_then (option_map f (find p xs)) (find-All p f P fails xs) (All-cons P x xs (fails x failed)))
+      | inr failed ↦ rw failed (IfNone_then (option_map f (find p xs)) (find-All p f P fails xs)
+          (All-cons P x xs (fails x failed)))
     ]
 
 -- the clause `some` of `decode`
@@ -118,16 +125,19 @@ all_differ-AllPairs (row ∷ later) apart =
     AllPairs-cons Excludes row later (list_all-Excludes row later parts.0) (all_differ-AllPairs later parts.1)
 
 -- the row whose fixed bits the word has is found, wherever it stands
-find-differ : (word : ℕ) (some : List Row) → all_differ some ≡ true → (row : Row) → Contains some row → HasFixedBits word row → find (has_fixed_bits word) some ≡ Some row
+find-differ : (word : ℕ) (some : List Row) → all_differ some ≡ true → (row : Row) → Contains some row
+    → HasFixedBits word row → find (has_fixed_bits word) some ≡ Some row
 find-differ word [] apart row (k, within, at) has = absurd (omega arith)
 find-differ word (r ∷ rs) apart row (zero, within, at) has =
-    let first : has_fixed_bits word r ≡ true = eq-eqb (bit_and word r.mask) r.value (subst (HasFixedBits word) (sym at) has) in
+    let first : has_fixed_bits word r ≡ true = eq-eqb (bit_and word r.mask) r.value
+    (subst (HasFixedBits word) (sym at) has) in
     rw first (ap Some at)
 find-differ word (r ∷ rs) apart row (suc k, within, at) has =
     let parts = and_parts (list_all (differ r) rs) (all_differ rs) apart in
     let later : Contains rs row = (k, omega arith, at) in
     let excluded = All-contains (Excludes r) rs row (list_all-Excludes r rs parts.0) later in
-    let passed : has_fixed_bits word r ≡ false = ne_eqb (bit_and word r.mask) r.value (λ also. excluded word also has) in
+    let passed : has_fixed_bits word r ≡ false = ne_eqb (bit_and word r.mask) r.value
+    (λ also. excluded word also has) in
     rw passed (find-differ word rs parts.1 row later has)
 
 -- the clause `only` of `decode`

@@ -1,5 +1,6 @@
 -- The two laws of the table of edits, a clause an edit.
-use Rattle.std.proofs.Common.{◌≡◌, ℕ, zero, suc, ◌+◌, ◌-◌, ◌<◌, ◌≤◌, ◌==◌, nat_le, nat_lt, Bool, true, false, cond, List, [], ◌∷◌, ◌++◌, take, remove, length, Some, None, refl, ap, sym, subst, arith}
+use Rattle.std.proofs.Common.{◌≡◌, ℕ, zero, suc, ◌+◌, ◌-◌, ◌<◌, ◌≤◌, ◌==◌, nat_le, nat_lt, Bool, true, false, cond}
+use Rattle.std.proofs.Common.{List, [], ◌∷◌, ◌++◌, take, remove, length, Some, None, refl, ap, sym, subst, arith}
 use Rattle.std.specs.Prelude.{slice_get, slice_set, slice_index_or}
 use Rattle.std.proofs.lemmas.Bool.Decides.{nat_tests}
 use Rattle.std.proofs.lemmas.List.{length-set, length-append, length-take}
@@ -10,7 +11,8 @@ use Rattle.checkpoints.specs.Effects.{DifferAtStep}
 use Rattle.scenario.specs.Scenario.{Scenario, first_state}
 use Rattle.scenario.specs.Edits.{Follows, TakesBack, IsTaken, row, refused_if, mark_step, switched, is_on}
 use Rattle.scenario.specs.declared.edit.Edit.{Edit}
-use Rattle.scenario.specs.declared.edit.Edit.TheVariants.{Input, Append, Cut, Patch, Mark, Unmark, Switch, Add, Callers, Redzone, Volume, Show}
+use Rattle.scenario.specs.declared.edit.Edit.TheVariants.{Input, Append, Cut, Patch, Mark, Unmark, Switch, Add, Callers}
+use Rattle.scenario.specs.declared.edit.Edit.TheVariants.{Redzone, Volume, Show}
 use Rattle.scenario.specs.declared.refusal.Refusal.{Refusal}
 use Rattle.scenario.proofs.FrontSteps.{with-more}
 
@@ -69,13 +71,43 @@ unfolding first_state
 follows sc (Input offset byte) h =
     let there = inside (length sc.setup.input) offset _ h in
     let size = length-set sc.setup.input offset byte in
-    record { start = refl; differ = (record { redzone = refl; volume = refl; hooks = refl; more = there; enough = omega arith; bytes = λ i m. set-front sc.setup.input offset byte i m }, refl) }
-follows sc (Append byte) h = record { start = refl; differ = (record { redzone = refl; volume = refl; hooks = refl; input = (byte, refl) }, refl) }
+    record {
+      start = refl;
+      differ = (
+        record {
+          redzone = refl;
+          volume = refl;
+          hooks = refl;
+          more = there;
+          enough = omega arith;
+          bytes = λ i m. set-front sc.setup.input offset byte i m;
+        },
+        refl,
+      );
+    }
+follows sc (Append byte) h = record {
+  start = refl;
+  differ = (record { redzone = refl; volume = refl; hooks = refl; input = (byte, refl) }, refl);
+}
 follows sc Cut h =
     let some = not_empty (length sc.setup.input) _ h in
     let size = length-take (length sc.setup.input - 1) sc.setup.input in
-    record { start = refl; differ = (record { redzone = refl; volume = refl; hooks = refl; more = omega arith; enough = omega arith; bytes = λ i m. take-front sc.setup.input (length sc.setup.input - 1) i m }, refl) }
-follows sc (Patch addr word) h = record { start = with-more (start_state sc.image) sc.words (record { addr = addr; word = word }); differ = (refl, refl) }
+    record {
+      start = refl;
+      differ = (
+        record {
+          redzone = refl;
+          volume = refl;
+          hooks = refl;
+          more = omega arith;
+          enough = omega arith;
+          bytes = λ i m. take-front sc.setup.input (length sc.setup.input - 1) i m;
+        },
+        refl,
+      );
+    }
+follows sc (Patch addr word) h = record
+    { start = with-more (start_state sc.image) sc.words (record { addr = addr; word = word }); differ = (refl, refl) }
 follows sc (Mark mark) h = record { start = refl; differ = (refl, differ-appended sc.marks mark) }
 follows sc (Unmark i) h = record { start = refl; differ = (refl, differ-removed sc.marks i) }
 follows sc (Switch i on) h = record { start = refl; differ = (refl, refl) }
@@ -87,7 +119,8 @@ follows sc (Show kinds) h = record { start = refl; differ = (refl, refl) }
 
 -- ---- what takes an edit back
 
-set-back : (xs : List ℕ) (offset byte : ℕ) → slice_set (slice_set xs offset byte) offset (slice_index_or xs offset 0) ≡ xs
+set-back : (xs : List ℕ) (offset byte : ℕ)
+    → slice_set (slice_set xs offset byte) offset (slice_index_or xs offset 0) ≡ xs
 set-back [] offset byte = refl
 set-back (x ∷ xs) zero byte = refl
 set-back (x ∷ xs) (suc offset) byte = ap (λ ys. x ∷ ys) (set-back xs offset byte)
@@ -117,7 +150,8 @@ switched-back (rule ∷ rules) zero on = refl
 switched-back (rule ∷ rules) (suc i) on = ap (λ rest. rule ∷ rest) (switched-back rules i on)
 
 -- with another input
-same-input : (sc : Scenario) (input : List ℕ) → input ≡ sc.setup.input → record sc { setup = record sc.setup { input = input } } ≡ sc
+same-input : (sc : Scenario) (input : List ℕ) → input ≡ sc.setup.input
+    → record sc { setup = record sc.setup { input = input } } ≡ sc
 same-input sc input e = λ i. record sc { setup = record sc.setup { input = e i } }
 
 taken-back : {E : Type 0} (a b : E) → Some a ≡ Some b → a ≡ b
@@ -126,19 +160,26 @@ taken-back a b e = cc
 pub goes_back : TakesBack
 goes_back sc edit back h e = go edit back h e
   where
-    along : (edit one other : Edit) → one ≡ other → (row (row sc edit).after one).after ≡ sc → (row (row sc edit).after other).after ≡ sc
+    along : (edit one other : Edit) → one ≡ other → (row (row sc edit).after one).after ≡ sc
+        → (row (row sc edit).after other).after ≡ sc
     along edit one other e h = subst (λ (b : Edit). (row (row sc edit).after b).after ≡ sc) e h
 
-    go : (edit back : Edit) → IsTaken sc edit → (row sc edit).back ≡ Some back → (row (row sc edit).after back).after ≡ sc
-    go (Input offset byte) back h e = along (Input offset byte) _ back (taken-back _ back e) (same-input sc _ (set-back sc.setup.input offset byte))
-    go (Append byte) back h e = along (Append byte) _ back (taken-back _ back e) (same-input sc _ (cut-appended sc.setup.input byte))
+    go : (edit back : Edit) → IsTaken sc edit → (row sc edit).back ≡ Some back
+        → (row (row sc edit).after back).after ≡ sc
+    go (Input offset byte) back h e =
+        along (Input offset byte) _ back (taken-back _ back e) (same-input sc _ (set-back sc.setup.input offset byte))
+    go (Append byte) back h e =
+        along (Append byte) _ back (taken-back _ back e) (same-input sc _ (cut-appended sc.setup.input byte))
     go Cut back h e =
         let some = not_empty (length sc.setup.input) _ h in
-        along Cut _ back (taken-back _ back e) (same-input sc _ (append-cut sc.setup.input (length sc.setup.input - 1) (omega arith)))
+        along Cut _ back (taken-back _ back e)
+        (same-input sc _ (append-cut sc.setup.input (length sc.setup.input - 1) (omega arith)))
     go (Patch addr word) back h e = absurd (cc)
-    go (Mark mark) back h e = along (Mark mark) _ back (taken-back _ back e) (λ i. record sc { marks = remove-last sc.marks mark i })
+    go (Mark mark) back h e =
+        along (Mark mark) _ back (taken-back _ back e) (λ i. record sc { marks = remove-last sc.marks mark i })
     go (Unmark k) back h e = absurd (cc)
-    go (Switch k on) back h e = along (Switch k on) _ back (taken-back _ back e) (λ i. record sc { rules = switched-back sc.rules k on i })
+    go (Switch k on) back h e =
+        along (Switch k on) _ back (taken-back _ back e) (λ i. record sc { rules = switched-back sc.rules k on i })
     go (Add rule) back h e = absurd (cc)
     go (Callers n) back h e = along (Callers n) _ back (taken-back _ back e) refl
     go (Redzone n) back h e = along (Redzone n) _ back (taken-back _ back e) refl

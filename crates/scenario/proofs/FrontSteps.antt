@@ -1,24 +1,28 @@
 -- The state before step 0: what words written into it leave alone.
-use Rattle.std.proofs.Common.{◌≡◌, ℕ, zero, suc, ◌+◌, add-one, ◌<◌, take, length, get_or, arith, false, List, [], ◌∷◌, ◌++◌, refl}
+use Rattle.std.proofs.Common.{◌≡◌, ℕ, zero, suc, ◌+◌, add-one, ◌<◌, take, length, get_or, arith, false, List, [], ◌∷◌}
+use Rattle.std.proofs.Common.{◌++◌, refl}
 use Rattle.guest_machine.specs.Run.{poked, start_state}
 use Rattle.guest_machine.specs.State.{State}
 use Rattle.scenario.specs.Scenario.{Scenario, first_state, with_words}
 use Rattle.scenario.specs.declared.word.Word.{Word}
 
 -- one more word
-pub with-more : (s : State) (words : List Word) (word : Word) → with_words s (words ++ word ∷ []) ≡ poked (with_words s words) word.addr word.word
+pub with-more : (s : State) (words : List Word) (word : Word)
+    → with_words s (words ++ word ∷ []) ≡ poked (with_words s words) word.addr word.word
 with-more s [] word = refl
 with-more s (w ∷ words) word = with-more (poked s w.addr w.word) words word
 
 -- the first words, and one more
 with-suc : (s : State) (words : List Word) (i : ℕ) (d : Word) → i < length words
-    → with_words s (take (suc i) words) ≡ poked (with_words s (take i words)) (get_or words i d).addr (get_or words i d).word
+    → with_words s (take (suc i) words) ≡ poked (with_words s (take i words)) (get_or words i d).addr
+    (get_or words i d).word
 with-suc s [] i d h = absurd (omega arith)
 with-suc s (w ∷ words) zero d h = refl
 with-suc s (w ∷ words) (suc i) d h = with-suc (poked s w.addr w.word) words i d (omega arith)
 
 pub with-next : (s : State) (words : List Word) (i : ℕ) (d : Word) → i < length words
-    → with_words s (take (i + 1) words) ≡ poked (with_words s (take i words)) (get_or words i d).addr (get_or words i d).word
+    → with_words s (take (i + 1) words) ≡ poked (with_words s (take i words)) (get_or words i d).addr
+    (get_or words i d).word
 with-next s words i d h = rw add-one (with-suc s words i d h)
 
 position-with : (s : State) (words : List Word) → (with_words s words).position ≡ s.position

@@ -1,5 +1,7 @@
 -- The one table of edits, and its two laws.
-use Rattle.std.specs.Prelude.{◌≡◌, ℕ, zero, suc, ◌+◌, ◌-◌, ◌^◌, ◌%◌, ◌<◌, ◌==◌, ◌||◌, ◌&&◌, nat_le, nat_lt, Bool, true, false, not, if◌then◌else◌, List, [], ◌∷◌, ◌++◌, length, take, remove, slice_set, slice_index_or, map, Option, Some, None, is_some}
+use Rattle.std.specs.Prelude.{◌≡◌, ℕ, zero, suc, ◌+◌, ◌-◌, ◌^◌, ◌%◌, ◌<◌, ◌==◌, ◌||◌, ◌&&◌, nat_le, nat_lt, Bool, true}
+use Rattle.std.specs.Prelude.{false, not, if◌then◌else◌, List, [], ◌∷◌, ◌++◌, length, take, remove, slice_set}
+use Rattle.std.specs.Prelude.{slice_index_or, map, Option, Some, None, is_some}
 use Rattle.guest_elf.specs.Images.{loaded_at}
 use Rattle.guest_elf.specs.declared.image.Image.{Image}
 use Rattle.guest_machine.specs.declared.setup.Mark.{Mark as MarkAt}
@@ -7,13 +9,18 @@ use Rattle.suppressions.specs.Rules.{Rule}
 use Rattle.suppressions.specs.declared.leak_kinds.LeakKinds.{LeakKinds}
 use Rattle.checkpoints.specs.Effects.{LeadsTo}
 use Rattle.checkpoints.specs.declared.effect.Effect.{Effect}
-use Rattle.checkpoints.specs.declared.effect.Effect.TheVariants.{Nowhere, After, Input as InputFrom, End, Heap, Word as WordAt}
-use Rattle.scenario.specs.Limits.{longest_input, most_steps, most_marks, longest_mark, most_callers, largest_redzone, largest_volume}
+use Rattle.checkpoints.specs.declared.effect.Effect.TheVariants.{Nowhere, After, Input as InputFrom, End, Heap}
+use Rattle.checkpoints.specs.declared.effect.Effect.TheVariants.{Word as WordAt}
+use Rattle.scenario.specs.Limits.{longest_input, most_steps, most_marks, longest_mark, most_callers, largest_redzone}
+use Rattle.scenario.specs.Limits.{largest_volume}
 use Rattle.scenario.specs.Scenario.{Scenario, run_of}
 use Rattle.scenario.specs.declared.edit.Edit.{Edit}
-use Rattle.scenario.specs.declared.edit.Edit.TheVariants.{Input, Append, Cut, Patch, Mark, Unmark, Switch, Add, Callers, Redzone, Volume, Show}
+use Rattle.scenario.specs.declared.edit.Edit.TheVariants.{Input, Append, Cut, Patch, Mark, Unmark, Switch, Add, Callers}
+use Rattle.scenario.specs.declared.edit.Edit.TheVariants.{Redzone, Volume, Show}
 use Rattle.scenario.specs.declared.refusal.Refusal.{Refusal}
-use Rattle.scenario.specs.declared.refusal.Refusal.TheVariants.{OutsideInput, InputTooLarge, NotPatchable, StepLimit, BadRange, TooManyMarks, NoSuchMark, NoSuchSuppression, BadOption}
+use Rattle.scenario.specs.declared.refusal.Refusal.TheVariants.{OutsideInput, InputTooLarge, NotPatchable, StepLimit}
+use Rattle.scenario.specs.declared.refusal.Refusal.TheVariants.{BadRange, TooManyMarks, NoSuchMark, NoSuchSuppression}
+use Rattle.scenario.specs.declared.refusal.Refusal.TheVariants.{BadOption}
 
 -- a refusal where a test holds
 abbrev pub refused_if : Bool → Refusal → Option Refusal
@@ -27,13 +34,15 @@ is_loaded image addr i = is_some (loaded_at image ((addr + i) % 2 ^ 32))
 -- is an address that of a loaded word: a multiple of 4, each of whose four bytes is loaded?
 unfoldable pub is_word : Image → ℕ → Bool
 is_word image addr =
-    (addr % 4 == 0) && (is_loaded image addr 0 && (is_loaded image addr 1 && (is_loaded image addr 2 && is_loaded image addr 3)))
+    (addr % 4 == 0) && (is_loaded image addr 0
+    && (is_loaded image addr 1 && (is_loaded image addr 2 && is_loaded image addr 3)))
 
 -- why a mark is refused where there are so many, in order: its step, its range, too many marks
 unfoldable pub mark_refusal : ℕ → MarkAt → Option Refusal
 mark_refusal marks mark =
     if nat_lt most_steps mark.step then Some StepLimit
-    else if nat_lt mark.len 1 || (nat_lt longest_mark mark.len || nat_lt (2 ^ 32) (mark.addr + mark.len)) then Some BadRange
+    else if nat_lt mark.len 1 || (nat_lt longest_mark mark.len || nat_lt (2 ^ 32) (mark.addr + mark.len))
+    then Some BadRange
     else if nat_le most_marks marks then Some TooManyMarks
     else None
 
@@ -60,8 +69,8 @@ is_on (rule ∷ rules) (suc i) = is_on rules i
 abbrev pub shown : LeakKinds → List Bool
 shown kinds = kinds.definite ∷ kinds.indirect ∷ kinds.possible ∷ kinds.reachable ∷ []
 
--- what is said of an edit of a scenario: why it is refused, what it leaves, where it shows, whether memory may be wanting, and the
--- edit that takes it back, if one does
+-- what is said of an edit of a scenario: why it is refused, what it leaves, where it shows, whether memory may be
+-- wanting, and the edit that takes it back, if one does
 pub record Row : Type 0 where
   pub refusal : Option Refusal
   pub after : Scenario
@@ -162,11 +171,15 @@ IsTaken sc edit = (row sc edit).refusal ≡ None
 
 -- an edit that isn't refused leads from the run of the scenario to that of the edited one, by its effect
 abbrev pub Follows : Type 0
-Follows = (sc : Scenario) (edit : Edit) → IsTaken sc edit → LeadsTo (row sc edit).effect (run_of sc) (run_of (row sc edit).after)
+Follows =
+    (sc : Scenario) (edit : Edit) → IsTaken sc edit
+    → LeadsTo (row sc edit).effect (run_of sc) (run_of (row sc edit).after)
 
 -- what takes an edit back leaves the scenario as it was
 abbrev pub TakesBack : Type 0
-TakesBack = (sc : Scenario) (edit back : Edit) → IsTaken sc edit → (row sc edit).back ≡ Some back → (row (row sc edit).after back).after ≡ sc
+TakesBack =
+    (sc : Scenario) (edit back : Edit) → IsTaken sc edit → (row sc edit).back ≡ Some back
+    → (row (row sc edit).after back).after ≡ sc
 
 -- the word that an effect writes is a loaded one
 abbrev pub WritesLoaded : Image → Effect → Type 0

@@ -1,4 +1,5 @@
--- The limits of what a user may say. They are this project's own; the longest trace is that of Valgrind's `--num-callers`, cut.
+-- The limits of what a user may say. They are this project's own; the longest trace is that of Valgrind's
+-- `--num-callers`, cut.
 use Rattle.std.specs.Prelude.{ℕ}
 use Rattle.call_stacks.specs.Frames.{longest_trace}
 

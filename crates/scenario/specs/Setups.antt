@@ -14,4 +14,9 @@ usual_volume = 20000000
 
 -- an input, Memcheck's redzone and volume of freed blocks, and the functions of the heap that the program has by name
 abbrev pub setup_with : Image → List ℕ → Setup
-setup_with image input = record { input = input; redzone = usual_redzone; volume = usual_volume; hooks = hooks_of image }
+setup_with image input = record {
+  input = input;
+  redzone = usual_redzone;
+  volume = usual_volume;
+  hooks = hooks_of image;
+}

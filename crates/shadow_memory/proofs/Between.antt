@@ -24,20 +24,24 @@ not-between : (from at : ℕ) → is_between from at at ≡ false
 not-between from at = grind (arith, nat_tests)
 
 -- what comes after a range is as it was
-pub after-between : (marks before made : ℕ → ByteShadow) (from at : ℕ) → Agree before (λ k. cond (is_between from at k) (made k) (marks k)) → before at ≡ marks at
+pub after-between : (marks before made : ℕ → ByteShadow) (from at : ℕ)
+    → Agree before (λ k. cond (is_between from at k) (made k) (marks k)) → before at ≡ marks at
 after-between marks before made from at so = so at ∙ ap (λ t. cond t (made at) (marks at)) (not-between from at)
 
 -- one more mark of a range is set
-pub between-more : (marks before after made : ℕ → ByteShadow) (from at : ℕ) → from ≤ at → Agree before (λ k. cond (is_between from at k) (made k) (marks k))
+pub between-more : (marks before after made : ℕ → ByteShadow) (from at : ℕ) → from ≤ at
+    → Agree before (λ k. cond (is_between from at k) (made k) (marks k))
     → after at ≡ made at → ((k : ℕ) → k ≢ at → after k ≡ before k)
     → Agree after (λ k. cond (is_between from (at + 1) k) (made k) (marks k))
 between-more marks before after made from at order so here others = λ k. elim (cases_eq k at) [
-  | inl e ↦ ap after e ∙ here ∙ ap made (sym e) ∙ ap (λ t. cond t (made k) (marks k)) (sym (ap (is_between from (at + 1)) e ∙ here-between from at order))
+  | inl e ↦ ap after e ∙ here ∙ ap made (sym e)
+      ∙ ap (λ t. cond t (made k) (marks k)) (sym (ap (is_between from (at + 1)) e ∙ here-between from at order))
   | inr other ↦ others k other ∙ so k ∙ ap (λ t. cond t (made k) (marks k)) (sym (same-between from at k other))
 ]
 
 -- a kind's number, where a range is set
-pub made-mark : (b : Bool) (kind : RangeKind) (code old partly : ℕ) → code ≡ cond b (code_of kind) old → mark_by code partly ≡ cond b (mark_of kind) (mark_by old partly)
+pub made-mark : (b : Bool) (kind : RangeKind) (code old partly : ℕ) → code ≡ cond b (code_of kind) old
+    → mark_by code partly ≡ cond b (mark_of kind) (mark_by old partly)
 made-mark true kind code old partly e = ap (λ c. mark_by c partly) e ∙ mark_by-code_of kind partly
 made-mark false kind code old partly e = ap (λ c. mark_by c partly) e
 
@@ -50,11 +54,13 @@ join-false b c d x y e f = rw (e, f) refl
 pub whole-between : (from at next k : ℕ) → from ≤ at → is_between at next k ≡ true → is_between from next k ≡ true
 whole-between from at next k order h = grind (arith, nat_tests)
 
-pub outside-between : (from at next k : ℕ) → from ≤ at → at ≤ next → is_between at next k ≡ false → is_between from at k ≡ is_between from next k
+pub outside-between : (from at next k : ℕ) → from ≤ at → at ≤ next → is_between at next k ≡ false
+    → is_between from at k ≡ is_between from next k
 outside-between from at next k order more h = grind (arith, nat_tests)
 
 -- a range that is set up to a place, and from there on
-pub between-joins : (from at next k x y : ℕ) → from ≤ at → at ≤ next → cond (is_between at next k) x (cond (is_between from at k) x y) ≡ cond (is_between from next k) x y
+pub between-joins : (from at next k x y : ℕ) → from ≤ at → at ≤ next
+    → cond (is_between at next k) x (cond (is_between from at k) x y) ≡ cond (is_between from next k) x y
 between-joins from at next k x y order more = elim (cases_Bool (is_between at next k)) [
   | inl h ↦ join-true _ _ _ x y h (whole-between from at next k order h)
   | inr h ↦ join-false _ _ _ x y h (outside-between from at next k order more h)

@@ -1,5 +1,6 @@
 -- Tables whose slots show the same show the same.
-use Rattle.std.proofs.Common.{◌≡◌, ℕ, zero, suc, List, [], ◌∷◌, ◌++◌, Bool, true, false, cond, nat_lt, slice_index_or, refl, ap, ◌∙◌, ◌-◌, ◌/◌, ◌%◌}
+use Rattle.std.proofs.Common.{◌≡◌, ℕ, zero, suc, List, [], ◌∷◌, ◌++◌, Bool, true, false, cond, nat_lt, slice_index_or}
+use Rattle.std.proofs.Common.{refl, ap, ◌∙◌, ◌-◌, ◌/◌, ◌%◌}
 use Rattle.std.proofs.Math.Path.{fun_ext}
 use Rattle.std.specs.List.{AllZip}
 use Rattle.shadow_memory.specs.Directories.{cells_at, cells_under, page_at, page_of}
@@ -12,26 +13,31 @@ use Rattle.shadow_memory.specs.declared.memory.DirectorySlot.TheVariants as Belo
 use Rattle.shadow_memory.specs.declared.slots.PageSlot.TheVariants as At
 
 -- lists that agree slot by slot in what the slots show
-pub same_slots : {S : Type 0} (shown : S → ℕ → Cell) (d : S) (xs ys : List S) → AllZip (λ x y. shown y ≡ shown x) xs ys → (i : ℕ) → shown (slice_index_or ys i d) ≡ shown (slice_index_or xs i d)
+pub same_slots : {S : Type 0} (shown : S → ℕ → Cell) (d : S) (xs ys : List S) → AllZip (λ x y. shown y ≡ shown x) xs ys
+    → (i : ℕ) → shown (slice_index_or ys i d) ≡ shown (slice_index_or xs i d)
 same_slots shown d [] [] h i = refl
 same_slots shown d [] (y ∷ ys) h i = absurd h
 same_slots shown d (x ∷ xs) [] h i = absurd h
 same_slots shown d (x ∷ xs) (y ∷ ys) h zero = h.0
 same_slots shown d (x ∷ xs) (y ∷ ys) h (suc i) = same_slots shown d xs ys h.1 i
 
-either_slot : {S : Type 0} (shown : S → ℕ → Cell) (c : Bool) (d x y : S) → shown y ≡ shown x → shown (cond c d y) ≡ shown (cond c d x)
+either_slot : {S : Type 0} (shown : S → ℕ → Cell) (c : Bool) (d x y : S) → shown y ≡ shown x
+    → shown (cond c d y) ≡ shown (cond c d x)
 either_slot shown true d x y h = refl
 either_slot shown false d x y h = h
 
 pub same_under : (a b : Directory) → b.first ≡ a.first
-    → ((i : ℕ) → cells_at (slice_index_or b.pages.items i (At.Blank NoAccess)) ≡ cells_at (slice_index_or a.pages.items i (At.Blank NoAccess)))
+    → ((i : ℕ) → cells_at (slice_index_or b.pages.items i (At.Blank NoAccess))
+    ≡ cells_at (slice_index_or a.pages.items i (At.Blank NoAccess)))
     → cells_under b ≡ cells_under a
 unfolding cells_under page_at
 same_under a b e h = fun_ext (λ n.
     ap (λ first. cells_at (page_of first b.pages.items (n / 4096)) (n % 4096)) e
-    ∙ ap (λ f. f (n % 4096)) (either_slot cells_at (nat_lt (n / 4096) a.first) (At.Blank NoAccess) _ _ (h (n / 4096 - a.first))))
+    ∙ ap (λ f. f (n % 4096)) (either_slot cells_at (nat_lt (n / 4096) a.first) (At.Blank NoAccess) _ _
+    (h (n / 4096 - a.first))))
 
-pub same_of : (a b : Memory) → ((i : ℕ) → cells_below (slice_index_or b.directories.items i Below.Blank) ≡ cells_below (slice_index_or a.directories.items i Below.Blank)) → cells_of b ≡ cells_of a
+pub same_of : (a b : Memory) → ((i : ℕ) → cells_below (slice_index_or b.directories.items i Below.Blank)
+    ≡ cells_below (slice_index_or a.directories.items i Below.Blank)) → cells_of b ≡ cells_of a
 unfolding cells_of
 same_of a b h = fun_ext (λ n. ap (λ f. f (n % 4194304)) (h (n / 4194304)))
 

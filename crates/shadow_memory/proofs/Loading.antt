@@ -28,30 +28,38 @@ alike-four : (f g : ℕ → Cell) (addr : ℕ) → Alike f g addr 4
 unfolding Alike loaded_at little_word first_from
 alike-four f g addr h = rw (h 0 (lit< tt), h 1 (lit< tt), h 2 (lit< tt), h 3 (lit< tt)) refl
 
-pub same-load : (f g : ℕ → Cell) (addr n : ℕ) → IsWidth n → ((i : ℕ) → i < n → f i ≡ g i) → loaded_at f addr n ≡ loaded_at g addr n
+pub same-load : (f g : ℕ → Cell) (addr n : ℕ) → IsWidth n → ((i : ℕ) → i < n → f i ≡ g i)
+    → loaded_at f addr n ≡ loaded_at g addr n
 unfolding Alike
-same-load f g addr n width = by-width (Alike f g addr) (alike-one f g addr) (alike-two f g addr) (alike-four f g addr) n width
+same-load f g addr n width =
+    by-width (Alike f g addr) (alike-one f g addr) (alike-two f g addr) (alike-four f g addr) n width
 
 -- a load of defined bytes
 all-defined : (ℕ → ℕ) → ℕ → Loaded
 all-defined bytes n = record { value = little_word (λ i. if nat_lt i n then bytes i else 0); undef = 0; bad = None }
 
-defined-one : (bytes : ℕ → ℕ) (addr : ℕ) → all-defined bytes 1 ≡ loaded_at (λ i. marked (bytes i) (mark_of Defined)) addr 1
+defined-one : (bytes : ℕ → ℕ) (addr : ℕ)
+    → all-defined bytes 1 ≡ loaded_at (λ i. marked (bytes i) (mark_of Defined)) addr 1
 unfolding all-defined loaded_at little_word first_from
 defined-one bytes addr = refl
 
-defined-two : (bytes : ℕ → ℕ) (addr : ℕ) → all-defined bytes 2 ≡ loaded_at (λ i. marked (bytes i) (mark_of Defined)) addr 2
+defined-two : (bytes : ℕ → ℕ) (addr : ℕ)
+    → all-defined bytes 2 ≡ loaded_at (λ i. marked (bytes i) (mark_of Defined)) addr 2
 unfolding all-defined loaded_at little_word first_from
 defined-two bytes addr = refl
 
-defined-four : (bytes : ℕ → ℕ) (addr : ℕ) → all-defined bytes 4 ≡ loaded_at (λ i. marked (bytes i) (mark_of Defined)) addr 4
+defined-four : (bytes : ℕ → ℕ) (addr : ℕ)
+    → all-defined bytes 4 ≡ loaded_at (λ i. marked (bytes i) (mark_of Defined)) addr 4
 unfolding all-defined loaded_at little_word first_from
 defined-four bytes addr = refl
 
 -- where all are accessible and defined, the bytes alone are read
-pub defined-load : (f : ℕ → Cell) (bytes : ℕ → ℕ) (addr n : ℕ) → IsWidth n → ((i : ℕ) → i < n → f i ≡ marked (bytes i) (mark_of Defined))
-    → record { value = little_word (λ i. if nat_lt i n then bytes i else 0); undef = 0; bad = None } ≡ loaded_at f addr n
+pub defined-load : (f : ℕ → Cell) (bytes : ℕ → ℕ) (addr n : ℕ) → IsWidth n
+    → ((i : ℕ) → i < n → f i ≡ marked (bytes i) (mark_of Defined))
+    → record { value = little_word (λ i. if nat_lt i n then bytes i else 0); undef = 0; bad = None }
+    ≡ loaded_at f addr n
 unfolding all-defined
 defined-load f bytes addr n width h =
-    by-width (λ n. all-defined bytes n ≡ loaded_at (λ i. marked (bytes i) (mark_of Defined)) addr n) (defined-one bytes addr) (defined-two bytes addr) (defined-four bytes addr) n width
+    by-width (λ n. all-defined bytes n ≡ loaded_at (λ i. marked (bytes i) (mark_of Defined)) addr n)
+    (defined-one bytes addr) (defined-two bytes addr) (defined-four bytes addr) n width
     ∙ sym (same-load f (λ i. marked (bytes i) (mark_of Defined)) addr n width h)

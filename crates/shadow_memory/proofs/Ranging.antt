@@ -1,5 +1,6 @@
 -- Searches for a word whose value lies in a range, from page to page.
-use Rattle.std.proofs.Common.{◌≡◌, ℕ, Bool, true, false, not, ◌&&◌, refl, ap, ap₂, sym, ◌∙◌, ◌+◌, ◌-◌, ◌*◌, ◌/◌, ◌%◌, ◌^◌, ◌<◌, ◌≤◌, inl, inr, IsFalse, nat_le, nat_lt, arith}
+use Rattle.std.proofs.Common.{◌≡◌, ℕ, Bool, true, false, not, ◌&&◌, refl, ap, ap₂, sym, ◌∙◌, ◌+◌, ◌-◌, ◌*◌, ◌/◌, ◌%◌}
+use Rattle.std.proofs.Common.{◌^◌, ◌<◌, ◌≤◌, inl, inr, IsFalse, nat_le, nat_lt, arith}
 use Rattle.std.proofs.lemmas.Bool.{cases_lt, false≢true}
 use Rattle.std.proofs.lemmas.Bool.Decides.{nat_tests}
 use Rattle.shadow_memory.specs.Cells.{shadow_in}
@@ -26,14 +27,19 @@ not-from : (low : ℕ) → 0 < low → nat_le low 0 ≡ false
 not-from low positive = grind (arith, nat_tests)
 
 -- zeros have no value above 0
-pub zeros-hold-none : (bytes : ℕ → ℕ) (shadows : ℕ → Shadow) (low high from to : ℕ) → 0 < low → ((k : ℕ) → bytes k ≡ 0) → HoldNoneInRange bytes shadows low high from to
+pub zeros-hold-none : (bytes : ℕ → ℕ) (shadows : ℕ → Shadow) (low high from to : ℕ) → 0 < low → ((k : ℕ) → bytes k ≡ 0)
+    → HoldNoneInRange bytes shadows low high from to
 zeros-hold-none bytes shadows low high from to positive zeros a start below aligned =
-    let value : value_at bytes a ≡ 0 = same-number (λ i. bytes (a + i)) (λ i. 0) (λ i few. zeros (a + i)) ∙ zero-number in
-    ap (λ b. b && nat_lt (value_at bytes a) high && holds_word shadows a) (ap (nat_le low) value ∙ not-from low positive)
+    let value : value_at bytes a ≡ 0 = same-number (λ i. bytes (a + i)) (λ i. 0) (λ i few. zeros (a + i))
+    ∙ zero-number in
+    ap (λ b. b && nat_lt (value_at bytes a) high && holds_word shadows a) (ap (nat_le low) value
+    ∙ not-from low positive)
 
 -- one more multiple of 4 is looked at
-pub value-more : (bytes : ℕ → ℕ) (shadows : ℕ → Shadow) (low high from word : ℕ) → HoldNoneInRange bytes shadows low high from (4 * word)
-    → holds_in_range bytes shadows low high (4 * word) ≡ false → HoldNoneInRange bytes shadows low high from (4 * (word + 1))
+pub value-more : (bytes : ℕ → ℕ) (shadows : ℕ → Shadow) (low high from word : ℕ)
+    → HoldNoneInRange bytes shadows low high from (4 * word)
+    → holds_in_range bytes shadows low high (4 * word) ≡ false
+    → HoldNoneInRange bytes shadows low high from (4 * (word + 1))
 value-more bytes shadows low high from word before here a start below aligned = elim (cases_lt a (4 * word)) [
   | inl early ↦ before a start early aligned
   | inr late ↦ let e : a ≡ 4 * word = omega arith in ap (holds_in_range bytes shadows low high) e ∙ here
@@ -46,29 +52,37 @@ is-below low n h = grind (arith, nat_tests)
 is-above : (n high : ℕ) → high ≤ n → nat_lt n high ≡ false
 is-above n high h = grind (arith, nat_tests)
 
-pub highest-below : (byte : ℕ → ℕ) (low high : ℕ) → byte 0 < 256 → byte 1 < 256 → byte 2 < 256 → byte 3 < low / 16777216 → (nat_le low (little_word byte) && nat_lt (little_word byte) high) ≡ false
+pub highest-below : (byte : ℕ → ℕ) (low high : ℕ) → byte 0 < 256 → byte 1 < 256 → byte 2 < 256 → byte 3 < low / 16777216
+    → (nat_le low (little_word byte) && nat_lt (little_word byte) high) ≡ false
 unfolding little_word
-highest-below byte low high first second third h = ap (λ b. b && nat_lt (little_word byte) high) (is-below low (little_word byte) (omega arith))
+highest-below byte low high first second third h =
+    ap (λ b. b && nat_lt (little_word byte) high) (is-below low (little_word byte) (omega arith))
 
-pub highest-above : (byte : ℕ → ℕ) (low high : ℕ) → high ≤ byte 3 * 16777216 → (nat_le low (little_word byte) && nat_lt (little_word byte) high) ≡ false
+pub highest-above : (byte : ℕ → ℕ) (low high : ℕ) → high ≤ byte 3 * 16777216
+    → (nat_le low (little_word byte) && nat_lt (little_word byte) high) ≡ false
 unfolding little_word
-highest-above byte low high h = later-false (nat_le low (little_word byte)) (nat_lt (little_word byte) high) (is-above (little_word byte) high (omega arith))
+highest-above byte low high h =
+    later-false (nat_le low (little_word byte)) (nat_lt (little_word byte) high)
+    (is-above (little_word byte) high (omega arith))
   where
     later-false : (p q : Bool) → q ≡ false → (p && q) ≡ false
     later-false false q e = refl
     later-false true q e = e
 
 -- a highest byte that isn't among so many from the least one on, by one comparison round the end
-pub highest-outside : (byte : ℕ → ℕ) (low high highest least count : ℕ) → low < 2 ^ 32 → byte 0 < 256 → byte 1 < 256 → byte 2 < 256 → byte 3 < 256
+pub highest-outside : (byte : ℕ → ℕ) (low high highest least count : ℕ) → low < 2 ^ 32 → byte 0 < 256 → byte 1 < 256
+    → byte 2 < 256 → byte 3 < 256
     → highest ≡ byte 3 → least ≡ low / 16777216 → count ≡ high / 16777216 + 1 - least
-    → IsFalse (nat_lt ((highest + (2 ^ 64 - least)) % 2 ^ 64) count) → (nat_le low (little_word byte) && nat_lt (little_word byte) high) ≡ false
-highest-outside byte low high highest least count word first second third fourth is least-is count-is fails = elim (cases_lt (byte 3) (low / 16777216)) [
-  | inl less ↦ highest-below byte low high first second third less
-  | inr more ↦ (
-      let far : count ≤ (highest + (2 ^ 64 - least)) % 2 ^ 64 = grind (arith, nat_tests, fails) in
-      highest-above byte low high (omega (arith, word, fourth, is, least-is, count-is, more, far))
-      )
-]
+    → IsFalse (nat_lt ((highest + (2 ^ 64 - least)) % 2 ^ 64) count)
+    → (nat_le low (little_word byte) && nat_lt (little_word byte) high) ≡ false
+highest-outside byte low high highest least count word first second third fourth is least-is count-is fails =
+    elim (cases_lt (byte 3) (low / 16777216)) [
+      | inl less ↦ highest-below byte low high first second third less
+      | inr more ↦ (
+          let far : count ≤ (highest + (2 ^ 64 - least)) % 2 ^ 64 = grind (arith, nat_tests, fails) in
+          highest-above byte low high (omega (arith, word, fourth, is, least-is, count-is, more, far))
+          )
+    ]
 
 bad-first : (b p q r : Bool) → b ≡ true → (not b && p && q && r) ≡ false
 bad-first true p q r h = refl
@@ -80,11 +94,16 @@ last-false true false w h = refl
 last-false false q w h = refl
 
 -- where the first byte is bad there is no word
-pub bad-holds-none : (bytes : ℕ → ℕ) (shadows : ℕ → Shadow) (low high a : ℕ) → is_bad true (shadows a) ≡ true → holds_in_range bytes shadows low high a ≡ false
-bad-holds-none bytes shadows low high a bad = last-false (nat_le low (value_at bytes a)) (nat_lt (value_at bytes a) high) (holds_word shadows a) (bad-first (is_bad true (shadows a)) _ _ _ bad)
+pub bad-holds-none : (bytes : ℕ → ℕ) (shadows : ℕ → Shadow) (low high a : ℕ) → is_bad true (shadows a) ≡ true
+    → holds_in_range bytes shadows low high a ≡ false
+bad-holds-none bytes shadows low high a bad =
+    last-false (nat_le low (value_at bytes a)) (nat_lt (value_at bytes a) high) (holds_word shadows a)
+    (bad-first (is_bad true (shadows a)) _ _ _ bad)
 
-module _ (cells seen : ℕ → Cell) (start low high : ℕ) (page : start % 4096 ≡ 0) (same : (a : ℕ) → a / 4096 ≡ start / 4096 → cells a ≡ seen (a % 4096)) where
-  value-seen : (k : ℕ) → k % 4 ≡ 0 → k < 4096 → value_at (λ a. (cells a).byte) (start + k) ≡ value_at (λ a. (seen a).byte) k
+module _ (cells seen : ℕ → Cell) (start low high : ℕ) (page : start % 4096 ≡ 0) (same : (a : ℕ)
+    → a / 4096 ≡ start / 4096 → cells a ≡ seen (a % 4096)) where
+  value-seen : (k : ℕ) → k % 4 ≡ 0 → k < 4096
+      → value_at (λ a. (cells a).byte) (start + k) ≡ value_at (λ a. (seen a).byte) k
   value-seen k aligned below = same-number _ _ (λ i few.
       let there : (start + k + i) / 4096 ≡ start / 4096 = omega arith in
       let place : (start + k + i) % 4096 ≡ k + i = omega arith in
@@ -93,9 +112,12 @@ module _ (cells seen : ℕ → Cell) (start low high : ℕ) (page : start % 4096
   holds-seen : (k : ℕ) → k % 4 ≡ 0 → k < 4096
       → holds_in_range (λ a. (cells a).byte) (λ a. shadow_in (cells a)) low high (start + k)
       ≡ holds_in_range (λ a. (seen a).byte) (λ a. shadow_in (seen a)) low high k
-  holds-seen k aligned below = ap₂ (λ (n : ℕ) (b : Bool). nat_le low n && nat_lt n high && b) (value-seen k aligned below) (word-seen cells seen start page same k aligned below)
+  holds-seen k aligned below =
+      ap₂ (λ (n : ℕ) (b : Bool). nat_le low n && nat_lt n high && b) (value-seen k aligned below)
+      (word-seen cells seen start page same k aligned below)
 
-  pub page-holds-none : (addr from to : ℕ) → to ≤ 4096 → HoldNoneInRange (λ a. (seen a).byte) (λ a. shadow_in (seen a)) low high from to
+  pub page-holds-none : (addr from to : ℕ) → to ≤ 4096
+      → HoldNoneInRange (λ a. (seen a).byte) (λ a. shadow_in (seen a)) low high from to
       → HoldNoneInRange (λ a. (cells a).byte) (λ a. shadow_in (cells a)) low high addr (start + from)
       → HoldNoneInRange (λ a. (cells a).byte) (λ a. shadow_in (cells a)) low high addr (start + to)
   page-holds-none addr from to within none before a above below aligned = elim (cases_lt a (start + from)) [
@@ -105,11 +127,15 @@ module _ (cells seen : ℕ → Cell) (start low high : ℕ) (page : start % 4096
         let e : start + k ≡ a = omega arith in
         let near : k < to = omega arith in
         let four : k % 4 ≡ 0 = omega arith in
-        ap (holds_in_range (λ a. (cells a).byte) (λ a. shadow_in (cells a)) low high) (sym e) ∙ holds-seen k four (omega arith) ∙ none k (omega arith) near four
+        ap (holds_in_range (λ a. (cells a).byte) (λ a. shadow_in (cells a)) low high) (sym e)
+        ∙ holds-seen k four (omega arith) ∙ none k (omega arith) near four
   ]
 
-  pub next-in-page : (addr from place : ℕ) → IsNextInRange (λ a. (seen a).byte) (λ a. shadow_in (seen a)) low high from place → place < 4096 → addr ≤ start + from
-      → HoldNoneInRange (λ a. (cells a).byte) (λ a. shadow_in (cells a)) low high addr (start + from) → IsNextInRange (λ a. (cells a).byte) (λ a. shadow_in (cells a)) low high addr (start + place)
+  pub next-in-page : (addr from place : ℕ)
+      → IsNextInRange (λ a. (seen a).byte) (λ a. shadow_in (seen a)) low high from place → place < 4096
+      → addr ≤ start + from
+      → HoldNoneInRange (λ a. (cells a).byte) (λ a. shadow_in (cells a)) low high addr (start + from)
+      → IsNextInRange (λ a. (cells a).byte) (λ a. shadow_in (cells a)) low high addr (start + place)
   next-in-page addr from place next inside above before =
       let later : from ≤ place = next.above in
       let four : place % 4 ≡ 0 = next.aligned in

@@ -19,11 +19,21 @@ SomeFront n P = (k : ℕ) × (k < n) × P k
 
 -- a cell that gets byte i of a number with undefined bits: an inaccessible one takes the byte and stays inaccessible
 abbrev pub stored : Bits → ℕ → Cell → Cell
-stored bits i cell = record { byte = byte_of bits.value i; accessible = cell.accessible; undef = if cell.accessible then byte_of bits.undef i else cell.undef }
+stored bits i cell = record {
+  byte = byte_of bits.value i;
+  accessible = cell.accessible;
+  undef = if cell.accessible
+      then byte_of bits.undef i else cell.undef;
+}
 
 -- and one that gets a byte all of whose bits are defined
 abbrev pub received : (ℕ → ℕ) → ℕ → Cell → Cell
-received bytes i cell = record { byte = bytes i; accessible = cell.accessible; undef = if cell.accessible then 0 else cell.undef }
+received bytes i cell = record {
+  byte = bytes i;
+  accessible = cell.accessible;
+  undef = if cell.accessible then 0
+      else cell.undef;
+}
 
 -- a cell of a range that is made so: its byte stays
 abbrev pub ranged : RangeKind → ℕ → Cell → Cell
@@ -35,7 +45,12 @@ filled bytes i cell = record { byte = bytes i; accessible = true; undef = 0 }
 
 -- a cell that takes what another one loads as: an inaccessible one takes the byte and stays inaccessible
 abbrev pub taken_cell : Cell → Cell → Cell
-taken_cell source cell = record { byte = source.byte; accessible = cell.accessible; undef = if cell.accessible then loaded_undef (shadow_in source) else cell.undef }
+taken_cell source cell = record {
+  byte = source.byte;
+  accessible = cell.accessible;
+  undef = if cell.accessible
+      then loaded_undef (shadow_in source) else cell.undef;
+}
 
 -- and one that takes the byte i above an address
 abbrev pub copied_cell : (ℕ → Cell) → ℕ → ℕ → Cell → Cell
@@ -47,4 +62,5 @@ AreApart from to n = (i : ℕ) → i < n → is_in to n (above from i) ≡ false
 
 -- bytes, with others written over them from a place on
 abbrev pub overwritten : List ℕ → ℕ → List ℕ → ℕ → ℕ
-overwritten bytes at made k = if is_between at (at + length made) k then slice_index made (k - at) else slice_index bytes k
+overwritten bytes at made k =
+    if is_between at (at + length made) k then slice_index made (k - at) else slice_index bytes k

@@ -15,7 +15,8 @@ cells_at (Held page) = cells_in page.value
 
 -- the page with a number, where those from a first one on are kept, and the others are inaccessible zeros
 abbrev pub page_of : ℕ → List PageSlot → ℕ → PageSlot
-page_of first pages number = if nat_lt number first then Blank NoAccess else slice_index_or pages (number - first) (Blank NoAccess)
+page_of first pages number =
+    if nat_lt number first then Blank NoAccess else slice_index_or pages (number - first) (Blank NoAccess)
 
 unfoldable pub page_at : Directory → ℕ → PageSlot
 page_at directory number = page_of directory.first directory.pages.items number

@@ -44,4 +44,6 @@ Fits (Copy page place count) = (place + count ≤ page_len) × AreWhole page.now
 
 -- a blank page is blank after a change, of this kind
 abbrev pub LeavesBlank : RangeKind → PageEdit → RangeKind → Type 0
-LeavesBlank old edit kind = (at k : ℕ) → at + count_of edit ≤ page_len → k < page_len → changed_from (λ a. blank old) at (count_of edit) (change_of edit) k ≡ blank kind
+LeavesBlank old edit kind =
+    (at k : ℕ) → at + count_of edit ≤ page_len → k < page_len
+    → changed_from (λ a. blank old) at (count_of edit) (change_of edit) k ≡ blank kind

@@ -20,7 +20,8 @@ defined mark = if mark.accessible then mark_of Defined else mark
 
 -- the mark of a byte that takes the bits undefined that another loads with: an inaccessible one stays inaccessible
 abbrev pub taken : ByteShadow → ByteShadow → ByteShadow
-taken source mark = if mark.accessible then record { accessible = true; undef = loaded_undef (shadow_of_mark source) } else mark
+taken source mark =
+    if mark.accessible then record { accessible = true; undef = loaded_undef (shadow_of_mark source) } else mark
 
 -- a cell of a byte and a mark
 abbrev pub marked : ℕ → ByteShadow → Cell

@@ -1,4 +1,5 @@
--- What a memory holds, whatever it keeps it in: two functions of the address. Contracts speak of `bytes_in` and `shadows_in` alone.
+-- What a memory holds, whatever it keeps it in: two functions of the address. Contracts speak of `bytes_in` and
+-- `shadows_in` alone.
 use Rattle.std.specs.Prelude.{ℕ, ◌/◌, ◌%◌, slice_index_or}
 use Rattle.shadow_memory.specs.Cells.{shadow_in}
 use Rattle.shadow_memory.specs.Marks.{blank}

@@ -7,7 +7,9 @@ use Rattle.shadow_memory.specs.declared.cells.RangeKind.TheVariants.{NoAccess, U
 
 -- the numbers in a byte, the first in its low bits
 abbrev pub part_of : ℕ → ℕ → ℕ
-part_of byte place = if place == 0 then byte % 4 else if place == 1 then byte / 4 % 4 else if place == 2 then byte / 16 % 4 else byte / 64
+part_of byte place =
+    if place == 0 then byte % 4 else if place == 1 then byte / 4 % 4 else if place == 2 then byte / 16 % 4
+    else byte / 64
 
 -- the number of a kind; the fourth one is that of a partly defined byte
 abbrev pub code_of : RangeKind → ℕ
@@ -25,4 +27,6 @@ taken_code made old = if old == 0 then 0 else made
 
 -- what a number says, where a partly defined byte has these bits undefined
 abbrev pub mark_by : ℕ → ℕ → ByteShadow
-mark_by code partly = if code == 0 then mark_of NoAccess else if code == 1 then mark_of Undefined else if code == 2 then mark_of Defined else record { accessible = true; undef = partly }
+mark_by code partly =
+    if code == 0 then mark_of NoAccess else if code == 1 then mark_of Undefined else if code == 2 then mark_of Defined
+    else record { accessible = true; undef = partly }

@@ -1,6 +1,7 @@
 -- Ranges of addresses. There are 2^32 addresses, and the one after the last is 0
 -- (RISC-V Unprivileged ISA 20191213, section 1.4: the address space is circular).
-use Rattle.std.specs.Prelude.{ℕ, zero, suc, Bool, Option, Some, None, ◌+◌, ◌-◌, ◌*◌, ◌/◌, ◌%◌, ◌^◌, ◌&&◌, nat_lt, nat_le, if◌then◌else◌}
+use Rattle.std.specs.Prelude.{ℕ, zero, suc, Bool, Option, Some, None, ◌+◌, ◌-◌, ◌*◌, ◌/◌, ◌%◌, ◌^◌, ◌&&◌, nat_lt}
+use Rattle.std.specs.Prelude.{nat_le, if◌then◌else◌}
 
 -- the address i above another
 abbrev pub above : ℕ → ℕ → ℕ

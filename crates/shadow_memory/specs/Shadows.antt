@@ -1,6 +1,7 @@
--- What is known of a byte beside its value: whether it may be accessed (Memcheck manual, section 4.5.2, valid addresses),
--- and which of its bits are undefined (section 4.5.1, valid values).
-use Rattle.std.specs.Prelude.{ℕ, Bool, true, false, Option, Some, None, if◌then◌else◌, not, ◌&&◌, ◌||◌, ◌==◌, ◌+◌, ◌%◌, ◌<◌, ◌≤◌, ◌≡◌}
+-- What is known of a byte beside its value: whether it may be accessed (Memcheck manual, section 4.5.2, valid
+-- addresses), and which of its bits are undefined (section 4.5.1, valid values).
+use Rattle.std.specs.Prelude.{ℕ, Bool, true, false, Option, Some, None, if◌then◌else◌, not, ◌&&◌, ◌||◌, ◌==◌, ◌+◌, ◌%◌}
+use Rattle.std.specs.Prelude.{◌<◌, ◌≤◌, ◌≡◌}
 use Rattle.shadow_memory.specs.Ranges.{above, changed_in, first_from, byte_of}
 use Rattle.shadow_memory.specs.declared.cells.Bad.{Bad}
 use Rattle.shadow_memory.specs.declared.cells.RangeKind.{RangeKind}
@@ -43,7 +44,8 @@ first_inaccessible shadows start n = address_at start (first_from (λ i. not (sh
 
 -- the shadows, with those of n bytes copied, each as it loads
 unfoldable pub copied_undef : (ℕ → Shadow) → ℕ → ℕ → ℕ → ℕ → Shadow
-copied_undef shadows from to n = changed_in shadows to n (λ i s. stored_shadow (loaded_undef (shadows (above from i))) s)
+copied_undef shadows from to n =
+    changed_in shadows to n (λ i s. stored_shadow (loaded_undef (shadows (above from i))) s)
 
 -- is a byte inaccessible or, where asked, has it an undefined bit?
 abbrev pub is_bad : Bool → Shadow → Bool
@@ -52,15 +54,19 @@ is_bad need_defined s = not s.accessible || (need_defined && not (s.undef == 0))
 -- what is told of the bad byte at an offset
 abbrev pub bad_at : (ℕ → Shadow) → ℕ → Option ℕ → Option Bad
 bad_at shadows start None = None
-bad_at shadows start (Some i) = Some (record { addr = above start i; accessible = (shadows (above start i)).accessible })
+bad_at shadows start (Some i) =
+    Some (record { addr = above start i; accessible = (shadows (above start i)).accessible })
 
 -- the first bad one of n bytes
 unfoldable pub first_bad : (ℕ → Shadow) → ℕ → ℕ → Bool → Option Bad
-first_bad shadows start n need_defined = bad_at shadows start (first_from (λ i. is_bad need_defined (shadows (above start i))) 0 n)
+first_bad shadows start n need_defined =
+    bad_at shadows start (first_from (λ i. is_bad need_defined (shadows (above start i))) 0 n)
 
 -- are four bytes all accessible and defined?
 abbrev pub holds_word : (ℕ → Shadow) → ℕ → Bool
-holds_word shadows a = not (is_bad true (shadows a)) && not (is_bad true (shadows (a + 1))) && not (is_bad true (shadows (a + 2))) && not (is_bad true (shadows (a + 3)))
+holds_word shadows a =
+    not (is_bad true (shadows a)) && not (is_bad true (shadows (a + 1))) && not (is_bad true (shadows (a + 2)))
+    && not (is_bad true (shadows (a + 3)))
 
 -- no multiple of 4 from one address up to, not with, another has four accessible and defined bytes
 abbrev pub HoldNoWord : (ℕ → Shadow) → ℕ → ℕ → Type 0

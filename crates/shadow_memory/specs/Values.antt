@@ -9,11 +9,13 @@ value_at bytes a = little_word (λ i. bytes (a + i))
 
 -- are the four bytes at an address accessible and defined, with a value from low up to, not with, high?
 abbrev pub holds_in_range : (ℕ → ℕ) → (ℕ → Shadow) → ℕ → ℕ → ℕ → Bool
-holds_in_range bytes shadows low high a = nat_le low (value_at bytes a) && nat_lt (value_at bytes a) high && holds_word shadows a
+holds_in_range bytes shadows low high a =
+    nat_le low (value_at bytes a) && nat_lt (value_at bytes a) high && holds_word shadows a
 
 -- no multiple of 4 from one address up to, not with, another holds such a word
 abbrev pub HoldNoneInRange : (ℕ → ℕ) → (ℕ → Shadow) → ℕ → ℕ → ℕ → ℕ → Type 0
-HoldNoneInRange bytes shadows low high from to = (a : ℕ) → from ≤ a → a < to → a % 4 ≡ 0 → holds_in_range bytes shadows low high a ≡ false
+HoldNoneInRange bytes shadows low high from to =
+    (a : ℕ) → from ≤ a → a < to → a % 4 ≡ 0 → holds_in_range bytes shadows low high a ≡ false
 
 -- the least multiple of 4, at or above an address, that does
 pub record IsNextInRange (bytes : ℕ → ℕ) (shadows : ℕ → Shadow) (low high from word : ℕ) : Type 0 where

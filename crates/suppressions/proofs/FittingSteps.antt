@@ -1,5 +1,6 @@
 -- A pattern and its first piece, one case at a time.
-use Rattle.std.proofs.Common.{◌≡◌, ℕ, suc, ◌+◌, ◌<◌, ◌⊎◌, inl, inr, List, [], ◌∷◌, ◌++◌, length, get_or, take, drop, Bool, true, false, IsTrue, refl, sym, ap, subst, ◌∙◌}
+use Rattle.std.proofs.Common.{◌≡◌, ℕ, suc, ◌+◌, ◌<◌, ◌⊎◌, inl, inr, List, [], ◌∷◌, ◌++◌, length, get_or, take, drop}
+use Rattle.std.proofs.Common.{Bool, true, false, IsTrue, refl, sym, ap, subst, ◌∙◌}
 use Rattle.std.proofs.Common.{append_assoc, append-nil, arith, add-one, drop-cons, length-drop}
 use Rattle.std.proofs.Math.Seq.{drop-append_seam}
 use Rattle.std.proofs.lemmas.List.{take-append-drop, length-append, drop-drop}
@@ -19,7 +20,8 @@ some_stands {X} xs at lt = go (drop at xs) refl
     go : (ys : List X) → drop at xs ≡ ys → (x : X) × StandsAt xs at x
     go [] is = absurd (omega (arith, ap length is, length-drop at xs))
     go (y ∷ ys) is =
-        let others : drop (at + 1) xs ≡ ys = ap (λ n. drop n xs) (omega arith) ∙ sym (drop-drop 1 at xs) ∙ ap (drop 1) is in
+        let others : drop (at + 1) xs ≡ ys = ap (λ n. drop n xs) (omega arith) ∙ sym (drop-drop 1 at xs)
+        ∙ ap (drop 1) is in
         (y, is ∙ ap (λ zs. y ∷ zs) (sym others))
 
 one_part : {X : Type 0} (x : X) (part rest t : List X) → x ∷ t ≡ part ++ rest → length part ≡ 1 → part ≡ x ∷ []
@@ -28,7 +30,8 @@ one_part x (y ∷ []) rest t e one = cc
 one_part x (y ∷ z ∷ part) rest t e one = absurd (omega (arith, one))
 
 drop_one : {X : Type 0} (part rest t : List X) → t ≡ part ++ rest → length part ≡ 1 → drop 1 t ≡ rest
-drop_one part rest t e one = ap (λ u. drop 1 u) e ∙ ap (λ n. drop n (part ++ rest)) (sym one) ∙ drop-append_seam part rest
+drop_one part rest t e one =
+    ap (λ u. drop 1 u) e ∙ ap (λ n. drop n (part ++ rest)) (sym one) ∙ drop-append_seam part rest
 
 none_before : {X : Type 0} (part rest : List X) → [] ≡ part ++ rest → part ≡ []
 none_before [] rest e = refl
@@ -51,40 +54,48 @@ module _ {P X : Type 0} (Fits : P → List X → Type 0) where
 
   module _ (may_go_on : Bool) where
     -- a part that the first piece fits, and a rest
-    parted : (p : P) (ps : List P) (t : List X) → FitsFront Fits may_go_on (p ∷ ps) t → (part : List X) × (rest : List X) × (t ≡ part ++ rest) × Fits p part × FitsFront Fits may_go_on ps rest
+    parted : (p : P) (ps : List P) (t : List X) → FitsFront Fits may_go_on (p ∷ ps) t
+        → (part : List X) × (rest : List X) × (t ≡ part ++ rest) × Fits p part × FitsFront Fits may_go_on ps rest
     parted p ps t h =
         let s = h.3 in
         (s.0, s.1 ++ h.1, h.2 ∙ ap (λ u. u ++ h.1) s.2 ∙ append_assoc s.0 s.1 h.1, s.3, (s.1, h.1, refl, s.4, h.4))
 
-    joined : (p : P) (ps : List P) (part rest : List X) → Fits p part → FitsFront Fits may_go_on ps rest → FitsFront Fits may_go_on (p ∷ ps) (part ++ rest)
+    joined : (p : P) (ps : List P) (part rest : List X) → Fits p part → FitsFront Fits may_go_on ps rest
+        → FitsFront Fits may_go_on (p ∷ ps) (part ++ rest)
     joined p ps part rest fits h =
         (part ++ h.0, h.1, ap (λ u. part ++ u) h.2 ∙ sym (append_assoc part h.0 h.1), (part, h.0, refl, fits, h.3), h.4)
 
     -- a star takes any items
-    pub star_takes : (k : ℕ) (p : P) (ps : List P) (t : List X) → IsStar Fits p → FitsFront Fits may_go_on ps (drop k t) → FitsFront Fits may_go_on (p ∷ ps) t
+    pub star_takes : (k : ℕ) (p : P) (ps : List P) (t : List X) → IsStar Fits p → FitsFront Fits may_go_on ps (drop k t)
+        → FitsFront Fits may_go_on (p ∷ ps) t
     star_takes k p ps t star h =
-        subst (λ (u : List X). FitsFront Fits may_go_on (p ∷ ps) u) (take-append-drop k t) (joined p ps (take k t) (drop k t) (star (take k t)) h)
+        subst (λ (u : List X). FitsFront Fits may_go_on (p ∷ ps) u) (take-append-drop k t)
+        (joined p ps (take k t) (drop k t) (star (take k t)) h)
 
     -- what follows a piece fits after some items
-    pub some_taken : (p : P) (ps : List P) (t : List X) → FitsFront Fits may_go_on (p ∷ ps) t → (k : ℕ) × FitsFront Fits may_go_on ps (drop k t)
+    pub some_taken : (p : P) (ps : List P) (t : List X) → FitsFront Fits may_go_on (p ∷ ps) t
+        → (k : ℕ) × FitsFront Fits may_go_on ps (drop k t)
     some_taken p ps t h =
         let s = parted p ps t h in
         let seam : drop (length s.0) t ≡ s.1 = ap (drop (length s.0)) s.2 ∙ drop-append_seam s.0 s.1 in
         (length s.0, rw seam s.4)
 
     -- another piece takes the first item
-    pub single_rest : (p : P) (ps : List P) (t : List X) → IsSingle Fits p → FitsFront Fits may_go_on (p ∷ ps) t → FitsFront Fits may_go_on ps (drop 1 t)
+    pub single_rest : (p : P) (ps : List P) (t : List X) → IsSingle Fits p → FitsFront Fits may_go_on (p ∷ ps) t
+        → FitsFront Fits may_go_on ps (drop 1 t)
     single_rest p ps t single h =
         let s = parted p ps t h in
         rw (drop_one s.0 s.1 t s.2 (single s.0 s.3)) s.4
 
     -- which it fits
-    pub single_first : (p : P) (x : X) (ps : List P) (t : List X) → IsSingle Fits p → FitsFront Fits may_go_on (p ∷ ps) (x ∷ t) → Fits p (x ∷ [])
+    pub single_first : (p : P) (x : X) (ps : List P) (t : List X) → IsSingle Fits p
+        → FitsFront Fits may_go_on (p ∷ ps) (x ∷ t) → Fits p (x ∷ [])
     single_first p x ps t single h =
         let s = parted p ps (x ∷ t) h in
         subst (λ (u : List X). Fits p u) (one_part x s.0 s.1 t s.2 (single s.0 s.3)) s.3
 
-    pub one_more : (p : P) (x : X) (ps : List P) (t : List X) → Fits p (x ∷ []) → FitsFront Fits may_go_on ps t → FitsFront Fits may_go_on (p ∷ ps) (x ∷ t)
+    pub one_more : (p : P) (x : X) (ps : List P) (t : List X) → Fits p (x ∷ []) → FitsFront Fits may_go_on ps t
+        → FitsFront Fits may_go_on (p ∷ ps) (x ∷ t)
     one_more p x ps t fits h = joined p ps (x ∷ []) t fits h
 
     -- at the pattern's end

@@ -1,6 +1,7 @@
--- The suppression that a session's command `supp add KIND WORDS..` adds: the same kinds and frame lines as in a text, as words
--- that one space parts; the parameter of Param and the leak kinds of Leak stand first among them.
-use Rattle.std.specs.Prelude.{◌≡◌, ℕ, ◌⊎◌, true, nat_eq, List, [], ◌∷◌, drop, Option, Some, None, Result, Ok, Err, if◌then◌else◌, option_and_then, codes}
+-- The suppression that a session's command `supp add KIND WORDS..` adds: the same kinds and frame lines as in a text,
+-- as words that one space parts; the parameter of Param and the leak kinds of Leak stand first among them.
+use Rattle.std.specs.Prelude.{◌≡◌, ℕ, ◌⊎◌, true, nat_eq, List, [], ◌∷◌, drop, Option, Some, None, Result, Ok, Err}
+use Rattle.std.specs.Prelude.{if◌then◌else◌, option_and_then, codes}
 use Rattle.std.specs.List.{starts_with}
 use Rattle.std.specs.Str.{bytes_eq}
 use Rattle.suppressions.specs.declared.fault.SuppFault.{SuppFault}
@@ -25,7 +26,8 @@ parameter_rule (text ∷ words) = framed (Parameter text) words
 abbrev pub leak_rule : List (List ℕ) → Option Rule
 leak_rule [] = framed (Leak each_kind) []
 leak_rule (word ∷ words) =
-    if starts_with nat_eq word (codes "match-leak-kinds:") then option_and_then (λ kinds. framed (Leak kinds) words) (leak_kinds (drop 17 word))
+    if starts_with nat_eq word (codes "match-leak-kinds:")
+    then option_and_then (λ kinds. framed (Leak kinds) words) (leak_kinds (drop 17 word))
     else framed (Leak each_kind) (word ∷ words)
 
 abbrev pub rule_of_words : List (List ℕ) → Option Rule

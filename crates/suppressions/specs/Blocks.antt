@@ -1,6 +1,7 @@
--- One block of a suppression text: the lines between `{` and `}` (Valgrind user manual, section 2.5; Memcheck manual, section 4.4,
--- for the lines that Param and Leak take).
-use Rattle.std.specs.Prelude.{◌≡◌, ℕ, ◌==◌, ◌+◌, ◌⊎◌, Bool, true, false, IsTrue, nat_eq, List, [], ◌∷◌, take, drop, Option, Some, None, is_some, position, Result, MatchResult, if◌then◌else◌, codes}
+-- One block of a suppression text: the lines between `{` and `}` (Valgrind user manual, section 2.5; Memcheck manual,
+-- section 4.4, for the lines that Param and Leak take).
+use Rattle.std.specs.Prelude.{◌≡◌, ℕ, ◌==◌, ◌+◌, ◌⊎◌, Bool, true, false, IsTrue, nat_eq, List, [], ◌∷◌, take, drop}
+use Rattle.std.specs.Prelude.{Option, Some, None, is_some, position, Result, MatchResult, if◌then◌else◌, codes}
 use Rattle.std.specs.List.{starts_with, list_any, filter_map}
 use Rattle.std.specs.Str.{bytes_eq}
 use Rattle.suppressions.specs.declared.fault.SuppFault.{SuppFault}
@@ -14,8 +15,8 @@ use Rattle.text_parts.specs.Parts.{parts}
 use Rattle.suppressions.specs.Rules.{Rule}
 use Rattle.suppressions.specs.Words.{frame_of, plain_subject, leak_kinds, each_kind}
 
--- what a block is read as: the numbers of the lines at fault, whether a parameter or a frame line stands before the first of them,
--- and the suppression, which counts if there are none
+-- what a block is read as: the numbers of the lines at fault, whether a parameter or a frame line stands before the
+-- first of them, and the suppression, which counts if there are none
 pub record Reading : Type 0 where
   pub faults : List ℕ
   pub kept : Bool
@@ -74,7 +75,8 @@ listed_block number (Some kinds) lines = framed_block (Leak kinds) lines
 abbrev pub leak_block : List Line → Reading
 leak_block [] = framed_block (Leak each_kind) []
 leak_block (line ∷ lines) =
-    if starts_with nat_eq line.text (codes "match-leak-kinds:") then listed_block line.number (leak_kinds (without_spaces (drop 17 line.text))) lines
+    if starts_with nat_eq line.text (codes "match-leak-kinds:")
+    then listed_block line.number (leak_kinds (without_spaces (drop 17 line.text))) lines
     else framed_block (Leak each_kind) (line ∷ lines)
 
 abbrev pub plain_block : Option Subject → List Line → Reading

@@ -1,5 +1,5 @@
--- Frame lines, and the traces that they match (Valgrind user manual, section 2.5: each line fits one frame, `...` any number; the
--- trace may go on after them). A trace is seen by the names of its frames, the innermost first.
+-- Frame lines, and the traces that they match (Valgrind user manual, section 2.5: each line fits one frame, `...` any
+-- number; the trace may go on after them). A trace is seen by the names of its frames, the innermost first.
 use Rattle.std.specs.Prelude.{◌≡◌, ℕ, Bool, true, false, List, [], ◌∷◌, ◌++◌, length, codes}
 use Rattle.suppressions.specs.declared.frames.FrameLine.{FrameLine}
 use Rattle.suppressions.specs.declared.frames.FrameLine.TheVariants.{Function, Object, AnyFrames, Source}
@@ -15,7 +15,8 @@ FitsFrame Source names = ⊥
 
 -- some frames at the front of the trace fit the frame lines, one by one
 unfoldable pub MatchesTrace : List FrameLine → List (List ℕ) → Type 0
-MatchesTrace frames names = (front : List (List ℕ)) × (rest : List (List ℕ)) × (names ≡ front ++ rest) × FitsPieces FitsFrame frames front
+MatchesTrace frames names =
+    (front : List (List ℕ)) × (rest : List (List ℕ)) × (names ≡ front ++ rest) × FitsPieces FitsFrame frames front
 
 -- the same as functions
 abbrev pub fits_frame : FrameLine → List (List ℕ) → Bool

@@ -1,4 +1,5 @@
--- Patterns of names: `*` stands for any bytes, `?` for any one byte, another byte for itself (Valgrind user manual, section 2.5).
+-- Patterns of names: `*` stands for any bytes, `?` for any one byte, another byte for itself (Valgrind user manual,
+-- section 2.5).
 use Rattle.std.specs.Prelude.{◌≡◌, ℕ, ◌==◌, Bool, true, List, [], ◌∷◌, length, MatchBool, if◌then◌else◌}
 use Rattle.std.specs.Str.{bytes_eq}
 use Rattle.suppressions.specs.Fitting.{FitsPieces, fits_pieces}

@@ -3,12 +3,14 @@ use Rattle.std.specs.Prelude.{ℕ, Bool, true, false, ◌==◌, ◌||◌, if◌t
 use Rattle.suppressions.specs.declared.frames.FrameLine.{FrameLine}
 use Rattle.suppressions.specs.declared.frames.FrameLine.TheVariants.{Function}
 
--- the byte that each text begins with which fits a pattern, where the pattern's first byte stands for itself; 42 is `*` and 63 is `?`
+-- the byte that each text begins with which fits a pattern, where the pattern's first byte stands for itself; 42 is `*`
+-- and 63 is `?`
 abbrev pub initial_of : List ℕ → Option ℕ
 initial_of [] = None
 initial_of (c ∷ pattern) = if c == 42 || c == 63 then None else Some c
 
--- the byte that the name of the innermost frame begins with in each trace that frame lines match, where the first of them says so
+-- the byte that the name of the innermost frame begins with in each trace that frame lines match, where the first of
+-- them says so
 abbrev pub innermost_initial : List FrameLine → Option ℕ
 innermost_initial (Function pattern ∷ lines) = initial_of pattern
 innermost_initial lines = None

@@ -1,5 +1,5 @@
--- The lines of a suppression text that count, with their numbers (Valgrind user manual, section 2.5: empty lines and comments,
--- which begin with `#`, are skipped).
+-- The lines of a suppression text that count, with their numbers (Valgrind user manual, section 2.5: empty lines and
+-- comments, which begin with `#`, are skipped).
 use Rattle.std.specs.Prelude.{ℕ, ◌+◌, ◌==◌, Bool, true, ◌||◌, List, [], ◌∷◌, if◌then◌else◌, codes}
 use Rattle.std.specs.Str.{bytes_eq}
 use Rattle.text_parts.specs.Parts.{parts}

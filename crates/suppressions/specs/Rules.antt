@@ -1,5 +1,5 @@
--- A suppression as a value: what it is for, its frame lines, and whether it is switched on. What it matches, and what some that
--- are on leave out of a report (Valgrind user manual, section 2.5).
+-- A suppression as a value: what it is for, its frame lines, and whether it is switched on. What it matches, and what
+-- some that are on leave out of a report (Valgrind user manual, section 2.5).
 use Rattle.std.specs.Prelude.{ℕ, Bool, IsTrue, ◌&&◌, List}
 use Rattle.std.specs.List.{Any, list_any}
 use Rattle.suppressions.specs.declared.frames.FrameLine.{FrameLine}

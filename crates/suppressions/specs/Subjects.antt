@@ -1,5 +1,5 @@
--- What a suppression is for: the kinds of errors of Memcheck (Memcheck manual, section 4.4), an access of 1, 2 or 4 bytes being a
--- read or a write.
+-- What a suppression is for: the kinds of errors of Memcheck (Memcheck manual, section 4.4), an access of 1, 2 or 4
+-- bytes being a read or a write.
 use Rattle.std.specs.Prelude.{◌≡◌, ◌==◌, Bool, true, false, IsTrue}
 use Rattle.std.specs.Str.{bytes_eq}
 use Rattle.error_events.specs.declared.kind.Kind.TheVariants as kinds
@@ -10,7 +10,8 @@ use Rattle.suppressions.specs.declared.target.Target.{Target}
 use Rattle.suppressions.specs.declared.target.Target.TheVariants as targets
 use Rattle.suppressions.specs.declared.leak_kinds.LeakKinds.{LeakKinds}
 use Rattle.suppressions.specs.declared.subject.Subject.{Subject}
-use Rattle.suppressions.specs.declared.subject.Subject.TheVariants.{Access, Value, Condition, Parameter, Release, Jump, Leak}
+use Rattle.suppressions.specs.declared.subject.Subject.TheVariants.{Access, Value, Condition, Parameter, Release, Jump}
+use Rattle.suppressions.specs.declared.subject.Subject.TheVariants.{Leak}
 
 -- is a leak kind among some?
 abbrev pub has_kind : LeakKinds → LeakKind → Bool

@@ -1,5 +1,6 @@
 -- A suppression text: blocks, and what stands outside of them (Valgrind user manual, section 2.5).
-use Rattle.std.specs.Prelude.{◌≡◌, ◌≤◌, ℕ, Bool, true, IsTrue, false, List, [], ◌∷◌, Option, Some, None, if◌then◌else◌, All, Contains}
+use Rattle.std.specs.Prelude.{◌≡◌, ◌≤◌, ℕ, Bool, true, IsTrue, false, List, [], ◌∷◌, Option, Some, None, if◌then◌else◌}
+use Rattle.std.specs.Prelude.{All, Contains}
 use Rattle.std.specs.List.{flat_map}
 use Rattle.suppressions.specs.Lines.{Line, lines_of, opens, closes}
 use Rattle.suppressions.specs.Rules.{Rule}
@@ -20,8 +21,8 @@ abbrev pub after_block : List Line → List Line
 after_block [] = []
 after_block (line ∷ lines) = if closes line then lines else after_block lines
 
--- the parts of a text: a line that stands outside a block, by its number; or a block, by the number of its `{`, its lines
--- and the number of its `}`, if it has one
+-- the parts of a text: a line that stands outside a block, by its number; or a block, by the number of its `{`, its
+-- lines and the number of its `}`, if it has one
 pub data Part : Type 0 where
   stray : ℕ → Part
   block_of : ℕ → List Line → Option ℕ → Part
@@ -67,7 +68,8 @@ IsLeast n ns = Contains ns n × All (λ m. n ≤ m) ns
 -- of the first part of the lines something is kept: it is a block with an end
 abbrev pub KeepsFirst : List Line → Type 0
 KeepsFirst [] = ⊥
-KeepsFirst (line ∷ lines) = (close : ℕ) × IsTrue (opens line) × (closing lines ≡ Some close) × KeepsSome (block (body lines) close)
+KeepsFirst (line ∷ lines) =
+    (close : ℕ) × IsTrue (opens line) × (closing lines ≡ Some close) × KeepsSome (block (body lines) close)
 
 -- a text of which something is kept before its first fault
 unfoldable pub NeedsMemory : List ℕ → Type 0

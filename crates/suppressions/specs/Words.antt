@@ -1,5 +1,7 @@
--- The words of a suppression: kinds and leak kinds (Memcheck manual, section 4.4), frames (Valgrind user manual, section 2.5).
-use Rattle.std.specs.Prelude.{ℕ, Bool, true, false, ◌||◌, nat_eq, List, [], ◌∷◌, drop, Option, Some, None, is_some, if◌then◌else◌, option_and_then, codes}
+-- The words of a suppression: kinds and leak kinds (Memcheck manual, section 4.4), frames (Valgrind user manual,
+-- section 2.5).
+use Rattle.std.specs.Prelude.{ℕ, Bool, true, false, ◌||◌, nat_eq, List, [], ◌∷◌, drop, Option, Some, None, is_some}
+use Rattle.std.specs.Prelude.{if◌then◌else◌, option_and_then, codes}
 use Rattle.std.specs.List.{list_all, starts_with, filter_map}
 use Rattle.std.specs.Str.{bytes_eq}
 use Rattle.suppressions.specs.declared.frames.FrameLine.{FrameLine}
@@ -21,12 +23,18 @@ frame_of word =
 -- the leak kinds that one word of a list names, if it may stand there; `none` names no kind
 unfoldable pub kinds_of_word : List ℕ → Option LeakKinds
 kinds_of_word word =
-    if bytes_eq word (codes "definite") then Some (record { definite = true; indirect = false; possible = false; reachable = false })
-    else if bytes_eq word (codes "indirect") then Some (record { definite = false; indirect = true; possible = false; reachable = false })
-    else if bytes_eq word (codes "possible") then Some (record { definite = false; indirect = false; possible = true; reachable = false })
-    else if bytes_eq word (codes "reachable") then Some (record { definite = false; indirect = false; possible = false; reachable = true })
-    else if bytes_eq word (codes "all") then Some (record { definite = true; indirect = true; possible = true; reachable = true })
-    else if bytes_eq word (codes "none") then Some (record { definite = false; indirect = false; possible = false; reachable = false })
+    if bytes_eq word (codes "definite")
+    then Some (record { definite = true; indirect = false; possible = false; reachable = false })
+    else if bytes_eq word (codes "indirect")
+    then Some (record { definite = false; indirect = true; possible = false; reachable = false })
+    else if bytes_eq word (codes "possible")
+    then Some (record { definite = false; indirect = false; possible = true; reachable = false })
+    else if bytes_eq word (codes "reachable")
+    then Some (record { definite = false; indirect = false; possible = false; reachable = true })
+    else if bytes_eq word (codes "all")
+    then Some (record { definite = true; indirect = true; possible = true; reachable = true })
+    else if bytes_eq word (codes "none")
+    then Some (record { definite = false; indirect = false; possible = false; reachable = false })
     else None
 
 -- the kinds of two sets
@@ -45,7 +53,8 @@ kinds_beside kinds (word ∷ words) = option_and_then (λ more. kinds_beside (un
 
 -- the kinds of a list whose words commas part
 unfoldable pub leak_kinds : List ℕ → Option LeakKinds
-leak_kinds list = kinds_beside (record { definite = false; indirect = false; possible = false; reachable = false }) (parts 44 list)
+leak_kinds list =
+    kinds_beside (record { definite = false; indirect = false; possible = false; reachable = false }) (parts 44 list)
 
 -- are words frame lines, each of them?
 abbrev pub are_frames : List (List ℕ) → Bool

@@ -15,8 +15,10 @@ use Rattle.checkpoints.specs.declared.trail.Trail.{Trail}
 use Rattle.scenario.specs.Scenario.{Scenario, at_step, begun, first_state, run_of}
 use Rattle.suppressions.specs.Rules.{Rule}
 
-module _ (image : Image) (input : List ℕ) (rules : List Rule) (step : ℕ) (sc : Scenario) (is : sc ≡ at_step (begun image input rules) step) where
-  pub begins-right : (trail : Trail) → ((setup : Setup) (marks : List Mark) → IsRightFor trail (start_state image) setup marks) → IsRightForRun trail (run_of sc)
+module _ (image : Image) (input : List ℕ) (rules : List Rule) (step : ℕ) (sc : Scenario)
+    (is : sc ≡ at_step (begun image input rules) step) where
+  pub begins-right : (trail : Trail) → ((setup : Setup) (marks : List Mark)
+      → IsRightFor trail (start_state image) setup marks) → IsRightForRun trail (run_of sc)
   unfolding first_state
   begins-right trail right = subst (λ (s : Scenario). IsRightForRun trail (run_of s)) (sym is) (right _ _)
 
@@ -25,7 +27,8 @@ module _ (image : Image) (input : List ℕ) (rules : List Rule) (step : ℕ) (sc
   begins-shown machine shows = subst (λ (s : Scenario). Shows machine (first_state s)) (sym is) shows
 
   pub begins-loaded : (old new : Trail) → loaded_of new ≡ loaded_of old → LoadsAs old image → LoadsAs new sc.image
-  begins-loaded old new same loads a = ap (λ ranges. is_among ranges a) same ∙ loads a ∙ ap (λ (s : Scenario). is_some (loaded_at s.image a)) (sym is)
+  begins-loaded old new same loads a =
+      ap (λ ranges. is_among ranges a) same ∙ loads a ∙ ap (λ (s : Scenario). is_some (loaded_at s.image a)) (sym is)
 
   pub begins-step : step ≡ sc.step
   begins-step = ap (λ (s : Scenario). s.step) (sym is)

@@ -16,18 +16,23 @@ use Rattle.checkpoints.specs.declared.forks.Fork.{Fork}
 use Rattle.checkpoints.specs.declared.trail.Trail.{Trail}
 use Rattle.scenario.specs.Scenario.{Scenario, chosen_state, first_state, run_of}
 
-pub fork-for : (effect : Effect) (sc : Scenario) (setup : Setup) (marks : List Mark) (step : ℕ) (trail : Trail) (fork : Fork) → setup ≡ sc.setup → marks ≡ sc.marks → step ≡ sc.step
-    → ((start : State) → IsRightFor trail start setup marks → IsForkFor effect (record { start = start; setup = setup; marks = marks }) step fork)
+pub fork-for : (effect : Effect) (sc : Scenario) (setup : Setup) (marks : List Mark) (step : ℕ) (trail : Trail)
+    (fork : Fork) → setup ≡ sc.setup → marks ≡ sc.marks → step ≡ sc.step
+    → ((start : State) → IsRightFor trail start setup marks
+    → IsForkFor effect (record { start = start; setup = setup; marks = marks }) step fork)
     → IsRightForRun trail (run_of sc) → IsForkFor effect (run_of sc) sc.step fork
 fork-for effect sc setup marks step trail fork given marked chosen forks h =
-    transport (λ i. IsForkFor effect (record { start = first_state sc; setup = given i; marks = marked i }) (chosen i) fork)
+    transport (λ i. IsForkFor effect (record { start = first_state sc; setup = given i; marks = marked i }) (chosen i)
+    fork)
     (forks (first_state sc) (transport (λ i. IsRightFor trail (first_state sc) (sym given i) (sym marked i)) h))
 
 -- and of the edited one
-pub shown-edited : (effect : Effect) (one : Run) (fork : Fork) (sc : Scenario) (setup : Setup) (marks : List Mark) (step last : ℕ) (machine : Machine)
+pub shown-edited : (effect : Effect) (one : Run) (fork : Fork) (sc : Scenario) (setup : Setup) (marks : List Mark)
+    (step last : ℕ) (machine : Machine)
     → setup ≡ sc.setup → marks ≡ sc.marks → step ≡ sc.step → ShowsEdited effect fork setup marks last step machine
     → LeadsTo effect one (run_of sc) → IsForkFor effect one last fork → Shows machine (chosen_state sc)
 unfolding chosen_state
 shown-edited effect one fork sc setup marks step last machine given marked chosen shows leads is =
     transport (λ i. Shows machine (post (first_state sc) (given i) (marked i) (chosen i)))
-    (shows one (first_state sc) (transport (λ i. LeadsTo effect one (record { start = first_state sc; setup = sym given i; marks = sym marked i })) leads) is)
+    (shows one (first_state sc) (transport
+    (λ i. LeadsTo effect one (record { start = first_state sc; setup = sym given i; marks = sym marked i })) leads) is)

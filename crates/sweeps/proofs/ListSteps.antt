@@ -1,5 +1,7 @@
 -- Lists that grow by one.
-use Rattle.std.proofs.Common.{◌≡◌, ℕ, zero, suc, ◌+◌, ◌*◌, ◌^◌, ◌==◌, ◌&&◌, ◌||◌, ◌<◌, Bool, true, false, not, cond, if◌then◌else◌, List, [], ◌∷◌, ◌++◌, filter, map, length, bit_xor, refl, ap, sym, ◌∙◌, append_assoc, subst, inl, inr, rules, arith}
+use Rattle.std.proofs.Common.{◌≡◌, ℕ, zero, suc, ◌+◌, ◌*◌, ◌^◌, ◌==◌, ◌&&◌, ◌||◌, ◌<◌, Bool, true, false, not, cond}
+use Rattle.std.proofs.Common.{if◌then◌else◌, List, [], ◌∷◌, ◌++◌, filter, map, length, bit_xor, refl, ap, sym, ◌∙◌}
+use Rattle.std.proofs.Common.{append_assoc, subst, inl, inr, rules, arith}
 use Rattle.std.proofs.lemmas.Bool.{cases_lt}
 use Rattle.guest_elf.specs.declared.image.Image.{Image}
 use Rattle.scenario.specs.Edits.{is_word}
@@ -7,7 +9,8 @@ use Rattle.sweeps.specs.Plans.{any_word, below, byte_values, flips_below, is_wan
 use Rattle.sweeps.specs.Tables.{tally_line, tally_lines}
 use Rattle.sweeps.specs.declared.plan.ByteValues.{ByteValues}
 
-filter-more : {A : Type 0} (p : A → Bool) (xs : List A) (x : A) → filter p (xs ++ x ∷ []) ≡ filter p xs ++ (if p x then x ∷ [] else [])
+filter-more : {A : Type 0} (p : A → Bool) (xs : List A) (x : A)
+    → filter p (xs ++ x ∷ []) ≡ filter p xs ++ (if p x then x ∷ [] else [])
 filter-more p [] x = go (p x)
   where
     go : (b : Bool) → cond b (x ∷ []) [] ≡ cond b (x ∷ []) []
@@ -15,7 +18,8 @@ filter-more p [] x = go (p x)
 filter-more p (y ∷ ys) x = go (p y) (filter-more p ys x)
   where
     go : (b : Bool) → filter p (ys ++ x ∷ []) ≡ filter p ys ++ (if p x then x ∷ [] else [])
-        → cond b (y ∷ filter p (ys ++ x ∷ [])) (filter p (ys ++ x ∷ [])) ≡ cond b (y ∷ filter p ys) (filter p ys) ++ (if p x then x ∷ [] else [])
+        → cond b (y ∷ filter p (ys ++ x ∷ [])) (filter p (ys ++ x ∷ [])) ≡ cond b (y ∷ filter p ys) (filter p ys)
+        ++ (if p x then x ∷ [] else [])
     go true rest = ap (λ zs. y ∷ zs) rest
     go false rest = rest
 
@@ -28,11 +32,15 @@ plus-one n = omega arith
 
 -- one value more
 pub byte-more : (values : ByteValues) (old n : ℕ)
-    → byte_values values old (n + 1) ≡ byte_values values old n ++ (if not (n == old) && is_wanted values old n then n ∷ [] else [])
+    → byte_values values old (n + 1) ≡ byte_values values old n
+    ++ (if not (n == old) && is_wanted values old n then n ∷ [] else [])
 unfolding byte_values below
-byte-more values old n = ap (byte_values values old) (plus-one n) ∙ filter-more (λ new. not (new == old) && is_wanted values old new) (below n) n
+byte-more values old n =
+    ap (byte_values values old) (plus-one n)
+    ∙ filter-more (λ new. not (new == old) && is_wanted values old new) (below n) n
 
-pub word-more : (old : ℕ) (words : List ℕ) (word : ℕ) → word_values old (words ++ word ∷ []) ≡ word_values old words ++ (if not (word == old) then word ∷ [] else [])
+pub word-more : (old : ℕ) (words : List ℕ) (word : ℕ)
+    → word_values old (words ++ word ∷ []) ≡ word_values old words ++ (if not (word == old) then word ∷ [] else [])
 unfolding word_values
 word-more old words word = filter-more (λ new. not (new == old)) words word
 
@@ -41,7 +49,8 @@ unfolding flips_below below
 flip-more old n = ap (flips_below old) (plus-one n) ∙ map-more (λ bit. bit_xor old (2 ^ bit)) (below n) n
 
 -- one tally more
-pub tally-more : (from : ℕ) (counts : List ℕ) (count : ℕ) → tally_lines from (counts ++ count ∷ []) ≡ tally_lines from counts ++ tally_line (from + length counts) count
+pub tally-more : (from : ℕ) (counts : List ℕ) (count : ℕ)
+    → tally_lines from (counts ++ count ∷ []) ≡ tally_lines from counts ++ tally_line (from + length counts) count
 unfolding tally_lines
 tally-more from [] count = search rules
 tally-more from (c ∷ cs) count =
@@ -50,7 +59,8 @@ tally-more from (c ∷ cs) count =
     ∙ ap (λ n. (tally_line from c ++ tally_lines (from + 1) cs) ++ tally_line n count) (omega arith)
 
 -- a word that is there
-pub some-word : (image : Image) (first i n : ℕ) → i < n → is_word image (4 * (first + i)) ≡ true → any_word image first n ≡ true
+pub some-word : (image : Image) (first i n : ℕ) → i < n → is_word image (4 * (first + i)) ≡ true
+    → any_word image first n ≡ true
 unfolding any_word
 some-word image first i zero l h = absurd (omega arith)
 some-word image first i (suc n) l h = elim (cases_lt i n) [
@@ -70,6 +80,7 @@ pub no-word : (image : Image) (first : ℕ) → any_word image first 0 ≡ false
 unfolding any_word
 no-word image first = refl
 
-pub no-more-words : (image : Image) (first n : ℕ) → is_word image (4 * (first + n)) ≡ false → any_word image first n ≡ false → any_word image first (n + 1) ≡ false
+pub no-more-words : (image : Image) (first n : ℕ) → is_word image (4 * (first + n)) ≡ false
+    → any_word image first n ≡ false → any_word image first (n + 1) ≡ false
 unfolding any_word
 no-more-words image first n here before = ap (any_word image first) (plus-one n) ∙ (λ i. here i || before i)

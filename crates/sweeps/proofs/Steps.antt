@@ -1,5 +1,6 @@
 -- One more change that was met, and the rows of some changes after those of others.
-use Rattle.std.proofs.Common.{◌≡◌, ℕ, ◌+◌, Bool, List, [], ◌∷◌, ◌++◌, length, fold, refl, ap, sym, ◌∙◌, append_assoc, append-nil, arith}
+use Rattle.std.proofs.Common.{◌≡◌, ℕ, ◌+◌, Bool, List, [], ◌∷◌, ◌++◌, length, fold, refl, ap, sym, ◌∙◌, append_assoc}
+use Rattle.std.proofs.Common.{append-nil, arith}
 use Rattle.std.proofs.lemmas.List.{length-append}
 use Rattle.std.proofs.lemmas.List.Sums.{fold-append, sum_by_push}
 use Rattle.scenario.specs.Scenario.{Scenario}
@@ -18,18 +19,21 @@ unfolding tallied
 tallied-more first met more = fold-append (λ es (n : Met). with_text es n.outcome) ((first, 0) ∷ []) met more
 
 met-more : (with_output : Bool) (sc : Scenario) (met : List Met) (m : Met) → AreMet with_output sc met
-    → IsOutcome with_output sc m.change m.outcome → TakesSteps sc m.change m.steps → AreMet with_output sc (met ++ m ∷ [])
+    → IsOutcome with_output sc m.change m.outcome → TakesSteps sc m.change m.steps
+    → AreMet with_output sc (met ++ m ∷ [])
 met-more with_output sc [] m h outcome steps = ((outcome, steps), tt)
 met-more with_output sc (n ∷ ns) m h outcome steps = (h.0, met-more with_output sc ns m h.1 outcome steps)
 
-rows-on : (entries : List (List ℕ × ℕ)) (met more : List Met) → rows_after entries (met ++ more) ≡ rows_after entries met ++ rows_after (counted entries met) more
+rows-on : (entries : List (List ℕ × ℕ)) (met more : List Met)
+    → rows_after entries (met ++ more) ≡ rows_after entries met ++ rows_after (counted entries met) more
 unfolding rows_after
 rows-on entries [] more = refl
 rows-on entries (m ∷ ms) more =
     ap (λ rest. met_text entries m.change m.outcome ++ rest) (rows-on (with_text entries m.outcome) ms more)
     ∙ sym (append_assoc (met_text entries m.change m.outcome) (rows_after (with_text entries m.outcome) ms) _)
 
-pub rows-more : (first : List ℕ) (met more : List Met) → rows_text first (met ++ more) ≡ rows_text first met ++ rows_after (tallied first met) more
+pub rows-more : (first : List ℕ) (met more : List Met)
+    → rows_text first (met ++ more) ≡ rows_text first met ++ rows_after (tallied first met) more
 unfolding rows_text tallied
 rows-more first met more =
     ap (λ rest. first_lines first ++ rest) (rows-on ((first, 0) ∷ []) met more)
@@ -39,9 +43,12 @@ stands-on : (n k a : ℕ) → a ≡ standing n → standing (a + k) ≡ standing
 stands-on n k a e = omega arith
 
 -- one more is counted
-pub counted-more : (with_output : Bool) (sc : Scenario) (first : List ℕ) (met : List Met) (m : Met) (old new : Counts) → Counted old with_output sc first met
-    → IsOutcome with_output sc m.change m.outcome → TakesSteps sc m.change m.steps → entries_of new.tallies ≡ with_text (entries_of old.tallies) m.outcome
-    → new.edits ≡ standing (old.edits + 1) → new.steps ≡ standing (old.steps + m.steps) → Counted new with_output sc first (met ++ m ∷ [])
+pub counted-more : (with_output : Bool) (sc : Scenario) (first : List ℕ) (met : List Met) (m : Met) (old new : Counts)
+    → Counted old with_output sc first met
+    → IsOutcome with_output sc m.change m.outcome → TakesSteps sc m.change m.steps
+    → entries_of new.tallies ≡ with_text (entries_of old.tallies) m.outcome
+    → new.edits ≡ standing (old.edits + 1) → new.steps ≡ standing (old.steps + m.steps)
+    → Counted new with_output sc first (met ++ m ∷ [])
 counted-more with_output sc first met m old new h outcome takes entries edits steps = record {
   unedited = h.unedited;
   right = met-more with_output sc met m h.right outcome takes;
@@ -57,5 +64,7 @@ pub row-more : (first : List ℕ) (met more : List Met) (m : Met) → rows_after
 unfolding rows_after
 row-more first met more m =
     rows-on (tallied first met) more (m ∷ [])
-    ∙ ap (λ text. rows_after (tallied first met) more ++ text) (append-nil (met_text (counted (tallied first met) more) m.change m.outcome))
-    ∙ ap (λ es. rows_after (tallied first met) more ++ met_text es m.change m.outcome) (sym (tallied-more first met more))
+    ∙ ap (λ text. rows_after (tallied first met) more ++ text)
+    (append-nil (met_text (counted (tallied first met) more) m.change m.outcome))
+    ∙ ap (λ es. rows_after (tallied first met) more ++ met_text es m.change m.outcome)
+    (sym (tallied-more first met more))

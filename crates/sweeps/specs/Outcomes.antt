@@ -1,4 +1,5 @@
--- What an edit comes to: the outcome of one run from step zero with that edit alone, and how many steps were made for it.
+-- What an edit comes to: the outcome of one run from step zero with that edit alone, and how many steps were made for
+-- it.
 use Rattle.std.specs.Prelude.{◌≡◌, ℕ, ◌-◌, Bool, List, [], ◌∷◌, fold, min, sum_by}
 use Rattle.checkpoints.specs.Forks.{IsLastUnshown}
 use Rattle.scenario.specs.Edits.{row}
@@ -13,7 +14,8 @@ IsOutcome with_output sc change text = IsOutlineOf with_output (row sc (edit_of 
 
 -- so many steps are made for a change: those from the last one on at which it doesn't show yet, up to the chosen one
 unfoldable pub TakesSteps : Scenario → Change → ℕ → Type 0
-TakesSteps sc change steps = (from : ℕ) × IsLastUnshown (row sc (edit_of change)).effect (run_of sc) sc.step from × (steps ≡ sc.step - from)
+TakesSteps sc change steps =
+    (from : ℕ) × IsLastUnshown (row sc (edit_of change)).effect (run_of sc) sc.step from × (steps ≡ sc.step - from)
 
 -- a change, its outcome, and the steps that were made for it
 pub record Met : Type 0 where
@@ -24,9 +26,11 @@ pub record Met : Type 0 where
 -- each has the outcome and the steps of its change
 abbrev pub AreMet : Bool → Scenario → List Met → Type 0
 AreMet with_output sc [] = Unit {0}
-AreMet with_output sc (m ∷ ms) = (IsOutcome with_output sc m.change m.outcome × TakesSteps sc m.change m.steps) × AreMet with_output sc ms
+AreMet with_output sc (m ∷ ms) =
+    (IsOutcome with_output sc m.change m.outcome × TakesSteps sc m.change m.steps) × AreMet with_output sc ms
 
--- the distinct outcomes in order of first occurrence, from the unedited run's on, each with the number of edits that lead to it
+-- the distinct outcomes in order of first occurrence, from the unedited run's on, each with the number of edits that
+-- lead to it
 unfoldable pub tallied : List ℕ → List Met → List (List ℕ × ℕ)
 tallied first met = fold (λ entries (m : Met). with_text entries m.outcome) ((first, 0) ∷ []) met
 

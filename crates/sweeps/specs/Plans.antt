@@ -1,5 +1,8 @@
--- Which edits a sweep makes: places of the input and of the program, in order, and at each place other values than the one that stands there.
-use Rattle.std.specs.Prelude.{ℕ, zero, suc, ◌+◌, ◌-◌, ◌*◌, ◌%◌, ◌^◌, ◌==◌, ◌&&◌, ◌||◌, nat_lt, Bool, true, false, not, if◌then◌else◌, List, [], ◌∷◌, ◌++◌, map, filter, length, slice_index_or, bit_xor, Option, Some, None}
+-- Which edits a sweep makes: places of the input and of the program, in order, and at each place other values than the
+-- one that stands there.
+use Rattle.std.specs.Prelude.{ℕ, zero, suc, ◌+◌, ◌-◌, ◌*◌, ◌%◌, ◌^◌, ◌==◌, ◌&&◌, ◌||◌, nat_lt, Bool, true, false, not}
+use Rattle.std.specs.Prelude.{if◌then◌else◌, List, [], ◌∷◌, ◌++◌, map, filter, length, slice_index_or, bit_xor, Option}
+use Rattle.std.specs.Prelude.{Some, None}
 use Rattle.std.specs.List.{list_any}
 use Rattle.guest_elf.specs.declared.image.Image.{Image}
 use Rattle.shadow_memory.specs.Ranges.{little_word, window}
@@ -40,12 +43,15 @@ unfoldable pub any_word : Image → ℕ → ℕ → Bool
 any_word image first zero = false
 any_word image first (suc n) = is_word image (4 * (first + n)) || any_word image first n
 
--- what stands at a byte of the input, and at a word of the program; nothing where there is no such byte, or no word that is loaded whole
+-- what stands at a byte of the input, and at a word of the program; nothing where there is no such byte, or no word
+-- that is loaded whole
 unfoldable pub standing_byte : Scenario → ℕ → Option Change
-standing_byte sc offset = if nat_lt offset (length sc.setup.input) then Some (Byte offset (slice_index_or sc.setup.input offset 0)) else None
+standing_byte sc offset =
+    if nat_lt offset (length sc.setup.input) then Some (Byte offset (slice_index_or sc.setup.input offset 0)) else None
 
 unfoldable pub standing_word : Scenario → ℕ → Option Change
-standing_word sc addr = if is_word sc.image addr then Some (Word addr (little_word (window (first_state sc).bytes addr 4))) else None
+standing_word sc addr =
+    if is_word sc.image addr then Some (Word addr (little_word (window (first_state sc).bytes addr 4))) else None
 
 -- one of some places, by its number from 0, if there is it
 abbrev pub nth : Places → ℕ → Option ℕ

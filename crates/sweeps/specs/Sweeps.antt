@@ -14,12 +14,13 @@ unfoldable pub tells_output : Sweep → Bool
 tells_output sweep = sweep.with_output
 
 -- counts of these changes, each with its outcome, after the unedited run with its own
-pub record Counted (counts : Counts) (with_output : Bool) (sc : Scenario) (first : List ℕ) (met : List Met) : Type 0 where
-  pub unedited : IsOutlineOf with_output sc first
-  pub right : AreMet with_output sc met
-  pub tallies : entries_of counts.tallies ≡ tallied first met
-  pub edits : counts.edits ≡ standing (length met)
-  pub steps : counts.steps ≡ standing (steps_of met)
+pub record Counted (counts : Counts) (with_output : Bool) (sc : Scenario) (first : List ℕ) (met : List Met) : Type 0
+  where
+    pub unedited : IsOutlineOf with_output sc first
+    pub right : AreMet with_output sc met
+    pub tallies : entries_of counts.tallies ≡ tallied first met
+    pub edits : counts.edits ≡ standing (length met)
+    pub steps : counts.steps ≡ standing (steps_of met)
 
 -- a sweep has met them
 unfoldable pub HasMet : Sweep → List ℕ → List Met → Type 0

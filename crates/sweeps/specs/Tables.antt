@@ -1,4 +1,5 @@
--- The table of a sweep: for each edit a row with the number of its outcome, and before the first row of a number what the outcome is.
+-- The table of a sweep: for each edit a row with the number of its outcome, and before the first row of a number what
+-- the outcome is.
 use Rattle.std.specs.Prelude.{ℕ, ◌+◌, Bool, if◌then◌else◌, List, [], ◌∷◌, ◌++◌, codes, length}
 use Rattle.std.specs.Fmt.{decimal}
 use Rattle.replay_report.specs.Text.{address_text, newline}
@@ -27,7 +28,8 @@ first_lines first = outcome_lines 0 first ++ codes "unedited 0\n"
 
 -- what is written for one more change: by the number of its outcome, and whether that was met before
 abbrev pub text_with : Bool → ℕ → Change → List ℕ → List ℕ
-text_with is_met number change outcome = (if is_met then [] else outcome_lines number outcome) ++ change_row change number
+text_with is_met number change outcome =
+    (if is_met then [] else outcome_lines number outcome) ++ change_row change number
 
 abbrev pub found_text : Found → Change → List ℕ → List ℕ
 found_text found change outcome = text_with found.is_met found.number change outcome
@@ -50,7 +52,8 @@ tally_lines number (count ∷ counts) = tally_line number count ++ tally_lines (
 
 -- `end EDITS OUTCOMES STEPS`
 unfoldable pub end_line : ℕ → ℕ → ℕ → List ℕ
-end_line edits outcomes steps = codes "end " ++ decimal edits ++ codes " " ++ decimal outcomes ++ codes " " ++ decimal steps ++ newline
+end_line edits outcomes steps =
+    codes "end " ++ decimal edits ++ codes " " ++ decimal outcomes ++ codes " " ++ decimal steps ++ newline
 
 -- what ends a table of so many edits, for which so many steps were made
 unfoldable pub total_lines : List (List ℕ × ℕ) → ℕ → ℕ → List ℕ
@@ -61,4 +64,5 @@ unfoldable pub rows_text : List ℕ → List Met → List ℕ
 rows_text first met = first_lines first ++ rows_after ((first, 0) ∷ []) met
 
 unfoldable pub table_text : List ℕ → List Met → List ℕ
-table_text first met = rows_text first met ++ total_lines (tallied first met) (standing (length met)) (standing (steps_of met))
+table_text first met =
+    rows_text first met ++ total_lines (tallied first met) (standing (length met)) (standing (steps_of met))

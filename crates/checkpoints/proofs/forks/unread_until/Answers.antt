@@ -21,7 +21,8 @@ loop-k-preserved c =
     let k = c.loop-k.k in
     let next : (start : State) → Shows c.args.machine (pre start c.args.setup.now c.args.marks.now c.args.from)
     → Shows c.in_ok-stepped.stepped (pre start c.args.setup.now c.args.marks.now (k + 1)) =
-    λ start h. shows-along _ _ _ _ refl (pre-more start c.args.setup.now c.args.marks.now k) (c.in_ok-stepped.ensures.shows _ (c.in_ok-marked.ensures.shows _ (inv.shows start h))) in
+    λ start h. shows-along _ _ _ _ refl (pre-more start c.args.setup.now c.args.marks.now k)
+    (c.in_ok-stepped.ensures.shows _ (c.in_ok-marked.ensures.shows _ (inv.shows start h))) in
     record {
       shows = next;
       none = c.in_ok-marked.ensures.next;
@@ -35,7 +36,8 @@ returns-then-position-from-clause-last c start h unread =
     let inv = c.loop-k.invariant in
     let k = c.loop-k.k in
     let test = c.if-position-from.true in
-    let now = c.position.ensures _ (shows-along _ _ _ _ refl (pre-more start c.args.setup.now c.args.marks.now k) (c.in_ok-stepped.ensures.shows _ (c.in_ok-marked.ensures.shows _ (inv.shows start h)))) in
+    let now = c.position.ensures _ (shows-along _ _ _ _ refl (pre-more start c.args.setup.now c.args.marks.now k)
+    (c.in_ok-stepped.ensures.shows _ (c.in_ok-marked.ensures.shows _ (inv.shows start h)))) in
     record {
       within = omega arith;
       hidden = inv.hidden start h unread;
@@ -45,6 +47,8 @@ returns-then-position-from-clause-last c start h unread =
 pub returns-clause-last : goal.returns-clause-last
 returns-clause-last c start h unread = record {
   within = omega arith;
-  hidden = hidden-lower (InputShows c.args.offset start c.args.setup.now c.args.marks.now) c.args.to c.loop-k.k (omega arith) (c.loop-k.invariant.hidden start h unread);
+  hidden =
+      hidden-lower (InputShows c.args.offset start c.args.setup.now c.args.marks.now) c.args.to c.loop-k.k (omega arith)
+      (c.loop-k.invariant.hidden start h unread);
   next = λ l hidden. absurd (omega arith);
 }

@@ -7,8 +7,10 @@ use Rattle.checkpoints.proofs.forks.unread_until.Given as goal
 
 abbrev pub invariant-loop-k : goal.invariant-loop-k
 invariant-loop-k l = record {
-  shows : (start : State) → Shows l.fn.machine (pre start l.setup l.marks l.from) → Shows l.machine (pre start l.setup l.marks l.k);
+  shows : (start : State) → Shows l.fn.machine (pre start l.setup l.marks l.from)
+      → Shows l.machine (pre start l.setup l.marks l.k);
   none : NoneUntil l.k l.next l.marks;
-  hidden : (start : State) → Shows l.fn.machine (pre start l.setup l.marks l.from) → IsBelowFirst (InputShows l.offset start l.setup l.marks) l.from
+  hidden : (start : State) → Shows l.fn.machine (pre start l.setup l.marks l.from)
+      → IsBelowFirst (InputShows l.offset start l.setup l.marks) l.from
       → IsBelowFirst (InputShows l.offset start l.setup l.marks) l.k;
 }

@@ -8,7 +8,8 @@ use Rattle.checkpoints.proofs.searches.last_from.Given as goal
 
 abbrev pub invariant-loop-k : goal.invariant-loop-k
 invariant-loop-k l = record {
-  shows : (start : State) → Shows l.fn.machine (pre start l.setup l.marks l.from) → Shows l.machine (pre start l.setup l.marks l.k);
+  shows : (start : State) → Shows l.fn.machine (pre start l.setup l.marks l.from)
+      → Shows l.machine (pre start l.setup l.marks l.k);
   none : NoneUntil l.k l.next l.marks;
   last : (start : State) → Shows l.fn.machine (pre start l.setup l.marks l.from)
       → IsLast (Hits l.sought start l.setup l.marks) l.from l.k l.last;

@@ -13,7 +13,8 @@ returns-then-not-is_running-clause-next c start h j low high =
     let halted = sym (c.if-not-is_running.ensures _ (inv.shows start h)) in
     elim (cases_lt j c.loop-k.k) [
       | inl before ↦ inv.unhit start h j low before
-      | inr after ↦ halted-unhit c.stays_halted.ensures c.args.sought start c.args.setup.now c.args.marks.now c.loop-k.k halted j after
+      | inr after ↦ halted-unhit c.stays_halted.ensures c.args.sought start c.args.setup.now c.args.marks.now c.loop-k.k
+          halted j after
     ]
 
 pub returns-then-is_hit-clause-next : goal.returns-then-is_hit-clause-next
@@ -22,7 +23,8 @@ returns-then-is_hit-clause-next c start h =
     let inv = c.loop-k.invariant in
     let k = c.loop-k.k in
     let here = inv.shows start h in
-    let runs = marked-runs k c.args.marks.now (pre start c.args.setup.now c.args.marks.now k) ∙ sym (c.if-not-is_running.ensures _ here) in
+    let runs = marked-runs k c.args.marks.now (pre start c.args.setup.now c.args.marks.now k)
+    ∙ sym (c.if-not-is_running.ensures _ here) in
     let told = c.in_ok-stepped.ensures.hit _ (c.in_ok-marked.ensures.shows _ here) runs in
     (omega arith, omega arith, told.0 c.if-is_hit.true, inv.unhit start h)
 
@@ -44,7 +46,9 @@ loop-k-preserved c =
           none-longer (Hits c.args.sought start setup marks) c.args.from k (inv.unhit start h)
           (not-told _ _ c.if-is_hit.false (c.in_ok-stepped.ensures.hit _ (c.in_ok-marked.ensures.shows _ here) runs));
       within = omega arith;
-      meter = one-turn c.args.meter.now c.loop-k.meter _ c.args.from k (omega arith) inv.meter c.in_ok-stepped.ensures.meter;
+      meter =
+          one-turn c.args.meter.now c.loop-k.meter _ c.args.from k (omega arith) inv.meter
+          c.in_ok-stepped.ensures.meter;
     }
 
 pub returns-clause-price : goal.returns-clause-price

@@ -8,7 +8,8 @@ use Rattle.checkpoints.proofs.searches.next_from.Given as goal
 
 abbrev pub invariant-loop-k : goal.invariant-loop-k
 invariant-loop-k l = record {
-  shows : (start : State) → Shows l.fn.machine (pre start l.setup l.marks l.from) → Shows l.machine (pre start l.setup l.marks l.k);
+  shows : (start : State) → Shows l.fn.machine (pre start l.setup l.marks l.from)
+      → Shows l.machine (pre start l.setup l.marks l.k);
   none : NoneUntil l.k l.next l.marks;
   unhit : (start : State) → Shows l.fn.machine (pre start l.setup l.marks l.from)
       → (j : ℕ) → l.from ≤ j → j < l.k → Hits l.sought start l.setup l.marks j → ⊥;

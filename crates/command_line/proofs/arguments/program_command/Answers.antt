@@ -9,12 +9,14 @@ returns-clause-shape c =
     let bare_is : app_of c.after_help-command.result ≡ new_app c.args.name.now = search rules in
     IfOk-weaker c.arg-3.result _ _ (λ command added. added.shape c.option-2.ensures.local
     ∙ ap₂ with_rule (c.in_ok-command-2.ensures.shape c.option.ensures.local
-    ∙ ap₂ with_rule (c.in_ok-command.ensures.shape c.file_argument.ensures.local ∙ ap₂ with_rule bare_is c.file_argument.ensures.rule)
+    ∙ ap₂ with_rule (c.in_ok-command.ensures.shape c.file_argument.ensures.local
+    ∙ ap₂ with_rule bare_is c.file_argument.ensures.rule)
     c.option.ensures.rule) c.option-2.ensures.rule) c.arg-3.ensures
 
 pub returns-clause-globals : goal.returns-clause-globals
 returns-clause-globals c =
     let bare : (out-Command c.after_help-command.result).has_globals ≡ false = search rules in
     IfOk-weaker c.arg-3.result _ _ (λ command added. added.globals
-    ∙ ap₂ ◌||◌ (c.in_ok-command-2.ensures.globals ∙ ap₂ ◌||◌ (c.in_ok-command.ensures.globals ∙ ap₂ ◌||◌ bare c.file_argument.ensures.local)
+    ∙ ap₂ ◌||◌ (c.in_ok-command-2.ensures.globals
+    ∙ ap₂ ◌||◌ (c.in_ok-command.ensures.globals ∙ ap₂ ◌||◌ bare c.file_argument.ensures.local)
     c.option.ensures.local) c.option-2.ensures.local) c.arg-3.ensures

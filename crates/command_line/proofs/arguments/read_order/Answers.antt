@@ -17,8 +17,10 @@ simple = refl
 pub returns-in_err-matches-clause-taken : goal.returns-in_err-matches-clause-taken
 returns-in_err-matches-clause-taken c =
     let words = map string_bytes c.args.words.now in
-    same-error _ c.in_err-matches.field-0.0 (λ error. takes command_line words ≡ true → kind_of error ≡ OutOfMemory) c.from_residual-in_err-matches.ensures.1
-    (λ taken. c.in_err-matches.ensures.passes (ap (λ (app : App). takes app words) c.in_ok-make_command.ensures ∙ taken))
+    same-error _ c.in_err-matches.field-0.0 (λ error. takes command_line words ≡ true
+    → kind_of error ≡ OutOfMemory) c.from_residual-in_err-matches.ensures.1
+    (λ taken. c.in_err-matches.ensures.passes (ap (λ (app : App). takes app words) c.in_ok-make_command.ensures
+    ∙ taken))
 
 pub returns-in-Some-clause-kinds : goal.returns-in-Some-clause-kinds
 returns-in-Some-clause-kinds c =
@@ -35,5 +37,6 @@ returns-in_err-matches-clause-kinds c =
 pub returns-in-Some-clause-order : goal.returns-in-Some-clause-order
 returns-in-Some-clause-order c =
     let words = map string_bytes c.args.words.now in
-    found-order _ _ c.in-Some.order ((c.in_ok-matches.ensures.matches (ap is_simple c.in_ok-make_command.ensures ∙ simple)).1
+    found-order _ _ c.in-Some.order ((c.in_ok-matches.ensures.matches (ap is_simple c.in_ok-make_command.ensures
+    ∙ simple)).1
     ∙ ap (λ (app : App). subcommand_of app words) c.in_ok-make_command.ensures) c.in-Some.ensures

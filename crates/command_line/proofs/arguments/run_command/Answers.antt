@@ -10,4 +10,5 @@ returns-clause-shape c =
 
 pub returns-clause-globals : goal.returns-clause-globals
 returns-clause-globals c =
-    IfOk-weaker c.arg.result _ _ (λ command added. added.globals ∙ ap₂ ◌||◌ c.in_ok-program_command.ensures.globals c.step_argument.ensures.local) c.arg.ensures
+    IfOk-weaker c.arg.result _ _ (λ command added. added.globals
+    ∙ ap₂ ◌||◌ c.in_ok-program_command.ensures.globals c.step_argument.ensures.local) c.arg.ensures

@@ -8,10 +8,12 @@ returns-clause-shape c =
     IfOk-weaker c.arg-3.result _ _ (λ command added. added.shape c.default_option.ensures.local
     ∙ ap₂ with_rule (c.in_ok-command-3.ensures.shape c.option.ensures.local
     ∙ ap₂ with_rule (c.in_ok-command-2.ensures.shape c.step_argument.ensures.local
-    ∙ ap₂ with_rule c.in_ok-command.ensures.shape c.step_argument.ensures.rule) c.option.ensures.rule) c.default_option.ensures.rule) c.arg-3.ensures
+    ∙ ap₂ with_rule c.in_ok-command.ensures.shape c.step_argument.ensures.rule) c.option.ensures.rule)
+    c.default_option.ensures.rule) c.arg-3.ensures
 
 pub returns-clause-globals : goal.returns-clause-globals
 returns-clause-globals c =
     IfOk-weaker c.arg-3.result _ _ (λ command added. added.globals
     ∙ ap₂ ◌||◌ (c.in_ok-command-3.ensures.globals ∙ ap₂ ◌||◌ (c.in_ok-command-2.ensures.globals
-    ∙ ap₂ ◌||◌ c.in_ok-command.ensures.globals c.step_argument.ensures.local) c.option.ensures.local) c.default_option.ensures.local) c.arg-3.ensures
+    ∙ ap₂ ◌||◌ c.in_ok-command.ensures.globals c.step_argument.ensures.local) c.option.ensures.local)
+    c.default_option.ensures.local) c.arg-3.ensures

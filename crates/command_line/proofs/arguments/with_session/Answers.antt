@@ -6,4 +6,5 @@ use Rattle.command_line.proofs.arguments.with_session.Goals as goal
 pub returns : goal.returns
 returns c =
     IfOk-weaker c.subcommand.result _ _ (λ command added. added.shape c.in_ok-session.ensures.globals
-    ∙ ap₂ with_subcommand c.in_ok-with_run.ensures (ap (λ (app : App). app.top) c.in_ok-session.ensures.shape)) c.subcommand.ensures
+    ∙ ap₂ with_subcommand c.in_ok-with_run.ensures (ap (λ (app : App). app.top) c.in_ok-session.ensures.shape))
+    c.subcommand.ensures

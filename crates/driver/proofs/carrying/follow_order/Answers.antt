@@ -10,36 +10,51 @@ use Rattle.driver.proofs.carrying.follow_order.Goals as goal
 pub returns-in_err-image : goal.returns-in_err-image
 returns-in_err-image g c =
     rw (passed-on c.from_residual-in_err-image.result _ c.from_residual-in_err-image.ensures.1) (inl (
-      no-image (g.F.Files.gives c.args.files.now) _ _ _ c.in_err-image.field-0.0 c.in_ok-file.ensures.ok c.deref.ensures.value c.in_err-image.ensures.refused c.in_err-image.ensures.least,
+      no-image (g.F.Files.gives c.args.files.now) _ _ _ c.in_err-image.field-0.0 c.in_ok-file.ensures.ok
+          c.deref.ensures.value c.in_err-image.ensures.refused c.in_err-image.ensures.least,
       untouched _ _,
     ))
 
 pub returns-in_err-suppressions : goal.returns-in_err-suppressions
 returns-in_err-suppressions g c =
     rw (passed-on c.from_residual-in_err-suppressions.result _ c.from_residual-in_err-suppressions.ensures.1)
-    (with-image (g.F.Files.gives c.args.files.now) c.args.order.now c.args.action _ _ _ _ _ _ c.in_ok-file.ensures.ok c.deref.ensures.value c.in_ok-image.ensures.image
+    (with-image (g.F.Files.gives c.args.files.now) c.args.order.now c.args.action _ _ _ _ _ _ c.in_ok-file.ensures.ok
+    c.deref.ensures.value c.in_ok-image.ensures.image
     (inl (c.in_err-suppressions.ensures.err, untouched _ _)))
 
 pub returns-in_err-input : goal.returns-in_err-input
 returns-in_err-input g c =
     rw (passed-on c.from_residual-in_err-input.result _ c.from_residual-in_err-input.ensures.1)
-    (with-image (g.F.Files.gives c.args.files.now) c.args.order.now c.args.action _ _ _ _ _ _ c.in_ok-file.ensures.ok c.deref.ensures.value c.in_ok-image.ensures.image
-    (inr (c.in_ok-suppressions.suppressions.items, c.in_ok-suppressions.ensures.ok, inl (c.in_err-input.ensures.err, untouched _ _))))
+    (with-image (g.F.Files.gives c.args.files.now) c.args.order.now c.args.action _ _ _ _ _ _ c.in_ok-file.ensures.ok
+    c.deref.ensures.value c.in_ok-image.ensures.image
+    (inr (
+      c.in_ok-suppressions.suppressions.items,
+      c.in_ok-suppressions.ensures.ok,
+      inl (c.in_err-input.ensures.err, untouched _ _),
+    )))
 
 pub returns-in-Report : goal.returns-in-Report
 returns-in-Report g c =
-    let told = subst (λ (list : List Rule). Reports (IsReportOnce c.in_ok-image.image c.in_ok-input.input.items list c.in-Report.step)
-    (g.W.Write.contents c.args.writer.now) (g.W.Write.contents c.print_report.new.writer) (end_of c.print_report.result))
+    let told = subst (λ (list : List Rule). Reports
+    (IsReportOnce c.in_ok-image.image c.in_ok-input.input.items list c.in-Report.step)
+    (g.W.Write.contents c.args.writer.now) (g.W.Write.contents c.print_report.new.writer)
+    (end_of c.print_report.result))
     c.deref-in-Report.ensures.value c.print_report.ensures in
-    with-all (g.F.Files.gives c.args.files.now) c.args.order.now c.args.action _ _ _ _ _ _ _ _ c.in_ok-file.ensures.ok c.deref.ensures.value c.in_ok-image.ensures.image
-    c.in_ok-suppressions.ensures.ok c.in_ok-input.ensures.ok (does-report _ c.in-Report.step _ _ _ _ _ _ _ c.in-Report.is told)
+    with-all (g.F.Files.gives c.args.files.now) c.args.order.now c.args.action _ _ _ _ _ _ _ _ c.in_ok-file.ensures.ok
+    c.deref.ensures.value c.in_ok-image.ensures.image
+    c.in_ok-suppressions.ensures.ok c.in_ok-input.ensures.ok
+    (does-report _ c.in-Report.step _ _ _ _ _ _ _ c.in-Report.is told)
 
 pub returns-in-Session : goal.returns-in-Session
 returns-in-Session g c =
-    with-all (g.F.Files.gives c.args.files.now) c.args.order.now c.args.action _ _ _ _ _ _ _ _ c.in_ok-file.ensures.ok c.deref.ensures.value c.in_ok-image.ensures.image
-    c.in_ok-suppressions.ensures.ok c.in_ok-input.ensures.ok (does-same _ Session _ _ _ _ _ _ c.in-Session.is c.serve_session.ensures)
+    with-all (g.F.Files.gives c.args.files.now) c.args.order.now c.args.action _ _ _ _ _ _ _ _ c.in_ok-file.ensures.ok
+    c.deref.ensures.value c.in_ok-image.ensures.image
+    c.in_ok-suppressions.ensures.ok c.in_ok-input.ensures.ok
+    (does-same _ Session _ _ _ _ _ _ c.in-Session.is c.serve_session.ensures)
 
 pub returns : goal.returns
 returns g c =
-    with-all (g.F.Files.gives c.args.files.now) c.args.order.now c.args.action _ _ _ _ _ _ _ _ c.in_ok-file.ensures.ok c.deref.ensures.value c.in_ok-image.ensures.image
-    c.in_ok-suppressions.ensures.ok c.in_ok-input.ensures.ok (does-same _ Look _ _ _ _ _ _ c.in-Look.is c.serve_looks.ensures)
+    with-all (g.F.Files.gives c.args.files.now) c.args.order.now c.args.action _ _ _ _ _ _ _ _ c.in_ok-file.ensures.ok
+    c.deref.ensures.value c.in_ok-image.ensures.image
+    c.in_ok-suppressions.ensures.ok c.in_ok-input.ensures.ok
+    (does-same _ Look _ _ _ _ _ _ c.in-Look.is c.serve_looks.ensures)

@@ -14,14 +14,16 @@ use Rattle.driver.proofs.carrying.follow_sweep.Goals as goal
 pub returns-in_err-image : goal.returns-in_err-image
 returns-in_err-image g c =
     rw (passed-on c.from_residual-in_err-image.result _ c.from_residual-in_err-image.ensures.1) (inl (
-      inr (inr (inl (no-image (g.F.Files.gives c.args.files.now) _ _ _ c.in_err-image.field-0.0 c.in_ok-file.ensures.ok c.deref.ensures.value c.in_err-image.ensures.refused c.in_err-image.ensures.least))),
+      inr (inr (inl (no-image (g.F.Files.gives c.args.files.now) _ _ _ c.in_err-image.field-0.0 c.in_ok-file.ensures.ok
+          c.deref.ensures.value c.in_err-image.ensures.refused c.in_err-image.ensures.least))),
       Appends-nil _,
     ))
 
 pub parse-requires : goal.parse-requires
 parse-requires g c =
     subst (λ (xs : List _). length xs ≤ longest_text) (sym c.deref-2.ensures.value)
-    (short-text (g.F.Files.gives c.args.files.now) (rules_path c.args.order.now) c.in_ok-text.text.items c.in_ok-text.ensures.ok)
+    (short-text (g.F.Files.gives c.args.files.now) (rules_path c.args.order.now) c.in_ok-text.text.items
+    c.in_ok-text.ensures.ok)
 
 pub returns-in_err-suppressions : goal.returns-in_err-suppressions
 returns-in_err-suppressions g c =
@@ -30,7 +32,8 @@ returns-in_err-suppressions g c =
         c.in_ok-text.text.items,
         c.in_ok-text.ensures.ok,
         refused-rules c.in_ok-text.text.items c.in_err-suppressions.field-0.0
-            (λ line e. subst (λ xs. IsLeast line (faults xs)) c.deref-2.ensures.value (c.in_err-suppressions.ensures.refused line (ap Err e))),
+            (λ line e. subst (λ xs. IsLeast line (faults xs)) c.deref-2.ensures.value
+            (c.in_err-suppressions.ensures.refused line (ap Err e))),
       ))))),
       Appends-nil _,
     ))
@@ -55,6 +58,7 @@ returns g c =
         has_rules = subst (λ xs. faults xs ≡ []) c.deref-2.ensures.value read.0;
         has_input = c.in_ok-input.ensures.ok;
       },
-      transport (λ i. Sweeps (c.deref-3.ensures.value i) (c.deref-4.ensures.value i) c.in_ok-image.image c.in_ok-input.input.items (list i) c.args.words.now
+      transport (λ i. Sweeps (c.deref-3.ensures.value i) (c.deref-4.ensures.value i) c.in_ok-image.image
+          c.in_ok-input.input.items (list i) c.args.words.now
           c.in_ok-request.request old later (end_of c.sweep_program.result)) c.sweep_program.ensures,
     )

@@ -10,5 +10,7 @@ returns-then-len-gt-LONGEST_INPUT-clause-err g c =
 
 pub returns-else-len-gt-LONGEST_INPUT-clause-ok : goal.returns-else-len-gt-LONGEST_INPUT-clause-ok
 returns-else-len-gt-LONGEST_INPUT-clause-ok g c =
-    let fits : length c.in-Ok.input.items ≤ longest_input = search rules in
-    (whole-stream longest_input (g.R.Read.remaining c.args.reader.now) c.in-Ok.input.items c.in-Ok.ensures.bytes fits, fits)
+    let fits : length c.in-Ok.input.items ≤ longest_input = search rules in (
+      whole-stream longest_input (g.R.Read.remaining c.args.reader.now) c.in-Ok.input.items c.in-Ok.ensures.bytes fits,
+      fits,
+    )

@@ -8,5 +8,6 @@ pub returns-in_err-serve : goal.returns-in_err-serve
 returns-in_err-serve g c =
     let begins = c.in_ok-session.ensures in
     rw (passed-on c.from_residual-in_err-serve.result _ c.from_residual-in_err-serve.ensures.1)
-    (serves-fault (Answers (fresh (opening c.args.image c.args.input.items c.args.suppressions.items))) (λ replies none. none) _ _ _ _ _ (c.in_err-serve.ensures.fault _
+    (serves-fault (Answers (fresh (opening c.args.image c.args.input.items c.args.suppressions.items)))
+    (λ replies none. none) _ _ _ _ _ (c.in_err-serve.ensures.fault _
     (record { turn = begins.ok; work = begins.work; short = begins.whole })))

@@ -6,5 +6,8 @@ use Rattle.error_events.proofs.shared_map.append.Goals as goal
 
 pub returns : goal.returns
 returns g c =
-    let same = insert_all-new g.K.PartialEq.eq g.met.K.Eq.laws.symm c.args.whole.now.entries c.args.second.now.entries c.requires.apart c.len.ensures.unique in
-    on_ok_weaker c.append.result (λ appended. appended ∙ ap₂ (insert_all g.K.PartialEq.eq) c.in_ok-reserve.ensures.entries c.in_ok-rest.ensures ∙ same) c.append.ensures.entries
+    let same = insert_all-new g.K.PartialEq.eq g.met.K.Eq.laws.symm c.args.whole.now.entries c.args.second.now.entries
+    c.requires.apart c.len.ensures.unique in
+    on_ok_weaker c.append.result (λ appended. appended
+    ∙ ap₂ (insert_all g.K.PartialEq.eq) c.in_ok-reserve.ensures.entries c.in_ok-rest.ensures ∙ same)
+    c.append.ensures.entries

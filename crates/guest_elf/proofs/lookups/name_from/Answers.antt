@@ -8,7 +8,8 @@ use Rattle.guest_elf.proofs.lookups.name_from.Goals as goal
 pub returns-then-start-strings : goal.returns-then-start-strings
 unfolding name_from
 returns-then-start-strings c =
-    sym (ap (λ (rest : List ℕ). before_first is_zero rest) (drop_all c.args.start c.args.strings.now c.if-start-strings.true))
+    sym (ap (λ (rest : List ℕ). before_first is_zero rest)
+    (drop_all c.args.start c.args.strings.now c.if-start-strings.true))
 
 pub returns-in-Some : goal.returns-in-Some
 unfolding name_from

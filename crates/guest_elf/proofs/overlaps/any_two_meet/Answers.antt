@@ -17,7 +17,8 @@ pub loop-header-preserved : goal.loop-header-preserved
 loop-header-preserved c =
     let headers = c.args.headers.now in
     ap (λ end. begins_early end (drop (c.loop-header.header-index + 1) headers)) c.end-end.ensures
-    ∙ sym (early_next headers c.loop-header.header-index c.loop-header.end no_header (omega arith) (omega arith)) ∙ c.loop-header.invariant
+    ∙ sym (early_next headers c.loop-header.header-index c.loop-header.end no_header (omega arith) (omega arith))
+    ∙ c.loop-header.invariant
 
 pub returns : goal.returns
 returns c =

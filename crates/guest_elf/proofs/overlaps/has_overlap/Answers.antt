@@ -17,7 +17,8 @@ returns-then-has_load_in_region c =
 pub any_two_meet-requires-clause-ascending : goal.any_two_meet-requires-clause-ascending
 any_two_meet-requires-clause-ascending c =
     subst (IsNonDecreasingBy (λ (h : ProgramHeader). h.vaddr)) (sym c.deref.ensures.value)
-    (IsNonDecreasingBy-from_sort_by_key (λ (h : ProgramHeader). h.vaddr) _ c.sort_unstable_by_key.ensures.sorted (λ a r q k. search rules))
+    (IsNonDecreasingBy-from_sort_by_key (λ (h : ProgramHeader). h.vaddr) _ c.sort_unstable_by_key.ensures.sorted
+    (λ a r q k. search rules))
 
 pub any_two_meet-requires-clause-some_bytes : goal.any_two_meet-requires-clause-some_bytes
 any_two_meet-requires-clause-some_bytes c =

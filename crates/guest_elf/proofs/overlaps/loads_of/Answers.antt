@@ -15,11 +15,15 @@ loop-index-preserved c =
     let listed : c.loop-index.index < header_count file = omega arith in
     elim c.if-is_load.branch [
       | then-is_load+in_ok-push w ↦
-          let taken = loads_take_at file c.loop-index.index c.header_at-header.result c.header_at-header.ensures listed (cc) in
-          let pushed : c.if-is_load.loads.items ≡ c.loop-index.loads.items ++ c.header_at-header.result ∷ [] = cc (w.in_ok-push.ensures.items) in
-          pushed_more c.loop-index.loads.items c.if-is_load.loads.items _ _ c.header_at-header.result pushed taken ∙ c.loop-index.invariant
+          let taken = loads_take_at file c.loop-index.index c.header_at-header.result c.header_at-header.ensures listed
+          (cc) in
+          let pushed : c.if-is_load.loads.items ≡ c.loop-index.loads.items ++ c.header_at-header.result
+          ∷ [] = cc (w.in_ok-push.ensures.items) in
+          pushed_more c.loop-index.loads.items c.if-is_load.loads.items _ _ c.header_at-header.result pushed taken
+          ∙ c.loop-index.invariant
       | else-is_load w ↦
-          let skipped = loads_skip_at file c.loop-index.index c.header_at-header.result c.header_at-header.ensures listed (cc) in
+          let skipped = loads_skip_at file c.loop-index.index c.header_at-header.result c.header_at-header.ensures
+          listed (cc) in
           let kept : c.if-is_load.loads.items ≡ c.loop-index.loads.items = cc in
           ap (λ loads. loads ++ loads_after file (c.loop-index.index + 1)) kept
           ∙ ap (λ left. c.loop-index.loads.items ++ left) (sym skipped) ∙ c.loop-index.invariant
@@ -28,4 +32,5 @@ loop-index-preserved c =
 pub returns : goal.returns
 returns c =
     sym (append-nil c.loop-index.loads.items)
-    ∙ ap (λ left. c.loop-index.loads.items ++ left) (sym (loads_end c.args.file.now c.loop-index.index (omega arith))) ∙ c.loop-index.invariant
+    ∙ ap (λ left. c.loop-index.loads.items ++ left) (sym (loads_end c.args.file.now c.loop-index.index (omega arith)))
+    ∙ c.loop-index.invariant

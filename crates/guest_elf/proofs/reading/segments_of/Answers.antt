@@ -15,14 +15,16 @@ loop-index-init c =
     let file = c.args.file.now in
     record {
       contents =
-          ap (λ (segments : List Segment). map content_of segments ++ map (content_in file) (loads_after file 0)) c.new-segments.ensures.items
+          ap (λ (segments : List Segment). map content_of segments ++ map (content_in file) (loads_after file 0))
+          c.new-segments.ensures.items
           ∙ ap (map (content_in file)) (loads_start file);
       good = ap (list_any (is_bad_segment (length file))) (loads_start file) ∙ c.requires.good.good;
     }
 
 pub segment_of-requires : goal.segment_of-requires
 segment_of-requires c =
-    let taken = loads_take_at c.args.file.now c.loop-index.index c.header_at-header.result c.header_at-header.ensures (omega arith) (cc) in
+    let taken = loads_take_at c.args.file.now c.loop-index.index c.header_at-header.result c.header_at-header.ensures
+    (omega arith) (cc) in
     (none_cons (is_bad_segment (length c.args.file.now)) _ _ _ taken c.loop-index.invariant.good).0
 
 pub loop-index-preserved : goal.loop-index-preserved
@@ -31,22 +33,29 @@ loop-index-preserved c =
     let listed : c.loop-index.index < header_count file = omega arith in
     elim c.if-is_load.branch [
       | then-is_load+in_ok-push w ↦
-          let taken = loads_take_at file c.loop-index.index c.header_at-header.result c.header_at-header.ensures listed (cc) in
-          let pushed : c.if-is_load.segments.items ≡ c.loop-index.segments.items ++ w.segment_of.result ∷ [] = cc (w.in_ok-push.ensures.items) in
+          let taken = loads_take_at file c.loop-index.index c.header_at-header.result c.header_at-header.ensures listed
+          (cc) in
+          let pushed : c.if-is_load.segments.items ≡ c.loop-index.segments.items ++ w.segment_of.result
+          ∷ [] = cc (w.in_ok-push.ensures.items) in
           record {
             contents =
-                ap (λ segments. map content_of segments ++ map (content_in file) (loads_after file (c.loop-index.index + 1))) pushed
-                ∙ contents_more file c.loop-index.segments.items w.segment_of.result c.header_at-header.result _ _ taken w.segment_of.ensures
+                ap (λ segments. map content_of segments ++ map (content_in file)
+                (loads_after file (c.loop-index.index + 1))) pushed
+                ∙ contents_more file c.loop-index.segments.items w.segment_of.result c.header_at-header.result _ _ taken
+                w.segment_of.ensures
                 ∙ c.loop-index.invariant.contents;
             good = (none_cons (is_bad_segment (length file)) _ _ _ taken c.loop-index.invariant.good).1;
           }
       | else-is_load w ↦
-          let skipped = loads_skip_at file c.loop-index.index c.header_at-header.result c.header_at-header.ensures listed (cc) in
+          let skipped = loads_skip_at file c.loop-index.index c.header_at-header.result c.header_at-header.ensures
+          listed (cc) in
           let kept : c.if-is_load.segments.items ≡ c.loop-index.segments.items = cc in
           record {
             contents =
-                ap (λ segments. map content_of segments ++ map (content_in file) (loads_after file (c.loop-index.index + 1))) kept
-                ∙ ap (λ headers. map content_of c.loop-index.segments.items ++ map (content_in file) headers) (sym skipped)
+                ap (λ segments. map content_of segments ++ map (content_in file)
+                (loads_after file (c.loop-index.index + 1))) kept
+                ∙ ap (λ headers. map content_of c.loop-index.segments.items ++ map (content_in file) headers)
+                (sym skipped)
                 ∙ c.loop-index.invariant.contents;
             good = sym (ap (list_any (is_bad_segment (length file))) skipped) ∙ c.loop-index.invariant.good;
           }
@@ -64,4 +73,5 @@ returns-clause-contents c =
 pub returns-clause-loads : goal.returns-clause-loads
 unfolding contents_in
 returns-clause-loads c =
-    loaded_is c.args.file.now c.loop-index.segments.items (loads_of c.args.file.now) (returns-clause-contents c) c.requires.good.good
+    loaded_is c.args.file.now c.loop-index.segments.items (loads_of c.args.file.now) (returns-clause-contents c)
+    c.requires.good.good

@@ -7,6 +7,7 @@ use Rattle.guest_elf.proofs.reading.segments_of.Given as goal
 
 abbrev pub invariant-loop-index : goal.invariant-loop-index
 invariant-loop-index l = record {
-  contents : map content_of l.segments.items ++ map (content_in l.file) (loads_after l.file l.index) ≡ contents_in l.file;
+  contents : map content_of l.segments.items ++ map (content_in l.file) (loads_after l.file l.index)
+      ≡ contents_in l.file;
   good : list_any (is_bad_segment (length l.file)) (loads_after l.file l.index) ≡ false;
 }

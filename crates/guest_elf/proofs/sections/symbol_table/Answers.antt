@@ -25,4 +25,5 @@ pub returns : goal.returns
 unfolding symbol_table
 returns c =
     let file = c.args.file.now in
-    sym (ap (find is_symbol_table) (items_end (section_at file) (section_count file) c.loop-index.index (omega arith))) ∙ c.loop-index.invariant
+    sym (ap (find is_symbol_table) (items_end (section_at file) (section_count file) c.loop-index.index (omega arith)))
+    ∙ c.loop-index.invariant

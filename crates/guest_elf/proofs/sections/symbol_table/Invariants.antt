@@ -6,4 +6,5 @@ use Rattle.guest_elf.proofs.sections.symbol_table.Given as goal
 
 abbrev pub invariant-loop-index : goal.invariant-loop-index
 invariant-loop-index l =
-    find is_symbol_table (items_after (section_at l.file) (section_count l.file) l.index) ≡ find is_symbol_table (sections_of l.file)
+    find is_symbol_table (items_after (section_at l.file) (section_count l.file) l.index)
+    ≡ find is_symbol_table (sections_of l.file)

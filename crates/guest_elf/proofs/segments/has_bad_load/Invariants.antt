@@ -6,4 +6,5 @@ use Rattle.guest_elf.proofs.segments.has_bad_load.Given as goal
 
 abbrev pub invariant-loop-index : goal.invariant-loop-index
 invariant-loop-index l =
-    list_any (is_bad_segment (length l.file)) (loads_after l.file l.index) ≡ list_any (is_bad_segment (length l.file)) (loads_of l.file)
+    list_any (is_bad_segment (length l.file)) (loads_after l.file l.index)
+    ≡ list_any (is_bad_segment (length l.file)) (loads_of l.file)

@@ -11,13 +11,17 @@ pub returns-then-is_interpreter : goal.returns-then-is_interpreter
 unfolding has_interpreter
 returns-then-is_interpreter c =
     let listed : c.loop-index.index < header_count c.args.file.now = omega arith in
-    sym (any_cons is_interpreter _ _ _ true (headers_step c.args.file.now c.loop-index.index listed) (cc)) ∙ c.loop-index.invariant
+    sym (any_cons is_interpreter _ _ _ true (headers_step c.args.file.now c.loop-index.index listed) (cc))
+    ∙ c.loop-index.invariant
 
 pub loop-index-preserved : goal.loop-index-preserved
 loop-index-preserved c =
     let listed : c.loop-index.index < header_count c.args.file.now = omega arith in
-    sym (any_cons is_interpreter _ _ _ false (headers_step c.args.file.now c.loop-index.index listed) (cc)) ∙ c.loop-index.invariant
+    sym (any_cons is_interpreter _ _ _ false (headers_step c.args.file.now c.loop-index.index listed) (cc))
+    ∙ c.loop-index.invariant
 
 pub returns : goal.returns
 unfolding has_interpreter
-returns c = sym (ap (list_any is_interpreter) (headers_end c.args.file.now c.loop-index.index (omega arith))) ∙ c.loop-index.invariant
+returns c =
+    sym (ap (list_any is_interpreter) (headers_end c.args.file.now c.loop-index.index (omega arith)))
+    ∙ c.loop-index.invariant

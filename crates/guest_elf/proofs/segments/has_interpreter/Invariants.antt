@@ -5,4 +5,5 @@ use Rattle.guest_elf.proofs.Steps.{headers_after}
 use Rattle.guest_elf.proofs.segments.has_interpreter.Given as goal
 
 abbrev pub invariant-loop-index : goal.invariant-loop-index
-invariant-loop-index l = list_any is_interpreter (headers_after l.file l.index) ≡ list_any is_interpreter (headers_of l.file)
+invariant-loop-index l =
+    list_any is_interpreter (headers_after l.file l.index) ≡ list_any is_interpreter (headers_of l.file)

@@ -18,11 +18,14 @@ loop-index-preserved c =
     let listed : c.loop-index.index < header_count c.args.file.now = omega arith in
     elim c.if-is_load.branch [
       | then-is_load w ↦
-          let taken = loads_take_at c.args.file.now c.loop-index.index c.header_at-header.result c.header_at-header.ensures listed (cc) in
-          let split = sum_by-cons (λ (h : ProgramHeader). h.memsz) c.header_at-header.result (loads_after c.args.file.now (c.loop-index.index + 1)) in
+          let taken = loads_take_at c.args.file.now c.loop-index.index c.header_at-header.result
+          c.header_at-header.ensures listed (cc) in
+          let split = sum_by-cons (λ (h : ProgramHeader). h.memsz) c.header_at-header.result
+          (loads_after c.args.file.now (c.loop-index.index + 1)) in
           record { counted = omega (arith, ap size_of taken ∙ split); within = omega arith }
       | else-is_load w ↦
-          let skipped = loads_skip_at c.args.file.now c.loop-index.index c.header_at-header.result c.header_at-header.ensures listed (cc) in
+          let skipped = loads_skip_at c.args.file.now c.loop-index.index c.header_at-header.result
+          c.header_at-header.ensures listed (cc) in
           record { counted = omega (arith, ap size_of skipped); within = omega arith }
     ]
 

@@ -6,6 +6,7 @@ use Rattle.guest_elf.proofs.segments.memory_size.Given as goal
 
 abbrev pub invariant-loop-index : goal.invariant-loop-index
 invariant-loop-index l = record {
-  counted : l.size + sum_by (λ header. header.memsz) (loads_after l.file l.index) ≡ sum_by (λ header. header.memsz) (loads_of l.file);
+  counted : l.size + sum_by (λ header. header.memsz) (loads_after l.file l.index)
+      ≡ sum_by (λ header. header.memsz) (loads_of l.file);
   within : l.size ≤ 2 ^ 32 * l.index;
 }

@@ -6,5 +6,6 @@ use Rattle.guest_elf.proofs.symbols.has_endless_name.Given as goal
 
 abbrev pub invariant-loop-index : goal.invariant-loop-index
 invariant-loop-index l =
-    list_any (has_bad_name (strings_in l.file l.table)) (items_after (symbol_at l.file l.table) (l.table.size / 16) l.index)
+    list_any (has_bad_name (strings_in l.file l.table))
+    (items_after (symbol_at l.file l.table) (l.table.size / 16) l.index)
     ≡ list_any (has_bad_name (strings_in l.file l.table)) (symbols_in l.file l.table)

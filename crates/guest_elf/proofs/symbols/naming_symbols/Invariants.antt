@@ -6,5 +6,6 @@ use Rattle.guest_elf.proofs.symbols.naming_symbols.Given as goal
 
 abbrev pub invariant-loop-index : goal.invariant-loop-index
 invariant-loop-index l =
-    l.symbols.items ++ filter (is_naming (strings_in l.file l.table)) (items_after (symbol_at l.file l.table) (l.table.size / 16) l.index)
+    l.symbols.items ++ filter (is_naming (strings_in l.file l.table))
+    (items_after (symbol_at l.file l.table) (l.table.size / 16) l.index)
     ≡ filter (is_naming (strings_in l.file l.table)) (symbols_in l.file l.table)

@@ -14,5 +14,6 @@ returns c =
     let first = c.from.ensures ∙ to_z-of_z w32 x.result (record { sfits = x.type_inv }) in
     let second = c.from-2.ensures ∙ to_z-of_z w32 y.result (record { sfits = y.type_inv }) in
     c.upper_word.ensures
-    ∙ upper_product c.from.result c.from-2.result x.result y.result first second x.type_inv (omega (arith, y.type_inv)) (abs_few y.result y.type_inv)
+    ∙ upper_product c.from.result c.from-2.result x.result y.result first second x.type_inv (omega (arith, y.type_inv))
+    (abs_few y.result y.type_inv)
     ∙ ap₂ (λ m n. upper_word (m *ℤ n)) x.ensures y.ensures

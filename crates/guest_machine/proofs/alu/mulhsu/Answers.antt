@@ -13,5 +13,6 @@ returns c =
     let y = c.args.y in
     let first = c.from.ensures ∙ to_z-of_z w32 x.result (record { sfits = x.type_inv }) in
     c.upper_word.ensures
-    ∙ upper_product c.from.result c.from-2.result x.result (pos y) first c.from-2.ensures x.type_inv (omega (arith, c.ranges.y.fits)) (omega (arith, c.ranges.y.fits))
+    ∙ upper_product c.from.result c.from-2.result x.result (pos y) first c.from-2.ensures x.type_inv
+    (omega (arith, c.ranges.y.fits)) (omega (arith, c.ranges.y.fits))
     ∙ ap (λ n. upper_word (n *ℤ pos y)) x.ensures

@@ -12,8 +12,11 @@ returns-in-Arith c =
     let amount = c.args.amount in
     let below : x < 2 ^ 32 = omega arith in
     let law = c.arithmetic_shift.ensures x amount below in
-    let back : cast_unsigned w32 c.cast_signed.result ≡ x = ap (cast_unsigned w32) c.cast_signed.ensures ∙ of_z-to_z w32 x below in
+    let back : cast_unsigned w32 c.cast_signed.result ≡ x = ap (cast_unsigned w32) c.cast_signed.ensures
+    ∙ of_z-to_z w32 x below in
     let shifted : cast_unsigned w32 c.wrapping_shr-in-Arith.result ≡ shift_of Arith x amount =
-    ap (cast_unsigned w32) c.wrapping_shr-in-Arith.ensures ∙ ap (λ n. cast_unsigned w32 (int_shr (cast_signed w32 n) (amount % 32))) back ∙ law.0 in
-    c.cast_unsigned.ensures ∙ ap (λ n. cast_unsigned w32 (cast_signed w32 n)) shifted ∙ of_z-to_z w32 (shift_of Arith x amount) law.1
+    ap (cast_unsigned w32) c.wrapping_shr-in-Arith.ensures
+    ∙ ap (λ n. cast_unsigned w32 (int_shr (cast_signed w32 n) (amount % 32))) back ∙ law.0 in
+    c.cast_unsigned.ensures ∙ ap (λ n. cast_unsigned w32 (cast_signed w32 n)) shifted
+    ∙ of_z-to_z w32 (shift_of Arith x amount) law.1
     ∙ ap (λ s. shift_of s x amount) (sym c.in-Arith.is)

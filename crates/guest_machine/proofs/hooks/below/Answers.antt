@@ -13,11 +13,13 @@ fails m n h = grind (arith, nat_tests)
 pub returns-clause-before : goal.returns-clause-before
 returns-clause-before c k d less =
     let parted = IsPartitionedBy-ltb (λ (entry : ℕ × Hook). entry.0) c.args.entries.now c.args.addr c.requires in
-    let parts = IsPartitionPoint-from_clause (λ (entry : ℕ × Hook). ltb entry.0 c.args.addr) c.args.entries.now _ c.partition_point.ensures.partitioned parted (λ a r q k. search rules) in
+    let parts = IsPartitionPoint-from_clause (λ (entry : ℕ × Hook). ltb entry.0 c.args.addr) c.args.entries.now _
+    c.partition_point.ensures.partitioned parted (λ a r q k. search rules) in
     passes _ c.args.addr (parts.0 k d (omega arith) less)
 
 pub returns-clause-next : goal.returns-clause-next
 returns-clause-next c k d above within =
     let parted = IsPartitionedBy-ltb (λ (entry : ℕ × Hook). entry.0) c.args.entries.now c.args.addr c.requires in
-    let parts = IsPartitionPoint-from_clause (λ (entry : ℕ × Hook). ltb entry.0 c.args.addr) c.args.entries.now _ c.partition_point.ensures.partitioned parted (λ a r q k. search rules) in
+    let parts = IsPartitionPoint-from_clause (λ (entry : ℕ × Hook). ltb entry.0 c.args.addr) c.args.entries.now _
+    c.partition_point.ensures.partitioned parted (λ a r q k. search rules) in
     fails _ c.args.addr (parts.1 k d above within)

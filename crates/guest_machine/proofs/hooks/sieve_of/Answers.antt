@@ -15,5 +15,7 @@ loop-start-preserved c =
     let within : slot < length sieve = omega (arith, c.slot_of.ensures.within, c.loop-start.invariant.len) in
     record {
       len = length-set sieve slot true ∙ c.loop-start.invariant.len;
-      marked = marked_more sieve c.args.entries.now c.loop-start.start-index slot no_hook within c.loop-start-test.true c.slot_of.ensures.value c.loop-start.invariant.marked;
+      marked =
+          marked_more sieve c.args.entries.now c.loop-start.start-index slot no_hook within c.loop-start-test.true
+          c.slot_of.ensures.value c.loop-start.invariant.marked;
     }

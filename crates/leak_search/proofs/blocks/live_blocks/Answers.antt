@@ -15,7 +15,8 @@ loop-blocks-preserved c =
     let new = c.add_live.new.blocks.items in
     let goes : GoesOn blocks c.loop-blocks.from (Some c.in-Some.next) old new =
     subst (λ (o : Option ℕ). GoesOn blocks c.loop-blocks.from o old new) c.in-Some.is c.in_ok-next.ensures in
-    found_next blocks old new c.loop-blocks.from c.in-Some.next c.live_goes_on.ensures c.in_region.ensures goes c.loop-blocks.invariant
+    found_next blocks old new c.loop-blocks.from c.in-Some.next c.live_goes_on.ensures c.in_region.ensures goes
+    c.loop-blocks.invariant
 
 pub returns-clause-all : goal.returns-clause-all
 returns-clause-all c =

@@ -14,4 +14,5 @@ loop-number-preserved c =
 pub returns : goal.returns
 returns c =
     let end : c.loop-number.number ≡ 32 = search (rules, arith) in
-    subst (λ (n : ℕ). Gains (RegisterBelow (listed c.args.registers.now) c.args.blocks.now n) c.args.roots.now.items c.loop-number.roots.items) end c.loop-number.invariant
+    subst (λ (n : ℕ). Gains (RegisterBelow (listed c.args.registers.now) c.args.blocks.now n) c.args.roots.now.items
+    c.loop-number.roots.items) end c.loop-number.invariant

@@ -5,7 +5,8 @@ use Rattle.leak_search.proofs.gathering.gather_within.Given as goal
 abbrev pub invariant-loop-word : goal.invariant-loop-word
 invariant-loop-word l = record {
   within : l.from < 2 ^ 32;
-  roots : Gains (RootBelow (words_within l.memory l.reach.low l.reach.high) l.blocks l.from) l.fn.roots.items l.roots.items;
+  roots : Gains (RootBelow (words_within l.memory l.reach.low l.reach.high) l.blocks l.from) l.fn.roots.items
+      l.roots.items;
   edges : EdgesGain (EdgeBelow (words_within l.memory l.reach.low l.reach.high) l.blocks l.from) l.fn.edges l.edges;
 }
 

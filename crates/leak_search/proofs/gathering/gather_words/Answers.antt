@@ -12,12 +12,14 @@ returns-in-None-clause-edges c = edges_none _ _ (λ starts a b t. c.in-None.ensu
 
 pub returns-in-Some-clause-roots : goal.returns-in-Some-clause-roots
 returns-in-Some-clause-roots c =
-    on_ok_weaker c.gather_within.result (roots_within (bytes_in c.args.memory.now) (shadows_in c.args.memory.now) c.in-Some.reach.low c.in-Some.reach.high
+    on_ok_weaker c.gather_within.result (roots_within (bytes_in c.args.memory.now) (shadows_in c.args.memory.now)
+    c.in-Some.reach.low c.in-Some.reach.high
     c.args.blocks.now c.in-Some.ensures.low c.in-Some.ensures.high _ _)
     c.gather_within.ensures.roots
 
 pub returns-in-Some-clause-edges : goal.returns-in-Some-clause-edges
 returns-in-Some-clause-edges c =
-    on_ok_weaker c.gather_within.result (edges_within (bytes_in c.args.memory.now) (shadows_in c.args.memory.now) c.in-Some.reach.low c.in-Some.reach.high
+    on_ok_weaker c.gather_within.result (edges_within (bytes_in c.args.memory.now) (shadows_in c.args.memory.now)
+    c.in-Some.reach.low c.in-Some.reach.high
     c.args.blocks.now c.in-Some.ensures.low c.in-Some.ensures.high _ _)
     c.gather_within.ensures.edges

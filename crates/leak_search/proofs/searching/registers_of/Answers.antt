@@ -12,5 +12,6 @@ loop-number-preserved c =
       len = search rules;
       same = λ s shows r less.
           listed_step c.loop-number.registers c.loop-number.number c.register.result (register s.core) within
-          (c.register.ensures s shows ∙ ap (λ (n : ℕ). register s.core n) c.new.ensures) (c.loop-number.invariant.same s shows) r less;
+          (c.register.ensures s shows ∙ ap (λ (n : ℕ). register s.core n) c.new.ensures)
+          (c.loop-number.invariant.same s shows) r less;
     }

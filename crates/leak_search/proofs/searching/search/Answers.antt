@@ -11,7 +11,8 @@ pub returns : goal.returns
 returns c =
     IfOk-weaker c.search_in.result _ _
     (λ entries found s shows.
-    records_of s (words_in c.memory.result.now) (listed c.registers_of-registers.result) (live_list (blocks_of c.heap.result.now)) entries.items
+    records_of s (words_in c.memory.result.now) (listed c.registers_of-registers.result)
+    (live_list (blocks_of c.heap.result.now)) entries.items
     (λ i. word_at (c.memory.ensures.bytes s shows i) (c.memory.ensures.shadows s shows i))
     (c.registers_of-registers.ensures s shows)
     (ap live_list (c.heap.ensures s shows))

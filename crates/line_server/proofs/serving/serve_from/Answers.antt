@@ -8,8 +8,12 @@ use Rattle.line_server.proofs.ServedSteps.{all-answered, read-answered, stops, s
 use Rattle.line_server.proofs.serving.serve_from.Goals as goal
 
 pub loop-i-init : goal.loop-i-init
-loop-i-init g c =
-    ([], consumes-none _, fed-none (Answers g.L.Listener.answers g.L.Listener.reply g.L.Listener.over c.args.listener.now) _ _)
+loop-i-init g c = (
+  [],
+  consumes-none _,
+  fed-none (Answers g.L.Listener.answers g.L.Listener.reply g.L.Listener.over
+      c.args.listener.now) _ _,
+)
 
 pub returns-in_err-turn-clause-fault : goal.returns-in_err-turn-clause-fault
 returns-in_err-turn-clause-fault g c =
@@ -23,9 +27,11 @@ returns-in_err-turn-clause-fault g c =
     (g.W.Write.contents c.args.writer.now) (g.W.Write.contents c.turn.new.writer) in
     at_error c.from_residual.result _ P c.from_residual.ensures.1 (
       seen.0 ++ halted.0,
-      consumes-then (g.R.Read.remaining c.args.reader.now) (g.R.Read.remaining c.loop-i.reader) (g.R.Read.remaining c.turn.new.reader)
+      consumes-then (g.R.Read.remaining c.args.reader.now) (g.R.Read.remaining c.loop-i.reader)
+          (g.R.Read.remaining c.turn.new.reader)
           seen.0 halted.0 seen.1 halted.1,
-      stops from c.args.server.now c.requires.0 c.requires.1 c.requires.2 _ mid after refl c.loop-i.server c.turn.new.self _ _ _ _ seen.0
+      stops from c.args.server.now c.requires.0 c.requires.1 c.requires.2 _ mid after refl c.loop-i.server
+          c.turn.new.self _ _ _ _ seen.0
           halted.0
           seen.2 halted.2,
     )
@@ -57,7 +63,8 @@ loop-i-preserved g c =
     let seen = c.loop-i.invariant in
     let went = c.in_ok-turn.ensures.goes (ap Ok c.if-branch.false) in (
       seen.0 ++ went.0,
-      consumes-then (g.R.Read.remaining c.args.reader.now) (g.R.Read.remaining c.loop-i.reader) (g.R.Read.remaining c.turn.new.reader)
+      consumes-then (g.R.Read.remaining c.args.reader.now) (g.R.Read.remaining c.loop-i.reader)
+          (g.R.Read.remaining c.turn.new.reader)
           seen.0 went.0 seen.1 went.1,
       fed-then from mid c.args.server.now c.loop-i.server c.turn.new.self _ _ _ seen.0 went.0 seen.2 _ went.2,
     )
@@ -69,6 +76,7 @@ returns-clause-fault g c =
     let seen = c.loop-i.invariant in (
       seen.0,
       seen.1,
-      stops-endless from c.args.server.now c.requires.0 c.requires.1 c.requires.2 c.endless.result mid refl c.loop-i.server _ _ _ seen.0
+      stops-endless from c.args.server.now c.requires.0 c.requires.1 c.requires.2 c.endless.result mid refl
+          c.loop-i.server _ _ _ seen.0
           c.endless.ensures seen.2,
     )

@@ -5,7 +5,8 @@ use Rattle.looks.proofs.Joins.{no_more, one_more}
 use Rattle.looks.proofs.texts.push_bytes.Goals as goal
 
 pub loop-i-init : goal.loop-i-init
-loop-i-init c = no_more (λ i. byte_text (bytes_in c.args.memory.now (c.args.range.start + i))) c.args.out.now.items _ refl
+loop-i-init c =
+    no_more (λ i. byte_text (bytes_in c.args.memory.now (c.args.range.start + i))) c.args.out.now.items _ refl
 
 pub loop-i-preserved : goal.loop-i-preserved
 loop-i-preserved c =

@@ -7,4 +7,5 @@ use Rattle.looks.proofs.texts.push_registers.Given as goal
 
 abbrev pub invariant-loop-i : goal.invariant-loop-i
 invariant-loop-i l =
-    (s : State) → Shows l.machine s → l.out.items ≡ (l.fn.out.items ++ state_line s.core.status s.core.pc) ++ register_lines s.core l.i
+    (s : State) → Shows l.machine s → l.out.items ≡ (l.fn.out.items ++ state_line s.core.status s.core.pc)
+    ++ register_lines s.core l.i

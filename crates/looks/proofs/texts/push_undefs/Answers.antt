@@ -5,9 +5,11 @@ use Rattle.looks.proofs.Joins.{no_more, one_more}
 use Rattle.looks.proofs.texts.push_undefs.Goals as goal
 
 pub loop-i-init : goal.loop-i-init
-loop-i-init c = no_more (λ i. undef_text (shadows_in c.args.memory.now (c.args.range.start + i))) c.args.out.now.items _ refl
+loop-i-init c =
+    no_more (λ i. undef_text (shadows_in c.args.memory.now (c.args.range.start + i))) c.args.out.now.items _ refl
 
 pub loop-i-preserved : goal.loop-i-preserved
 loop-i-preserved c =
-    one_more (λ i. undef_text (shadows_in c.args.memory.now (c.args.range.start + i))) c.loop-i.i _ _ _ c.loop-i.invariant
+    one_more (λ i. undef_text (shadows_in c.args.memory.now (c.args.range.start + i))) c.loop-i.i _ _ _
+    c.loop-i.invariant
     (c.in_ok-push_undef.ensures ∙ ap (λ shadow. c.loop-i.out.items ++ undef_text shadow) c.byte.ensures.shadow)

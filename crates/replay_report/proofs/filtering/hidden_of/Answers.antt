@@ -7,4 +7,5 @@ pub loop-i-preserved : goal.loop-i-preserved
 loop-i-preserved c =
     c.in_ok-push.ensures.items
     ∙ ap (λ xs. xs ++ c.in_ok-hides.hides ∷ []) c.loop-i.invariant
-    ∙ sym (tested-more (λ g. hides c.args.suppressions.now c.args.image.now g.kind g.trace) _ c.loop-i.i c.in_ok-hides.hides (omega arith) (λ g e. c.in_ok-hides.ensures g (c.get.ensures ∙ e)))
+    ∙ sym (tested-more (λ g. hides c.args.suppressions.now c.args.image.now g.kind g.trace) _ c.loop-i.i
+    c.in_ok-hides.hides (omega arith) (λ g e. c.in_ok-hides.ensures g (c.get.ensures ∙ e)))

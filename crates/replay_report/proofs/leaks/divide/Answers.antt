@@ -19,16 +19,22 @@ loop-record-preserved c =
     elim c.if-branch.branch [
       | then-branch+in_ok-push w ↦
           (let hidden = sym c.in_ok-is_hidden.ensures ∙ w.if-branch.true in (
-            joined_same (shown_records hides image) c.args.records.now i r r _ _ _ c.loop-record-test.true c.record-item.is c.loop-record.invariant.0
+            joined_same (shown_records hides image) c.args.records.now i r r _ _ _ c.loop-record-test.true
+                c.record-item.is c.loop-record.invariant.0
                 (shown_same hides image before r hidden) (ap (λ v. v.items) w.shown-is),
-            joined_more (hidden_records hides image) c.args.records.now i r r _ _ _ c.loop-record-test.true c.record-item.is c.loop-record.invariant.1
-                (r ∷ []) (hidden_more hides image before r hidden) (ap (λ v. v.items) w.hidden-is ∙ w.in_ok-push.ensures.items),
+            joined_more (hidden_records hides image) c.args.records.now i r r _ _ _ c.loop-record-test.true
+                c.record-item.is c.loop-record.invariant.1
+                (r ∷ []) (hidden_more hides image before r hidden) (ap (λ v. v.items) w.hidden-is
+                ∙ w.in_ok-push.ensures.items),
           ))
       | else-branch+in_ok-push-2 w ↦
           (let shown = sym c.in_ok-is_hidden.ensures ∙ w.if-branch.false in (
-            joined_more (shown_records hides image) c.args.records.now i r r _ _ _ c.loop-record-test.true c.record-item.is c.loop-record.invariant.0
-                (r ∷ []) (shown_more hides image before r shown) (ap (λ v. v.items) w.shown-is ∙ w.in_ok-push-2.ensures.items),
-            joined_same (hidden_records hides image) c.args.records.now i r r _ _ _ c.loop-record-test.true c.record-item.is c.loop-record.invariant.1
+            joined_more (shown_records hides image) c.args.records.now i r r _ _ _ c.loop-record-test.true
+                c.record-item.is c.loop-record.invariant.0
+                (r ∷ []) (shown_more hides image before r shown) (ap (λ v. v.items) w.shown-is
+                ∙ w.in_ok-push-2.ensures.items),
+            joined_same (hidden_records hides image) c.args.records.now i r r _ _ _ c.loop-record-test.true
+                c.record-item.is c.loop-record.invariant.1
                 (hidden_same hides image before r shown) (ap (λ v. v.items) w.hidden-is),
           ))
     ]

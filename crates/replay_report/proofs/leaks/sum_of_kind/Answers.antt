@@ -15,5 +15,6 @@ loop-record-preserved c =
     elim c.if-eq.branch [
       | then-eq w ↦ w.sum-is ∙ w.with_block-sum.ensures ∙ ap (λ sum. with_block sum r.size) c.loop-record.invariant
           ∙ sym (kind_more kind before r (same ∙ w.if-eq.true)) ∙ ap (λ records. sum_of (of_kind kind records)) next
-      | else-eq w ↦ w.sum-is ∙ c.loop-record.invariant ∙ sym (kind_same kind before r (same ∙ w.if-eq.false)) ∙ ap (λ records. sum_of (of_kind kind records)) next
+      | else-eq w ↦ w.sum-is ∙ c.loop-record.invariant ∙ sym (kind_same kind before r (same ∙ w.if-eq.false))
+          ∙ ap (λ records. sum_of (of_kind kind records)) next
     ]

@@ -5,4 +5,5 @@ use Rattle.replay_report.specs.Lines.{frame_line}
 use Rattle.replay_report.proofs.lines.push_callers.Given as goal
 
 abbrev pub invariant-loop-addr : goal.invariant-loop-addr
-invariant-loop-addr l = l.out.items ≡ l.initial.out.items ++ flat_map (frame_line (codes "by") l.image) (take l.addr-index l.callers)
+invariant-loop-addr l =
+    l.out.items ≡ l.initial.out.items ++ flat_map (frame_line (codes "by") l.image) (take l.addr-index l.callers)

@@ -4,5 +4,6 @@ use Rattle.replay_report.proofs.lines.push_groups.Goals as goal
 
 pub loop-group-preserved : goal.loop-group-preserved
 loop-group-preserved c =
-    flat_joined (group_lines c.args.image.now c.args.callers) c.args.groups.now c.loop-group.group-index c.group-item.result _ _ _ c.loop-group-test.true c.group-item.is
+    flat_joined (group_lines c.args.image.now c.args.callers) c.args.groups.now c.loop-group.group-index
+    c.group-item.result _ _ _ c.loop-group-test.true c.group-item.is
     c.loop-group.invariant c.in_ok-push_group.ensures

@@ -4,4 +4,5 @@ use Rattle.replay_report.specs.Lines.{group_lines}
 use Rattle.replay_report.proofs.lines.push_groups.Given as goal
 
 abbrev pub invariant-loop-group : goal.invariant-loop-group
-invariant-loop-group l = l.out.items ≡ l.initial.out.items ++ flat_map (group_lines l.image l.fn.callers) (take l.group-index l.groups)
+invariant-loop-group l =
+    l.out.items ≡ l.initial.out.items ++ flat_map (group_lines l.image l.fn.callers) (take l.group-index l.groups)

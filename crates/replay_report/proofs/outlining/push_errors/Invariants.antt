@@ -4,4 +4,5 @@ use Rattle.replay_report.specs.Outlines.{error_outline}
 use Rattle.replay_report.proofs.outlining.push_errors.Given as goal
 
 abbrev pub invariant-loop-group : goal.invariant-loop-group
-invariant-loop-group l = l.out.items ≡ l.initial.out.items ++ flat_map (error_outline l.image l.fn.callers) (take l.group-index l.groups)
+invariant-loop-group l =
+    l.out.items ≡ l.initial.out.items ++ flat_map (error_outline l.image l.fn.callers) (take l.group-index l.groups)

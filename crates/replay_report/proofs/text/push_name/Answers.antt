@@ -10,8 +10,11 @@ loop-b-preserved c =
     let i = c.loop-b.b-index in
     let b = get_or name i 0 in
     joined_more (map shown_byte) name i 0 b _ _ _ c.loop-b-test.true refl c.loop-b.invariant
-    (shown_byte b ∷ []) (map-append shown_byte (take i name) (b ∷ [])) (c.in_ok-push.ensures.items ∙ ap (λ glyph. c.loop-b.out.items ++ glyph ∷ []) c.shown_byte.ensures)
+    (shown_byte b ∷ []) (map-append shown_byte (take i name) (b ∷ [])) (c.in_ok-push.ensures.items
+    ∙ ap (λ glyph. c.loop-b.out.items ++ glyph ∷ []) c.shown_byte.ensures)
 
 pub returns : goal.returns
 unfolding shown_name
-returns c = c.loop-b.invariant ∙ ap (λ bytes. c.args.out.now.items ++ map shown_byte bytes) (take_all c.loop-b.b-index c.args.name.now c.loop-b-test.false)
+returns c =
+    c.loop-b.invariant ∙ ap (λ bytes. c.args.out.now.items ++ map shown_byte bytes)
+    (take_all c.loop-b.b-index c.args.name.now c.loop-b-test.false)

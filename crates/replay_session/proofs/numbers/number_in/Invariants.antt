@@ -7,4 +7,5 @@ use Rattle.replay_session.proofs.numbers.number_in.Given as goal
 
 abbrev pub invariant-loop-b : goal.invariant-loop-b
 invariant-loop-b l =
-    (list_all (digit_of l.base) (take l.b-index l.field) ≡ true) × (l.value ≡ digits_value l.base (take l.b-index l.field))
+    (list_all (digit_of l.base) (take l.b-index l.field) ≡ true)
+    × (l.value ≡ digits_value l.base (take l.b-index l.field))

@@ -5,4 +5,5 @@ use Rattle.scenario.specs.Scenario.{with_words}
 use Rattle.scenario.proofs.lent.with_words.Given as goal
 
 abbrev pub invariant-loop-written : goal.invariant-loop-written
-invariant-loop-written l = (s : State) → Shows l.fn.machine s → Shows l.machine (with_words s (take l.written-index l.words))
+invariant-loop-written l =
+    (s : State) → Shows l.fn.machine s → Shows l.machine (with_words s (take l.written-index l.words))

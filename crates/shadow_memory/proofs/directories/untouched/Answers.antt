@@ -7,4 +7,5 @@ use Rattle.shadow_memory.proofs.directories.untouched.Goals as goal
 
 pub loop-i-preserved : goal.loop-i-preserved
 loop-i-preserved c =
-    c.in_ok-push.ensures.items ∙ ap (λ (pages : List PageSlot). pages ++ Blank NoAccess ∷ []) c.loop-i.invariant ∙ replicate_more c.loop-i._i (Blank NoAccess)
+    c.in_ok-push.ensures.items ∙ ap (λ (pages : List PageSlot). pages ++ Blank NoAccess ∷ []) c.loop-i.invariant
+    ∙ replicate_more c.loop-i._i (Blank NoAccess)

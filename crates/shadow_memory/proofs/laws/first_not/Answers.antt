@@ -13,14 +13,16 @@ is_other x y h e = grind (arith, common_steps)
 
 pub returns-then-run-lt-LANES-clause-differs : goal.returns-then-run-lt-LANES-clause-differs
 returns-then-run-lt-LANES-clause-differs c =
-    is_other _ _ (run_in_chunk_stops (λ x. not (eqb x c.args.byte)) c.args.bytes.now c.loop-at.at 16 c.run_at-run.result 0 (omega arith) c.run_at-run.ensures (omega arith))
+    is_other _ _ (run_in_chunk_stops (λ x. not (eqb x c.args.byte)) c.args.bytes.now c.loop-at.at 16 c.run_at-run.result
+    0 (omega arith) c.run_at-run.ensures (omega arith))
 
 pub returns-then-run-lt-LANES-clause-least : goal.returns-then-run-lt-LANES-clause-least
 returns-then-run-lt-LANES-clause-least c = λ k below.
     let room : c.loop-at.at + 16 ≤ length c.args.bytes.now = omega arith in
     elim (cases_lt k c.loop-at.at) [
       | inl early ↦ c.loop-at.invariant.same k early
-      | inr late ↦ is_byte _ _ (run_in_chunk_fails (λ x. not (eqb x c.args.byte)) c.args.bytes.now c.loop-at.at 16 c.run_at-run.result 0 room c.run_at-run.ensures k late below)
+      | inr late ↦ is_byte _ _ (run_in_chunk_fails (λ x. not (eqb x c.args.byte)) c.args.bytes.now c.loop-at.at 16
+          c.run_at-run.result 0 room c.run_at-run.ensures k late below)
     ]
 
 pub loop-at-preserved : goal.loop-at-preserved
@@ -31,6 +33,7 @@ loop-at-preserved c =
       within = omega arith;
       same = λ k below. elim (cases_lt k c.loop-at.at) [
         | inl early ↦ c.loop-at.invariant.same k early
-        | inr late ↦ is_byte _ _ (run_in_chunk_fails (λ x. not (eqb x c.args.byte)) c.args.bytes.now c.loop-at.at 16 c.run_at-run.result 0 room c.run_at-run.ensures k late (omega arith))
+        | inr late ↦ is_byte _ _ (run_in_chunk_fails (λ x. not (eqb x c.args.byte)) c.args.bytes.now c.loop-at.at 16
+            c.run_at-run.result 0 room c.run_at-run.ensures k late (omega arith))
       ];
     }

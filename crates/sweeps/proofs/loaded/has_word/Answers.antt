@@ -8,10 +8,13 @@ loop-i-init c = no-word c.args.image.now c.args.words.first
 
 pub returns-then-is_word : goal.returns-then-is_word
 returns-then-is_word c =
-    sym (some-word c.args.image.now c.args.words.first c.loop-i.i (count c.args.words) (omega arith) (sym c.is_word.ensures ∙ c.if-is_word.true))
+    sym (some-word c.args.image.now c.args.words.first c.loop-i.i (count c.args.words) (omega arith)
+    (sym c.is_word.ensures ∙ c.if-is_word.true))
 
 pub loop-i-preserved : goal.loop-i-preserved
-loop-i-preserved c = no-more-words c.args.image.now c.args.words.first c.loop-i.i (sym c.is_word.ensures ∙ c.if-is_word.false) c.loop-i.invariant
+loop-i-preserved c =
+    no-more-words c.args.image.now c.args.words.first c.loop-i.i (sym c.is_word.ensures ∙ c.if-is_word.false)
+    c.loop-i.invariant
 
 pub returns : goal.returns
 returns c =

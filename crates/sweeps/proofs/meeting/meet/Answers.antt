@@ -12,12 +12,20 @@ returns-clause-met c first met h =
     let sc = c.args.scenario.now in
     let spot = c.args.spot.now in
     let fork = spot.fork.now in
-    let m : Met = record { change = changed_to spot.standing c.args.value; outcome = c.in_ok-outcome.outcome.items; steps = sc.step - fork.step } in
-    let steps : c.step.result - fork.step ≡ m.steps = ap (λ n. n - fork.step) (c.step.ensures ∙ ap (λ s. s.step) c.outcome_of.ensures.same) in (
+    let m : Met = record {
+      change = changed_to spot.standing c.args.value;
+      outcome = c.in_ok-outcome.outcome.items;
+      steps = sc.step - fork.step;
+    } in
+    let steps : c.step.result - fork.step ≡ m.steps = ap (λ n. n - fork.step) (c.step.ensures
+    ∙ ap (λ s. s.step) c.outcome_of.ensures.same) in (
       m,
       refl,
-      counted-more spot.with_output sc first met m c.args.counts.now c.count.new.self h (c.in_ok-outcome.ensures.outcome sc.step c.requires.fork)
-          (fork.step, c.requires.fork.step, refl) (c.in_ok-count.ensures.entries ∙ ap (with_text (entries_of c.args.counts.now.tallies)) c.deref.ensures.value) c.in_ok-count.ensures.edits
+      counted-more spot.with_output sc first met m c.args.counts.now c.count.new.self h
+          (c.in_ok-outcome.ensures.outcome sc.step c.requires.fork)
+          (fork.step, c.requires.fork.step, refl) (c.in_ok-count.ensures.entries
+          ∙ ap (with_text (entries_of c.args.counts.now.tallies)) c.deref.ensures.value) c.in_ok-count.ensures.edits
           (c.in_ok-count.ensures.steps ∙ ap (λ n. standing (c.args.counts.now.steps + n)) steps),
-      c.in_ok-count.ensures.text ∙ (λ i. c.args.out.now.items ++ met_text (h.tallies i) (c.to.ensures i) (c.deref.ensures.value i)),
+      c.in_ok-count.ensures.text ∙ (λ i. c.args.out.now.items
+          ++ met_text (h.tallies i) (c.to.ensures i) (c.deref.ensures.value i)),
     )

@@ -1,4 +1,5 @@
-use Rattle.std.proofs.Common.{◌++◌, ◌∷◌, [], List, map, take, get_or, refl, ap, ap₂, sym, ◌∙◌, subst, append_assoc, append-nil}
+use Rattle.std.proofs.Common.{◌++◌, ◌∷◌, [], List, map, take, get_or, refl, ap, ap₂, sym, ◌∙◌, subst, append_assoc}
+use Rattle.std.proofs.Common.{append-nil}
 use Rattle.std.proofs.lemmas.List.{map_push, take_more}
 use Rattle.scenario.specs.Scenario.{Scenario}
 use Rattle.sweeps.specs.Outcomes.{Met, tallied}
@@ -12,7 +13,14 @@ pub loop-value-init : goal.loop-value-init
 unfolding rows_after
 loop-value-init c = record {
   same = refl;
-  met = λ first met h. ([], refl, subst (λ ms. Counted c.args.counts.now c.args.spot.now.with_output c.args.scenario.now first ms) (sym (append-nil met)) h, sym (append-nil c.args.out.now.items));
+  met =
+      λ first met h. (
+        [],
+        refl,
+        subst (λ ms. Counted c.args.counts.now c.args.spot.now.with_output c.args.scenario.now
+            first ms) (sym (append-nil met)) h,
+        sym (append-nil c.args.out.now.items),
+      );
 }
 
 pub loop-value-preserved : goal.loop-value-preserved
@@ -24,15 +32,20 @@ loop-value-preserved c = record {
       let i = c.loop-value.value-index in
       let before = c.loop-value.invariant.met first met h in
       let more = before.0 in
-      let here = subst (λ (s : Scenario). Counted c.loop-value.counts spot.with_output s first (met ++ more)) (sym c.loop-value.invariant.same) before.2 in
+      let here = subst (λ (s : Scenario). Counted c.loop-value.counts spot.with_output s first (met ++ more))
+      (sym c.loop-value.invariant.same) before.2 in
       let next = c.in_ok-meet.ensures.met first (met ++ more) here in
       let m = next.0 in (
         more ++ m ∷ [],
-        map_push (λ (n : Met). n.change) more m ∙ ap₂ (λ (cs : List _) c. cs ++ c ∷ []) before.1 next.1 ∙ sym (map_push (changed_to spot.standing) (take i values) (get_or values i 0))
+        map_push (λ (n : Met). n.change) more m ∙ ap₂ (λ (cs : List _) c. cs ++ c ∷ []) before.1 next.1
+            ∙ sym (map_push (changed_to spot.standing) (take i values) (get_or values i 0))
             ∙ ap (map (changed_to spot.standing)) (sym (take_more values i 0 c.loop-value-test.true)),
-        subst (λ ms. Counted c.meet.new.counts spot.with_output c.args.scenario.now first ms) (append_assoc met more (m ∷ []))
-            (subst (λ (s : Scenario). Counted c.meet.new.counts spot.with_output s first ((met ++ more) ++ m ∷ [])) c.loop-value.invariant.same next.2),
+        subst (λ ms. Counted c.meet.new.counts spot.with_output c.args.scenario.now first ms)
+            (append_assoc met more (m ∷ []))
+            (subst (λ (s : Scenario). Counted c.meet.new.counts spot.with_output s first ((met ++ more) ++ m ∷ []))
+            c.loop-value.invariant.same next.2),
         next.3 ∙ ap (λ out. out ++ met_text (tallied first (met ++ more)) m.change m.outcome) before.3
-            ∙ append_assoc c.args.out.now.items (rows_after (tallied first met) more) _ ∙ ap (λ text. c.args.out.now.items ++ text) (sym (row-more first met more m)),
+            ∙ append_assoc c.args.out.now.items (rows_after (tallied first met) more) _
+            ∙ ap (λ text. c.args.out.now.items ++ text) (sym (row-more first met more m)),
       );
 }

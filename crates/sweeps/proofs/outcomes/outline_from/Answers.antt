@@ -4,5 +4,7 @@ use Rattle.sweeps.proofs.outcomes.outline_from.Goals as goal
 
 pub returns : goal.returns
 returns c =
-    IfOk-weaker c.outline.result _ _ (λ text told one last leads fork. told (shown-edited c.args.effect one c.args.fork.now c.args.scenario.now c.setup.result.now
-    c.marks.result.now c.step.result last c.in_ok-machine.machine c.setup.ensures c.marks.ensures c.step.ensures (c.in_ok-machine.ensures.shows last) leads fork)) c.outline.ensures
+    IfOk-weaker c.outline.result _ _ (λ text told one last leads fork. told
+    (shown-edited c.args.effect one c.args.fork.now c.args.scenario.now c.setup.result.now
+    c.marks.result.now c.step.result last c.in_ok-machine.machine c.setup.ensures c.marks.ensures c.step.ensures
+    (c.in_ok-machine.ensures.shows last) leads fork)) c.outline.ensures

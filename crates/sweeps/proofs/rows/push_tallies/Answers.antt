@@ -18,5 +18,6 @@ loop-number-preserved c =
     ∙ ap (λ out. out ++ tally_line n count) c.loop-number.invariant
     ∙ append_assoc c.args.out.now.items (tally_lines 0 (take n counts)) (tally_line n count)
     ∙ ap (λ text. c.args.out.now.items ++ text)
-    (ap (λ k. tally_lines 0 (take n counts) ++ tally_line k count) (sym number) ∙ sym (tally-more 0 (take n counts) count)
+    (ap (λ k. tally_lines 0 (take n counts) ++ tally_line k count) (sym number)
+    ∙ sym (tally-more 0 (take n counts) count)
     ∙ ap (tally_lines 0) (sym (take_more counts n 0 c.loop-number-test.true)))

@@ -12,4 +12,5 @@ pub loop-bit-preserved : goal.loop-bit-preserved
 loop-bit-preserved c =
     let bit = c.loop-bit.bit in
     let shifted = (one_shifted bit 4294967295 refl (omega arith)).0 in
-    c.in_ok-push.ensures.items ∙ (λ i. c.loop-bit.invariant i ++ bit_xor c.args.old (shifted i) ∷ []) ∙ sym (flip-more c.args.old bit)
+    c.in_ok-push.ensures.items ∙ (λ i. c.loop-bit.invariant i ++ bit_xor c.args.old (shifted i) ∷ [])
+    ∙ sym (flip-more c.args.old bit)

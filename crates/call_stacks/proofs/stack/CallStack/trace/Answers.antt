@@ -12,7 +12,8 @@ loop-i-preserved c =
       | in-Some w ↦
           w.trace-is ∙ w.push.ensures
           ∙ ap (λ t. take 24 (t ++ w.in-Some.frame.now.site ∷ [])) c.loop-i.invariant
-          ∙ sites_more c.args.pc c.loop-i.i c.args.self.now w.in-Some.frame.now few (ap (λ xs. slice_get xs c.loop-i.i) (sym c.self.view_is) ∙ sym w.in-Some.ensures)
+          ∙ sites_more c.args.pc c.loop-i.i c.args.self.now w.in-Some.frame.now few
+          (ap (λ xs. slice_get xs c.loop-i.i) (sym c.self.view_is) ∙ sym w.in-Some.ensures)
       | in_default w ↦ absurd (sites_none c.loop-i.i c.self.inside.frames.items inside (sym w.in_default.ensures))
     ]
 

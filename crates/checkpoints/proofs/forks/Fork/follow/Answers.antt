@@ -7,7 +7,15 @@ use Rattle.checkpoints.proofs.forks.Fork.follow.Goals as goal
 pub returns-clause-shows : goal.returns-clause-shows
 unfolding post
 returns-clause-shows c last one start l fork =
-    let same = pre-led (record { input = c.keeps_input.ensures; end = c.keeps_end.ensures; reads = c.reads_on.ensures; stays = c.end_stays.ensures; heap = c.keeps_heap.ensures })
-    c.keeps_pokes.ensures c.args.effect one (record { start = start; setup = c.args.setup.now; marks = c.args.marks.now }) c.args.self.now.step
+    let same = pre-led (record {
+      input = c.keeps_input.ensures;
+      end = c.keeps_end.ensures;
+      reads = c.reads_on.ensures;
+      stays = c.end_stays.ensures;
+      heap = c.keeps_heap.ensures;
+    })
+    c.keeps_pokes.ensures c.args.effect one
+    (record { start = start; setup = c.args.setup.now; marks = c.args.marks.now }) c.args.self.now.step
     fork.aligned l fork.step.hidden in
-    c.in_ok-marked.ensures _ (c.in_ok-machine.ensures.shows start (shows-along _ _ _ _ refl same (c.in_ok-written.ensures _ fork.shows)))
+    c.in_ok-marked.ensures _ (c.in_ok-machine.ensures.shows start
+    (shows-along _ _ _ _ refl same (c.in_ok-written.ensures _ fork.shows)))

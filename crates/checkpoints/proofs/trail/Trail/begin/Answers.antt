@@ -16,7 +16,9 @@ returns-clause-right c setup marks =
       nothing_ended = refl;
       nothing_called = refl;
       held = one-held c.in_ok-start.start _ (start_state c.args.image.now) setup marks alone c.in_ok-start.ensures;
-      uses = λ addr word. first-of-none (uses_word (start_state c.args.image.now) setup marks addr) _ _ (ap (λ n. 1024 * (n - 1)) one);
+      uses =
+          λ addr word. first-of-none (uses_word (start_state c.args.image.now) setup marks addr) _ _
+          (ap (λ n. 1024 * (n - 1)) one);
     }
 
 pub returns-clause-loaded : goal.returns-clause-loaded

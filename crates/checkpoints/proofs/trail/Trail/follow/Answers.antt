@@ -5,7 +5,8 @@ use Rattle.checkpoints.proofs.trail.Trail.follow.Goals as goal
 
 pub returns-in-Word-clause-right : goal.returns-in-Word-clause-right
 returns-in-Word-clause-right c =
-    rw c.in-Word.is (on_ok_weaker c.patch.result (led-by-word c.in-Word.addr c.in-Word.word c.args.self.now c.patch.new.self) c.patch.ensures.right)
+    rw c.in-Word.is (on_ok_weaker c.patch.result
+    (led-by-word c.in-Word.addr c.in-Word.word c.args.self.now c.patch.new.self) c.patch.ensures.right)
 
 pub returns-in-Word-clause-followed : goal.returns-in-Word-clause-followed
 returns-in-Word-clause-followed c = rw c.in-Word.is c.patch.ensures.written
@@ -17,7 +18,8 @@ pub returns-in-Word-clause-short : goal.returns-in-Word-clause-short
 returns-in-Word-clause-short c = rw c.in-Word.is c.patch.ensures.short
 
 pub returns-in_default-clause-right : goal.returns-in_default-clause-right
-returns-in_default-clause-right c = led-by-cut c.args.effect c.in_default.not-Word c.args.self.now c.cut.new.self c.cut.ensures.right
+returns-in_default-clause-right c =
+    led-by-cut c.args.effect c.in_default.not-Word c.args.self.now c.cut.new.self c.cut.ensures.right
 
 pub returns-in_default-clause-followed : goal.returns-in_default-clause-followed
 returns-in_default-clause-followed c =

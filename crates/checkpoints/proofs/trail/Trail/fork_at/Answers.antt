@@ -9,7 +9,8 @@ returns c effect last aligned is start h =
     let place = c.args.step / 1024 in
     let below-last = c.requires in
     let within : place < length c.args.self.now.held.items = omega arith in
-    let here = held-at c.args.self.now.held.items c.index.result.now place (place * 1024) start c.args.setup.now c.args.marks.now h.held c.index.ensures within (omega arith) in
+    let here = held-at c.args.self.now.held.items c.index.result.now place (place * 1024) start c.args.setup.now
+    c.args.marks.now h.held c.index.ensures within (omega arith) in
     record {
       aligned = aligned;
       shows = c.in_ok-machine.ensures.shows start (c.in_ok-copy.ensures _ here);

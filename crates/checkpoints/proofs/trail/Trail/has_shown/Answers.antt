@@ -10,29 +10,37 @@ use Rattle.checkpoints.proofs.EffectSteps.{told-after, told-input, told-end, tol
 use Rattle.checkpoints.proofs.trail.Trail.has_shown.Goals as goal
 
 pub returns-in-After : goal.returns-in-After
-returns-in-After c start setup marks h = rw c.in-After.is (told-after c.in-After.marked (1024 * c.args.place) (c.args.place * 1024) (omega arith))
+returns-in-After c start setup marks h =
+    rw c.in-After.is (told-after c.in-After.marked (1024 * c.args.place) (c.args.place * 1024) (omega arith))
 
 pub returns-in-Input : goal.returns-in-Input
 unfolding machines_of
 returns-in-Input c start setup marks h =
     let place = c.args.place in
-    let shows = held-at c.args.self.now.held.items c.index-machine.result.now place (1024 * place) start setup marks h.held c.index-machine.ensures c.requires.held refl in
-    rw c.in-Input.is (subst (λ o. Tells (InputShows c.in-Input.offset start setup marks) (1024 * place) (nat_lt o c.position.result)) (sym c.from.ensures)
-    (told-input c.reads_on.ensures start setup marks c.in-Input.offset c.position.result (1024 * place) (c.position.ensures _ shows)))
+    let shows = held-at c.args.self.now.held.items c.index-machine.result.now place (1024 * place) start setup marks
+    h.held c.index-machine.ensures c.requires.held refl in
+    rw c.in-Input.is (subst (λ o. Tells (InputShows c.in-Input.offset start setup marks) (1024 * place)
+    (nat_lt o c.position.result)) (sym c.from.ensures)
+    (told-input c.reads_on.ensures start setup marks c.in-Input.offset c.position.result (1024 * place)
+    (c.position.ensures _ shows)))
 
 pub returns-in-End : goal.returns-in-End
 unfolding machines_of
 returns-in-End c start setup marks h =
     let place = c.args.place in
-    let shows = held-at c.args.self.now.held.items c.index-machine.result.now place (1024 * place) start setup marks h.held c.index-machine.ensures c.requires.held refl in
-    rw c.in-End.is (told-end c.end_stays.ensures start setup marks c.end_seen.result (1024 * place) (c.end_seen.ensures _ shows))
+    let shows = held-at c.args.self.now.held.items c.index-machine.result.now place (1024 * place) start setup marks
+    h.held c.index-machine.ensures c.requires.held refl in
+    rw c.in-End.is (told-end c.end_stays.ensures start setup marks c.end_seen.result (1024 * place)
+    (c.end_seen.ensures _ shows))
 
 pub returns-in-Heap : goal.returns-in-Heap
 unfolding machines_of
 returns-in-Heap c start setup marks h =
     let place = c.args.place in
-    let shows = held-at c.args.self.now.held.items c.index-machine.result.now place (1024 * place) start setup marks h.held c.index-machine.ensures c.requires.held refl in
-    rw c.in-Heap.is (told-heap c.keeps_heap.ensures start setup marks c.heap_calls.result (1024 * place) (c.heap_calls.ensures _ shows))
+    let shows = held-at c.args.self.now.held.items c.index-machine.result.now place (1024 * place) start setup marks
+    h.held c.index-machine.ensures c.requires.held refl in
+    rw c.in-Heap.is (told-heap c.keeps_heap.ensures start setup marks c.heap_calls.result (1024 * place)
+    (c.heap_calls.ensures _ shows))
 
 pub returns-in-Word : goal.returns-in-Word
 unfolding machines_of table_of loaded_of last_held first_use
@@ -40,4 +48,8 @@ returns-in-Word c start setup marks h =
     let place = c.args.place in
     let low = c.requires.held in
     let word = subst (λ (e : Effect). WritesWithin (loaded_of c.args.self.now) e) c.in-Word.is c.requires.within in
-    rw c.in-Word.is (subst (λ (b : Bool). Tells (PatchShows c.in-Word.addr start setup marks) (1024 * place) b) (sym (c.is_some.ensures ∙ ap (λ (o : Option ℕ). is_some o) c.first_below.ensures)) (told-word start setup marks c.in-Word.addr (last_held c.args.self.now) (entry_of c.args.self.now.uses (c.in-Word.addr / 4)) (1024 * place) (place * 1024) (omega arith) (omega arith) (h.uses c.in-Word.addr word)))
+    rw c.in-Word.is (subst (λ (b : Bool). Tells (PatchShows c.in-Word.addr start setup marks) (1024 * place) b)
+    (sym (c.is_some.ensures ∙ ap (λ (o : Option ℕ). is_some o) c.first_below.ensures))
+    (told-word start setup marks c.in-Word.addr (last_held c.args.self.now)
+    (entry_of c.args.self.now.uses (c.in-Word.addr / 4)) (1024 * place) (place * 1024) (omega arith) (omega arith)
+    (h.uses c.in-Word.addr word)))

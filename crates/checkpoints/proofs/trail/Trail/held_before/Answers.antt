@@ -9,14 +9,17 @@ loop-kept-preserved c =
     let inv = c.loop-kept.invariant in
     let kept = c.loop-kept.kept in
     let trail = c.args.self.now in
-    let here : TellsShown c.args.effect trail (1024 * (kept - 1)) true = subst (λ (b : Bool). TellsShown c.args.effect trail (1024 * (kept - 1)) b) c.if-not-has_shown.false c.has_shown.ensures in
+    let here : TellsShown c.args.effect trail (1024 * (kept - 1)) true = subst
+    (λ (b : Bool). TellsShown c.args.effect trail (1024 * (kept - 1)) b) c.if-not-has_shown.false
+    c.has_shown.ensures in
     let more = c.loop-kept-test.true in
     let within = inv.within in
     record {
       some = omega arith;
       within = omega arith;
       from = λ i up l. elim (cases_lt i kept) [
-        | inl low ↦ (let at : kept - 1 ≡ i = omega arith in subst (λ n. TellsShown c.args.effect trail (1024 * n) true) at here)
+        | inl low ↦ (let at : kept - 1 ≡ i = omega arith in
+            subst (λ n. TellsShown c.args.effect trail (1024 * n) true) at here)
         | inr high ↦ inv.from i high l
       ];
     }

@@ -19,7 +19,9 @@ returns-clause-step c =
     let within : place < kept = omega arith in
     IfOk-weaker c.unread_until.result _ _
     (λ step last start h. last start
-    (c.in_ok-copy.ensures _ (held-at trail.held.items c.index.result.now place (place * 1024) start setup marks h.held c.index.ensures
+    (c.in_ok-copy.ensures _ (held-at trail.held.items c.index.result.now place (place * 1024) start setup marks h.held
+    c.index.ensures
     (omega (arith, within, c.held_before-kept.ensures.within, held-count trail)) (omega arith)))
-    (hidden-lower (InputShows c.args.offset start setup marks) (place * 1024) (1024 * (kept - 1)) (omega arith) (c.held_before-kept.ensures.last start setup marks h)))
+    (hidden-lower (InputShows c.args.offset start setup marks) (place * 1024) (1024 * (kept - 1)) (omega arith)
+    (c.held_before-kept.ensures.last start setup marks h)))
     c.unread_until.ensures.last

@@ -22,8 +22,11 @@ returns-clause-step c word setup marks start h =
     let trail = c.args.self.now in
     let last = c.args.last in
     let entry = entry_of trail.uses (c.args.addr / 4) in
-    let is : c.unwrap_or.result ≡ unwrap_or (below last entry) last = c.unwrap_or.ensures ∙ ap (λ (o : Option ℕ). unwrap_or o last) c.first_below.ensures in
+    let is : c.unwrap_or.result ≡ unwrap_or (below last entry) last = c.unwrap_or.ensures
+    ∙ ap (λ (o : Option ℕ). unwrap_or o last) c.first_below.ensures in
     let below-last = c.requires.held in
-    subst (λ (k : ℕ). IsLastUnshown (Word c.args.addr word) (record { start = start; setup = setup; marks = marks }) last k) (sym is)
+    subst (λ (k : ℕ). IsLastUnshown (Word c.args.addr word) (record { start = start; setup = setup; marks = marks })
+    last k) (sym is)
     (first-is-last c.args.addr word last (record { start = start; setup = setup; marks = marks }) (below last entry)
-    (first-fewer (uses_word start setup marks c.args.addr) (last_held trail) last entry (omega arith) (h.uses c.args.addr c.requires.word)))
+    (first-fewer (uses_word start setup marks c.args.addr) (last_held trail) last entry (omega arith)
+    (h.uses c.args.addr c.requires.word)))

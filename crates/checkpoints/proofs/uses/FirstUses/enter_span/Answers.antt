@@ -1,4 +1,5 @@
-use Rattle.std.proofs.Common.{◌≡◌, ◌+◌, ◌/◌, ◌%◌, ◌-◌, ◌<◌, ◌≤◌, ◌^◌, ◌*◌, ◌∙◌, ap, cond, min, sym, subst, refl, List, arith}
+use Rattle.std.proofs.Common.{◌≡◌, ◌+◌, ◌/◌, ◌%◌, ◌-◌, ◌<◌, ◌≤◌, ◌^◌, ◌*◌, ◌∙◌, ap, cond, min, sym, subst, refl, List}
+use Rattle.std.proofs.Common.{arith}
 use Rattle.guest_machine.specs.declared.span.Span.{Span}
 use Rattle.guest_machine.specs.Spans.{covers}
 use Rattle.checkpoints.specs.Words.{meets, words_in, IsPlaced}
@@ -26,8 +27,10 @@ loop-done-preserved c =
       ranges = c.enter-done.ensures.ranges ∙ c.loop-done.invariant.ranges;
       entries = λ w few placed.
           let P : List Span → Type 0 = λ rs. IsPlaced rs w in
-          next-words first done n ((first + done) % 2 ^ 30) w (entry_of c.args.self.now w) (entry_of c.loop-done.self w) (entry_of c.enter-done.new.self w) c.args.step small few refl inside
-          (c.loop-done.invariant.entries w few placed) (c.enter-done.ensures.entries w few (subst P (sym c.loop-done.invariant.ranges) placed));
+          next-words first done n ((first + done) % 2 ^ 30) w (entry_of c.args.self.now w) (entry_of c.loop-done.self w)
+          (entry_of c.enter-done.new.self w) c.args.step small few refl inside
+          (c.loop-done.invariant.entries w few placed)
+          (c.enter-done.ensures.entries w few (subst P (sym c.loop-done.invariant.ranges) placed));
     }
 
 pub returns-clause-entries : goal.returns-clause-entries

@@ -1,4 +1,5 @@
-use Rattle.std.proofs.Common.{◌≡◌, ◌+◌, ◌-◌, ◌/◌, ◌≤◌, ◌∙◌, ◌++◌, List, [], ◌∷◌, zero, suc, inl, inr, ap, ap₂, refl, sym, arith, rules, ℕ, get_or, take, take_all, length, vec_len, max}
+use Rattle.std.proofs.Common.{◌≡◌, ◌+◌, ◌-◌, ◌/◌, ◌≤◌, ◌∙◌, ◌++◌, List, [], ◌∷◌, zero, suc, inl, inr, ap, ap₂, refl}
+use Rattle.std.proofs.Common.{sym, arith, rules, ℕ, get_or, take, take_all, length, vec_len, max}
 use Rattle.std.specs.Prelude.{replicate}
 use Rattle.std.proofs.lemmas.Bool.{cases_lt}
 use Rattle.std.proofs.lemmas.List.{get_or_append_left, get_or-append_right, take_more}
@@ -24,11 +25,15 @@ loop-range-init c = record {
 }
 
 -- a longer table has no step either
-longer : (old new : List ℕ) (n : ℕ) → new ≡ take n old ++ replicate (n - length old) never → length old ≤ n → ((k : ℕ) → get_or old k never ≡ never) → (k : ℕ) → get_or new k never ≡ never
-longer old new n e l h k = ap (λ xs. get_or xs k never) (e ∙ ap (λ xs. xs ++ replicate (n - length old) never) (take_all n old l)) ∙ elim (cases_lt k (length old)) [
-  | inl early ↦ get_or_append_left old (replicate (n - length old) never) never k early ∙ h k
-  | inr late ↦ get_or-append_right old (replicate (n - length old) never) (length old) k never refl late ∙ all (n - length old) (k - length old)
-]
+longer : (old new : List ℕ) (n : ℕ) → new ≡ take n old ++ replicate (n - length old) never → length old ≤ n
+    → ((k : ℕ) → get_or old k never ≡ never) → (k : ℕ) → get_or new k never ≡ never
+longer old new n e l h k =
+    ap (λ xs. get_or xs k never) (e ∙ ap (λ xs. xs ++ replicate (n - length old) never) (take_all n old l))
+    ∙ elim (cases_lt k (length old)) [
+      | inl early ↦ get_or_append_left old (replicate (n - length old) never) never k early ∙ h k
+      | inr late ↦ get_or-append_right old (replicate (n - length old) never) (length old) k never refl late
+          ∙ all (n - length old) (k - length old)
+    ]
   where
     all : (n k : ℕ) → get_or (replicate n never) k never ≡ never
     all zero k = refl
@@ -47,16 +52,22 @@ loop-range-preserved c =
     let inv = c.loop-range.invariant in
     let old = c.loop-range.steps in
     let next : take (i + 1) c.args.ranges.items ≡ done ++ range ∷ [] =
-    ap (take (i + 1)) (sym is) ∙ take_more c.deref-range-items.result.now i nowhere c.loop-range-test.true ∙ ap (λ xs. take i xs ++ range ∷ []) is in
+    ap (take (i + 1)) (sym is) ∙ take_more c.deref-range-items.result.now i nowhere c.loop-range-test.true
+    ∙ ap (λ xs. take i xs ++ range ∷ []) is in
     let so_far : c.len.result ≡ words_of done = c.len.ensures ∙ inv.words in
     let before : c.len.result ≡ 0 + words_of done = omega arith in
-    let end : c.greater-end.result ≡ max (furthest 0 done) (word_end range) = c.greater-end.ensures ∙ ap₂ (λ m n. max m n) inv.end c.word_end.ensures in
+    let end : c.greater-end.result ≡ max (furthest 0 done) (word_end range) = c.greater-end.ensures
+    ∙ ap₂ (λ m n. max m n) inv.end c.word_end.ensures in
     let size : vec_len old ≡ length old.items = search rules in
     let count : c.len-in-loop-range.result ≡ vec_len old = c.len-in-loop-range.ensures in
     record {
       rows =
           c.in_ok-push.ensures.items
-          ∙ ap (λ (rows : List Row). rows ++ record { first = range.start / 4; before = c.len.result; end = c.greater-end.result } ∷ []) inv.rows
+          ∙ ap (λ (rows : List Row). rows ++ record {
+            first = range.start / 4;
+            before = c.len.result;
+            end = c.greater-end.result;
+          } ∷ []) inv.rows
           ∙ ap₂ (λ m n. rows_from 0 0 done ++ record { first = range.start / 4; before = m; end = n } ∷ []) before end
           ∙ sym (rows-more done range 0 0)
           ∙ ap (rows_from 0 0) (sym next);
@@ -68,7 +79,8 @@ loop-range-preserved c =
           ∙ ap words_of (sym next);
       none = λ k. longer old.items c.resize.new.self.items (c.len-in-loop-range.result + c.words_in.result)
           (c.in_ok-resize.ensures.items
-          ∙ ap (λ m. take (c.len-in-loop-range.result + c.words_in.result) old.items ++ replicate (c.len-in-loop-range.result + c.words_in.result - m) never)
+          ∙ ap (λ m. take (c.len-in-loop-range.result + c.words_in.result) old.items
+          ++ replicate (c.len-in-loop-range.result + c.words_in.result - m) never)
           size)
           (omega arith) inv.none k;
     }

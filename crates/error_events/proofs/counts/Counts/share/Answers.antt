@@ -12,4 +12,6 @@ invariant_of-result c = record {
 
 pub returns : goal.returns
 unfolding counts_of
-returns c = ap₂ (λ chunks last. chunks ++ last) (same-chunks _ _ c.in_ok-chunks.ensures.cases.0) (each_same _ _ c.in_ok-recent.ensures.cases.0)
+returns c =
+    ap₂ (λ chunks last. chunks ++ last) (same-chunks _ _ c.in_ok-chunks.ensures.cases.0)
+    (each_same _ _ c.in_ok-recent.ensures.cases.0)

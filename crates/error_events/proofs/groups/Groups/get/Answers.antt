@@ -6,7 +6,10 @@ pub returns-in_err-key : goal.returns-in_err-key
 returns-in_err-key c = c.from_residual.ensures ∙ sym (shown-no-key c.args.self.now c.args.index (search rules))
 
 pub returns-in_err-count : goal.returns-in_err-count
-returns-in_err-count c = c.from_residual-in_err-count.ensures ∙ sym (shown-no-count c.args.self.now c.args.index (search rules))
+returns-in_err-count c =
+    c.from_residual-in_err-count.ensures ∙ sym (shown-no-count c.args.self.now c.args.index (search rules))
 
 pub returns : goal.returns
-returns c = sym (shown-both c.args.self.now c.args.index (c.in_ok-key.key, c.in_ok-key.note) c.in_ok-count.count (search rules) (search rules))
+returns c =
+    sym (shown-both c.args.self.now c.args.index (c.in_ok-key.key, c.in_ok-key.note) c.in_ok-count.count (search rules)
+    (search rules))

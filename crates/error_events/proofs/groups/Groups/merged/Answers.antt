@@ -6,10 +6,12 @@ use Rattle.error_events.proofs.groups.Groups.merged.Goals as goal
 pub loop-index-preserved : goal.loop-index-preserved
 loop-index-preserved c =
     let within : c.loop-index.index < length c.args.keep.now = omega arith in
-    merged-step c.args.callers c.loop-index.index (groups_of c.loop-index.groups) (groups_of c.merge.new.self) _ c.args.keep.now (groups_of c.args.self.now) c.get.result _
+    merged-step c.args.callers c.loop-index.index (groups_of c.loop-index.groups) (groups_of c.merge.new.self) _
+    c.args.keep.now (groups_of c.args.self.now) c.get.result _
     c.requires.each within c.loop-index.invariant c.get.ensures c.in_ok-merge.ensures
 
 pub returns : goal.returns
 returns c =
     let past : length c.args.keep.now ≤ c.loop-index.index = omega arith in
-    merged-end c.args.callers c.loop-index.index (groups_of c.loop-index.groups) _ c.args.keep.now (groups_of c.args.self.now) past c.loop-index.invariant
+    merged-end c.args.callers c.loop-index.index (groups_of c.loop-index.groups) _ c.args.keep.now
+    (groups_of c.args.self.now) past c.loop-index.invariant

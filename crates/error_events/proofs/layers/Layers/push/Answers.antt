@@ -3,11 +3,13 @@ use Rattle.error_events.proofs.layers.Layers.push.Goals as goal
 
 pub put_behind-requires-clause-apart : goal.put_behind-requires-clause-apart
 put_behind-requires-clause-apart g c =
-    apart-copied g.K.PartialEq.eq c.self.inside.maps.items c.args.self.now c.args.young.now c.in_ok-share.field-0 c.in_ok-share.ensures c.self.view_is c.self.invariant.0 c.requires.apart
+    apart-copied g.K.PartialEq.eq c.self.inside.maps.items c.args.self.now c.args.young.now c.in_ok-share.field-0
+    c.in_ok-share.ensures c.self.view_is c.self.invariant.0 c.requires.apart
 
 pub invariant_of-self-2 : goal.invariant_of-self-2
 invariant_of-self-2 g c = (
   c.in_ok-put_behind.ensures.apart,
-  length-pushed c.self.inside.maps.items c.put_behind.new.maps.items c.args.young.now c.in_ok-share.field-0 c.self.inside.len c.len.result c.in-Some.len
+  length-pushed c.self.inside.maps.items c.put_behind.new.maps.items c.args.young.now c.in_ok-share.field-0
+      c.self.inside.len c.len.result c.in-Some.len
       c.in_ok-put_behind.ensures.entries c.in_ok-share.ensures c.self.invariant.1 c.len.ensures c.in-Some.ensures.1,
 )

@@ -10,4 +10,5 @@ use Rattle.guest_elf.proofs.image.Image.segments.Goals as goal
 pub returns-clause-loads : goal.returns-clause-loads
 unfolding loaded_at segments_of
 returns-clause-loads c address =
-    any_loaded c.as_slice.result.now address ∙ ap (λ (segments : List Segment). is_some (loaded segments address)) c.as_slice.ensures.value
+    any_loaded c.as_slice.result.now address
+    ∙ ap (λ (segments : List Segment). is_some (loaded segments address)) c.as_slice.ensures.value

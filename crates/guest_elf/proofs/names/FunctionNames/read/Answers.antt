@@ -33,7 +33,9 @@ returns-in_default-clause-names c = λ address.
 
 pub invariant_of-result-2 : goal.invariant_of-result-2
 invariant_of-result-2 c = record {
-  ascending = IsNonDecreasingBy-from_sort_by_key (λ (s : Symbol). s.value) _ c.in_ok-sort_by_key.ensures.sorted (λ a r q k. search rules);
+  ascending =
+      IsNonDecreasingBy-from_sort_by_key (λ (s : Symbol). s.value) _ c.in_ok-sort_by_key.ensures.sorted
+      (λ a r q k. search rules);
 }
 
 pub returns-clause-hooks : goal.returns-clause-hooks
@@ -41,7 +43,8 @@ unfolding hooks_in naming_in strings_of hooks_by_table
 returns-clause-hooks c =
     let file = c.args.file.now in
     let strings = strings_in file c.in-Some.table in
-    let stable = c.sort_by_key.ensures.stable (λ (s : Symbol). s.value) (answers_always _ _ _ (λ f a r g h. search rules)) in
+    let stable = c.sort_by_key.ensures.stable (λ (s : Symbol). s.value)
+    (answers_always _ _ _ (λ f a r g h. search rules)) in
     ap (λ (bytes : List ℕ). hooks_by bytes c.sort_by_key.new.self.items) c.strings_in-strings.ensures
     ∙ hooks_of_sorted strings c.in_ok-symbols.symbols.items c.sort_by_key.new.self.items stable
     ∙ ap (λ (symbols : List Symbol). hooks_by strings symbols) c.in_ok-symbols.ensures
@@ -52,8 +55,11 @@ unfolding name_in named_by naming_in strings_of by_table
 returns-clause-names c = λ address.
     let file = c.args.file.now in
     let strings = strings_in file c.in-Some.table in
-    let stable = c.sort_by_key.ensures.stable (λ (s : Symbol). s.value) (answers_always _ _ _ (λ f a r g h. search rules)) in
-    ap (λ (bytes : List ℕ). name_by bytes address (nearest c.sort_by_key.new.self.items address)) c.strings_in-strings.ensures
-    ∙ ap (name_by strings address) (nearest_sorted c.in_ok-symbols.symbols.items c.sort_by_key.new.self.items address c.sort_by_key.ensures.permutation stable)
+    let stable = c.sort_by_key.ensures.stable (λ (s : Symbol). s.value)
+    (answers_always _ _ _ (λ f a r g h. search rules)) in
+    ap (λ (bytes : List ℕ). name_by bytes address (nearest c.sort_by_key.new.self.items address))
+    c.strings_in-strings.ensures
+    ∙ ap (name_by strings address) (nearest_sorted c.in_ok-symbols.symbols.items c.sort_by_key.new.self.items address
+    c.sort_by_key.ensures.permutation stable)
     ∙ ap (λ (symbols : List Symbol). name_by strings address (nearest symbols address)) c.in_ok-symbols.ensures
     ∙ ap (by_table file address) (sym c.in-Some.is ∙ c.symbol_table.ensures)

@@ -5,7 +5,8 @@ use Rattle.guest_heap.proofs.Bounding.{fresh_replicate}
 use Rattle.guest_heap.proofs.bounds.Bounds.forget.Goals as goal
 
 -- bounds of which each says nothing
-fresh : (bounds : List Bound) (n : ℕ) → bounds ≡ replicate n (record { size = 0; from = 0; next = 0; until = 0 }) → AreFresh bounds
+fresh : (bounds : List Bound) (n : ℕ) → bounds ≡ replicate n (record { size = 0; from = 0; next = 0; until = 0 })
+    → AreFresh bounds
 fresh bounds n e = subst AreFresh (sym e) (fresh_replicate n)
 
 pub returns : goal.returns

@@ -3,4 +3,6 @@ use Rattle.guest_heap.specs.Bounds.{lowered}
 use Rattle.guest_heap.proofs.bounds.Bounds.lower.Given as goal
 
 abbrev pub invariant-loop-bound : goal.invariant-loop-bound
-invariant-loop-bound l = l.bound-items ≡ map (lowered l.opened) (take l.bound-index l.initial.bound-items) ++ drop l.bound-index l.initial.bound-items
+invariant-loop-bound l =
+    l.bound-items ≡ map (lowered l.opened) (take l.bound-index l.initial.bound-items)
+    ++ drop l.bound-index l.initial.bound-items

@@ -13,6 +13,7 @@ returns-in-Some c =
     let P : ℕ → Type 0 = BeginsAbove (shown (entries_of heap.live) (queued heap.queue)) c.args.start in
     record {
       begin =
-          subst P (sym c.low_end.ensures) (begins_above (entries_of heap.live) (entries_of heap.freed) (queued heap.queue) heap.first heap.sound
+          subst P (sym c.low_end.ensures) (begins_above (entries_of heap.live) (entries_of heap.freed)
+          (queued heap.queue) heap.first heap.sound
           (c.slot_of.result + 1) c.args.start c.in-Some.block.now c.in-Some.ensures (omega (arith, c.slot_of.ensures)));
     }

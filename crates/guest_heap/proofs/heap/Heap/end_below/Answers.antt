@@ -11,7 +11,8 @@ unfolding blocks_of live_in freed_in first_in
 returns-in-Some-clause-end c =
     let heap = c.args.self.now in
     let P : ℕ → Type 0 = EndsBelow (shown (entries_of heap.live) (queued heap.queue)) c.args.start in
-    subst P (sym c.high_end.ensures) (ends_below (entries_of heap.live) (entries_of heap.freed) (queued heap.queue) heap.first heap.sound c.slot_of.result
+    subst P (sym c.high_end.ensures) (ends_below (entries_of heap.live) (entries_of heap.freed) (queued heap.queue)
+    heap.first heap.sound c.slot_of.result
     c.args.start c.in-Some.block.now c.in-Some.ensures (omega (arith, c.slot_of.ensures))).0
 
 pub returns-in-Some-clause-within : goal.returns-in-Some-clause-within
@@ -21,6 +22,7 @@ returns-in-Some-clause-within c =
     omega (
       arith,
       c.high_end.ensures,
-      (ends_below (entries_of heap.live) (entries_of heap.freed) (queued heap.queue) heap.first heap.sound c.slot_of.result
+      (ends_below (entries_of heap.live) (entries_of heap.freed) (queued heap.queue) heap.first heap.sound
+          c.slot_of.result
           c.args.start c.in-Some.block.now c.in-Some.ensures (omega (arith, c.slot_of.ensures))).1,
     )

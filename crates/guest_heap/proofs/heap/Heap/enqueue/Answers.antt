@@ -6,7 +6,8 @@ use Rattle.guest_heap.specs.Bounds.{AreBounds}
 use Rattle.guest_heap.specs.Tables.{entries_of}
 use Rattle.guest_heap.specs.Queues.{queued}
 use Rattle.guest_heap.specs.declared.entry.Entry.{Entry}
-use Rattle.guest_heap.proofs.FreeSteps.{old, spared_sound, enqueued_sound, enqueued_shown, enqueued_volume, enqueued_length}
+use Rattle.guest_heap.proofs.FreeSteps.{old, spared_sound, enqueued_sound, enqueued_shown, enqueued_volume}
+use Rattle.guest_heap.proofs.FreeSteps.{enqueued_length}
 use Rattle.guest_heap.proofs.BoundSteps.{no_more_freed, same_bounds}
 use Rattle.guest_heap.proofs.heap.Heap.enqueue.Goals as goal
 
@@ -14,7 +15,8 @@ pub slot_of-slot-requires : goal.slot_of-slot-requires
 unfolding blocks_of
 slot_of-slot-requires c =
     let heap = c.args.self.now in
-    let placed = (old (entries_of heap.live) (entries_of heap.freed) (queued heap.queue) heap.first heap.sound c.args.block.now c.args.trace c.requires).placed in
+    let placed = (old (entries_of heap.live) (entries_of heap.freed) (queued heap.queue) heap.first heap.sound
+    c.args.block.now c.args.trace c.requires).placed in
     omega (arith, placed.low)
 
 pub invariant_of-self-2 : goal.invariant_of-self-2
@@ -22,20 +24,30 @@ unfolding blocks_of
 invariant_of-self-2 c =
     let heap = c.args.self.now in
     let P : ℕ → Entry = λ n. record { block = freed_by c.args.trace c.args.block.now; number = n } in
-    let sizes = enqueued_volume (entries_of heap.live) (entries_of heap.freed) (queued heap.queue) heap.first heap.sound c.args.block.now c.args.trace c.requires
-    _ _ _ _ _ _ _ c.in_ok-move_to_freed.ensures.live c.in_ok-move_to_freed.ensures.freed c.push.ensures c.in_ok-prepare.ensures.same c.slot_of-slot.ensures refl (c.in_ok-entry.ensures ∙ ap P heap.numbered) in
-    let lengths = enqueued_length (entries_of heap.live) (entries_of heap.freed) (queued heap.queue) heap.first heap.sound c.args.block.now c.args.trace c.requires
-    _ _ _ _ _ _ _ c.in_ok-move_to_freed.ensures.live c.in_ok-move_to_freed.ensures.freed c.push.ensures c.in_ok-prepare.ensures.same c.slot_of-slot.ensures refl (c.in_ok-entry.ensures ∙ ap P heap.numbered) in
+    let sizes = enqueued_volume (entries_of heap.live) (entries_of heap.freed) (queued heap.queue) heap.first heap.sound
+    c.args.block.now c.args.trace c.requires
+    _ _ _ _ _ _ _ c.in_ok-move_to_freed.ensures.live c.in_ok-move_to_freed.ensures.freed c.push.ensures
+    c.in_ok-prepare.ensures.same c.slot_of-slot.ensures refl (c.in_ok-entry.ensures ∙ ap P heap.numbered) in
+    let lengths = enqueued_length (entries_of heap.live) (entries_of heap.freed) (queued heap.queue) heap.first
+    heap.sound c.args.block.now c.args.trace c.requires
+    _ _ _ _ _ _ _ c.in_ok-move_to_freed.ensures.live c.in_ok-move_to_freed.ensures.freed c.push.ensures
+    c.in_ok-prepare.ensures.same c.slot_of-slot.ensures refl (c.in_ok-entry.ensures ∙ ap P heap.numbered) in
     record {
-      sound = enqueued_sound (entries_of heap.live) (entries_of heap.freed) (queued heap.queue) heap.first heap.sound c.args.block.now c.args.trace c.requires
-          _ _ _ _ _ _ _ c.in_ok-move_to_freed.ensures.live c.in_ok-move_to_freed.ensures.freed c.push.ensures c.in_ok-prepare.ensures.same c.slot_of-slot.ensures refl (c.in_ok-entry.ensures ∙ ap P heap.numbered);
+      sound =
+          enqueued_sound (entries_of heap.live) (entries_of heap.freed) (queued heap.queue) heap.first heap.sound
+          c.args.block.now c.args.trace c.requires
+          _ _ _ _ _ _ _ c.in_ok-move_to_freed.ensures.live c.in_ok-move_to_freed.ensures.freed c.push.ensures
+          c.in_ok-prepare.ensures.same c.slot_of-slot.ensures refl (c.in_ok-entry.ensures ∙ ap P heap.numbered);
       numbered = omega (arith, heap.numbered, lengths, c.in-Some.ensures);
       volume = omega (arith, heap.volume, sizes, c.in-Some-checked_add.ensures, c.from.ensures);
       bounded = (let Q : Blocks → Type 0 = λ bs. AreBounds bs heap.redzone heap.bounds.list.items in
-          subst Q (sym (enqueued_shown (entries_of heap.live) (entries_of heap.freed) (queued heap.queue) heap.first heap.sound c.args.block.now c.args.trace c.requires
-          _ _ _ _ _ _ _ c.in_ok-move_to_freed.ensures.live c.in_ok-move_to_freed.ensures.freed c.push.ensures c.in_ok-prepare.ensures.same c.slot_of-slot.ensures refl
+          subst Q (sym (enqueued_shown (entries_of heap.live) (entries_of heap.freed) (queued heap.queue) heap.first
+          heap.sound c.args.block.now c.args.trace c.requires
+          _ _ _ _ _ _ _ c.in_ok-move_to_freed.ensures.live c.in_ok-move_to_freed.ensures.freed c.push.ensures
+          c.in_ok-prepare.ensures.same c.slot_of-slot.ensures refl
           (c.in_ok-entry.ensures ∙ ap P heap.numbered)))
-          (no_more_freed (shown (entries_of heap.live) (queued heap.queue)) c.args.block.now c.args.trace heap.redzone heap.bounds.list.items c.requires
+          (no_more_freed (shown (entries_of heap.live) (queued heap.queue)) c.args.block.now c.args.trace heap.redzone
+          heap.bounds.list.items c.requires
           heap.bounded));
     }
 
@@ -44,18 +56,25 @@ unfolding blocks_of
 returns-clause-ok c =
     let heap = c.args.self.now in
     let P : ℕ → Entry = λ n. record { block = freed_by c.args.trace c.args.block.now; number = n } in
-    enqueued_shown (entries_of heap.live) (entries_of heap.freed) (queued heap.queue) heap.first heap.sound c.args.block.now c.args.trace c.requires
-    _ _ _ _ _ _ _ c.in_ok-move_to_freed.ensures.live c.in_ok-move_to_freed.ensures.freed c.push.ensures c.in_ok-prepare.ensures.same c.slot_of-slot.ensures refl (c.in_ok-entry.ensures ∙ ap P heap.numbered)
+    enqueued_shown (entries_of heap.live) (entries_of heap.freed) (queued heap.queue) heap.first heap.sound
+    c.args.block.now c.args.trace c.requires
+    _ _ _ _ _ _ _ c.in_ok-move_to_freed.ensures.live c.in_ok-move_to_freed.ensures.freed c.push.ensures
+    c.in_ok-prepare.ensures.same c.slot_of-slot.ensures refl (c.in_ok-entry.ensures ∙ ap P heap.numbered)
 
 pub invariant_of-self-in-Break-branch-3 : goal.invariant_of-self-in-Break-branch-3
 unfolding blocks_of
 invariant_of-self-in-Break-branch-3 c =
     let heap = c.args.self.now in
     record {
-      sound = spared_sound (entries_of heap.live) (entries_of heap.freed) (queued heap.queue) heap.first heap.sound c.args.block.now c.args.trace c.requires
-          _ _ _ _ _ c.in_err-move_to_freed.ensures.live_err c.prepare.ensures.same c.slot_of-slot.ensures c.in_err-move_to_freed.ensures.freed_err;
+      sound =
+          spared_sound (entries_of heap.live) (entries_of heap.freed) (queued heap.queue) heap.first heap.sound
+          c.args.block.now c.args.trace c.requires
+          _ _ _ _ _ c.in_err-move_to_freed.ensures.live_err c.prepare.ensures.same c.slot_of-slot.ensures
+          c.in_err-move_to_freed.ensures.freed_err;
       numbered = heap.numbered ∙ ap (λ es. heap.first + length es) (sym c.prepare.ensures.same);
       volume = heap.volume ∙ ap volume_in (sym c.prepare.ensures.same);
-      bounded = same_bounds (entries_of heap.live) (entries_of c.move_to_freed.new.live) (queued heap.queue) (queued c.prepare.new.self) heap.redzone
+      bounded =
+          same_bounds (entries_of heap.live) (entries_of c.move_to_freed.new.live) (queued heap.queue)
+          (queued c.prepare.new.self) heap.redzone
           heap.bounds.list.items c.in_err-move_to_freed.ensures.live_err c.prepare.ensures.same heap.bounded;
     }

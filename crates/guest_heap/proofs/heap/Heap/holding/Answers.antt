@@ -10,19 +10,22 @@ use Rattle.guest_heap.proofs.heap.Heap.holding.Goals as goal
 pub returns-then-low-lt-HEAP_BEGIN-clause-only : goal.returns-then-low-lt-HEAP_BEGIN-clause-only
 unfolding blocks_of
 returns-then-low-lt-HEAP_BEGIN-clause-only c =
-    none_holds (entries_of c.args.self.now.live) (entries_of c.args.self.now.freed) (queued c.args.self.now.queue) c.args.self.now.first c.args.self.now.sound
+    none_holds (entries_of c.args.self.now.live) (entries_of c.args.self.now.freed) (queued c.args.self.now.queue)
+    c.args.self.now.first c.args.self.now.sound
     c.args.address (inl (omega (arith, c.from-low.ensures)))
 
 pub returns-then-low-ge-HEAP_END-clause-only : goal.returns-then-low-ge-HEAP_END-clause-only
 unfolding blocks_of
 returns-then-low-ge-HEAP_END-clause-only c =
-    none_holds (entries_of c.args.self.now.live) (entries_of c.args.self.now.freed) (queued c.args.self.now.queue) c.args.self.now.first c.args.self.now.sound
+    none_holds (entries_of c.args.self.now.live) (entries_of c.args.self.now.freed) (queued c.args.self.now.queue)
+    c.args.self.now.first c.args.self.now.sound
     c.args.address (inr (omega (arith, c.from-low.ensures)))
 
 pub returns-in-Some-clause-kept : goal.returns-in-Some-clause-kept
 returns-in-Some-clause-kept c =
     let P : Block → Type 0 = λ b. IsKept (blocks_of c.args.self.now) b in
-    subst P (sym (ap (λ near. near.block) c.near_of.ensures ∙ near_block c.in-Some.block.now c.args.address)) c.in-Some.ensures.some
+    subst P (sym (ap (λ near. near.block) c.near_of.ensures ∙ near_block c.in-Some.block.now c.args.address))
+    c.in-Some.ensures.some
 
 pub returns-in-Some-clause-only : goal.returns-in-Some-clause-only
 unfolding blocks_of
@@ -32,5 +35,6 @@ returns-in-Some-clause-only c b kept holds =
     let under = c.in-Some.ensures.meets.1 in
     let here : Holds c.in-Some.block.now c.args.address = (omega arith, omega arith) in
     ap (λ near. near.block) c.near_of.ensures ∙ near_block c.in-Some.block.now c.args.address
-    ∙ one_holds (entries_of c.args.self.now.live) (entries_of c.args.self.now.freed) (queued c.args.self.now.queue) c.args.self.now.first c.args.self.now.sound
+    ∙ one_holds (entries_of c.args.self.now.live) (entries_of c.args.self.now.freed) (queued c.args.self.now.queue)
+    c.args.self.now.first c.args.self.now.sound
     c.args.address c.in-Some.block.now b c.in-Some.ensures.some kept here holds

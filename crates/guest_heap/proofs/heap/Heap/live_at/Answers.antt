@@ -8,11 +8,14 @@ use Rattle.guest_heap.proofs.heap.Heap.live_at.Goals as goal
 pub returns-then-from-lt-HEAP_BEGIN : goal.returns-then-from-lt-HEAP_BEGIN
 unfolding blocks_of
 returns-then-from-lt-HEAP_BEGIN c =
-    sym (none_outside (entries_of c.args.self.now.live) (entries_of c.args.self.now.freed) (queued c.args.self.now.queue) c.args.self.now.first c.args.address
+    sym (none_outside (entries_of c.args.self.now.live) (entries_of c.args.self.now.freed)
+    (queued c.args.self.now.queue) c.args.self.now.first c.args.address
     c.args.self.now.sound (inl (omega (arith, c.from.ensures))))
 
 pub returns-then-slot_of-ge-SLOTS : goal.returns-then-slot_of-ge-SLOTS
 unfolding blocks_of
 returns-then-slot_of-ge-SLOTS c =
-    sym (none_outside (entries_of c.args.self.now.live) (entries_of c.args.self.now.freed) (queued c.args.self.now.queue) c.args.self.now.first c.args.address
-    c.args.self.now.sound (inr (let P : ℕ → Type 0 = λ n. 33554432 ≤ n in subst P c.slot_of.ensures c.if-slot_of-ge-SLOTS.true)))
+    sym (none_outside (entries_of c.args.self.now.live) (entries_of c.args.self.now.freed)
+    (queued c.args.self.now.queue) c.args.self.now.first c.args.address
+    c.args.self.now.sound (inr (let P : ℕ → Type 0 = λ n. 33554432 ≤ n in
+    subst P c.slot_of.ensures c.if-slot_of-ge-SLOTS.true)))

@@ -24,13 +24,15 @@ loop-at-preserved c =
     let near = c.aligned-behind.ensures.near in
     let over = c.aligned-behind.ensures.above in
     let inv = c.loop-at.invariant in
-    let behind = passed _ _ _ _ _ c.in-Some.block.now inv.above inv.none c.in-Some.ensures.some (low, high) c.aligned-behind.ensures.multiple (omega arith) in
+    let behind = passed _ _ _ _ _ c.in-Some.block.now inv.above inv.none c.in-Some.ensures.some (low, high)
+    c.aligned-behind.ensures.multiple (omega arith) in
     record {
       multiple = c.past-at.ensures.multiple;
       above = (let past_behind = c.past-at.ensures.above in omega arith);
       below = c.past-at.ensures.below;
       none = λ q less place. elim (cases_lt q c.aligned-behind.result) [
         | inl under ↦ behind q under place
-        | inr over ↦ (let skipped = c.past-at.ensures.passed q over less place.multiple in c.requires.skipped q skipped.0 skipped.1 place)
+        | inr over ↦ (let skipped = c.past-at.ensures.passed q over less place.multiple in
+            c.requires.skipped q skipped.0 skipped.1 place)
       ];
     }

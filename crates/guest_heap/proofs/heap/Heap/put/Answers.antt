@@ -19,7 +19,8 @@ invariant_of-self c =
     let P : Entries → Type 0 = λ f. AreSound f (entries_of old.freed) (queued old.queue) old.first in
     record {
       sound = elim (either_way c.set.result c.set.ensures.ok c.set.ensures.err) [
-        | inl h ↦ subst P (sym (written _ _ _ _ e h c.slot_of-slot.ensures (ap Some c.in_ok-entry.ensures.ok))) (put_sound _ _ _ _ old.sound e c.requires.live c.requires.place)
+        | inl h ↦ subst P (sym (written _ _ _ _ e h c.slot_of-slot.ensures (ap Some c.in_ok-entry.ensures.ok)))
+            (put_sound _ _ _ _ old.sound e c.requires.live c.requires.place)
         | inr h ↦ subst P (sym h) old.sound
       ];
       numbered = old.numbered;
@@ -27,9 +28,11 @@ invariant_of-self c =
       bounded = (let Q : Blocks → Type 0 = λ bs. AreBounds bs old.redzone old.bounds.list.items in
           elim (either_way c.set.result c.set.ensures.ok c.set.ensures.err) [
             | inl h ↦ subst Q
-                (sym (ap (λ f. shown f (queued old.queue)) (written _ _ _ _ e h c.slot_of-slot.ensures (ap Some c.in_ok-entry.ensures.ok))
+                (sym (ap (λ f. shown f (queued old.queue))
+                (written _ _ _ _ e h c.slot_of-slot.ensures (ap Some c.in_ok-entry.ensures.ok))
                 ∙ put_shown _ _ _ _ old.sound e c.requires.live c.requires.place))
-                (no_more_put (shown (entries_of old.live) (queued old.queue)) c.args.block old.redzone old.bounds.list.items c.requires.place old.bounded)
+                (no_more_put (shown (entries_of old.live) (queued old.queue)) c.args.block old.redzone
+                old.bounds.list.items c.requires.place old.bounded)
             | inr h ↦ subst Q (sym (ap (λ f. shown f (queued old.queue)) h)) old.bounded
           ]);
     }
@@ -39,5 +42,6 @@ unfolding blocks_of
 returns-clause-ok c =
     let e : Entry = record { block = c.args.block; number = 0 } in
     let old = c.args.self.now in
-    ap (λ f. shown f (queued old.queue)) (written _ _ _ _ e c.in_ok-set.ensures.ok c.slot_of-slot.ensures (ap Some c.in_ok-entry.ensures.ok))
+    ap (λ f. shown f (queued old.queue)) (written _ _ _ _ e c.in_ok-set.ensures.ok c.slot_of-slot.ensures
+    (ap Some c.in_ok-entry.ensures.ok))
     ∙ put_shown _ _ _ _ old.sound e c.requires.live c.requires.place

@@ -11,7 +11,8 @@ pub place_from-requires-clause-none : goal.place_from-requires-clause-none
 unfolding blocks_of
 place_from-requires-clause-none c =
     let heap = c.args.self.now in
-    raised_from (blocks_of heap) heap.bounds.list.items heap.redzone c.args.class.now.least c.known.result c.aligned-from.result heap.bounded c.known.ensures
+    raised_from (blocks_of heap) heap.bounds.list.items heap.redzone c.args.class.now.least c.known.result
+    c.aligned-from.result heap.bounded c.known.ensures
     c.aligned-from.ensures.multiple (omega arith)
 
 pub place_from-requires-clause-skipped : goal.place_from-requires-clause-skipped
@@ -20,7 +21,8 @@ place_from-requires-clause-skipped c =
     let heap = c.args.self.now in
     let own = c.get-own.result in
     let P : ℕ → Type 0 = λ n. AreNoPlaces (blocks_of heap) n heap.redzone own.next own.until in
-    subst P c.get-own.ensures.size (taken_holds (blocks_of heap) heap.bounds.list.items heap.redzone own heap.bounded c.get-own.ensures.known).between
+    subst P c.get-own.ensures.size (taken_holds (blocks_of heap) heap.bounds.list.items heap.redzone own heap.bounded
+    c.get-own.ensures.known).between
 
 pub invariant_of-self : goal.invariant_of-self
 unfolding blocks_of
@@ -30,16 +32,22 @@ invariant_of-self c =
     let P : List Bound → Type 0 = λ bs. AreBounds (blocks_of heap) heap.redzone bs in
     let Q : ℕ → Type 0 = λ n. AreNoPlaces (blocks_of heap) c.args.class.now.least heap.redzone 0 n in
     let none : Q c.match-place_from.least = elim c.match-place_from.branch [
-      | in-Some w ↦ subst Q (sym w.least-is) (none_below (blocks_of heap) c.args.class.now.least heap.redzone w.in-Some.place w.in-Some.ensures)
-      | in-None w ↦ none_at_all (blocks_of heap) c.args.class.now.least heap.redzone c.match-place_from.least w.in-None.ensures
+      | in-Some w ↦ subst Q (sym w.least-is) (none_below (blocks_of heap) c.args.class.now.least heap.redzone
+          w.in-Some.place w.in-Some.ensures)
+      | in-None w ↦ none_at_all (blocks_of heap) c.args.class.now.least heap.redzone c.match-place_from.least
+          w.in-None.ensures
     ] in
-    let taken = taken_holds (blocks_of heap) heap.bounds.list.items heap.redzone own heap.bounded c.get-own.ensures.known in
-    let holds = raised_holds (blocks_of heap) heap.redzone own c.args.class.now.least c.match-place_from.least c.get-own.ensures.size none taken in
+    let taken = taken_holds (blocks_of heap) heap.bounds.list.items heap.redzone own heap.bounded
+    c.get-own.ensures.known in
+    let holds = raised_holds (blocks_of heap) heap.redzone own c.args.class.now.least c.match-place_from.least
+    c.get-own.ensures.size none taken in
     record {
       sound = heap.sound;
       numbered = heap.numbered;
       volume = heap.volume;
-      bounded = subst P (sym c.put.ensures) (put_holds (blocks_of heap) heap.redzone heap.bounds.list.items c.args.class.now.index _ heap.bounded holds);
+      bounded =
+          subst P (sym c.put.ensures) (put_holds (blocks_of heap) heap.redzone heap.bounds.list.items
+          c.args.class.now.index _ heap.bounded holds);
     }
 
 pub returns-clause-holds : goal.returns-clause-holds
@@ -49,8 +57,12 @@ returns-clause-holds c =
     let own = c.get-own.result in
     let Q : ℕ → Type 0 = λ n. AreNoPlaces (blocks_of heap) c.args.class.now.least heap.redzone 0 n in
     let none : Q c.match-place_from.least = elim c.match-place_from.branch [
-      | in-Some w ↦ subst Q (sym w.least-is) (none_below (blocks_of heap) c.args.class.now.least heap.redzone w.in-Some.place w.in-Some.ensures)
-      | in-None w ↦ none_at_all (blocks_of heap) c.args.class.now.least heap.redzone c.match-place_from.least w.in-None.ensures
+      | in-Some w ↦ subst Q (sym w.least-is) (none_below (blocks_of heap) c.args.class.now.least heap.redzone
+          w.in-Some.place w.in-Some.ensures)
+      | in-None w ↦ none_at_all (blocks_of heap) c.args.class.now.least heap.redzone c.match-place_from.least
+          w.in-None.ensures
     ] in
-    let taken = taken_holds (blocks_of heap) heap.bounds.list.items heap.redzone own heap.bounded c.get-own.ensures.known in
-    raised_holds (blocks_of heap) heap.redzone own c.args.class.now.least c.match-place_from.least c.get-own.ensures.size none taken
+    let taken = taken_holds (blocks_of heap) heap.bounds.list.items heap.redzone own heap.bounded
+    c.get-own.ensures.known in
+    raised_holds (blocks_of heap) heap.redzone own c.args.class.now.least c.match-place_from.least
+    c.get-own.ensures.size none taken

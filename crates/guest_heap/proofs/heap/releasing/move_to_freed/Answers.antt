@@ -5,8 +5,11 @@ use Rattle.guest_heap.proofs.FreeSteps.{on_any}
 use Rattle.guest_heap.proofs.heap.releasing.move_to_freed.Goals as goal
 
 pub returns-clause-freed : goal.returns-clause-freed
-returns-clause-freed c = (on_any c.set-2.result (c.in_ok-set.ensures.ok ∙ ap (λ e. with_entry (entries_of c.args.freed.now) c.args.slot (Some e)) c.in_ok-clone.ensures.cases)).0
+returns-clause-freed c =
+    (on_any c.set-2.result (c.in_ok-set.ensures.ok
+    ∙ ap (λ e. with_entry (entries_of c.args.freed.now) c.args.slot (Some e)) c.in_ok-clone.ensures.cases)).0
 
 pub returns-clause-freed_err : goal.returns-clause-freed_err
 returns-clause-freed_err c =
-    (on_any c.set-2.result (inr (c.in_ok-set.ensures.ok ∙ ap (λ e. with_entry (entries_of c.args.freed.now) c.args.slot (Some e)) c.in_ok-clone.ensures.cases))).1
+    (on_any c.set-2.result (inr (c.in_ok-set.ensures.ok
+    ∙ ap (λ e. with_entry (entries_of c.args.freed.now) c.args.slot (Some e)) c.in_ok-clone.ensures.cases))).1

@@ -12,9 +12,11 @@ returns-in-Some c =
     let P : ℕ → Type 0 = λ x. AreNone (entries_of c.args.self.now) (x * 65536) c.args.at in
     let i = c.loop-i.i - 1 in
     let parts : ℕ → Entries = λ j. entries_below (slice_index_or c.args.self.now.branches.items j None) in
-    last_less (row65536 parts) (parts i) (i * 65536) 65536 ((i + 1) * 65536) (omega arith) (at65536 parts i) _ _ (subst P back c.loop-i.invariant)
+    last_less (row65536 parts) (parts i) (i * 65536) 65536 ((i + 1) * 65536) (omega arith) (at65536 parts i) _ _
+    (subst P back c.loop-i.invariant)
     (last_along _ _ _ _ _
-    (ap entries_below (get_or_read_under _ (c.loop-i.i - 1) (vec_len c.args.self.now.branches) _ None c.index.ensures (omega arith) (search rules)))
+    (ap entries_below (get_or_read_under _ (c.loop-i.i - 1) (vec_len c.args.self.now.branches) _ None c.index.ensures
+    (omega arith) (search rules)))
     c.min.ensures c.in-Some.ensures)
 
 pub loop-i-preserved : goal.loop-i-preserved
@@ -24,7 +26,9 @@ loop-i-preserved c =
     let P : ℕ → Type 0 = λ x. AreNone (entries_of c.args.self.now) (x * 65536) c.args.at in
     let i = c.loop-i.i - 1 in
     let parts : ℕ → Entries = λ j. entries_below (slice_index_or c.args.self.now.branches.items j None) in
-    none_less (row65536 parts) (parts i) (i * 65536) 65536 ((i + 1) * 65536) (omega arith) (at65536 parts i) _ (subst P back c.loop-i.invariant)
+    none_less (row65536 parts) (parts i) (i * 65536) 65536 ((i + 1) * 65536) (omega arith) (at65536 parts i) _
+    (subst P back c.loop-i.invariant)
     (none_along _ _ _ _ _ _
-    (ap entries_below (get_or_read_under _ (c.loop-i.i - 1) (vec_len c.args.self.now.branches) _ None c.index.ensures (omega arith) (search rules))) refl
+    (ap entries_below (get_or_read_under _ (c.loop-i.i - 1) (vec_len c.args.self.now.branches) _ None c.index.ensures
+    (omega arith) (search rules))) refl
     c.min.ensures c.in_default.ensures)

@@ -6,4 +6,6 @@ use Rattle.guest_heap.proofs.table.slots.last_below.Goals as goal
 
 pub returns-in-Some : goal.returns-in-Some
 unfolding entries_below
-returns-in-Some c = last_result_along _ _ _ _ (ap entries_under c.deref.ensures ∙ sym (ap entries_below c.in-Some.is)) c.last_below.ensures
+returns-in-Some c =
+    last_result_along _ _ _ _ (ap entries_under c.deref.ensures ∙ sym (ap entries_below c.in-Some.is))
+    c.last_below.ensures

@@ -6,4 +6,5 @@ use Rattle.guest_heap.proofs.table.slots.last_in.Goals as goal
 
 pub returns-in-Some : goal.returns-in-Some
 unfolding entries_at
-returns-in-Some c = last_result_along _ _ _ _ (ap entries_in c.deref.ensures ∙ sym (ap entries_at c.in-Some.is)) c.last_below.ensures
+returns-in-Some c =
+    last_result_along _ _ _ _ (ap entries_in c.deref.ensures ∙ sym (ap entries_at c.in-Some.is)) c.last_below.ensures

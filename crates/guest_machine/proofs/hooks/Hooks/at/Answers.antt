@@ -8,4 +8,5 @@ returns-else-self-slot_of c =
     let hooks = c.self.inside.entries.items in
     let sieve = c.self.inside.sieve in
     let unmarked = ap (λ i. slice_index_or sieve i false) (sym c.slot_of.ensures.value) ∙ c.if-self-slot_of.false in
-    sym (ap (λ xs. hook_at xs c.args.addr) (sym c.self.view_is) ∙ hook_unmarked hooks sieve c.args.addr c.self.invariant.1 unmarked)
+    sym (ap (λ xs. hook_at xs c.args.addr) (sym c.self.view_is)
+    ∙ hook_unmarked hooks sieve c.args.addr c.self.invariant.1 unmarked)

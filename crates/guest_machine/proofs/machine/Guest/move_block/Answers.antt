@@ -13,5 +13,6 @@ copy-requires c =
     let place = c.in_region.ensures.live block.start block c.requires.live in
     let low : block.start < 0x60000000 = omega (arith, place.below) in
     let fits : c.min-len.result ≤ c.args.size = search rules in
-    moved_apart (core_of c.args.self.now).blocks block block.start c.in-Some.to c.args.size c.args.redzone c.min-len.result c.requires.live refl
+    moved_apart (core_of c.args.self.now).blocks block block.start c.in-Some.to c.args.size c.args.redzone
+    c.min-len.result c.requires.live refl
     low clear within.0 within.1 kept fits

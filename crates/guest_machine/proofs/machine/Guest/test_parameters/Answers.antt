@@ -17,9 +17,12 @@ loop-parameter-preserved c =
     let made = c.in_ok-test.ensures in
     record {
       number = omega (arith, inv.number);
-      core = tested-step (core_of loop.self) (core_of after) r loop.r i SyscallNumber ps more c.new.ensures made.core ∙ inv.core;
+      core =
+          tested-step (core_of loop.self) (core_of after) r loop.r i SyscallNumber ps more c.new.ensures made.core
+          ∙ inv.core;
       noted =
-          errors-step (core_of loop.self) (core_of after) (noted_of loop.self.noted) (noted_of after.noted) r loop.r i _ ps more c.new.ensures made.core made.noted
+          errors-step (core_of loop.self) (core_of after) (noted_of loop.self.noted) (noted_of after.noted) r loop.r i _
+          ps more c.new.ensures made.core made.noted
           ∙ inv.noted;
       memory = made.memory ∙ inv.memory;
       progress = made.progress ∙ inv.progress;

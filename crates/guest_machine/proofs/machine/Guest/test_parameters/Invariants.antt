@@ -8,7 +8,8 @@ use Rattle.guest_machine.proofs.machine.Guest.test_parameters.Given as goal
 abbrev pub invariant-loop-parameter : goal.invariant-loop-parameter
 invariant-loop-parameter l = record {
   number : l.r ≡ 10 + l.parameter-index;
-  core : tested_from (core_of l.self) l.r (drop l.parameter-index l.parameters) ≡ tested_from (core_of l.fn.self) 10 l.parameters;
+  core : tested_from (core_of l.self) l.r (drop l.parameter-index l.parameters)
+      ≡ tested_from (core_of l.fn.self) 10 l.parameters;
   noted :
       note_events (noted_of l.self.noted) (errors_from (core_of l.self) l.r (drop l.parameter-index l.parameters))
       ≡ note_events (noted_of l.fn.self.noted) (errors_from (core_of l.fn.self) 10 l.parameters);

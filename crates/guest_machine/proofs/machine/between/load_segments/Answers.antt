@@ -18,10 +18,12 @@ loop-left-preserved c =
       within = omega arith;
       bytes =
           c.in_ok-fill.ensures.bytes
-          ∙ bytes-step c.args.segments.now c.loop-left.left segment (bytes_in c.args.memory.now) (bytes_in c.loop-left.memory) more c.loop-left.invariant.within
+          ∙ bytes-step c.args.segments.now c.loop-left.left segment (bytes_in c.args.memory.now)
+          (bytes_in c.loop-left.memory) more c.loop-left.invariant.within
           c.index-segments-left.is segment.in_space c.loop-left.invariant.bytes;
       shadows =
           c.in_ok-fill.ensures.shadows
-          ∙ shadows-step c.args.segments.now c.loop-left.left segment (shadows_in c.args.memory.now) (shadows_in c.loop-left.memory) more
+          ∙ shadows-step c.args.segments.now c.loop-left.left segment (shadows_in c.args.memory.now)
+          (shadows_in c.loop-left.memory) more
           c.loop-left.invariant.within c.index-segments-left.is segment.in_space c.loop-left.invariant.shadows;
     }

@@ -7,6 +7,10 @@ use Rattle.replay_session.proofs.session.Session.begin.Goals as goal
 pub invariant_of-result : goal.invariant_of-result
 unfolding first_state
 invariant_of-result c = record {
-  loads = subst (λ (sc : Scenario). LoadsAs c.in_ok-trail.trail sc.image) (sym c.in_ok-scenario.ensures) c.in_ok-trail.ensures.loaded;
-  right = subst (λ (sc : Scenario). IsRightForRun c.in_ok-trail.trail (run_of sc)) (sym c.in_ok-scenario.ensures) (c.in_ok-trail.ensures.right _ _);
+  loads =
+      subst (λ (sc : Scenario). LoadsAs c.in_ok-trail.trail sc.image) (sym c.in_ok-scenario.ensures)
+      c.in_ok-trail.ensures.loaded;
+  right =
+      subst (λ (sc : Scenario). IsRightForRun c.in_ok-trail.trail (run_of sc)) (sym c.in_ok-scenario.ensures)
+      (c.in_ok-trail.ensures.right _ _);
 }

@@ -7,6 +7,9 @@ use Rattle.replay_session.proofs.session.Session.choose.Goals as goal
 pub invariant_of-self : goal.invariant_of-self
 unfolding first_state
 invariant_of-self c = record {
-  loads = subst (λ (sc : Scenario). LoadsAs c.args.self.now.trail sc.image) (sym c.choose.ensures) c.args.self.now.loads;
-  right = subst (λ (sc : Scenario). IsRightForRun c.args.self.now.trail (run_of sc)) (sym c.choose.ensures) c.args.self.now.right;
+  loads =
+      subst (λ (sc : Scenario). LoadsAs c.args.self.now.trail sc.image) (sym c.choose.ensures) c.args.self.now.loads;
+  right =
+      subst (λ (sc : Scenario). IsRightForRun c.args.self.now.trail (run_of sc)) (sym c.choose.ensures)
+      c.args.self.now.right;
 }

@@ -12,24 +12,34 @@ use Rattle.replay_session.proofs.session.Session.edit.Goals as goal
 
 pub follow-requires : goal.follow-requires
 unfolding turn_of
-follow-requires c = record { within = within c.args.self.now.trail c.args.self.now.scenario.image _ c.args.self.now.loads (c.effect-effect.ensures.loaded c.requires) }
+follow-requires c = record {
+  within = within c.args.self.now.trail c.args.self.now.scenario.image _
+      c.args.self.now.loads (c.effect-effect.ensures.loaded c.requires);
+}
 
 pub invariant_of-self-else-is_err : goal.invariant_of-self-else-is_err
 unfolding turn_of
 invariant_of-self-else-is_err c = record {
-  loads = loads-followed c.args.self.now.scenario _ c.args.edit _ _ c.in_ok-edit.ensures.ok c.follow.ensures.loaded c.args.self.now.loads;
-  right = followed c.edits_follow.ensures c.args.self.now.scenario _ c.args.edit _ _ _ c.requires c.effect-effect.ensures.effect c.in_ok-edit.ensures.ok
-      (no-error c.follow.result (sym c.is_err.ensures.value ∙ c.if-is_err.false) c.follow.ensures.right) c.args.self.now.right;
+  loads =
+      loads-followed c.args.self.now.scenario _ c.args.edit _ _ c.in_ok-edit.ensures.ok c.follow.ensures.loaded
+      c.args.self.now.loads;
+  right =
+      followed c.edits_follow.ensures c.args.self.now.scenario _ c.args.edit _ _ _ c.requires
+      c.effect-effect.ensures.effect c.in_ok-edit.ensures.ok
+      (no-error c.follow.result (sym c.is_err.ensures.value ∙ c.if-is_err.false) c.follow.ensures.right)
+      c.args.self.now.right;
 }
 
 pub invariant_of-self-then-is_err : goal.invariant_of-self-then-is_err
 unfolding turn_of
 invariant_of-self-then-is_err c =
-    let (write, same) = an-error c.follow.result (sym c.is_err.ensures.value ∙ c.if-is_err.true) c.follow.ensures.same in
+    let (write, same) = an-error c.follow.result (sym c.is_err.ensures.value ∙ c.if-is_err.true)
+    c.follow.ensures.same in
     let sc = c.args.self.now.scenario in
     let drop : Scenario → Scenario = λ after. record after { words = take (length after.words - 1) after.words } in
     let back : c.drop_word.new.self ≡ sc =
-    c.drop_word.ensures ∙ ap drop c.in_ok-edit.ensures.ok ∙ word-dropped sc c.args.edit (subst IsWrite c.effect-effect.ensures.effect write) in
+    c.drop_word.ensures ∙ ap drop c.in_ok-edit.ensures.ok
+    ∙ word-dropped sc c.args.edit (subst IsWrite c.effect-effect.ensures.effect write) in
     record {
       loads = rw (same, back) c.args.self.now.loads;
       right = rw (same, back) c.args.self.now.right;
@@ -39,6 +49,9 @@ pub returns-clause-moves : goal.returns-clause-moves
 unfolding turn_of trail_of
 returns-clause-moves c = λ whole.
     let sc = c.args.self.now.scenario in
-    let P : Effect → Type 0 = λ effect. EditMoves (EffectShows effect (first_state sc) sc.setup sc.marks) (work_on c.args.self.now.trail) (work_on c.follow.new.self) in
+    let P : Effect → Type 0 = λ effect. EditMoves (EffectShows effect (first_state sc) sc.setup sc.marks)
+    (work_on c.args.self.now.trail) (work_on c.follow.new.self) in
     subst P c.effect-effect.ensures.effect
-    (moves-followed c.keeps_lower.ensures _ sc _ _ c.args.self.now.right (no-error c.follow.result (sym c.is_err.ensures.value ∙ c.if-is_err.false) c.follow.ensures.kept) c.follow.ensures.meter whole)
+    (moves-followed c.keeps_lower.ensures _ sc _ _ c.args.self.now.right
+    (no-error c.follow.result (sym c.is_err.ensures.value ∙ c.if-is_err.false) c.follow.ensures.kept)
+    c.follow.ensures.meter whole)

@@ -9,12 +9,15 @@ use Rattle.replay_session.proofs.session.Session.last.Goals as goal
 pub invariant_of-self : goal.invariant_of-self
 invariant_of-self c = record {
   loads = λ a. ap (λ ranges. is_among ranges a) c.last.ensures.loaded ∙ c.args.self.now.loads a;
-  right = moved c.args.self.now.scenario _ _ _ _ c.setup.ensures c.marks.ensures c.last.ensures.right c.args.self.now.right;
+  right =
+      moved c.args.self.now.scenario _ _ _ _ c.setup.ensures c.marks.ensures c.last.ensures.right c.args.self.now.right;
 }
 
 pub returns-clause-found : goal.returns-clause-found
 unfolding turn_of
 returns-clause-found c =
     IfOk-weaker c.last.result _ _
-    (λ found tells. told c.args.self.now.scenario _ _ _ _ (λ start setup marks step. IsLast (Hits c.args.sought start setup marks) c.args.from step found) c.setup.ensures c.marks.ensures
+    (λ found tells. told c.args.self.now.scenario _ _ _ _
+    (λ start setup marks step. IsLast (Hits c.args.sought start setup marks) c.args.from step found) c.setup.ensures
+    c.marks.ensures
     c.step.ensures tells c.args.self.now.right) c.last.ensures.last

@@ -20,9 +20,11 @@ loop-place-preserved c =
       start = omega arith;
       within = c.copy_some-place.ensures.within;
       set =
-          λ k. changed-joins (code_at c.args.self.now) (code_at c.loop-place.self) (code_at c.copy_some-place.new.self) c.args.at (place - from) (next - place)
+          λ k. changed-joins (code_at c.args.self.now) (code_at c.loop-place.self) (code_at c.copy_some-place.new.self)
+          c.args.at (place - from) (next - place)
           change part c.loop-place.invariant.set c.copy_some-place.ensures.set
-          (λ i below x. let e : place + i ≡ from + (place - from + i) = omega arith in ap (λ j. taken_code (loaded_code (source j)) x) e) k
+          (λ i below x. let e : place + i ≡ from + (place - from + i) = omega arith in
+          ap (λ j. taken_code (loaded_code (source j)) x) e) k
           ∙ ap (λ n. changed_from (code_at c.args.self.now) c.args.at n change k) all;
     }
 

@@ -8,7 +8,8 @@ abbrev pub invariant-loop-place : goal.invariant-loop-place
 invariant-loop-place l = record {
   start : l.from ≤ l.place;
   within : l.place ≤ l.end;
-  set : (k : ℕ) → code_at l.self k ≡ changed_from (code_at l.initial.self) l.at (l.place - l.from) (λ i old. taken_code (loaded_code (code_at l.source (l.from + i))) old) k;
+  set : (k : ℕ) → code_at l.self k ≡ changed_from (code_at l.initial.self) l.at (l.place - l.from)
+      (λ i old. taken_code (loaded_code (code_at l.source (l.from + i))) old) k;
 }
 
 abbrev pub decreases-loop-place : goal.decreases-loop-place

@@ -16,5 +16,7 @@ returns c =
     let source-within : c.args.from / 4 < length source = omega arith in
     let source-byte = c.index.ensures ∙ get_or_default source (c.args.from / 4) c.index.result.now 0 source-within in
     let byte = c.index-2.ensures ∙ get_or_default packed (c.args.at / 4) c.index-2.result.now 0 within in
-    four-copied packed source c.args.at c.args.from c.copied_four.result c.requires.aligned c.requires.from_aligned within
-    (λ k small. c.copied_four.ensures k small ∙ ap₂ (λ (s t : ℕ). taken_code (loaded_code (part_of s k)) (part_of t k)) source-byte byte)
+    four-copied packed source c.args.at c.args.from c.copied_four.result c.requires.aligned c.requires.from_aligned
+    within
+    (λ k small. c.copied_four.ensures k small
+    ∙ ap₂ (λ (s t : ℕ). taken_code (loaded_code (part_of s k)) (part_of t k)) source-byte byte)

@@ -12,11 +12,14 @@ loop-at-preserved c =
     record {
       start = omega arith;
       within = c.take_some-at.ensures.within;
-      set = λ k. take-joins c.args.from c.loop-at.at c.take_some-at.result k c.args.made (code_at c.args.self.now k) (code_at c.loop-at.self k)
+      set =
+          λ k. take-joins c.args.from c.loop-at.at c.take_some-at.result k c.args.made (code_at c.args.self.now k)
+          (code_at c.loop-at.self k)
           (code_at c.take_some-at.new.self k) start more (c.loop-at.invariant.set k) (c.take_some-at.ensures.set k);
     }
 
 pub returns : goal.returns
 returns c = λ k.
     let done : c.loop-at.at ≡ c.args.to = omega arith in
-    c.loop-at.invariant.set k ∙ ap (λ to. cond (is_between c.args.from to k) (taken_code c.args.made (code_at c.args.self.now k)) (code_at c.args.self.now k)) done
+    c.loop-at.invariant.set k ∙ ap (λ to. cond (is_between c.args.from to k)
+    (taken_code c.args.made (code_at c.args.self.now k)) (code_at c.args.self.now k)) done

@@ -8,7 +8,8 @@ abbrev pub invariant-loop-at : goal.invariant-loop-at
 invariant-loop-at l = record {
   start : l.from ≤ l.at;
   within : l.at ≤ l.to;
-  set : (k : ℕ) → code_at l.self k ≡ (if is_between l.from l.at k then taken_code l.made (code_at l.initial.self k) else code_at l.initial.self k);
+  set : (k : ℕ) → code_at l.self k ≡ (if is_between l.from l.at k then taken_code l.made (code_at l.initial.self k)
+      else code_at l.initial.self k);
 }
 
 abbrev pub decreases-loop-at : goal.decreases-loop-at

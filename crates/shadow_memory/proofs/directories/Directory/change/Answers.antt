@@ -18,7 +18,8 @@ returns-clause-ok c =
     let within : place < length pages = omega (arith, room.1) in
     let n = count_of c.args.edit.now in
     let change = change_of c.args.edit.now in
-    on_ok_weaker c.change.result (λ h. page-changed first place pages c.index_mut.result.now c.change.new.self c.args.at n change here within c.requires.one_page c.index_mut.ensures.value h
+    on_ok_weaker c.change.result (λ h. page-changed first place pages c.index_mut.result.now c.change.new.self c.args.at
+    n change here within c.requires.one_page c.index_mut.ensures.value h
     ∙ ap (λ (f : ℕ → Cell). changed_from f c.args.at n change) c.reach.ensures.same) c.change.ensures.ok
 
 pub returns-clause-err : goal.returns-clause-err
@@ -31,5 +32,6 @@ returns-clause-err c =
     let here : c.args.at / 4096 ≡ first + place = omega (arith, room.0) in
     let within : place < length pages = omega (arith, room.1) in
     on_err_weaker c.change.result
-    (λ h. page-same first place pages c.index_mut.result.now c.change.new.self c.args.at here within c.index_mut.ensures.value h ∙ c.reach.ensures.same)
+    (λ h. page-same first place pages c.index_mut.result.now c.change.new.self c.args.at here within
+    c.index_mut.ensures.value h ∙ c.reach.ensures.same)
     c.change.ensures.err

@@ -35,12 +35,16 @@ loop-i-preserved c =
     let same : first ≡ c.args.self.now.first = c.loop-i.invariant.same in
     let here : 4096 * (first + place) ≡ at + d = omega arith in
     let all : d + 4096 ≡ 4096 * (c.loop-i.i + 1) = omega arith in
-    let swept = page-swept first place pages c.index_mut.result.now c.sweep.new.self c.args.each within c.index_mut.ensures.value (c.sweep.ensures.done c.if-not-sweep.false) in
+    let swept = page-swept first place pages c.index_mut.result.now c.sweep.new.self c.args.each within
+    c.index_mut.ensures.value (c.sweep.ensures.done c.if-not-sweep.false) in
     record {
       same = same;
       long = c.loop-i.invariant.long;
-      swept = fun_ext (λ k. changed-joins (cells_under c.args.self.now) (cells_under c.loop-i.self) _ at d 4096 change change (λ j. ap (λ (f : ℕ → Cell). f j) c.loop-i.invariant.swept)
-          (λ j. ap (λ (f : ℕ → Cell). f j) swept ∙ ap (λ n. changed_from (cells_under c.loop-i.self) n 4096 change j) here) (λ i below x. refl) k
+      swept =
+          fun_ext (λ k. changed-joins (cells_under c.args.self.now) (cells_under c.loop-i.self) _ at d 4096 change
+          change (λ j. ap (λ (f : ℕ → Cell). f j) c.loop-i.invariant.swept)
+          (λ j. ap (λ (f : ℕ → Cell). f j) swept
+          ∙ ap (λ n. changed_from (cells_under c.loop-i.self) n 4096 change j) here) (λ i below x. refl) k
           ∙ ap (λ n. changed_from (cells_under c.args.self.now) at n change k) all);
     }
 
@@ -48,4 +52,5 @@ pub returns-clause-swept : goal.returns-clause-swept
 returns-clause-swept c =
     let change : ℕ → Cell → Cell = λ i cell. each_of c.args.each cell in
     let all : c.loop-i.i ≡ c.args.most = omega arith in
-    c.loop-i.invariant.swept ∙ ap (λ n. changed_from (cells_under c.args.self.now) (4096 * (c.args.self.now.first + c.args.place)) (4096 * n) change) all
+    c.loop-i.invariant.swept ∙ ap (λ n. changed_from (cells_under c.args.self.now)
+    (4096 * (c.args.self.now.first + c.args.place)) (4096 * n) change) all

@@ -5,4 +5,5 @@ use Rattle.shadow_memory.proofs.directories.Directory.view.Goals as goal
 
 pub returns-in-None : goal.returns-in-None
 unfolding cells_at cells_under cells_seen
-returns-in-None c = λ a same. ap (λ s. cells_at s (a % 4096)) (ap (page_at c.args.self.now) same ∙ c.in-None.ensures.none)
+returns-in-None c =
+    λ a same. ap (λ s. cells_at s (a % 4096)) (ap (page_at c.args.self.now) same ∙ c.in-None.ensures.none)

@@ -11,6 +11,9 @@ pub returns : goal.returns
 unfolding marks_mixed
 returns c = λ k.
     let there = c.args.from + (k - c.args.at) in
-    copied-mark (is_between c.args.at (c.args.at + c.args.count) k) (code_at c.args.source.now.codes there) (code_at c.args.self.now.codes k)
-    (code_at c.copy.new.self k) (unwrap_or (get nat_cmp c.args.source.now.partly there) 0) (unwrap_or (get nat_cmp c.args.self.now.partly k) 0)
-    (copied-inside c.args.at c.args.count c.args.from k (code_at c.args.source.now.codes) c.requires.whole) (c.copy.ensures k)
+    copied-mark (is_between c.args.at (c.args.at + c.args.count) k) (code_at c.args.source.now.codes there)
+    (code_at c.args.self.now.codes k)
+    (code_at c.copy.new.self k) (unwrap_or (get nat_cmp c.args.source.now.partly there) 0)
+    (unwrap_or (get nat_cmp c.args.self.now.partly k) 0)
+    (copied-inside c.args.at c.args.count c.args.from k (code_at c.args.source.now.codes) c.requires.whole)
+    (c.copy.ensures k)

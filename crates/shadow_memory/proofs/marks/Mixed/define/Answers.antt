@@ -11,8 +11,11 @@ pub loop-at-preserved : goal.loop-at-preserved
 unfolding marks_mixed
 loop-at-preserved c =
     let old = marks_mixed c.args.self.now in
-    between-more old (marks_mixed c.loop-at.self) _ (λ k. defined (old k)) c.args.from c.loop-at.at (omega arith) c.loop-at.invariant
-    (rw (c.set.ensures c.loop-at.at, eq-eqb c.loop-at.at c.loop-at.at refl) (c.defined_code-code.ensures.value (unwrap_or (get nat_cmp c.loop-at.self.partly c.loop-at.at) 0) _
+    between-more old (marks_mixed c.loop-at.self) _ (λ k. defined (old k)) c.args.from c.loop-at.at (omega arith)
+    c.loop-at.invariant
+    (rw (c.set.ensures c.loop-at.at, eq-eqb c.loop-at.at c.loop-at.at refl)
+    (c.defined_code-code.ensures.value (unwrap_or (get nat_cmp c.loop-at.self.partly c.loop-at.at) 0) _
     ∙ ap (λ k. defined (mark_by k (unwrap_or (get nat_cmp c.loop-at.self.partly c.loop-at.at) 0))) c.code.ensures.value
-    ∙ ap defined (after-between old (marks_mixed c.loop-at.self) (λ k. defined (old k)) c.args.from c.loop-at.at c.loop-at.invariant)))
+    ∙ ap defined (after-between old (marks_mixed c.loop-at.self) (λ k. defined (old k)) c.args.from c.loop-at.at
+    c.loop-at.invariant)))
     (λ k other. rw (c.set.ensures k, ne_eqb k c.loop-at.at other) refl)

@@ -9,5 +9,8 @@ use Rattle.shadow_memory.proofs.marks.Mixed.make.Goals as goal
 
 pub returns : goal.returns
 unfolding marks_mixed
-returns c = λ at. made-mark (is_between c.args.from c.args.to at) c.args.kind (code_at c.make.new.self at) (code_at c.args.self.now.codes at) (unwrap_or (get nat_cmp c.args.self.now.partly at) 0)
-    (c.make.ensures at ∙ ap (λ (k : ℕ). cond (is_between c.args.from c.args.to at) k (code_at c.args.self.now.codes at)) c.code_of_kind.ensures.value)
+returns c =
+    λ at. made-mark (is_between c.args.from c.args.to at) c.args.kind (code_at c.make.new.self at)
+    (code_at c.args.self.now.codes at) (unwrap_or (get nat_cmp c.args.self.now.partly at) 0)
+    (c.make.ensures at ∙ ap (λ (k : ℕ). cond (is_between c.args.from c.args.to at) k (code_at c.args.self.now.codes at))
+    c.code_of_kind.ensures.value)

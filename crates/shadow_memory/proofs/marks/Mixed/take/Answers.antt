@@ -10,7 +10,10 @@ use Rattle.shadow_memory.proofs.marks.Mixed.take.Goals as goal
 
 pub returns : goal.returns
 unfolding marks_mixed
-returns c = λ at. taken-mark (is_between c.args.from c.args.to at) c.args.kind (code_at c.args.self.now.codes at) (code_at c.take.new.self at) (unwrap_or (get nat_cmp c.args.self.now.partly at) 0)
+returns c =
+    λ at. taken-mark (is_between c.args.from c.args.to at) c.args.kind (code_at c.args.self.now.codes at)
+    (code_at c.take.new.self at) (unwrap_or (get nat_cmp c.args.self.now.partly at) 0)
     (c.take.ensures at
-    ∙ ap (λ (m : ℕ). cond (is_between c.args.from c.args.to at) (taken_code m (code_at c.args.self.now.codes at)) (code_at c.args.self.now.codes at))
+    ∙ ap (λ (m : ℕ). cond (is_between c.args.from c.args.to at) (taken_code m (code_at c.args.self.now.codes at))
+    (code_at c.args.self.now.codes at))
     (c.loaded_code.ensures.value ∙ ap loaded_code c.code_of_kind.ensures.value))

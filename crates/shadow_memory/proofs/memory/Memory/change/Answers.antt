@@ -17,7 +17,8 @@ returns-clause-ok c =
     let full : c.args.addr / 4194304 < vec_len c.grow.new.self.directories = c.in_ok-grow.ensures.room in
     let within : c.args.addr / 4194304 < length c.grow.new.self.directories.items = omega arith in
     let fits : c.args.addr % 4194304 + n ≤ 4194304 = omega arith in
-    on_ok_weaker c.change.result (λ h. directory-changed cells_below Blank c.grow.new.self.directories.items c.index_mut.result.now c.change.new.self
+    on_ok_weaker c.change.result (λ h. directory-changed cells_below Blank c.grow.new.self.directories.items
+    c.index_mut.result.now c.change.new.self
     c.args.addr n change within fits c.index_mut.ensures.value h
     ∙ ap (λ (f : ℕ → Cell). changed_from f c.args.addr n change) c.grow.ensures.same) c.change.ensures.ok
 
@@ -27,6 +28,7 @@ returns-clause-err c =
     let long : vec_len c.grow.new.self.directories ≡ length c.grow.new.self.directories.items = search rules in
     let full : c.args.addr / 4194304 < vec_len c.grow.new.self.directories = c.in_ok-grow.ensures.room in
     let within : c.args.addr / 4194304 < length c.grow.new.self.directories.items = omega arith in
-    on_err_weaker c.change.result (λ h. directory-kept cells_below Blank c.grow.new.self.directories.items c.index_mut.result.now c.change.new.self c.args.addr within c.index_mut.ensures.value h
+    on_err_weaker c.change.result (λ h. directory-kept cells_below Blank c.grow.new.self.directories.items
+    c.index_mut.result.now c.change.new.self c.args.addr within c.index_mut.ensures.value h
     ∙ c.grow.ensures.same)
     c.change.ensures.err

@@ -16,8 +16,11 @@ loop-done-preserved c =
     let few : d + n ≤ 2 ^ 32 = omega arith in
     record {
       within = omega arith;
-      cells = page-more (cells_of c.args.self.now) (cells_of c.loop-done.self) (cells_of c.change_some.new.self) c.args.addr d n at
-          (λ i cell. each_of c.args.each cell) (λ i cell. each_of c.args.each cell) small refl page few c.loop-done.invariant.cells c.in_ok-count.ensures.ok
+      cells =
+          page-more (cells_of c.args.self.now) (cells_of c.loop-done.self) (cells_of c.change_some.new.self) c.args.addr
+          d n at
+          (λ i cell. each_of c.args.each cell) (λ i cell. each_of c.args.each cell) small refl page few
+          c.loop-done.invariant.cells c.in_ok-count.ensures.ok
           (λ i below x. refl);
     }
 

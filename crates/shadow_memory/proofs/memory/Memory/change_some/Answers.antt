@@ -18,7 +18,8 @@ returns-clause-ok c =
     let within : c.args.addr / 4194304 < length c.grow.new.self.directories.items = omega arith in
     let most = c.in_ok-count.ensures.within in
     let fits : c.args.addr % 4194304 + n ≤ 4194304 = omega arith in
-    directory-changed cells_below Blank c.grow.new.self.directories.items c.index_mut.result.now c.change_some.new.self c.args.addr n change within fits
+    directory-changed cells_below Blank c.grow.new.self.directories.items c.index_mut.result.now c.change_some.new.self
+    c.args.addr n change within fits
     c.index_mut.ensures.value c.in_ok-count.ensures.ok
     ∙ ap (λ (f : ℕ → Cell). changed_from f c.args.addr n change) c.grow.ensures.same
 
@@ -28,6 +29,7 @@ returns-in_err-count-clause-err c =
     let long : vec_len c.grow.new.self.directories ≡ length c.grow.new.self.directories.items = search rules in
     let full : c.args.addr / 4194304 < vec_len c.grow.new.self.directories = c.in_ok-grow.ensures.room in
     let within : c.args.addr / 4194304 < length c.grow.new.self.directories.items = omega arith in
-    at_refusal c.from_residual-in_err-count.result (directory-kept cells_below Blank c.grow.new.self.directories.items c.index_mut.result.now
+    at_refusal c.from_residual-in_err-count.result
+    (directory-kept cells_below Blank c.grow.new.self.directories.items c.index_mut.result.now
     c.change_some.new.self c.args.addr within c.index_mut.ensures.value c.in_err-count.ensures.err
     ∙ c.grow.ensures.same)

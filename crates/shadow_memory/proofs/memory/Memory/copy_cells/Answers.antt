@@ -17,7 +17,9 @@ loop-done-preserved c =
     let within : d + n ≤ c.args.len = omega arith in
     record {
       within = within;
-      cells = copy-joins (cells_of c.args.self.now) (cells_of c.loop-done.self) (cells_of c.copy_some.new.self) c.args.from c.args.to d n c.args.len small long
+      cells =
+          copy-joins (cells_of c.args.self.now) (cells_of c.loop-done.self) (cells_of c.copy_some.new.self) c.args.from
+          c.args.to d n c.args.len small long
           within c.requires c.loop-done.invariant.cells c.in_ok-count.ensures.ok;
     }
 
@@ -32,7 +34,8 @@ returns-in_err-count-clause-err c =
     at_refusal c.from_residual.result (
       d + front.0,
       omega arith,
-      copy-joins (cells_of c.args.self.now) (cells_of c.loop-done.self) (cells_of c.copy_some.new.self) c.args.from c.args.to d front.0 c.args.len small long
+      copy-joins (cells_of c.args.self.now) (cells_of c.loop-done.self) (cells_of c.copy_some.new.self) c.args.from
+          c.args.to d front.0 c.args.len small long
           within c.requires c.loop-done.invariant.cells front.2,
     )
 

@@ -7,7 +7,8 @@ use Rattle.shadow_memory.proofs.memory.Memory.copy_cells.Given as goal
 abbrev pub invariant-loop-done : goal.invariant-loop-done
 invariant-loop-done l = record {
   within : l.done ≤ l.len;
-  cells : cells_of l.self ≡ changed_in (cells_of l.initial.self) l.to l.done (copied_cell (cells_of l.initial.self) l.from);
+  cells : cells_of l.self ≡ changed_in (cells_of l.initial.self) l.to l.done
+      (copied_cell (cells_of l.initial.self) l.from);
 }
 
 abbrev pub decreases-loop-done : goal.decreases-loop-done

@@ -14,6 +14,8 @@ returns-then-count-gt0-clause-ok c =
     let n = c.whole_end.result - c.args.from % 4096 in
     let small : c.args.from < 2 ^ 32 = omega arith in
     let page : c.args.from % 4096 + n ≤ 4096 = omega arith in
-    seen-copied (cells_of c.args.self.now) (cells_of c.change.new.self) (cells_in c.deref-then-count-gt0.result.now) c.args.from c.args.to n small page
-    (λ a here. c.in_ok-page.ensures a here ∙ ap (λ (s : PageSlot). cells_at s (a % 4096)) c.in-Held.is ∙ ap (λ (p : Page). cells_in p (a % 4096)) (sym c.deref-then-count-gt0.ensures))
+    seen-copied (cells_of c.args.self.now) (cells_of c.change.new.self) (cells_in c.deref-then-count-gt0.result.now)
+    c.args.from c.args.to n small page
+    (λ a here. c.in_ok-page.ensures a here ∙ ap (λ (s : PageSlot). cells_at s (a % 4096)) c.in-Held.is
+    ∙ ap (λ (p : Page). cells_in p (a % 4096)) (sym c.deref-then-count-gt0.ensures))
     c.in_ok-change.ensures.ok

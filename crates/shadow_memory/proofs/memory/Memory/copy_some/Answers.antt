@@ -11,9 +11,14 @@ returns-clause-ok c =
     let few = c.in_ok-count.ensures.within in
     let small : c.args.to < 2 ^ 32 = omega arith in
     let inside : c.args.to + n ≤ 2 ^ 32 = omega arith in
-    one-range (cells_of c.args.self.now) (cells_of c.copy_part.new.self) c.args.to n (copied_cell (cells_of c.args.self.now) c.args.from) inside small c.in_ok-count.ensures.ok
+    one-range (cells_of c.args.self.now) (cells_of c.copy_part.new.self) c.args.to n
+    (copied_cell (cells_of c.args.self.now) c.args.from) inside small c.in_ok-count.ensures.ok
 
 pub returns-in_err-count-clause-err : goal.returns-in_err-count-clause-err
 returns-in_err-count-clause-err c =
-    at_refusal c.from_residual-in_err-count.result
-    (0, omega arith, c.in_err-count.ensures.err ∙ sym (range-empty (cells_of c.args.self.now) c.args.to (copied_cell (cells_of c.args.self.now) c.args.from)))
+    at_refusal c.from_residual-in_err-count.result (
+      0,
+      omega arith,
+      c.in_err-count.ensures.err
+          ∙ sym (range-empty (cells_of c.args.self.now) c.args.to (copied_cell (cells_of c.args.self.now) c.args.from)),
+    )

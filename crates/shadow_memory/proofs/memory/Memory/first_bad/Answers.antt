@@ -12,8 +12,10 @@ returns-in-Some c =
     let d = c.loop-done.done in
     let n = c.count_in_page-count.result in
     let at = above c.args.addr d in
-    ap (λ (cell : Cell). Some (record { addr = at - at % 4096 + c.in-Some.found; accessible = cell.accessible })) c.cell-accessible.ensures.value
-    ∙ found-bad (cells_of c.args.self.now) (cells_seen c.view-view.result) c.args.addr d at n c.args.need_defined refl c.count_in_page-count.ensures.one_page
+    ap (λ (cell : Cell). Some (record { addr = at - at % 4096 + c.in-Some.found; accessible = cell.accessible }))
+    c.cell-accessible.ensures.value
+    ∙ found-bad (cells_of c.args.self.now) (cells_seen c.view-view.result) c.args.addr d at n c.args.need_defined refl
+    c.count_in_page-count.ensures.one_page
     c.view-view.ensures c.args.len c.in-Some.found (omega arith) c.in-Some.ensures.some c.loop-done.invariant.fine
 
 pub loop-done-preserved : goal.loop-done-preserved
@@ -24,9 +26,14 @@ loop-done-preserved c =
     let at = above c.args.addr d in
     record {
       within = omega arith;
-      fine = fine-more (cells_of c.args.self.now) (cells_seen c.view-view.result) c.args.addr d at n c.args.need_defined refl
-          c.count_in_page-count.ensures.one_page c.view-view.ensures c.in_default.ensures.none c.loop-done.invariant.fine;
+      fine =
+          fine-more (cells_of c.args.self.now) (cells_seen c.view-view.result) c.args.addr d at n c.args.need_defined
+          refl
+          c.count_in_page-count.ensures.one_page c.view-view.ensures c.in_default.ensures.none
+          c.loop-done.invariant.fine;
     }
 
 pub returns : goal.returns
-returns c = found-none (shadows_in c.args.self.now) c.args.addr c.args.len c.loop-done.done c.args.need_defined (omega arith) c.loop-done.invariant.fine
+returns c =
+    found-none (shadows_in c.args.self.now) c.args.addr c.args.len c.loop-done.done c.args.need_defined (omega arith)
+    c.loop-done.invariant.fine

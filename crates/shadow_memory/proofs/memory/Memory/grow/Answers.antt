@@ -6,12 +6,15 @@ use Rattle.shadow_memory.proofs.Clones.{same_of, one_more}
 use Rattle.shadow_memory.proofs.memory.Memory.grow.Goals as goal
 
 pub returns-in_err-push-clause-same : goal.returns-in_err-push-clause-same
-returns-in_err-push-clause-same c = same_of _ _ (λ i. ap (λ (xs : List DirectorySlot). cells_below (get_or xs i Blank)) c.in_err-push.ensures.items) ∙ c.loop-i.invariant.same
+returns-in_err-push-clause-same c =
+    same_of _ _ (λ i. ap (λ (xs : List DirectorySlot). cells_below (get_or xs i Blank)) c.in_err-push.ensures.items)
+    ∙ c.loop-i.invariant.same
 
 pub loop-i-preserved : goal.loop-i-preserved
 loop-i-preserved c = record {
   same =
-      same_of _ _ (λ i. ap (λ (xs : List DirectorySlot). cells_below (get_or xs i Blank)) c.in_ok-push.ensures.items ∙ ap cells_below (one_more Blank c.loop-i.self.directories.items i))
+      same_of _ _ (λ i. ap (λ (xs : List DirectorySlot). cells_below (get_or xs i Blank)) c.in_ok-push.ensures.items
+      ∙ ap cells_below (one_more Blank c.loop-i.self.directories.items i))
       ∙ c.loop-i.invariant.same;
   grown = search rules;
 }

@@ -11,9 +11,11 @@ returns-in-Some-clause-some c =
     let start = c.loop-page.page * 4096 in
     let page : start % 4096 ≡ 0 = omega arith in
     let here : 4096 * c.loop-page.page + c.loop-page.from ≡ start + c.loop-page.from = omega arith in
-    next-in-page (cells_of c.args.self.now) (cells_seen c.view.result) start c.args.low c.args.high page c.view.ensures c.args.addr c.loop-page.from
+    next-in-page (cells_of c.args.self.now) (cells_seen c.view.result) start c.args.low c.args.high page c.view.ensures
+    c.args.addr c.loop-page.from
     c.in-Some.place c.in-Some.ensures.some c.in-Some.ensures.inside (omega arith)
-    (subst (λ (to : ℕ). HoldNoneInRange (bytes_in c.args.self.now) (shadows_in c.args.self.now) c.args.low c.args.high c.args.addr to) here c.loop-page.invariant.none)
+    (subst (λ (to : ℕ). HoldNoneInRange (bytes_in c.args.self.now) (shadows_in c.args.self.now) c.args.low c.args.high
+    c.args.addr to) here c.loop-page.invariant.none)
 
 pub loop-page-preserved : goal.loop-page-preserved
 unfolding bytes_in shadows_in
@@ -28,8 +30,11 @@ loop-page-preserved c =
       aligned = refl;
       above = omega arith;
       none =
-          subst (λ (to : ℕ). HoldNoneInRange (bytes_in c.args.self.now) (shadows_in c.args.self.now) c.args.low c.args.high c.args.addr to) next
-          (page-holds-none (cells_of c.args.self.now) (cells_seen c.view.result) start c.args.low c.args.high page c.view.ensures c.args.addr c.loop-page.from
+          subst (λ (to : ℕ). HoldNoneInRange (bytes_in c.args.self.now) (shadows_in c.args.self.now) c.args.low
+          c.args.high c.args.addr to) next
+          (page-holds-none (cells_of c.args.self.now) (cells_seen c.view.result) start c.args.low c.args.high page
+          c.view.ensures c.args.addr c.loop-page.from
           4096 (omega arith) c.in_default.ensures.none
-          (subst (λ (to : ℕ). HoldNoneInRange (bytes_in c.args.self.now) (shadows_in c.args.self.now) c.args.low c.args.high c.args.addr to) here c.loop-page.invariant.none));
+          (subst (λ (to : ℕ). HoldNoneInRange (bytes_in c.args.self.now) (shadows_in c.args.self.now) c.args.low
+          c.args.high c.args.addr to) here c.loop-page.invariant.none));
     }

@@ -11,7 +11,8 @@ returns-in-Some-clause-some c =
     let start = c.loop-page.page * 4096 in
     let page : start % 4096 ≡ 0 = omega arith in
     let here : 4096 * c.loop-page.page + c.loop-page.from ≡ start + c.loop-page.from = omega arith in
-    found-in-page (cells_of c.args.self.now) (cells_seen c.view.result) start page c.view.ensures c.args.addr c.loop-page.from c.in-Some.place
+    found-in-page (cells_of c.args.self.now) (cells_seen c.view.result) start page c.view.ensures c.args.addr
+    c.loop-page.from c.in-Some.place
     c.in-Some.ensures.some c.in-Some.ensures.inside (omega arith)
     (subst (λ (to : ℕ). HoldNoWord (shadows_in c.args.self.now) c.args.addr to) here c.loop-page.invariant.none)
 
@@ -29,6 +30,7 @@ loop-page-preserved c =
       above = omega arith;
       none =
           subst (λ (to : ℕ). HoldNoWord (shadows_in c.args.self.now) c.args.addr to) next
-          (none-in-page (cells_of c.args.self.now) (cells_seen c.view.result) start page c.view.ensures c.args.addr c.loop-page.from c.in_default.ensures.none
+          (none-in-page (cells_of c.args.self.now) (cells_seen c.view.result) start page c.view.ensures c.args.addr
+          c.loop-page.from c.in_default.ensures.none
           (subst (λ (to : ℕ). HoldNoWord (shadows_in c.args.self.now) c.args.addr to) here c.loop-page.invariant.none));
     }

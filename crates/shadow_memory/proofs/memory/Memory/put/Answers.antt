@@ -10,7 +10,9 @@ unfolding cells_of
 returns-then-number-len-clause-done c done =
     let n = length c.args.bytes.now in
     let long : vec_len c.args.self.now.directories ≡ length c.args.self.now.directories.items = search rules in
-    let within : c.args.addr / 4194304 < length c.args.self.now.directories.items = omega (arith, c.if-number-len.true, c.len.ensures, long) in
+    let within : c.args.addr / 4194304 < length c.args.self.now.directories.items = omega
+    (arith, c.if-number-len.true, c.len.ensures, long) in
     let fits : c.args.addr % 4194304 + n ≤ 4194304 = omega arith in
-    directory-changed cells_below Blank c.args.self.now.directories.items c.index_mut.result.now c.put.new.self c.args.addr n (received (slice_index c.args.bytes.now))
+    directory-changed cells_below Blank c.args.self.now.directories.items c.index_mut.result.now c.put.new.self
+    c.args.addr n (received (slice_index c.args.bytes.now))
     within fits c.index_mut.ensures.value (c.put.ensures.done done)

@@ -9,7 +9,10 @@ pub returns-then-addr-n-le-PAGE-clause-err : goal.returns-then-addr-n-le-PAGE-cl
 returns-then-addr-n-le-PAGE-clause-err c =
     on_err_weaker c.store_defined.result (λ h. (
       0,
-      elim c.requires [ inl one ↦ omega arith | inr more ↦ elim more [ inl two ↦ omega arith | inr four ↦ omega arith ] ],
+      elim c.requires [
+        | inl one ↦ omega arith
+        | inr more ↦ elim more [ inl two ↦ omega arith | inr four ↦ omega arith ]
+      ],
       h ∙ sym (range-empty (cells_of c.args.self.now) c.args.addr (stored c.args.bits)),
     ))
     c.store_defined.ensures.err

@@ -1,4 +1,5 @@
-use Rattle.std.proofs.Common.{◌≡◌, ◌∙◌, ◌+◌, ◌<◌, ◌≤◌, ◌^◌, ap, arith, refl, sym, slice_index, length, take, drop, ◌-◌, if◌then◌else◌}
+use Rattle.std.proofs.Common.{◌≡◌, ◌∙◌, ◌+◌, ◌<◌, ◌≤◌, ◌^◌, ap, arith, refl, sym, slice_index, length, take, drop, ◌-◌}
+use Rattle.std.proofs.Common.{if◌then◌else◌}
 use Rattle.shadow_memory.specs.Places.{changed_from}
 use Rattle.shadow_memory.specs.Changes.{received}
 use Rattle.shadow_memory.specs.Edits.{change_of, count_of}
@@ -20,13 +21,21 @@ loop-done-preserved c =
     let same : length (take (d + n - d) (drop d xs)) ≡ n = length-part xs d n inside in
     let page : at + n ≤ 2 ^ 32 = omega arith in
     let few : d + n ≤ 2 ^ 32 = omega arith in
-    let made = c.in_ok-change.ensures.ok ∙ ap (λ k. changed_from (cells_of c.loop-done.self) at k (received (slice_index (take (d + n - d) (drop d xs))))) same in
+    let made = c.in_ok-change.ensures.ok
+    ∙ ap (λ k. changed_from (cells_of c.loop-done.self) at k
+    (received (slice_index (take (d + n - d) (drop d xs))))) same in
     record {
       within = omega arith;
       cells =
-          page-more (cells_of c.args.self.now) (cells_of c.loop-done.self) (cells_of c.change.new.self) c.args.addr d n at (received (slice_index xs))
+          page-more (cells_of c.args.self.now) (cells_of c.loop-done.self) (cells_of c.change.new.self) c.args.addr d n
+          at (received (slice_index xs))
           (received (slice_index (take (d + n - d) (drop d xs)))) small refl page few c.loop-done.invariant.cells made
-          (λ i below x. ap (λ b. record { byte = b; accessible = x.accessible; undef = if x.accessible then 0 else x.undef }) (part-read xs d n i below));
+          (λ i below x. ap (λ b. record {
+            byte = b;
+            accessible = x.accessible;
+            undef = if x.accessible then 0
+                else x.undef;
+          }) (part-read xs d n i below));
     }
 
 pub loop-done-init : goal.loop-done-init

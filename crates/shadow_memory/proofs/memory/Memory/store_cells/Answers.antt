@@ -11,7 +11,8 @@ loop-i-preserved c =
     let small : c.args.addr < 2 ^ 32 = omega arith in
     let few : c.loop-i.i < 2 ^ 32 = omega arith in
     c.in_ok-change.ensures.ok
-    ∙ one-more (cells_of c.args.self.now) (cells_of c.loop-i.self) c.args.addr c.loop-i.i (stored c.args.bits) c.cell-cell.result _ small few c.loop-i.invariant
+    ∙ one-more (cells_of c.args.self.now) (cells_of c.loop-i.self) c.args.addr c.loop-i.i (stored c.args.bits)
+    c.cell-cell.result _ small few c.loop-i.invariant
     c.cell-cell.ensures.value c.stored_cell.ensures.value
 
 pub loop-i-init : goal.loop-i-init

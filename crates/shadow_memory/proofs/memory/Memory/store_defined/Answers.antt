@@ -10,5 +10,7 @@ unfolding count_of change_of
 returns-clause-ok c =
     let small : c.args.addr < 2 ^ 32 = omega arith in
     let long : length c.word_bytes-bytes.result ≡ 4 = omega arith in
-    on_ok_weaker c.change.result (λ h. store-word (cells_of c.args.self.now) (cells_of c.change.new.self) c.args.addr c.args.n c.args.value
-    c.word_bytes-bytes.result small c.requires.one_page c.requires.width long c.word_bytes-bytes.ensures h) c.change.ensures.ok
+    on_ok_weaker c.change.result (λ h. store-word (cells_of c.args.self.now) (cells_of c.change.new.self) c.args.addr
+    c.args.n c.args.value
+    c.word_bytes-bytes.result small c.requires.one_page c.requires.width long c.word_bytes-bytes.ensures h)
+    c.change.ensures.ok

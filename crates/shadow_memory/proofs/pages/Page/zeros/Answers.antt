@@ -12,8 +12,10 @@ unfolding cells_in
 returns c = IfSome_then c.kind.result c.kind.ensures (λ kind is k low high.
     let xs = c.deref.result.now in
     let inside : c.args.to ≤ length xs = omega arith in
-    let near : k - c.args.from < length (take (c.args.to - c.args.from) (drop c.args.from xs)) = simp (length-take, length-drop) (omega arith) in
+    let near : k - c.args.from < length (take (c.args.to - c.args.from) (drop c.args.from xs)) = simp
+    (length-take, length-drop) (omega arith) in
     let zero : slice_index c.args.self.now.bytes.items k ≡ 0 =
-    ap (λ (l : List ℕ). slice_index l k) (sym c.deref.ensures.value) ∙ sym (between-read xs c.args.from c.args.to k low high)
+    ap (λ (l : List ℕ). slice_index l k) (sym c.deref.ensures.value)
+    ∙ sym (between-read xs c.args.from c.args.to k low high)
     ∙ c.all_are.ensures.0 c.if-not-all_are.false (k - c.args.from) near in
     ap₂ (λ (b : ℕ) (m : ByteShadow). marked b m) zero (is k low high))

@@ -13,5 +13,7 @@ unfolding cells_at
 returns-in-Some-clause-ok c =
     let n = count_of c.args.edit.now in
     let change = change_of c.args.edit.now in
-    all-cleared (cells_at c.args.self.now) c.args.at n change (blank c.in-Some.kind) c.requires.within c.in-Some.ensures.whole
-    (λ k low. ap (λ (s : PageSlot). change k (cells_at s k)) c.in-Held.is ∙ ap (λ (p : Page). change k (cells_in p k)) (sym c.deref.ensures) ∙ c.in-Some.ensures.zeros k low)
+    all-cleared (cells_at c.args.self.now) c.args.at n change (blank c.in-Some.kind) c.requires.within
+    c.in-Some.ensures.whole
+    (λ k low. ap (λ (s : PageSlot). change k (cells_at s k)) c.in-Held.is
+    ∙ ap (λ (p : Page). change k (cells_in p k)) (sym c.deref.ensures) ∙ c.in-Some.ensures.zeros k low)

@@ -12,9 +12,11 @@ returns-in-Some c =
     let P : ℕ → Type 0 = λ x. AreNone (entries_under c.args.self.now) (x * 256) c.args.at in
     let i = c.loop-i.i - 1 in
     let parts : ℕ → Entries = λ j. entries_at (slice_index_or c.args.self.now.leaves.items j None) in
-    last_less (row256 parts) (parts i) (i * 256) 256 ((i + 1) * 256) (omega arith) (at256 parts i) _ _ (subst P back c.loop-i.invariant)
+    last_less (row256 parts) (parts i) (i * 256) 256 ((i + 1) * 256) (omega arith) (at256 parts i) _ _
+    (subst P back c.loop-i.invariant)
     (last_along _ _ _ _ _ (ap entries_at
-    (get_or_read_under _ (c.loop-i.i - 1) (vec_len c.args.self.now.leaves) _ None c.index.ensures (omega (arith, c.args.self.now.full)) (search rules)))
+    (get_or_read_under _ (c.loop-i.i - 1) (vec_len c.args.self.now.leaves) _ None c.index.ensures
+    (omega (arith, c.args.self.now.full)) (search rules)))
     c.min.ensures c.in-Some.ensures)
 
 pub loop-i-preserved : goal.loop-i-preserved
@@ -24,7 +26,9 @@ loop-i-preserved c =
     let P : ℕ → Type 0 = λ x. AreNone (entries_under c.args.self.now) (x * 256) c.args.at in
     let i = c.loop-i.i - 1 in
     let parts : ℕ → Entries = λ j. entries_at (slice_index_or c.args.self.now.leaves.items j None) in
-    none_less (row256 parts) (parts i) (i * 256) 256 ((i + 1) * 256) (omega arith) (at256 parts i) _ (subst P back c.loop-i.invariant)
+    none_less (row256 parts) (parts i) (i * 256) 256 ((i + 1) * 256) (omega arith) (at256 parts i) _
+    (subst P back c.loop-i.invariant)
     (none_along _ _ _ _ _ _ (ap entries_at
-    (get_or_read_under _ (c.loop-i.i - 1) (vec_len c.args.self.now.leaves) _ None c.index.ensures (omega (arith, c.args.self.now.full)) (search rules)))
+    (get_or_read_under _ (c.loop-i.i - 1) (vec_len c.args.self.now.leaves) _ None c.index.ensures
+    (omega (arith, c.args.self.now.full)) (search rules)))
     refl c.min.ensures c.in_default.ensures)

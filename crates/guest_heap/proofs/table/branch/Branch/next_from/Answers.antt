@@ -10,9 +10,11 @@ unfolding entries_under
 returns-in-Some c =
     let i = c.loop-i.i in
     let parts : ℕ → Entries = λ j. entries_at (slice_index_or c.args.self.now.leaves.items j None) in
-    first_more (row256 parts) (parts i) (i * 256) 256 ((i + 1) * 256) (omega arith) (at256 parts i) _ _ _ c.loop-i.invariant
+    first_more (row256 parts) (parts i) (i * 256) 256 ((i + 1) * 256) (omega arith) (at256 parts i) _ _ _
+    c.loop-i.invariant
     (first_along _ _ _ _ _ _ (ap entries_at
-    (get_or_read_under _ c.loop-i.i (vec_len c.args.self.now.leaves) _ None c.index.ensures (omega (arith, c.args.self.now.full)) (search rules)))
+    (get_or_read_under _ c.loop-i.i (vec_len c.args.self.now.leaves) _ None c.index.ensures
+    (omega (arith, c.args.self.now.full)) (search rules)))
     c.saturating_sub.ensures c.in-Some.ensures)
     (omega arith)
 
@@ -23,5 +25,6 @@ loop-i-preserved c =
     let parts : ℕ → Entries = λ j. entries_at (slice_index_or c.args.self.now.leaves.items j None) in
     none_more (row256 parts) (parts i) (i * 256) 256 ((i + 1) * 256) (omega arith) (at256 parts i) _ c.loop-i.invariant
     (none_along _ _ _ _ _ _ (ap entries_at
-    (get_or_read_under _ c.loop-i.i (vec_len c.args.self.now.leaves) _ None c.index.ensures (omega (arith, c.args.self.now.full)) (search rules)))
+    (get_or_read_under _ c.loop-i.i (vec_len c.args.self.now.leaves) _ None c.index.ensures
+    (omega (arith, c.args.self.now.full)) (search rules)))
     c.saturating_sub.ensures refl c.in_default.ensures)

@@ -4,7 +4,11 @@ use Rattle.guest_heap.proofs.Clones.{same_slots, same_under, leaf_by_value, same
 use Rattle.guest_heap.proofs.table.branch.BranchClone.clone.Goals as goal
 
 pub returns : goal.returns
-returns c = record { cases = same_under _ _ (same_slots slot_clone (λ p q h. h) (λ p h. h) (λ p h. h) entries_at leaf_by_value _ _ c.in_ok-leaves.ensures.cases.0) }
+returns c = record {
+  cases = same_under _ _
+      (same_slots slot_clone (λ p q h. h) (λ p h. h) (λ p h. h) entries_at leaf_by_value _ _
+      c.in_ok-leaves.ensures.cases.0);
+}
 
 pub invariant_of-result : goal.invariant_of-result
 invariant_of-result c = record {

@@ -7,7 +7,8 @@ use Rattle.line_server.proofs.ServeSteps.{fed-none, fed-in, over-in, broken-in}
 use Rattle.line_server.proofs.serving.server.Server.feed.Goals as goal
 
 pub loop-byte-init : goal.loop-byte-init
-loop-byte-init g c = fed-none (Answers g.L.Listener.answers g.L.Listener.reply g.L.Listener.over c.args.listener.now) _ _
+loop-byte-init g c =
+    fed-none (Answers g.L.Listener.answers g.L.Listener.reply g.L.Listener.over c.args.listener.now) _ _
 
 pub returns-then-over-clause-over : goal.returns-then-over-clause-over
 returns-then-over-clause-over g c = λ e.
@@ -22,14 +23,16 @@ returns-in_err-over-clause-broken g c =
     let from : Relation = Answers g.L.Listener.answers g.L.Listener.reply g.L.Listener.over c.args.listener.now in
     let mid : Relation = Answers g.L.Listener.answers g.L.Listener.reply g.L.Listener.over c.loop-byte.listener in
     at_refusal c.from_residual.result
-    (broken-in from mid _ c.loop-byte.self _ _ (g.W.Write.contents c.loop-byte.writer) _ c.args.bytes.now c.loop-byte.byte-index
+    (broken-in from mid _ c.loop-byte.self _ _ (g.W.Write.contents c.loop-byte.writer) _ c.args.bytes.now
+    c.loop-byte.byte-index
     (omega arith) c.loop-byte.invariant c.in_err-over.ensures.broken)
 
 pub loop-byte-preserved : goal.loop-byte-preserved
 loop-byte-preserved g c =
     let from : Relation = Answers g.L.Listener.answers g.L.Listener.reply g.L.Listener.over c.args.listener.now in
     let mid : Relation = Answers g.L.Listener.answers g.L.Listener.reply g.L.Listener.over c.loop-byte.listener in
-    fed-in from mid _ c.loop-byte.self _ _ (g.W.Write.contents c.loop-byte.writer) _ c.args.bytes.now c.loop-byte.byte-index (omega arith)
+    fed-in from mid _ c.loop-byte.self _ _ (g.W.Write.contents c.loop-byte.writer) _ c.args.bytes.now
+    c.loop-byte.byte-index (omega arith)
     c.loop-byte.invariant _ (c.in_ok-over.ensures.fed (ap Ok c.if-over.false))
 
 pub returns-clause-fed : goal.returns-clause-fed

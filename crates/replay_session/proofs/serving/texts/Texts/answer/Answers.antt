@@ -4,7 +4,10 @@ use Rattle.replay_session.proofs.serving.texts.Texts.answer.Goals as goal
 
 pub returns : goal.returns
 unfolding report_in
-returns c = replied-to c.args.session.now c.command-outcome.new.self c.args.line.now c.command-outcome.result c.clear.new.self.items
-    c.command-outcome.new.out.items (last_text c.put.new.self) c.command-outcome.ensures.meets c.command-outcome.ensures.work
+returns c =
+    replied-to c.args.session.now c.command-outcome.new.self c.args.line.now c.command-outcome.result
+    c.clear.new.self.items
+    c.command-outcome.new.out.items (last_text c.put.new.self) c.command-outcome.ensures.meets
+    c.command-outcome.ensures.work
     c.clear.ensures.items
     c.put.ensures.text
