@@ -1,11 +1,11 @@
 //! How orders are carried out and what is told of it, over files, readers and writers that fail.
 use crate::shelf::Shelf;
 use command_line::{Order, SweepWords, Task};
-use driver::{End, ReadFault, RunFault, SweepOption, run_order, read_opened, run_once, tell};
+use driver::{End, ReadFault, RunFault, SweepOption, read_opened, run_once, run_order, tell};
+use fake_streams::{Room, Script};
 use guest_elf::{ElfFault, Image, read};
 use guest_programs::program;
 use replay_session::LONGEST_INPUT;
-use fake_streams::{Room, Script};
 use std::alloc::{AllocError, Global};
 use std::io;
 use std::io::ErrorKind;

@@ -61,5 +61,5 @@ mod shared_map;
 
 pub use event::{Event, Group, Note};
 pub use groups::Groups;
-pub use kind::{ParameterFault, Kind};
+pub use kind::{Kind, ParameterFault};
 pub use parameter::Parameter;

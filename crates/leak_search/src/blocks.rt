@@ -4,8 +4,8 @@ ghost use Rattle.guest_heap.specs.Heaps.{blocks_of};
 ghost use Rattle.guest_heap.specs.Steps.{live_list};
 ghost use Rattle.leak_search.specs.Gathering.{AreOrdered, GoesOn};
 
-use guest_heap::{Block, Heap};
 use guest_heap::laws::live_goes_on;
+use guest_heap::{Block, Heap};
 use std::alloc::{AllocError, Global};
 
 /// Adds the first live block at an address or above, if there is one, and answers the address after its first byte.

@@ -5,8 +5,8 @@ ghost use Rattle.leak_search.specs.Gathering.{AreOrdered, words_in, words_within
 
 use crate::finding::{Owner, Reach, owner_of, pointer_to, reach_of};
 use crate::words::next_word;
-use guest_heap::Block;
 use definedness::Bits;
+use guest_heap::Block;
 use leak_graph::Pointer;
 use shadow_memory::Memory;
 use std::alloc::{AllocError, Global};

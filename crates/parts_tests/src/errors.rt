@@ -1,6 +1,6 @@
 //! Errors with their groups, by hand.
 use call_stacks::Trace;
-use error_events::{Event, ParameterFault, Group, Groups, Kind, Note, Parameter};
+use error_events::{Event, Group, Groups, Kind, Note, Parameter, ParameterFault};
 use std::alloc::AllocError;
 use std::process::Abort;
 use std::test::Fail;

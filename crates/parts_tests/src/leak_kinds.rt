@@ -2,8 +2,8 @@
 ghost use Rattle.std.specs.Prelude.{IsTrue};
 ghost use Rattle.leak_graph.specs.Graphs.{GoWithin, AllGoWithin};
 
-use leak_graph::{LeakKind, Pointer, leak_kinds};
 use leak_graph::LeakKind::{Definite, Indirect, Possible, Reachable};
+use leak_graph::{LeakKind, Pointer, leak_kinds};
 use std::alloc::{AllocError, Global};
 use std::test::Fail;
 

@@ -1,5 +1,5 @@
 //! Texts and words with their answers, from outside.
-use error_events::{ParameterFault, Kind, Parameter};
+use error_events::{Kind, Parameter, ParameterFault};
 use leak_graph::LeakKind;
 use std::alloc::{AllocError, Global};
 use std::process::Abort;

@@ -8,9 +8,9 @@ use crate::leaks::{BlockSum, LeakKey, is_shown, leak_groups, split_records, sum_
 use crate::lines::push_trace;
 use crate::options::View;
 use crate::text::{push_number, push_text};
-use leak_graph::LeakKind;
 use guest_elf::Image;
 use indexmap::IndexMap;
+use leak_graph::LeakKind;
 use leak_search::LeakRecord;
 use std::alloc::{AllocError, Global};
 

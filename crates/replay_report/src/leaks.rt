@@ -5,9 +5,9 @@ ghost use Rattle.indexmap.specs.IndexMap.{get_by as get};
 
 use crate::filtering::names_of;
 use call_stacks::Trace;
-use leak_graph::LeakKind;
 use guest_elf::Image;
 use indexmap::IndexMap;
+use leak_graph::LeakKind;
 use leak_search::LeakRecord;
 use std::alloc::{AllocError, Global};
 use suppressions::{Suppression, Target, is_suppressed};

@@ -7,9 +7,9 @@ ghost use Rattle.replay_report.specs.Text.{address_text, newline};
 
 use crate::text::{push_address, push_name, push_number, push_text};
 use call_stacks::Trace;
-use guest_heap::{Block, Near, Place};
-use error_events::{ParameterFault, Group, Kind, Note, Parameter};
+use error_events::{Group, Kind, Note, Parameter, ParameterFault};
 use guest_elf::Image;
+use guest_heap::{Block, Near, Place};
 use guest_machine::{Status, Stop};
 use std::alloc::AllocError;
 
@@ -114,7 +114,11 @@ fn fault_text(fault: ParameterFault) -> &'static [u8]
 
 /// What an error of a parameter is called.
 #[tactic(auto, unfolding(crate::specs::Lines::param_text), using(std::proofs::Common::append_assoc))]
-fn push_param(out: &mut Vec<u8>, parameter: Parameter, fault: ParameterFault) -> Result<(), AllocError>
+fn push_param(
+    out: &mut Vec<u8>,
+    parameter: Parameter,
+    fault: ParameterFault,
+) -> Result<(), AllocError>
     ensures { OnOk result (out.new.items ≡ out.old.items ++ param_text parameter fault) }
 {
     push_text(out, b"Syscall param ")?;

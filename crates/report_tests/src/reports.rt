@@ -1,9 +1,9 @@
 //! Reports of programs by hand, against texts written down from the format of a report.
 use call_stacks::Trace;
-use leak_graph::LeakKind;
 use guest_elf::{Image, read};
 use guest_machine::{Hooks, Input, Machine, Mark, Meter, Setup};
 use guest_programs::program;
+use leak_graph::LeakKind;
 use leak_search::{LeakRecord, search};
 use replay_report::{Options, render};
 use shadow_memory::RangeKind;

@@ -1,7 +1,7 @@
 //! Lines and their answers, and readers and writers that fail.
+use fake_streams::{Interruptions, Refusal, Room, Script};
 use guest_elf::{Image, read};
 use guest_programs::program;
-use fake_streams::{Interruptions, Refusal, Room, Script};
 use replay_session::laws::work_of_lines;
 use replay_session::{BeginFault, LONGEST_INPUT, Reply, ServeFault, Session, serve};
 use std::alloc::{AllocError, Global};

@@ -330,7 +330,12 @@ impl PageShadows {
         }
     }
 
-    pub(crate) fn set(&mut self, alloc: Global, at: usize, mark: ByteShadow) -> Result<(), AllocError>
+    pub(crate) fn set(
+        &mut self,
+        alloc: Global,
+        at: usize,
+        mark: ByteShadow,
+    ) -> Result<(), AllocError>
         requires within { at < page_len }
         requires clean { IsCleanMark mark }
         ensures ok { OnOk result (AgreeInPage (marks_in self.new) (set_at (marks_in self.old) at mark)) }

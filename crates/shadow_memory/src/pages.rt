@@ -10,7 +10,7 @@ ghost use Rattle.shadow_memory.specs.Firsts.{IsFirst, NonePass};
 ghost use Rattle.shadow_memory.specs.Shadows.{is_bad, HoldNoWord, IsNextWord};
 ghost use Rattle.shadow_memory.specs.Values.{holds_in_range, HoldNoneInRange, IsNextInRange};
 
-use crate::cells::{Cell, Loaded, ByteShadow, RangeKind, marked_cell};
+use crate::cells::{ByteShadow, Cell, Loaded, RangeKind, marked_cell};
 use crate::edits::{Each, PageEdit};
 use crate::laws::all_are;
 use crate::marks::PageShadows;

@@ -6,12 +6,12 @@ ghost use Rattle.suppressions.specs.Added.{framed, parameter_rule, leak_rule, ad
 use crate::fault::SuppFault;
 use crate::frames::Frames;
 use crate::leak_kinds::{EACH_KIND, LeakKinds};
-use text_parts::Parts;
 use crate::subject::Subject;
 use crate::suppression::Suppression;
 use crate::text::Text;
 use crate::words::{LEAK, PARAM, are_frames, frames_among, plain_subject};
 use std::alloc::Global;
+use text_parts::Parts;
 
 /// What refuses a suppression's words.
 const REFUSED: SuppFault = SuppFault::BadSuppression(1);

@@ -3,8 +3,8 @@ ghost use Rattle.std.specs.Prelude.{◌≡◌, ◌==◌, ◌∷◌, ◌≤◌, [
 ghost use Rattle.suppressions.specs.Lines.{is_blank, trim_start, trim_end, trimmed, is_skipped, lines_of};
 ghost use Rattle.suppressions.specs.Texts.{closing, after_block};
 
-use text_parts::Parts;
 use std::marker::Model;
+use text_parts::Parts;
 
 /// The longest text that is read, in bytes.
 pub const TEXT_LIMIT: usize = 1_048_576;

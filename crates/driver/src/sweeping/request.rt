@@ -11,8 +11,8 @@ use crate::ends::{End, SweepOption};
 use command_line::SweepWords;
 use replay_session::number;
 use std::alloc::{AllocError, Global};
-use text_parts::Parts;
 use sweeps::{ByteValues, WordValues};
+use text_parts::Parts;
 
 const ALL: &[u8] = b"all";
 

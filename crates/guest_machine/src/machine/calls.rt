@@ -16,7 +16,7 @@ use crate::register::Register;
 use crate::setup::Setup;
 use crate::span::Span;
 use crate::status::Status;
-use error_events::{ParameterFault, Kind, Parameter};
+use error_events::{Kind, Parameter, ParameterFault};
 use guest_elf::Hook;
 use shadow_memory::Bad;
 use std::alloc::AllocError;
@@ -65,7 +65,10 @@ impl Guest {
     {
         let mut r = A0;
         for &parameter in parameters {
-            self.test(Register::new(r), Kind::Param(parameter, ParameterFault::Contains))?;
+            self.test(
+                Register::new(r),
+                Kind::Param(parameter, ParameterFault::Contains),
+            )?;
             r += 1;
         }
         Ok(())

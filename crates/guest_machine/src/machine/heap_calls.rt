@@ -23,8 +23,8 @@ use crate::span::Span;
 use call_stacks::Trace;
 use error_events::Kind;
 use guest_elf::Hook;
-use guest_heap::{Block, Released};
 use guest_heap::laws::place_is_least;
+use guest_heap::{Block, Released};
 use shadow_memory::RangeKind;
 use std::alloc::AllocError;
 

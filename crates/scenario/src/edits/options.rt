@@ -1,6 +1,6 @@
 //! Options of the heap and of the report.
 use crate::edits::refused_if;
-use crate::limits::{LARGEST_VOLUME, LARGEST_REDZONE, MOST_CALLERS};
+use crate::limits::{LARGEST_REDZONE, LARGEST_VOLUME, MOST_CALLERS};
 use crate::refusal::Refusal;
 use crate::scenario::Scenario;
 use suppressions::LeakKinds;
