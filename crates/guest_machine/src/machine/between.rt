@@ -6,6 +6,7 @@ ghost use Rattle.guest_machine.specs.State.{State};
 ghost use Rattle.guest_machine.specs.Run.{start_state, marked, poked};
 ghost use Rattle.guest_machine.specs.Shows.{Holds, Shows};
 
+use crate::cached_memory::CachedMemory;
 use crate::machine::registers::known;
 use crate::machine::{Guest, Machine, Noted, Progress};
 use crate::setup::Mark;
@@ -33,7 +34,7 @@ impl Guest {
         registers[2] = known(FIRST_STACK_POINTER);
         Ok(Guest {
             alloc,
-            memory,
+            memory: CachedMemory::new(alloc, memory),
             registers,
             pc: image.entry(),
             status: Status::Running,
@@ -71,7 +72,7 @@ impl Guest {
     {
         Ok(Guest {
             alloc: self.alloc,
-            memory: self.memory.share()?,
+            memory: self.memory.share(self.alloc)?,
             registers: self.registers,
             pc: self.pc,
             status: self.status,

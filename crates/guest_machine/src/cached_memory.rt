@@ -1,0 +1,209 @@
+//! A memory, beside the instructions that were decoded from it lately.
+ghost use Rattle.std.specs.Prelude.{◌≡◌};
+ghost use Rattle.shadow_memory.specs.Memories.{bytes_in, shadows_in};
+ghost use Rattle.guest_machine.specs.DecodeCaches.{HasEach};
+
+use crate::decode_cache::{DecodeCache, Decoded};
+use crate::instruction::{Instruction, row_of};
+use definedness::Bits;
+use shadow_memory::{Bad, Loaded, Memory, RangeKind};
+use std::alloc::{AllocError, Global};
+use std::marker::Model;
+
+/// A memory with a decode cache. Each change of the memory takes out of the cache what it makes wrong. Contracts see the memory.
+#[derive(Drop)]
+pub(crate) struct CachedMemory {
+    memory: Memory,
+    cache: DecodeCache,
+    ghost kept: { HasEach (bytes_in memory) (shadows_in memory) cache.entries.items },
+}
+
+impl Model for CachedMemory {
+    ghost Value = { Memory };
+
+    ghost view = { λ cached. cached.memory };
+}
+
+/// What a fetch gives: the first inaccessible address, if there is one, and else the word with its undefined bits, and the row of the
+/// instruction table that it decodes to, if there is one.
+#[derive(Clone, Copy)]
+pub(crate) struct Fetched {
+    pub(crate) bad: Option<u32>,
+    pub(crate) word: Bits,
+    pub(crate) row: Option<Instruction>,
+}
+
+impl CachedMemory {
+    ghost use Rattle.std.specs.Prelude.{◌+◌, ◌*◌, ◌%◌, ◌^◌, ◌<◌, IfOk, OnOk, length, slice_index};
+    ghost use Rattle.shadow_memory.specs.Changes.{AreApart, IsWidth};
+    ghost use Rattle.shadow_memory.specs.Ranges.{byte_of, copied, little_word, window, written};
+    ghost use Rattle.shadow_memory.specs.Shadows.{copied_undef, first_bad, first_inaccessible, loaded_undef, made_so, stored_undef};
+    ghost use Rattle.guest_machine.specs.Instructions.{row_of};
+
+    /// A memory with nothing decoded.
+    pub(crate) fn new(alloc: Global, memory: Memory) -> Self
+        ensures { result ≡ memory }
+    {
+        CachedMemory {
+            memory,
+            cache: DecodeCache::new(alloc),
+        }
+    }
+
+    /// The memory.
+    #[inline(always)]
+    pub(crate) fn memory(&self) -> &Memory
+        ensures { result.now ≡ self.now }
+    {
+        &self.memory
+    }
+
+    /// The word at a multiple of 4, as [`Memory::load`] answers it, and what it decodes to.
+    #[inline(always)]
+    pub(crate) fn fetch(&mut self, addr: u32) -> Fetched
+        requires { addr % 4 ≡ 0 }
+        ensures same { self.new ≡ self.old }
+        ensures bad { result.bad ≡ first_inaccessible (shadows_in self.old) addr 4 }
+        ensures value { result.word.value ≡ little_word (window (bytes_in self.old) addr 4) }
+        ensures undef { result.word.undef ≡ little_word (window (λ a. loaded_undef (shadows_in self.old a)) addr 4) }
+        ensures row { result.row ≡ row_of result.word.value }
+    {
+        match self.cache.at(addr) {
+            Some(entry) => Fetched {
+                bad: None,
+                word: Bits {
+                    value: entry.word,
+                    undef: 0,
+                },
+                row: entry.row,
+            },
+            None => self.fetch_anew(addr),
+        }
+    }
+
+    #[inline(never)]
+    fn fetch_anew(&mut self, addr: u32) -> Fetched
+        requires { addr % 4 ≡ 0 }
+        ensures same { self.new ≡ self.old }
+        ensures bad { result.bad ≡ first_inaccessible (shadows_in self.old) addr 4 }
+        ensures value { result.word.value ≡ little_word (window (bytes_in self.old) addr 4) }
+        ensures undef { result.word.undef ≡ little_word (window (λ a. loaded_undef (shadows_in self.old a)) addr 4) }
+        ensures row { result.row ≡ row_of result.word.value }
+    {
+        let loaded = self.memory.load(addr, 4);
+        let row = row_of(loaded.value);
+        if loaded.bad.is_none() && loaded.undef == 0 {
+            self.cache.put(Decoded {
+                addr,
+                word: loaded.value,
+                row,
+            });
+        }
+        Fetched {
+            bad: loaded.bad,
+            word: Bits {
+                value: loaded.value,
+                undef: loaded.undef,
+            },
+            row,
+        }
+    }
+
+    /// As [`Memory::load`].
+    #[inline(always)]
+    pub(crate) fn load(&self, addr: u32, n: u32) -> Loaded
+        requires { IsWidth n }
+        ensures value { result.value ≡ little_word (window (bytes_in self.now) addr n) }
+        ensures undef { result.undef ≡ little_word (window (λ a. loaded_undef (shadows_in self.now a)) addr n) }
+        ensures bad { result.bad ≡ first_inaccessible (shadows_in self.now) addr n }
+        ensures small { result.value < 2 ^ (8 * n) }
+        ensures small_undef { result.undef < 2 ^ (8 * n) }
+    {
+        self.memory.load(addr, n)
+    }
+
+    /// As [`Memory::first_bad`].
+    pub(crate) fn first_bad(&self, addr: u32, len: u32, need_defined: bool) -> Option<Bad>
+        ensures { result ≡ first_bad (shadows_in self.now) addr len need_defined }
+    {
+        self.memory.first_bad(addr, len, need_defined)
+    }
+
+    /// As [`Memory::store`].
+    #[inline(always)]
+    pub(crate) fn store(&mut self, addr: u32, n: u32, bits: Bits) -> Result<Option<u32>, AllocError>
+        requires { IsWidth n }
+        ensures bad { IfOk result (λ bad. bad ≡ first_inaccessible (shadows_in self.old) addr n) }
+        ensures bytes { OnOk result (bytes_in self.new ≡ written (bytes_in self.old) addr n (byte_of bits.value)) }
+        ensures shadows { OnOk result (shadows_in self.new ≡ stored_undef (shadows_in self.old) addr n bits.undef) }
+    {
+        self.cache.forget(addr, n);
+        self.memory.store(addr, n, bits)
+    }
+
+    /// As [`Memory::set_range`].
+    pub(crate) fn set_range(
+        &mut self,
+        addr: u32,
+        len: u32,
+        kind: RangeKind,
+    ) -> Result<(), AllocError>
+        ensures bytes { bytes_in self.new ≡ bytes_in self.old }
+        ensures shadows { OnOk result (shadows_in self.new ≡ made_so (shadows_in self.old) addr len kind) }
+    {
+        self.cache.forget_range(addr, len);
+        self.memory.set_range(addr, len, kind)
+    }
+
+    /// As [`Memory::fill`].
+    pub(crate) fn fill(&mut self, addr: u32, len: u32, bytes: &[u8]) -> Result<(), AllocError>
+        ensures bytes { OnOk result (bytes_in self.new ≡ written (bytes_in self.old) addr len (slice_index bytes.now)) }
+        ensures shadows { OnOk result (shadows_in self.new ≡ made_so (shadows_in self.old) addr len RangeKind.Defined) }
+    {
+        self.cache.forget_range(addr, len);
+        self.memory.fill(addr, len, bytes)
+    }
+
+    /// As [`Memory::store_bytes`].
+    pub(crate) fn store_bytes(&mut self, addr: u32, bytes: &[u8]) -> Result<(), AllocError>
+        requires { length bytes.now < 2 ^ 32 }
+        ensures bytes { OnOk result (bytes_in self.new ≡ written (bytes_in self.old) addr (length bytes.now) (slice_index bytes.now)) }
+        ensures shadows { OnOk result (shadows_in self.new ≡ stored_undef (shadows_in self.old) addr (length bytes.now) 0) }
+    {
+        self.cache.forget_range(addr, bytes.len() as u32);
+        self.memory.store_bytes(addr, bytes)
+    }
+
+    /// As [`Memory::copy_with_shadow`].
+    pub(crate) fn copy_with_shadow(
+        &mut self,
+        from: u32,
+        to: u32,
+        len: u32,
+    ) -> Result<(), AllocError>
+        requires { AreApart from to len }
+        ensures bytes { OnOk result (bytes_in self.new ≡ copied (bytes_in self.old) from to len) }
+        ensures shadows { OnOk result (shadows_in self.new ≡ copied_undef (shadows_in self.old) from to len) }
+    {
+        self.cache.forget_range(to, len);
+        self.memory.copy_with_shadow(from, to, len)
+    }
+
+    /// As [`Memory::poke_word`].
+    pub(crate) fn poke_word(&mut self, addr: u32, word: u32) -> Result<(), AllocError>
+        ensures bytes { OnOk result (bytes_in self.new ≡ written (bytes_in self.old) addr 4 (byte_of word)) }
+        ensures shadows { shadows_in self.new ≡ shadows_in self.old }
+    {
+        self.cache.forget(addr, 4);
+        self.memory.poke_word(addr, word)
+    }
+
+    /// As [`Memory::share`], with nothing decoded.
+    pub(crate) fn share(&self, alloc: Global) -> Result<CachedMemory, AllocError>
+        ensures bytes { IfOk result (λ copy. bytes_in copy ≡ bytes_in self.now) }
+        ensures shadows { IfOk result (λ copy. shadows_in copy ≡ shadows_in self.now) }
+    {
+        let memory = self.memory.share()?;
+        Ok(CachedMemory::new(alloc, memory))
+    }
+}
