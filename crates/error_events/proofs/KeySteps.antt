@@ -19,7 +19,7 @@ use Rattle.error_events.specs.declared.parameter.Parameter.TheVariants.{CallocMe
 use Rattle.error_events.specs.declared.parameter.Parameter.TheVariants.{ReallocSize}
 use Rattle.error_events.specs.contracts.event.KeyPartialEq.TheImpl.{ghosts}
 use Rattle.error_events.specs.contracts.kind.KindPartialEq.TheImpl.{ghosts as of_kinds}
-use Rattle.error_events.specs.contracts.kind.Fault3PartialEq.TheImpl.{ghosts as of_faults}
+use Rattle.error_events.specs.contracts.kind.ParameterFaultPartialEq.TheImpl.{ghosts as of_faults}
 use Rattle.error_events.specs.contracts.parameter.ParameterPartialEq.TheImpl.{ghosts as of_parameters}
 
 fault-eq : (a b : ParameterFault) → of_faults.eq a b ≡ same_fault a b

@@ -12,7 +12,7 @@ use Rattle.error_events.specs.Groups.{most}
 use Rattle.error_events.proofs.KeySteps.{filled-eq}
 use Rattle.leak_graph.specs.declared.leak_kind.LeakKind.{LeakKind}
 use Rattle.leak_graph.specs.declared.leak_kind.LeakKind.TheVariants.{Definite, Indirect, Possible, Reachable}
-use Rattle.error_events.specs.contracts.leak_kind.LeakKindPartialEq.TheImpl.{ghosts as of_kinds}
+use Rattle.leak_graph.specs.contracts.leak_kind.LeakKindPartialEq.TheImpl.{ghosts as of_kinds}
 use Rattle.leak_search.specs.declared.record.LeakRecord.{LeakRecord}
 use Rattle.suppressions.specs.Rules.{Rule}
 use Rattle.replay_report.specs.Leaks.{is_hidden, shown_records, hidden_records, same_leak, of_kind, sum_of, no_blocks}
