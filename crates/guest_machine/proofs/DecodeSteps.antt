@@ -1,0 +1,75 @@
+-- What a change of memory leaves of the words that were decoded.
+use Rattle.std.proofs.Common.{◌≡◌, ℕ, zero, suc, ◌+◌, ◌%◌, ◌^◌, ◌<◌, ◌≤◌, Bool, true, false, not, cond, refl, sym, ap, ap₂, ◌∙◌, subst, nat_lt, arith}
+use Rattle.std.proofs.Common.{List, Option, Some, None}
+use Rattle.std.proofs.Math.Path.{fun_ext}
+use Rattle.std.proofs.lemmas.Bool.Decides.{nat_tests}
+use Rattle.shadow_memory.specs.Ranges.{above, offset, is_in, changed_in, first_from, little_word, window}
+use Rattle.shadow_memory.specs.Shadows.{Shadow, address_at, first_inaccessible, loaded_undef}
+use Rattle.guest_machine.specs.DecodeCaches.{entry_at, IsEntry, AreEntries, HasWord, HasEach, IsClear, AreLeft}
+use Rattle.guest_machine.specs.declared.decode_cache.Decoded.{Decoded}
+
+-- a function that was changed at n addresses from one on is the same elsewhere
+pub unchanged : {X : Type 0} (f : ℕ → X) (start n : ℕ) (change : ℕ → X → X) (a : ℕ) → is_in start n a ≡ false
+    → changed_in f start n change a ≡ f a
+unfolding changed_in
+unchanged f start n change a out = ap (λ b. cond b (change (offset start a) (f a)) (f a)) out
+
+-- two functions have the same at the four bytes of a word
+abbrev SameIn : {X : Type 0} → (ℕ → X) → (ℕ → X) → ℕ → Type 0
+SameIn f g a = (i : ℕ) → i < 4 → g (a + i) ≡ f (a + i)
+
+flat : (a i : ℕ) → a + 4 ≤ 2 ^ 32 → i < 4 → above a i ≡ a + i
+flat a i fits low = omega (arith, fits, low)
+
+window-same : (f g : ℕ → ℕ) (a : ℕ) → a + 4 ≤ 2 ^ 32 → SameIn f g a → window g a 4 ≡ window f a 4
+unfolding window
+window-same f g a fits same = fun_ext (λ i. go i (nat_lt i 4) refl)
+  where
+    go : (i : ℕ) (b : Bool) → nat_lt i 4 ≡ b → cond b (g (above a i)) 0 ≡ cond b (f (above a i)) 0
+    go i false k = refl
+    go i true k =
+        let low : i < 4 = grind (arith, nat_tests) in
+        ap g (flat a i fits low) ∙ same i low ∙ ap f (sym (flat a i fits low))
+
+first-same : (p q : ℕ → Bool) (k n : ℕ) → ((i : ℕ) → k ≤ i → i < k + n → q i ≡ p i)
+    → first_from q k n ≡ first_from p k n
+unfolding first_from
+first-same p q k zero same = refl
+first-same p q k (suc n) same =
+    ap₂ (λ b (rest : Option ℕ). cond b (Some k) rest) (same k (omega arith) (omega arith))
+    (first-same p q (suc k) n (λ i low high. same i (omega (arith, low)) (omega (arith, high))))
+
+-- a memory that is the same at a word's bytes has the word too
+word-kept : (bytes after : ℕ → ℕ) (shadows later : ℕ → Shadow) (a word : ℕ) → a + 4 ≤ 2 ^ 32 → SameIn bytes after a
+    → SameIn shadows later a → HasWord bytes shadows a word → HasWord after later a word
+unfolding first_inaccessible
+word-kept bytes after shadows later a word fits same same_shadows has = record {
+  value = ap little_word (window-same bytes after a fits same) ∙ has.value;
+  undef =
+      ap little_word (window-same (λ b. loaded_undef (shadows b)) (λ b. loaded_undef (later b)) a fits
+      (λ i low. ap loaded_undef (same_shadows i low))) ∙ has.undef;
+  bad =
+      ap (address_at a) (first-same _ _ 0 4 (λ i up low.
+      ap (λ (s : Shadow). not s.accessible)
+      (ap later (flat a i fits low) ∙ same_shadows i low ∙ ap shadows (sym (flat a i fits low))))) ∙ has.bad;
+}
+
+-- a memory is the same outside of n bytes from an address on
+abbrev SameOutside : {X : Type 0} → (ℕ → X) → (ℕ → X) → ℕ → ℕ → Type 0
+SameOutside f g start n = (a : ℕ) → is_in start n a ≡ false → g a ≡ f a
+
+pub fewer : {X : Type 0} (f g : ℕ → X) (start k n : ℕ) → k ≤ n → SameOutside f g start k → SameOutside f g start n
+fewer f g start k n less same a out = same a (grind (arith, nat_tests))
+
+-- so it has each word of the entries that are left
+pub each-kept : (bytes after : ℕ → ℕ) (shadows later : ℕ → Shadow) (old new : List Decoded) (start n low high : ℕ)
+    → AreEntries old low high → high ≤ 2 ^ 32 → AreLeft old new start n → SameOutside bytes after start n
+    → SameOutside shadows later start n → HasEach bytes shadows old → HasEach after later new
+each-kept bytes after shadows later old new start n low high right ends left same same_shadows has k is =
+    let here = left k is in
+    let was : IsEntry (entry_at old k) = ap (λ (e : Decoded). e.addr % 4) (sym here.same) ∙ is in
+    let clear : IsClear start n (entry_at old k).addr = subst (λ (e : Decoded). IsClear start n e.addr) here.same here.clear in
+    let entry = right k was in
+    subst (λ (e : Decoded). HasWord after later e.addr e.word) (sym here.same)
+    (word-kept bytes after shadows later (entry_at old k).addr (entry_at old k).word (omega (arith, entry.high, ends))
+    (λ i less. same _ (clear i less)) (λ i less. same_shadows _ (clear i less)) (has k was))
