@@ -1,11 +1,15 @@
 -- What a change of memory leaves of the words that were decoded.
-use Rattle.std.proofs.Common.{◌≡◌, ℕ, zero, suc, ◌+◌, ◌%◌, ◌^◌, ◌<◌, ◌≤◌, Bool, true, false, not, cond, refl, sym, ap, ap₂, ◌∙◌, subst, nat_lt, arith}
-use Rattle.std.proofs.Common.{List, Option, Some, None}
+use Rattle.std.proofs.Common.{◌≡◌, ℕ, zero, suc, ◌+◌, ◌%◌, ◌^◌, ◌<◌, ◌≤◌, ◌⊎◌, inl, inr, Bool, true, false, not, cond}
+use Rattle.std.proofs.Common.{refl, sym, ap, ap₂, ◌∙◌, subst, nat_lt, arith}
+use Rattle.std.proofs.Common.{List, Option, Some, replicate, length, slice_set, get_or-set_same, get_or-set_other}
 use Rattle.std.proofs.Math.Path.{fun_ext}
+use Rattle.std.proofs.lemmas.Bool.{cases_eq}
 use Rattle.std.proofs.lemmas.Bool.Decides.{nat_tests}
 use Rattle.shadow_memory.specs.Ranges.{above, offset, is_in, changed_in, first_from, little_word, window}
 use Rattle.shadow_memory.specs.Shadows.{Shadow, address_at, first_inaccessible, loaded_undef}
-use Rattle.guest_machine.specs.DecodeCaches.{entry_at, IsEntry, AreEntries, HasWord, HasEach, IsClear, AreLeft}
+use Rattle.guest_machine.specs.Instructions.{row_of}
+use Rattle.guest_machine.specs.DecodeCaches.{place_of, no_entry, entry_at, IsEntry, IsEntryAt, AreEntries, HasWord}
+use Rattle.guest_machine.specs.DecodeCaches.{HasEach, IsClear, AreLeft}
 use Rattle.guest_machine.specs.declared.decode_cache.Decoded.{Decoded}
 
 -- a function that was changed at n addresses from one on is the same elsewhere
@@ -55,7 +59,7 @@ word-kept bytes after shadows later a word fits same same_shadows has = record {
 }
 
 -- a memory is the same outside of n bytes from an address on
-abbrev SameOutside : {X : Type 0} → (ℕ → X) → (ℕ → X) → ℕ → ℕ → Type 0
+abbrev pub SameOutside : {X : Type 0} → (ℕ → X) → (ℕ → X) → ℕ → ℕ → Type 0
 SameOutside f g start n = (a : ℕ) → is_in start n a ≡ false → g a ≡ f a
 
 pub fewer : {X : Type 0} (f g : ℕ → X) (start k n : ℕ) → k ≤ n → SameOutside f g start k → SameOutside f g start n
@@ -68,8 +72,79 @@ pub each-kept : (bytes after : ℕ → ℕ) (shadows later : ℕ → Shadow) (ol
 each-kept bytes after shadows later old new start n low high right ends left same same_shadows has k is =
     let here = left k is in
     let was : IsEntry (entry_at old k) = ap (λ (e : Decoded). e.addr % 4) (sym here.same) ∙ is in
-    let clear : IsClear start n (entry_at old k).addr = subst (λ (e : Decoded). IsClear start n e.addr) here.same here.clear in
+    let clear : IsClear start n (entry_at old k).addr = subst (λ (e : Decoded). IsClear start n e.addr) here.same
+    here.clear in
     let entry = right k was in
     subst (λ (e : Decoded). HasWord after later e.addr e.word) (sym here.same)
-    (word-kept bytes after shadows later (entry_at old k).addr (entry_at old k).word (omega (arith, entry.high, ends))
+    (word-kept bytes after shadows later (entry_at old k).addr (entry_at old k).word (omega (arith, entry.below, ends))
     (λ i less. same _ (clear i less)) (λ i less. same_shadows _ (clear i less)) (has k was))
+
+none-at : (n k : ℕ) → entry_at (replicate n no_entry) k ≡ no_entry
+none-at zero k = refl
+none-at (suc n) zero = refl
+none-at (suc n) (suc k) = none-at n k
+
+-- a table of which each place is empty has no entry
+pub no-entries : (entries : List Decoded) (n : ℕ) → entries ≡ replicate n no_entry → (k : ℕ)
+    → IsEntry (entry_at entries k) → ⊥
+no-entries entries n e k is =
+    let one : 1 % 4 ≡ 0 =
+    subst (λ (x : Decoded). IsEntry x) (ap (λ xs. entry_at xs k) e ∙ none-at n k) is in
+    omega (arith, one)
+
+pub none-right : (entries : List Decoded) (n low high : ℕ) → entries ≡ replicate n no_entry
+    → AreEntries entries low high
+none-right entries n low high e k is = absurd (no-entries entries n e k is)
+
+-- an entry is written at a place: what is at another place stays
+pub written-at : (entries : List Decoded) (place : ℕ) (entry : Decoded) → place < length entries → (k : ℕ)
+    → (entry_at (slice_set entries place entry) k ≡ entry_at entries k)
+    ⊎ ((k ≡ place) × (entry_at (slice_set entries place entry) k ≡ entry))
+written-at entries place entry within k = elim (cases_eq k place) [
+  | inl same ↦ inr (
+    same,
+    ap (entry_at (slice_set entries place entry)) same
+        ∙ get_or-set_same entries place entry no_entry within,
+  )
+  | inr other ↦ inl (get_or-set_other entries place k entry no_entry other)
+]
+
+pub written-right : (entries : List Decoded) (low high low_then high_then place : ℕ) (entry : Decoded)
+    → place < length entries → AreEntries entries low high → place ≡ place_of entry.addr → entry.row ≡ row_of entry.word
+    → low_then ≤ low → low_then ≤ entry.addr → high ≤ high_then → entry.addr + 4 ≤ high_then
+    → AreEntries (slice_set entries place entry) low_then high_then
+written-right entries low high low_then high_then place entry within right at row lower least higher most k is =
+    elim (written-at entries place entry within k) [
+      | inl same ↦
+          let was = right k (subst IsEntry same is) in
+          subst (IsEntryAt k low_then high_then) (sym same) (record {
+            place = was.place;
+            above = omega (arith, was.above, lower);
+            below = omega (arith, was.below, higher);
+            row = was.row;
+          })
+      | inr new ↦ subst (IsEntryAt k low_then high_then) (sym (new.1)) (record {
+        place = sym at ∙ sym (new.0);
+        above = least;
+        below = most;
+        row = row;
+      })
+    ]
+
+pub written-or-kept : (entries : List Decoded) (place : ℕ) (entry : Decoded) → place < length entries → (k : ℕ)
+    → (entry_at (slice_set entries place entry) k ≡ entry_at entries k)
+    ⊎ (entry_at (slice_set entries place entry) k ≡ entry)
+written-or-kept entries place entry within k = elim (written-at entries place entry within k) [
+  | inl same ↦ inl same
+  | inr new ↦ inr new.1
+]
+
+-- an entry is put in of which the memory has the word
+pub put-kept : (bytes : ℕ → ℕ) (shadows : ℕ → Shadow) (old new : List Decoded) (entry : Decoded)
+    → ((k : ℕ) → IsEntry (entry_at new k) → (entry_at new k ≡ entry_at old k) ⊎ (entry_at new k ≡ entry))
+    → HasWord bytes shadows entry.addr entry.word → HasEach bytes shadows old → HasEach bytes shadows new
+put-kept bytes shadows old new entry are has each k is = elim (are k is) [
+  | inl same ↦
+      subst (λ (e : Decoded). HasWord bytes shadows e.addr e.word) (sym same) (each k (subst IsEntry same is))
+  | inr new ↦ subst (λ (e : Decoded). HasWord bytes shadows e.addr e.word) (sym new) has
+]

@@ -10,3 +10,4 @@ pub mod TestSteps
 pub mod Products
 pub mod Halted
 pub mod DecodeSteps
+pub mod Altering

@@ -1,5 +1,5 @@
 -- Instructions that were decoded lately, each beside the address and the word that it was taken from.
-use Rattle.std.specs.Prelude.{◌≡◌, ℕ, ◌+◌, ◌/◌, ◌%◌, ◌<◌, ◌≤◌, false, Option, Some, None, List, slice_index_or}
+use Rattle.std.specs.Prelude.{◌≡◌, ℕ, ◌+◌, ◌/◌, ◌%◌, ◌<◌, ◌≤◌, false, None, List, slice_index_or}
 use Rattle.shadow_memory.specs.Ranges.{is_in, little_word, window}
 use Rattle.shadow_memory.specs.Shadows.{Shadow, first_inaccessible, loaded_undef}
 use Rattle.guest_machine.specs.Instructions.{row_of}
@@ -22,8 +22,8 @@ IsEntry entry = entry.addr % 4 ≡ 0
 -- an entry of a place, whose word lies between two addresses, and of which its row of the instruction table was decoded
 pub record IsEntryAt (k low high : ℕ) (entry : Decoded) : Type 0 where
   pub place : place_of entry.addr ≡ k
-  pub low : low ≤ entry.addr
-  pub high : entry.addr + 4 ≤ high
+  pub above : low ≤ entry.addr
+  pub below : entry.addr + 4 ≤ high
   pub row : entry.row ≡ row_of entry.word
 
 abbrev pub AreEntries : List Decoded → ℕ → ℕ → Type 0

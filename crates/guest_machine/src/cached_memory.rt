@@ -19,7 +19,13 @@ pub(crate) struct CachedMemory {
 }
 
 impl Model for CachedMemory {
+    ghost use Rattle.std.specs.Coded.{codes};
+    ghost use Rattle.shadow_memory.specs.contracts.memory.Memory as e;
+    ghost use Rattle.shadow_memory.specs.declared.memory.Memory.{Memory};
+
     ghost Value = { Memory };
+
+    ghost coded = { Prim.hlevel (codes, e.the_row.coded) };
 
     ghost view = { λ cached. cached.memory };
 }
@@ -34,7 +40,8 @@ pub(crate) struct Fetched {
 }
 
 impl CachedMemory {
-    ghost use Rattle.std.specs.Prelude.{◌+◌, ◌*◌, ◌%◌, ◌^◌, ◌<◌, IfOk, OnOk, length, slice_index};
+    ghost use Rattle.std.specs.Prelude.{◌+◌, ◌*◌, ◌%◌, ◌^◌, ◌<◌, None, IfOk, OnOk, length, slice_index};
+    ghost use Rattle.guest_machine.specs.DecodeCaches.{HasWord};
     ghost use Rattle.shadow_memory.specs.Changes.{AreApart, IsWidth};
     ghost use Rattle.shadow_memory.specs.Ranges.{byte_of, copied, little_word, window, written};
     ghost use Rattle.shadow_memory.specs.Shadows.{copied_undef, first_bad, first_inaccessible, loaded_undef, made_so, stored_undef};
@@ -60,7 +67,7 @@ impl CachedMemory {
 
     /// The word at a multiple of 4, as [`Memory::load`] answers it, and what it decodes to.
     #[inline(always)]
-    pub(crate) fn fetch(&mut self, addr: u32) -> Fetched
+    pub(crate) fn fetch(&mut self, alloc: Global, addr: u32) -> Fetched
         requires { addr % 4 ≡ 0 }
         ensures same { self.new ≡ self.old }
         ensures bad { result.bad ≡ first_inaccessible (shadows_in self.old) addr 4 }
@@ -77,12 +84,12 @@ impl CachedMemory {
                 },
                 row: entry.row,
             },
-            None => self.fetch_anew(addr),
+            None => self.fetch_anew(alloc, addr),
         }
     }
 
     #[inline(never)]
-    fn fetch_anew(&mut self, addr: u32) -> Fetched
+    fn fetch_anew(&mut self, alloc: Global, addr: u32) -> Fetched
         requires { addr % 4 ≡ 0 }
         ensures same { self.new ≡ self.old }
         ensures bad { result.bad ≡ first_inaccessible (shadows_in self.old) addr 4 }
@@ -91,19 +98,40 @@ impl CachedMemory {
         ensures row { result.row ≡ row_of result.word.value }
     {
         let loaded = self.memory.load(addr, 4);
-        let row = row_of(loaded.value);
-        if loaded.bad.is_none() && loaded.undef == 0 {
-            self.cache.put(Decoded {
-                addr,
-                word: loaded.value,
-                row,
-            });
+        if loaded.bad.is_some() || loaded.undef != 0 {
+            return Fetched {
+                bad: loaded.bad,
+                word: Bits {
+                    value: loaded.value,
+                    undef: loaded.undef,
+                },
+                row: row_of(loaded.value),
+            };
         }
+        self.decode(alloc, addr, loaded.value)
+    }
+
+    /// Decodes the word at a multiple of 4, all of which may be accessed and is defined.
+    fn decode(&mut self, alloc: Global, addr: u32, word: u32) -> Fetched
+        requires aligned { addr % 4 ≡ 0 }
+        requires there { HasWord (bytes_in self.old) (shadows_in self.old) addr word }
+        ensures same { self.new ≡ self.old }
+        ensures bad { result.bad ≡ None }
+        ensures word { result.word ≡ record { value = word; undef = 0 } }
+        ensures row { result.row ≡ row_of word }
+    {
+        let entry = Decoded {
+            addr,
+            word,
+            row: row_of(word),
+        };
+        let row = entry.row;
+        self.cache.put(alloc, entry);
         Fetched {
-            bad: loaded.bad,
+            bad: None,
             word: Bits {
-                value: loaded.value,
-                undef: loaded.undef,
+                value: word,
+                undef: 0,
             },
             row,
         }

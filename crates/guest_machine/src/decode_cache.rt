@@ -1,6 +1,6 @@
 //! Instructions that were decoded lately, by the addresses of their words.
-ghost use Rattle.std.specs.Prelude.{◌≡◌, ◌^◌, ◌%◌, ◌<◌, ◌≤◌};
-ghost use Rattle.guest_machine.specs.DecodeCaches.{place_of, AreEntries};
+ghost use Rattle.std.specs.Prelude.{◌≡◌, ◌^◌, ◌%◌, ◌<◌, ◌≤◌, IfOk, replicate};
+ghost use Rattle.guest_machine.specs.DecodeCaches.{place_of, no_entry, AreEntries};
 
 use crate::instruction::Instruction;
 use std::alloc::{AllocError, Global};
@@ -44,8 +44,19 @@ fn place_of(addr: u32) -> usize
     addr as usize / 4 % ROOM
 }
 
+/// A table with room for all, and none in it.
+fn empty_table(alloc: Global) -> Result<Vec<Decoded>, AllocError>
+    ensures { IfOk result (λ entries. entries.items ≡ replicate 1024 no_entry) }
+{
+    let mut entries = Vec::with_capacity(alloc, ROOM)?;
+    for _place in 0..ROOM {
+        entries.push(NO_ENTRY)?;
+    }
+    Ok(entries)
+}
+
 impl DecodeCache {
-    ghost use Rattle.std.specs.Prelude.{ℕ, ◌+◌, ◌⊎◌, ⊥, IfSome, IsTrue};
+    ghost use Rattle.std.specs.Prelude.{ℕ, ◌+◌, ◌⊎◌, IfSome, IsTrue, length};
     ghost use Rattle.guest_machine.specs.Instructions.{row_of};
     ghost use Rattle.guest_machine.specs.DecodeCaches.{entry_at, AreLeft, IsEntry};
 
@@ -75,36 +86,6 @@ impl DecodeCache {
         None
     }
 
-    /// Makes room, where there is none.
-    fn make_room(&mut self) -> Result<(), AllocError>
-        ensures same { (k : ℕ) → entry_at self.new.entries.items k ≡ entry_at self.old.entries.items k }
-    {
-        self.entries.reserve(ROOM)?;
-        for _place in self.entries.len()..ROOM {
-            self.entries.push(NO_ENTRY)?;
-        }
-        Ok(())
-    }
-
-    /// Puts an entry in its place. Without memory for the table there is none.
-    pub(crate) fn put(&mut self, entry: Decoded)
-        requires aligned { entry.addr % 4 ≡ 0 }
-        requires row { entry.row ≡ row_of entry.word }
-        ensures { (k : ℕ) → IsEntry (entry_at self.new.entries.items k)
-            → (entry_at self.new.entries.items k ≡ entry_at self.old.entries.items k) ⊎ (entry_at self.new.entries.items k ≡ entry) }
-    {
-        let place = place_of(entry.addr);
-        if place >= self.entries.len() {
-            // A table without room for all is one all the same.
-            let _made = self.make_room();
-        }
-        if place < self.entries.len() {
-            self.entries[place] = entry;
-            self.low = self.low.min(entry.addr);
-            self.high = self.high.max(u64::from(entry.addr) + 4);
-        }
-    }
-
     /// Empties the table.
     fn clear(&mut self)
         ensures { (k : ℕ) → IsEntry (entry_at self.new.entries.items k) → ⊥ }
@@ -112,6 +93,45 @@ impl DecodeCache {
         self.entries.clear();
         self.low = u32::MAX;
         self.high = 0;
+    }
+
+    /// Makes room for all, where there is none. Without memory there is none after it either.
+    fn make_room(&mut self, alloc: Global)
+        ensures { (k : ℕ) → IsEntry (entry_at self.new.entries.items k)
+            → entry_at self.new.entries.items k ≡ entry_at self.old.entries.items k }
+    {
+        if self.entries.is_empty()
+            && let Ok(entries) = empty_table(alloc)
+        {
+            self.entries = entries;
+        }
+    }
+
+    /// Writes an entry over another one.
+    fn write(&mut self, place: usize, entry: Decoded)
+        requires within { place < length self.old.entries.items }
+        requires aligned { entry.addr % 4 ≡ 0 }
+        requires place { place ≡ place_of entry.addr }
+        requires row { entry.row ≡ row_of entry.word }
+        ensures { (k : ℕ) → (entry_at self.new.entries.items k ≡ entry_at self.old.entries.items k) ⊎ (entry_at self.new.entries.items k ≡ entry) }
+    {
+        self.low = self.low.min(entry.addr);
+        self.high = self.high.max(u64::from(entry.addr) + 4);
+        self.entries[place] = entry;
+    }
+
+    /// Puts an entry in its place, where there is room.
+    pub(crate) fn put(&mut self, alloc: Global, entry: Decoded)
+        requires aligned { entry.addr % 4 ≡ 0 }
+        requires row { entry.row ≡ row_of entry.word }
+        ensures { (k : ℕ) → IsEntry (entry_at self.new.entries.items k)
+            → (entry_at self.new.entries.items k ≡ entry_at self.old.entries.items k) ⊎ (entry_at self.new.entries.items k ≡ entry) }
+    {
+        self.make_room(alloc);
+        let place = place_of(entry.addr);
+        if place < self.entries.len() {
+            self.write(place, entry);
+        }
     }
 
     /// Takes the entry out of the place of an address.

@@ -30,11 +30,12 @@ impl Guest {
         let mut memory = Memory::new(alloc);
         load_segments(&mut memory, image.segments())?;
         memory.fill(FIRST_STACK_POINTER, FIRST_STACK_BYTES, &[])?;
+        let cached = CachedMemory::new(alloc, memory);
         let mut registers = [known(0); 32];
         registers[2] = known(FIRST_STACK_POINTER);
         Ok(Guest {
             alloc,
-            memory: CachedMemory::new(alloc, memory),
+            memory: cached,
             registers,
             pc: image.entry(),
             status: Status::Running,

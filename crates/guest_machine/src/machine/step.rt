@@ -170,7 +170,7 @@ impl Guest {
         if !self.is_ready() {
             return None;
         }
-        let fetched = self.memory.fetch(self.pc);
+        let fetched = self.memory.fetch(self.alloc, self.pc);
         match fetched.bad {
             None => Some(fetched),
             Some(_) => None,
