@@ -6,8 +6,7 @@ use Rattle.checkpoints.proofs.searches.differs_in.Goals as goal
 
 pub returns : goal.returns
 returns c =
-    let small : c.args.range.start < 2 ^ 32 = omega arith in
-    (
+    let small : c.args.range.start < 2 ^ 32 = omega arith in (
       λ e. absurd (true≢false (sym e)),
       λ differs. absurd
           (none-differs c.args.range (shadows_in c.args.before.now) (shadows_in c.args.after.now) small
