@@ -23,6 +23,10 @@ Meets range touched = (a : ℕ) × (is_in range.start range.len a ≡ true) × (
 abbrev pub DiffersIn : Span → (ℕ → Shadow) → (ℕ → Shadow) → Type 0
 DiffersIn range before after = (a : ℕ) × (is_in range.start range.len a ≡ true) × (before a ≡ after a → ⊥)
 
+-- of each byte they are the same
+abbrev pub AreAlikeIn : Span → (ℕ → Shadow) → (ℕ → Shadow) → Type 0
+AreAlikeIn range before after = (a : ℕ) → is_in range.start range.len a ≡ true → before a ≡ after a
+
 -- the step of a state runs at an address of a range, reads one of its bytes beside the step's word, writes one, changes the undefined bits or
 -- the access of one, or raises an error at an address of it. What a step changes is seen from the state that it starts from, after the marks of
 -- that step, to the one that it leaves, before the marks of the next step: so a mark changes nothing here
