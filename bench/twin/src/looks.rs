@@ -65,9 +65,11 @@ fn those_that_do(mut machine: Machine, kind: &str, range: (u32, u32), steps: Ran
     let mut found = Vec::new();
     for step in 0..steps.end {
         let (pc, errors, does) = (machine.pc, raised(&machine), does(&machine, kind, range));
+        let known = (kind == "shadow").then(|| shadows(&machine, range));
         go_on(&mut machine);
         let errs = kind == "error" && is_in(range, pc) && raised(&machine) > errors;
-        if steps.contains(&step) && (does || errs) {
+        let changes = known.is_some_and(|known| known != shadows(&machine, range));
+        if steps.contains(&step) && (does || errs || changes) {
             found.push(step);
         }
     }
@@ -77,6 +79,14 @@ fn those_that_do(mut machine: Machine, kind: &str, range: (u32, u32), steps: Ran
 /// How many errors a machine has raised.
 fn raised(machine: &Machine) -> u64 {
     machine.errors.values().sum()
+}
+
+/// The undefined bits of each byte of a range, and nothing of one that may not be accessed.
+fn shadows(machine: &Machine, (start, len): (u32, u32)) -> Vec<Option<u32>> {
+    (0..len)
+        .map(|i| machine.memory.load::<1>(start.wrapping_add(i)))
+        .map(|loaded| loaded.bad.is_none().then_some(loaded.undef))
+        .collect()
 }
 
 fn is_in((start, len): (u32, u32), addr: u32) -> bool {

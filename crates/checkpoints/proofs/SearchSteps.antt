@@ -15,7 +15,7 @@ use Rattle.guest_machine.specs.declared.span.Span.{Span}
 use Rattle.checkpoints.specs.Searches.{Meets, HitsIn, Hits, IsLast}
 use Rattle.checkpoints.specs.declared.searches.Sought.{Sought}
 use Rattle.checkpoints.specs.declared.searches.Watch.{Watch}
-use Rattle.checkpoints.specs.declared.searches.Watch.TheVariants.{Run, Read, Write, Error}
+use Rattle.checkpoints.specs.declared.searches.Watch.TheVariants.{Run, Read, Write, Shadow as OfShadow, Error}
 use Rattle.checkpoints.proofs.Halted.{halted-after}
 
 -- a step that isn't one where a test says so
@@ -43,6 +43,7 @@ rests-unhit law Read range s setup h hit =
     meets-none range (touched_of s setup).reads (λ a. (none-of _ _ _ ((law setup s h).1 a)).0) hit
 rests-unhit law Write range s setup h hit =
     meets-none range (touched_of s setup).writes (λ a. (none-of _ _ _ ((law setup s h).1 a)).1) hit
+rests-unhit law OfShadow range s setup h hit = hit.2 (sym (ap (λ (t : State). t.core.shadow hit.0) (law setup s h).0))
 rests-unhit law Error range s setup h hit =
     let same : length (exec s setup).events ≡ length s.events = ap (λ (t : State). length t.events) (law setup s h).0 in
     let more = hit.1 in

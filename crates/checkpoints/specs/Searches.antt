@@ -1,6 +1,8 @@
--- The next and the last step of a run that runs, reads, writes or raises an error in a range of memory.
+-- The next and the last step of a run that runs, reads, writes, changes what is known of a byte or raises an error in a
+-- range of memory.
 use Rattle.std.specs.Prelude.{◌≡◌, ℕ, ◌+◌, ◌-◌, ◌<◌, ◌≤◌, true, List, length, Option, Some, None}
 use Rattle.shadow_memory.specs.Ranges.{is_in}
+use Rattle.shadow_memory.specs.Shadows.{Shadow}
 use Rattle.guest_machine.specs.State.{State}
 use Rattle.guest_machine.specs.Exec.{exec, is_running, touched_of}
 use Rattle.guest_machine.specs.Run.{post}
@@ -9,7 +11,7 @@ use Rattle.guest_machine.specs.declared.setup.Mark.{Mark}
 use Rattle.guest_machine.specs.declared.setup.Setup.{Setup}
 use Rattle.guest_machine.specs.declared.span.Span.{Span}
 use Rattle.checkpoints.specs.declared.searches.Watch.{Watch}
-use Rattle.checkpoints.specs.declared.searches.Watch.TheVariants.{Run, Read, Write, Error}
+use Rattle.checkpoints.specs.declared.searches.Watch.TheVariants.{Run, Read, Write, Shadow as OfShadow, Error}
 use Rattle.checkpoints.specs.declared.searches.Sought.{Sought}
 
 -- ---- what is sought
@@ -18,12 +20,23 @@ use Rattle.checkpoints.specs.declared.searches.Sought.{Sought}
 abbrev pub Meets : Span → Option Span → Type 0
 Meets range touched = (a : ℕ) × (is_in range.start range.len a ≡ true) × (covers touched a ≡ true)
 
--- the step of a state runs at an address of a range, reads one of its bytes beside the step's word, writes one, or
--- raises an error at an address of it
+-- of a byte of a range, its undefined bits or whether it may be accessed are not the same before and after
+abbrev pub DiffersIn : Span → (ℕ → Shadow) → (ℕ → Shadow) → Type 0
+DiffersIn range before after = (a : ℕ) × (is_in range.start range.len a ≡ true) × (before a ≡ after a → ⊥)
+
+-- of each byte they are the same
+abbrev pub AreAlikeIn : Span → (ℕ → Shadow) → (ℕ → Shadow) → Type 0
+AreAlikeIn range before after = (a : ℕ) → is_in range.start range.len a ≡ true → before a ≡ after a
+
+-- the step of a state runs at an address of a range, reads one of its bytes beside the step's word, writes one, changes
+-- the undefined bits or the access of one, or raises an error at an address of it. What a step changes is seen from the
+-- state that it starts from, after the marks of that step, to the one that it leaves, before the marks of the next
+-- step: so a mark changes nothing here
 abbrev pub HitsIn : Watch → Span → State → Setup → Type 0
 HitsIn Run range s setup = (is_running s.core.status ≡ true) × (is_in range.start range.len s.core.pc ≡ true)
 HitsIn Read range s setup = Meets range (touched_of s setup).reads
 HitsIn Write range s setup = Meets range (touched_of s setup).writes
+HitsIn OfShadow range s setup = DiffersIn range s.core.shadow (exec s setup).core.shadow
 HitsIn Error range s setup =
     (is_in range.start range.len s.core.pc ≡ true) × (length s.events < length (exec s setup).events)
 

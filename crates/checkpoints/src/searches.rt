@@ -1,13 +1,16 @@
 //! The next and the last step of a run that does what is sought.
 ghost use Rattle.std.specs.Prelude.{◌≡◌, ◌+◌, ◌-◌, ◌<◌, ◌≤◌, Bool, true, nat_lt, ◌&&◌, Decides, if◌then◌else◌, Some, length};
-ghost use Rattle.std.specs.Prelude.{min, max, IfOk, OnOk, OnErr};
+ghost use Rattle.std.specs.Prelude.{min, max, IfOk, IsTrue, IsFalse, OnOk, OnErr};
+ghost use Rattle.shadow_memory.specs.Cells.{shadow_in};
+ghost use Rattle.shadow_memory.specs.Memories.{shadows_in};
 ghost use Rattle.shadow_memory.specs.Ranges.{is_in};
 ghost use Rattle.guest_machine.specs.State.{State};
 ghost use Rattle.guest_machine.specs.Exec.{exec, is_running, touched_of};
 ghost use Rattle.guest_machine.specs.Run.{pre};
 ghost use Rattle.guest_machine.specs.Shows.{Shows};
 ghost use Rattle.guest_machine.specs.declared.setup.Setup.{Setup as SetupOf};
-ghost use Rattle.checkpoints.specs.Searches.{Meets, HitsIn, Hits, IsNext, IsLast, next_price};
+ghost use Rattle.checkpoints.specs.Searches.{Meets, AreAlikeIn, DiffersIn, HitsIn, Hits, IsNext, IsLast, next_price};
+ghost use Rattle.checkpoints.specs.declared.searches.Watch.TheVariants.{Shadow as OfShadow};
 ghost use Rattle.checkpoints.specs.Trails.{meter_of, is_short, loaded_of, last_held, IsRightFor};
 ghost use Rattle.checkpoints.specs.Work.{floor, reached, steps_made};
 
@@ -16,6 +19,7 @@ use crate::running::{is_running, next_step, pass_marks, run_on};
 use crate::trail::Trail;
 use guest_machine::laws::stays_halted;
 use guest_machine::{Machine, Mark, Meter, Setup, Span, Touched};
+use shadow_memory::{Cell, Memory};
 use std::alloc::AllocError;
 
 /// What a step is watched for.
@@ -27,6 +31,8 @@ pub enum Watch {
     Read,
     /// It writes a byte of a range.
     Write,
+    /// It changes the undefined bits of a byte of a range, or whether the byte may be accessed.
+    Shadow,
     /// It raises an error at an address of a range.
     Error,
 }
@@ -175,12 +181,13 @@ fn next_from(
     stays_halted();
     let mut machine = machine;
     let mut next = next_step(marks, from);
+    let mut seen = None;
     for k in from..end {
         if !is_running(&machine) {
             return Ok(None);
         }
         let marked = pass_marks(machine, marks, k, &mut next)?;
-        let (stepped, is_hit) = step_watching(marked, sought, setup, meter)?;
+        let (stepped, is_hit) = step_watching(marked, sought, setup, &mut seen, meter)?;
         if is_hit {
             return Ok(Some(k));
         }
@@ -209,13 +216,14 @@ fn last_from(
     stays_halted();
     let mut machine = machine;
     let mut next = next_step(marks, from);
+    let mut seen = None;
     let mut last = None;
     for k in from..end {
         if !is_running(&machine) {
             return Ok(last);
         }
         let marked = pass_marks(machine, marks, k, &mut next)?;
-        let (stepped, is_hit) = step_watching(marked, sought, setup, meter)?;
+        let (stepped, is_hit) = step_watching(marked, sought, setup, &mut seen, meter)?;
         last = last_hit(is_hit, k, last);
         machine = stepped;
     }
@@ -236,6 +244,7 @@ fn step_watching(
     machine: Machine,
     sought: Sought,
     setup: &Setup,
+    seen: &mut Option<Memory>,
     meter: &mut Meter,
 ) -> Result<(Machine, bool), AllocError>
     ensures shows { IfOk result (λ r. (s : State) → Shows machine s → Shows r.0 (exec s setup.now)) }
@@ -244,15 +253,74 @@ fn step_watching(
     ensures meter { OnOk result (meter.new ≡ min (meter.old + 1) u64.MAX) }
     ensures unmoved { OnErr result (meter.new ≡ meter.old) }
 {
+    if let Watch::Shadow = sought.watch {
+        return step_comparing(machine, sought.range, setup, seen, meter);
+    }
     let pc = machine.pc();
     let (stepped, touched) = machine.step(setup, meter)?;
     let is_hit = is_hit(sought, pc, &touched, stepped.has_raised());
     Ok((stepped, is_hit))
 }
 
-/// Whether a step of a machine that runs does what is sought, by its pc, the ranges that it touches, and whether it raises an error.
+/// One step, and whether it changes what is known of a byte of a range. The memory that it was compared with is kept for the next step, so
+/// that a share is made only where what is known has changed.
+#[inline(never)]
+fn step_comparing(
+    machine: Machine,
+    range: Span,
+    setup: &Setup,
+    seen: &mut Option<Memory>,
+    meter: &mut Meter,
+) -> Result<(Machine, bool), AllocError>
+    ensures shows { IfOk result (λ r. (s : State) → Shows machine s → Shows r.0 (exec s setup.now)) }
+    ensures hit { IfOk result (λ r. (s : State) → Shows machine s → Decides r.1 (HitsIn OfShadow range s setup.now)) }
+    ensures meter { OnOk result (meter.new ≡ min (meter.old + 1) u64.MAX) }
+    ensures unmoved { OnErr result (meter.new ≡ meter.old) }
+{
+    let before = alike_memory(seen.take(), range, machine.memory())?;
+    let (stepped, _touched) = machine.step(setup, meter)?;
+    let is_hit = differs_in(range, &before, stepped.memory());
+    *seen = Some(before);
+    Ok((stepped, is_hit))
+}
+
+/// A memory in which the same is known of a range as in another one: that which was seen before, if it is so there, or a share of the other.
+fn alike_memory(seen: Option<Memory>, range: Span, memory: &Memory) -> Result<Memory, AllocError>
+    ensures { IfOk result (λ before. AreAlikeIn range (shadows_in before) (shadows_in memory.now)) }
+{
+    match seen {
+        Some(before) if !differs_in(range, &before, memory) => Ok(before),
+        _ => memory.share(),
+    }
+}
+
+/// Whether what is known of a byte of a range is not the same in two memories.
+fn differs_in(range: Span, before: &Memory, after: &Memory) -> bool
+    ensures differs { IsTrue result → DiffersIn range (shadows_in before.now) (shadows_in after.now) }
+    ensures alike { IsFalse result → AreAlikeIn range (shadows_in before.now) (shadows_in after.now) }
+{
+    for i in 0..range.len {
+        let address = range.start.wrapping_add(i);
+        if !are_alike(before.byte(address), after.byte(address)) {
+            return true;
+        }
+    }
+    false
+}
+
+/// Whether the same is known of two bytes.
+#[inline(always)]
+fn are_alike(one: Cell, other: Cell) -> bool
+    ensures { Decides result (shadow_in one ≡ shadow_in other) }
+{
+    one.accessible == other.accessible && one.undef == other.undef
+}
+
+/// Whether a step of a machine that runs does what is sought, if that is no change of what is known, by its pc, the ranges that it touches,
+/// and whether it raises an error.
 #[inline(always)]
 fn is_hit(sought: Sought, pc: u32, touched: &Touched, raised: bool) -> bool
+    requires { sought.watch ≡ OfShadow → ⊥ }
     ensures { (s : State) (setup : SetupOf) → is_running s.core.status ≡ true → pc ≡ s.core.pc → touched.now ≡ touched_of s setup
         → raised ≡ nat_lt (length s.events) (length (exec s setup).events) → Decides result (HitsIn sought.watch sought.range s setup) }
 {
@@ -260,6 +328,7 @@ fn is_hit(sought: Sought, pc: u32, touched: &Touched, raised: bool) -> bool
         Watch::Run => has_address(sought.range, pc),
         Watch::Read => meets(sought.range, touched.reads),
         Watch::Write => meets(sought.range, touched.writes),
+        Watch::Shadow => false,
         Watch::Error => raised && has_address(sought.range, pc),
     }
 }

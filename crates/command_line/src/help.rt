@@ -110,11 +110,12 @@ and don't count. Each is answered for the chosen step of the run with all edits:
 
 KIND is what a step does with the LEN bytes at ADDR: `run` where its pc is among them and the
 program runs, `error` where it then raises an error, `read` where it reads some of them beside its
-own word, `write` where it writes some.
+own word, `write` where it writes some, `shadow` where it changes the undefined bits of some or
+whether they may be accessed. A mark is no step.
 The answer is `step N`, or `none`. Refused are, beside want of memory (1):
   2   no look, or a field that is missing, too many, empty or of the wrong form
   5   END or FROM above 4194304
-  6   a range of 0 bytes, one that ends above 2^32, or more than 4096 bytes of memory
+  6   a range of 0 bytes, one that ends above 2^32, or above 4096 bytes for memory or `shadow`
 
 Example, the last write of a word before the first 5000 steps are over:
   printf 'goto 5000\\nlook last write 0x20010 4 0\\n' | replaycheck look program.elf

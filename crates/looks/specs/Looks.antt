@@ -5,7 +5,7 @@ use Rattle.std.specs.List.{starts_with}
 use Rattle.std.specs.Str.{bytes_eq}
 use Rattle.checkpoints.specs.declared.searches.Sought.{Sought}
 use Rattle.checkpoints.specs.declared.searches.Watch.{Watch}
-use Rattle.checkpoints.specs.declared.searches.Watch.TheVariants.{Run, Read, Write, Error}
+use Rattle.checkpoints.specs.declared.searches.Watch.TheVariants.{Run, Read, Write, Shadow, Error}
 use Rattle.guest_machine.specs.declared.span.Span.{Span}
 use Rattle.line_server.specs.Lines.{longest_line}
 use Rattle.scenario.specs.Limits.{most_steps}
@@ -18,7 +18,7 @@ use Rattle.looks.specs.declared.look.Look.{Look}
 use Rattle.looks.specs.declared.look.Search.{Search}
 use Rattle.looks.specs.declared.look.Look.TheVariants.{Registers, Memory, Next, Last}
 
--- how many bytes a look at memory may show
+-- how many bytes a look at memory may show, and a search for a change of what is known of them may watch
 abbrev pub longest_view : ℕ
 longest_view = 4096
 
@@ -34,6 +34,7 @@ watch_of word =
     if bytes_eq word (codes "run") then Some Run
     else if bytes_eq word (codes "read") then Some Read
     else if bytes_eq word (codes "write") then Some Write
+    else if bytes_eq word (codes "shadow") then Some Shadow
     else if bytes_eq word (codes "error") then Some Error
     else None
 
@@ -82,17 +83,30 @@ look_among _ = None
 abbrev pub is_range : Span → Bool
 is_range range = nat_lt 0 range.len && nat_le (range.start + range.len) (2 ^ 32)
 
+-- and is it no longer than one that may be shown?
+abbrev pub is_view : Span → Bool
+is_view range = is_range range && nat_le range.len longest_view
+
+-- may a step be watched so in a range? What is known of its bytes is compared at each step, and no more of them than
+-- may be shown
+abbrev pub may_watch : Watch → Span → Bool
+may_watch Run range = is_range range
+may_watch Read range = is_range range
+may_watch Write range = is_range range
+may_watch Shadow range = is_view range
+may_watch Error range = is_range range
+
 -- why a search is refused, if it is
 abbrev pub search_refusal : Search → Option Fault
 search_refusal search =
     if nat_lt most_steps search.bound then Some StepLimit
-    else if is_range search.sought.range then None
+    else if may_watch search.sought.watch search.sought.range then None
     else Some BadRange
 
 -- why a look is refused, if it is
 abbrev pub look_refusal : Look → Option Fault
 look_refusal Registers = None
-look_refusal (Memory range) = if is_range range && nat_le range.len longest_view then None else Some BadRange
+look_refusal (Memory range) = if is_view range then None else Some BadRange
 look_refusal (Next search) = search_refusal search
 look_refusal (Last search) = search_refusal search
 

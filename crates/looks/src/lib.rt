@@ -16,9 +16,10 @@
 //! | `look last KIND ADDR LEN FROM` | `step N`, the last before the chosen one and from FROM on that does it, or `none` |
 //!
 //! KIND: `run`, the program runs and pc is in the range; `read`, a byte of it is read, beside the step's own word; `write`, one is written;
-//! `error`, the program raises an error with pc in the range.
+//! `shadow`, the step changes the undefined bits of one, or whether it may be accessed, from its state after its marks to the one before the
+//! marks of the next step; `error`, the program raises an error with pc in the range.
 //! Refused are, by the first that holds: 2 no look, 5 END or FROM above 4,194,304, 6 a range of no bytes, one that ends above
-//! 2^32, or of memory one of more than 4,096 bytes; 1 stands for want of memory. A line of more than 4,096 bytes is none of these, nor is one after
+//! 2^32, or of memory or for `shadow` one of more than 4,096 bytes; 1 stands for want of memory. A line of more than 4,096 bytes is none of these, nor is one after
 //! 100,000 lines of a session: it is answered as in a session.
 //!
 //! # What a caller relies on

@@ -1,7 +1,7 @@
 //! A line read as a look.
 ghost use Rattle.std.specs.Prelude.{◌≡◌, IfOk, None};
 ghost use Rattle.replay_session.specs.Commands.{number as number_of};
-ghost use Rattle.looks.specs.Looks.{watch_of, asked, is_range, look_among, look_of, look_refusal, memory_of, registers_of, search_of, search_refusal, span_with};
+ghost use Rattle.looks.specs.Looks.{watch_of, asked, is_range, is_view, look_among, look_of, look_refusal, may_watch, memory_of, registers_of, search_of, search_refusal, span_with};
 
 use crate::look::{Look, Search};
 use checkpoints::{Sought, Watch};
@@ -15,6 +15,8 @@ const READ: &[u8] = b"read";
 
 const WRITE: &[u8] = b"write";
 
+const SHADOW: &[u8] = b"shadow";
+
 const ERROR: &[u8] = b"error";
 
 const REGISTERS: &[u8] = b"registers";
@@ -25,7 +27,7 @@ const NEXT: &[u8] = b"next";
 
 const LAST: &[u8] = b"last";
 
-/// How many bytes a look at memory may show.
+/// How many bytes a look at memory may show, and a search for a change of what is known of them may watch.
 const LONGEST_VIEW: u32 = 4096;
 
 /// The range of a first address and a number of bytes.
@@ -48,6 +50,8 @@ fn watch_of(word: &[u8]) -> Option<Watch>
         Some(Watch::Read)
     } else if word == WRITE {
         Some(Watch::Write)
+    } else if word == SHADOW {
+        Some(Watch::Shadow)
     } else if word == ERROR {
         Some(Watch::Error)
     } else {
@@ -134,13 +138,30 @@ fn is_range(range: Span) -> bool
     0 < range.len && u64::from(range.start) + u64::from(range.len) <= 1 << 32
 }
 
+/// Whether it is also no longer than one that may be shown.
+fn is_view(range: Span) -> bool
+    ensures { result ≡ is_view range }
+{
+    is_range(range) && range.len <= LONGEST_VIEW
+}
+
+/// Whether a step may be watched so in a range.
+fn may_watch(watch: Watch, range: Span) -> bool
+    ensures { result ≡ may_watch watch range }
+{
+    match watch {
+        Watch::Run | Watch::Read | Watch::Write | Watch::Error => is_range(range),
+        Watch::Shadow => is_view(range),
+    }
+}
+
 /// Why a search is refused, if it is.
 fn search_refusal(search: Search) -> Option<Fault>
     ensures { result ≡ search_refusal search }
 {
     if search.bound > MOST_STEPS {
         Some(Fault::StepLimit)
-    } else if is_range(search.sought.range) {
+    } else if may_watch(search.sought.watch, search.sought.range) {
         None
     } else {
         Some(Fault::BadRange)
@@ -154,7 +175,7 @@ fn look_refusal(look: Look) -> Option<Fault>
     match look {
         Look::Registers => None,
         Look::Memory(range) => {
-            if is_range(range) && range.len <= LONGEST_VIEW {
+            if is_view(range) {
                 None
             } else {
                 Some(Fault::BadRange)

@@ -1,6 +1,6 @@
-//! The next and the last step that runs, reads, writes or raises an error in a range, and how many steps were made to find it. The
-//! numbers follow from the two programs: a search on makes the steps up to the one that is found or to the halt, one back those of the
-//! windows of 1,024 steps from the last one down to the one in which it is found.
+//! The next and the last step that runs, reads, writes, changes what is known of a byte or raises an error in a range, and how many steps
+//! were made to find it. The numbers follow from the two programs: a search on makes the steps up to the one that is found or to the halt,
+//! one back those of the windows of 1,024 steps from the last one down to the one in which it is found.
 
 use crate::trails::{EXITS_WITH_INPUT, READS_ON, setup};
 use checkpoints::{Sought, Trail, Watch};
@@ -16,7 +16,8 @@ use std::test::Fail;
 enum Program {
     /// Runs at 0x10008 in steps 2 + 3i, and reads the word at 0x10014 + 4i in step 1 + 3i.
     ReadsOn,
-    /// Is given two bytes at 0x7FFFFFE0 in step 5, reads the second in step 6, and is halted from step 10 on.
+    /// Has a frame from 0x7FFFFFE0 on from step 2 on, is given two bytes there in step 5, reads the second in step 6, and is halted from
+    /// step 10 on.
     ExitsWithInput,
 }
 
@@ -41,7 +42,7 @@ type Case = (
     [Found; 2],
 );
 
-const CASES: [Case; 16] = [
+const CASES: [Case; 17] = [
     (
         "a word that is read once",
         Program::ReadsOn,
@@ -148,6 +149,13 @@ const CASES: [Case; 16] = [
         [(None, 10), (None, 10)],
     ),
     (
+        "a byte that a frame makes undefined and a call defined",
+        Program::ExitsWithInput,
+        (Watch::Shadow, 0x7FFF_FFE1, 1),
+        (0, 5000),
+        [(Some(2), 3), (Some(5), 10)],
+    ),
+    (
         "a halted machine runs no more",
         Program::ExitsWithInput,
         (Watch::Run, 0, 0xFFFF_FFFF),
@@ -213,7 +221,7 @@ const UNDEFINED: Mark = Mark {
     kind: RangeKind::Undefined,
 };
 
-const MARKED_CASES: [MarkedCase; 4] = [
+const MARKED_CASES: [MarkedCase; 5] = [
     (
         "a run that a mark stops",
         STOPS,
@@ -234,6 +242,13 @@ const MARKED_CASES: [MarkedCase; 4] = [
         (Watch::Error, 0, 0xFFFF_FFFF),
         (0, 3000),
         [(Some(2502), 2503), (Some(2502), 952)],
+    ),
+    (
+        "a mark is no step",
+        UNDEFINED,
+        (Watch::Shadow, 0x10D18, 4),
+        (2400, 2600),
+        [(None, 200), (None, 552)],
     ),
     (
         "an error at another instruction",
