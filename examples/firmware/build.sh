@@ -50,6 +50,7 @@ firmware() {
 }
 
 firmware kinds -nostdlib kinds.o memory.o heap_by_name.o
+firmware differences -nostdlib differences.o memory.o heap_by_name.o
 firmware station -nostdlib station.o memory.o heap_by_name.o
 firmware station-by-number -nostdlib station-by-number.o memory.o heap_by_number.o
 firmware polled -nostdlib polled.o

@@ -39,14 +39,16 @@ explored() {
   ../../tools/bin/replaycheck-explore station.elf --input station.input --svg "$room/station.svg" | sed -E 's/ \([^()]+:[0-9]+\)//'
 }
 
-# The remarks of kinds.session are those of the cases in kinds.c.
+# The remarks of a session are those of the cases in the program.
 same_cases() {
-  diff <(sed -nE 's|^    case ([0-9]+): .* /\* (.*) \*/$|\1: \2|p' kinds.c) <(sed -nE 's/^# ([0-9]+: .*)$/\1/p' kinds.session)
+  diff <(sed -nE 's|^    case ([0-9]+): .* /\* (.*) \*/$|\1: \2|p' "$1.c") <(sed -nE 's/^# ([0-9]+: .*)$/\1/p' "$1.session")
 }
 
 check 'a session on station.elf' same station ../../tools/bin/replaycheck-talk station.elf --input station.input station.session
-check 'each kind of error' same kinds ../../tools/bin/replaycheck-talk kinds.elf --input kinds.input kinds.session
-check 'the cases of kinds.c' same_cases
+for program in kinds differences; do
+  check "each case of $program.c" same $program ../../tools/bin/replaycheck-talk $program.elf --input $program.input $program.session
+  check "the remarks of $program.session" same_cases $program
+done
 check 'each byte of station.input' same sweep explored
 if command -v riscv64-unknown-elf-addr2line riscv64-linux-gnu-addr2line addr2line >"$room/found"; then
   check 'its picture' cmp station.svg "$room/station.svg"
@@ -129,7 +131,7 @@ else
   if [ "$(compiled_by station.elf)" != "$(compiled_by "$room/station.elf")" ]; then
     left_out 'comparing the programs, and those with picolibc' "the compiler isn't that of station.elf"
   else
-    for program in ../*.elf board.elf polled.elf kinds.elf station.elf station-by-number.elf boot.elf boot-twice.elf; do
+    for program in ../*.elf {board,polled,kinds,differences,station,station-by-number,boot,boot-twice}.elf; do
       check "the same bytes of $program" cmp "$program" "$room/${program##*/}"
     done
     check 'picolibc without a false error' same library from_picolibc library

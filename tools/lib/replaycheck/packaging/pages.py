@@ -58,8 +58,8 @@ def page(name, summary, told, tools):
 
 
 def manual():
-    """The manual and the case studies as HTML, with the picture that the manual shows, by their files' names."""
-    sources = {"manual.html": TOP / "docs/manual.md", "case-studies.html": TOP / "docs/case-studies.md"}
+    """The manual, the glossary and the case studies as HTML, with the picture that the manual shows, by their files' names."""
+    sources = {f"{it}.html": TOP / f"docs/{it}.md" for it in ("manual", "glossary", "case-studies")}
     sources |= {f"case-studies/{it.stem}.html": it for it in sorted((TOP / "docs/case-studies").glob("*.md"))}
     made = {name: html(path.read_text(), name) for name, path in sources.items()}
     return made | {"station.svg": (TOP / "examples/firmware/station.svg").read_bytes()}
@@ -72,6 +72,6 @@ def html(text, name):
     page = page.replace("</head>\n", STYLE, 1)
     page = re.sub(r'(<h\d id=")([^"]+)(")', lambda it: it[1] + re.sub(r"[^\w-]", "", it[2].lower()) + it[3], page)
     page = re.sub(r'src="[^"]*station\.svg"', 'src="station.svg"', page)
-    inner = r"manual|case-studies|json|modbus|boot"
+    inner = r"manual|glossary|case-studies|json|modbus|boot"
     page = re.sub(rf'href="([^"#:]*\b(?:{inner}))\.md', r'href="\1.html', page)
     return re.sub(r'<a href="(?!#|https?:|[^"]*\.html)[^"]*">(.*?)</a>', r"\1", page)
