@@ -114,17 +114,28 @@ def end(lane: str, results: list[Result], begun: float) -> int:
     return int(failed > 0)
 
 
+def has_ended(child: int) -> bool:
+    try:
+        return os.waitid(os.P_PID, child, os.WEXITED | os.WNOHANG | os.WNOWAIT) is not None
+    except ChildProcessError:
+        return True
+
+
+def send(number: int) -> None:
+    for group in [*groups]:
+        try:
+            os.killpg(group, number)
+        except OSError:
+            pass
+
+
 def stop(number: int, _: object) -> None:
     """Ends all that the lane has started, and then the lane by the same signal."""
-    for how in (signal.SIGTERM, signal.SIGKILL):
-        for group in [*groups]:
-            try:
-                os.killpg(group, how)
-            except OSError:
-                pass
-        until = time.monotonic() + SECONDS_TO_END
-        while groups and time.monotonic() < until:
-            time.sleep(0.05)
+    send(signal.SIGTERM)
+    until = time.monotonic() + SECONDS_TO_END
+    while not all(has_ended(it) for it in [*groups]) and time.monotonic() < until:
+        time.sleep(0.02)
+    send(signal.SIGKILL)
     signal.signal(number, signal.SIG_DFL)
     os.kill(os.getpid(), number)
 
