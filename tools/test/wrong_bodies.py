@@ -79,7 +79,8 @@ def module_of(source):
 
 
 def path_of(source, lines, at, head):
-    """What `rt check --only` takes for the function whose head stands in a line: a method by its type alone, in whose module a check has it."""
+    """What `rt check --only` takes for the function whose head stands in a line: a method by its type alone, in whose module a check has
+    it."""
     while head[1] and at >= 0:
         at -= 1
         if re.match(r"(impl|trait|pub trait)\b", lines[at]):
@@ -98,8 +99,8 @@ def owner(text):
 
 
 def functions_of(folder):
-    """The free functions and the types' own methods of a crate's sources that don't call themselves, by their paths below the crate. The proof
-    of one that does stands elsewhere."""
+    """The free functions and the types' own methods of a crate's sources that don't call themselves, by their paths below the crate. The
+    proof of one that does stands elsewhere."""
     texts = {str(it.relative_to(folder)): it.read_text(encoding="utf-8") for it in sorted(folder.glob("src/**/*.rt"))}
     homes = {}
     for source, text in texts.items():

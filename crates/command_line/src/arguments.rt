@@ -79,7 +79,7 @@ fn with_run<'a>(alloc: Global) -> Result<Command<'a>, AllocError>
 {
     let run = run_command(alloc)?;
     Command::new(alloc, "replaycheck")
-        .version("0.1.0")
+        .version("1.0.0")
         .about(ABOUT)
         .subcommand_required(true)
         .subcommand(run)
