@@ -92,7 +92,7 @@ impl Memory {
     }
 
     // The same by one look-up, which takes no memory: of defined bits in one page, if no other memory has it, and what is there is
-    // all accessible and defined. Says whether it did.
+    // all accessible. Says whether it did.
     #[inline(always)]
     fn put_word(&mut self, addr: u32, n: u32, bits: Bits) -> bool
         requires { IsWidth n }

@@ -223,6 +223,24 @@ impl Codes {
         true
     }
 
+    /// Is no number, from one place up to, not with, another, that of an inaccessible byte?
+    #[inline(always)]
+    pub(crate) fn are_accessible(&self, from: usize, to: usize) -> bool
+        requires order { from ≤ to }
+        requires within { to ≤ page_len }
+        ensures { IsTrue result → (at : ℕ) → from ≤ at → at < to → 0 < code_at self.now at }
+    {
+        if from % 4 == 0 && to - from == 4 && self.packed[from / 4] == UNDEFINED * FOUR_ONES {
+            return true;
+        }
+        for at in from..to {
+            if self.code(at) == NO_ACCESS {
+                return false;
+            }
+        }
+        true
+    }
+
     /// A place, from a multiple of 4 on, before which each number is this one.
     pub(crate) fn skip(&self, from: usize, code: u8) -> usize
         requires within { from ≤ page_len }

@@ -86,7 +86,7 @@ impl Directory {
         }
     }
 
-    /// Stores bytes in one page, if it is its own and what is there is all accessible and defined. Says whether it did.
+    /// Stores bytes in one page, if it is its own and what is there is all accessible. Says whether it did.
     #[inline(always)]
     pub(crate) fn put(&mut self, at: usize, bytes: &[u8]) -> bool
         requires within { at < 4194304 }

@@ -1,5 +1,5 @@
 //! Which bytes of a page are accessible, and which of their bits are undefined.
-ghost use Rattle.std.specs.Prelude.{◌≡◌, ◌+◌, ◌%◌, ◌<◌, ◌≤◌, ℕ, OnOk, OnErr, IfOk, IfNone, IfSome, IsTrue, not};
+ghost use Rattle.std.specs.Prelude.{◌≡◌, ◌+◌, ◌%◌, ◌<◌, ◌≤◌, ℕ, true, OnOk, OnErr, IfOk, IfNone, IfSome, IsTrue, IsFalse, not};
 ghost use Rattle.shadow_memory.specs.Firsts.{IsFirst, NonePass};
 ghost use Rattle.shadow_memory.specs.Shadows.{holds_word, is_bad, HoldNoWord, IsNextWord};
 ghost use Rattle.shadow_memory.specs.Cells.{set_at};
@@ -156,6 +156,21 @@ impl Mixed {
             let code = defined_code(self.codes.code(at));
             self.codes.set(at, code);
         }
+    }
+
+    // Makes the bits of bytes defined, if all of them are accessible. Says whether they are.
+    fn define_accessible(&mut self, from: usize, to: usize) -> bool
+        requires order { from ≤ to }
+        requires within { to ≤ page_len }
+        ensures done { IsTrue result → Agree (marks_mixed self.new) (λ k. if is_between from to k then defined (marks_mixed self.old k) else marks_mixed self.old k) }
+        ensures whole { IsTrue result → (k : ℕ) → from ≤ k → k < to → (marks_mixed self.old k).accessible ≡ true }
+        ensures kept { IsFalse result → self.new ≡ self.old }
+    {
+        if !self.codes.are_accessible(from, to) {
+            return false;
+        }
+        self.define(from, to);
+        true
     }
 
     // Has the accessible bytes take the bits undefined that one of a kind loads with.
@@ -395,6 +410,21 @@ impl PageShadows {
                 mixed.define(from, to);
                 Ok(())
             }
+        }
+    }
+
+    /// Makes the bits of the bytes from one place up to, not with, another defined, if all of them are accessible and they are held one by
+    /// one. Says whether they are; it takes no memory.
+    pub(crate) fn define_accessible(&mut self, from: usize, to: usize) -> bool
+        requires order { from ≤ to }
+        requires within { to ≤ page_len }
+        ensures done { IsTrue result → AgreeInPage (marks_in self.new) (λ k. if is_between from to k then defined (marks_in self.old k) else marks_in self.old k) }
+        ensures whole { IsTrue result → (k : ℕ) → from ≤ k → k < to → (marks_in self.old k).accessible ≡ true }
+        ensures kept { IsFalse result → self.new ≡ self.old }
+    {
+        match self {
+            PageShadows::Uniform(_) => false,
+            PageShadows::Mixed(mixed) => mixed.define_accessible(from, to),
         }
     }
 

@@ -73,7 +73,7 @@ impl DirectorySlot {
         }
     }
 
-    // Stores bytes in one page, if it and the directory are its own and what is there is all accessible and defined.
+    // Stores bytes in one page, if it and the directory are its own and what is there is all accessible.
     #[inline(always)]
     fn put(&mut self, at: usize, bytes: &[u8]) -> bool
         requires within { at < 4194304 }
@@ -233,7 +233,7 @@ impl Memory {
         Ok(())
     }
 
-    /// Stores bytes in one page, if what is there is all accessible and defined, and no other memory has the page. Says whether it
+    /// Stores bytes in one page, if what is there is all accessible, and no other memory has the page. Says whether it
     /// did; it takes no memory.
     #[inline(always)]
     pub(crate) fn put(&mut self, addr: u32, bytes: &[u8]) -> bool

@@ -305,7 +305,7 @@ impl Page {
         Ok(())
     }
 
-    /// Stores bytes from a place on, if what is there is all accessible and defined. Says whether it did; it takes no memory.
+    /// Stores bytes from a place on, if what is there is all accessible. Says whether it did; it takes no memory.
     #[inline(always)]
     pub(crate) fn put(&mut self, at: usize, bytes: &[u8]) -> bool
         requires { at + length bytes.now ≤ page_len }
@@ -314,11 +314,27 @@ impl Page {
         ensures whole { IsTrue result → (k : ℕ) → at ≤ k → k < at + length bytes.now → (cells_in self.old k).accessible ≡ true }
         ensures kept { IsFalse result → cells_in self.new ≡ cells_in self.old }
     {
-        let whole = self.marks.are_defined(at, at + bytes.len());
-        if whole {
+        if self.marks.are_defined(at, at + bytes.len()) {
             write_at(&mut self.bytes, at, bytes);
+            return true;
         }
-        whole
+        self.put_defining(at, bytes)
+    }
+
+    // The same, where some bits of what is there are undefined.
+    #[inline(never)]
+    fn put_defining(&mut self, at: usize, bytes: &[u8]) -> bool
+        requires { at + length bytes.now ≤ page_len }
+        ensures done { IsTrue result → AgreeInPage (cells_in self.new)
+            (changed_from (cells_in self.old) at (length bytes.now) (received (slice_index bytes.now))) }
+        ensures whole { IsTrue result → (k : ℕ) → at ≤ k → k < at + length bytes.now → (cells_in self.old k).accessible ≡ true }
+        ensures kept { IsFalse result → cells_in self.new ≡ cells_in self.old }
+    {
+        if !self.marks.define_accessible(at, at + bytes.len()) {
+            return false;
+        }
+        write_at(&mut self.bytes, at, bytes);
+        true
     }
 
     /// Changes cells from a place on.

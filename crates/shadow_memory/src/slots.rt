@@ -69,7 +69,7 @@ impl PageSlot {
         }
     }
 
-    /// Stores bytes from a place on, if the page is its own and what is there is all accessible and defined. Says whether it did.
+    /// Stores bytes from a place on, if the page is its own and what is there is all accessible. Says whether it did.
     #[inline(always)]
     pub(crate) fn put(&mut self, at: usize, bytes: &[u8]) -> bool
         requires { at + length bytes.now ≤ page_len }
