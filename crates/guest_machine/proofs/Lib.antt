@@ -9,5 +9,3 @@ pub mod HookSteps
 pub mod TestSteps
 pub mod Products
 pub mod Halted
-pub mod DecodeSteps
-pub mod Altering

@@ -3,7 +3,6 @@ pub mod Spans
 pub mod State
 pub mod Registers
 pub mod Instructions
-pub mod DecodeCaches
 pub mod Errors
 pub mod CallStack
 pub mod StackPointer

@@ -70,7 +70,7 @@
 //!   move of the stack pointer makes inaccessible or undefined.
 //! - `State`, `Registers`, `Spans`: what a state is, and how registers and ranges of addresses change.
 //! - `Laws`: the laws of one step.
-//! - `Shows`: that a machine shows a state. `Loading`, `Sieve`, `Doing` and `DecodeCaches` are for this crate's proofs.
+//! - `Shows`: that a machine shows a state. `Loading`, `Sieve` and `Doing` are for this crate's proofs.
 //!
 //! Sources: RISC-V Unprivileged ISA 20191213, chapters 1, 2 and 7; the Memcheck manual, chapter 4; Seward and Nethercote,
 //! "Using Valgrind to detect undefined value errors with bit-precision" (USENIX 2005). The undefined bits of a result are those
@@ -78,8 +78,6 @@
 #![tactic(auto)]
 
 mod alu;
-mod cached_memory;
-mod decode_cache;
 mod environment_call;
 mod hint;
 mod hooks;

@@ -6,7 +6,6 @@ ghost use Rattle.guest_machine.specs.State.{State};
 ghost use Rattle.guest_machine.specs.Run.{start_state, marked, poked};
 ghost use Rattle.guest_machine.specs.Shows.{Holds, Shows};
 
-use crate::cached_memory::CachedMemory;
 use crate::machine::registers::known;
 use crate::machine::{Guest, Machine, Noted, Progress};
 use crate::setup::Mark;
@@ -30,12 +29,11 @@ impl Guest {
         let mut memory = Memory::new(alloc);
         load_segments(&mut memory, image.segments())?;
         memory.fill(FIRST_STACK_POINTER, FIRST_STACK_BYTES, &[])?;
-        let cached = CachedMemory::new(alloc, memory);
         let mut registers = [known(0); 32];
         registers[2] = known(FIRST_STACK_POINTER);
         Ok(Guest {
             alloc,
-            memory: cached,
+            memory,
             registers,
             pc: image.entry(),
             status: Status::Running,
@@ -73,7 +71,7 @@ impl Guest {
     {
         Ok(Guest {
             alloc: self.alloc,
-            memory: self.memory.share(self.alloc)?,
+            memory: self.memory.share()?,
             registers: self.registers,
             pc: self.pc,
             status: self.status,

@@ -13,7 +13,6 @@ ghost use Rattle.guest_machine.specs.Shows.{core_of, bytes_of};
 ghost use Rattle.guest_machine.specs.Doing.{Notes, Does};
 
 use crate::alu::{extended, passes};
-use crate::cached_memory::CachedMemory;
 use crate::hint::StackHint;
 use crate::instruction::Comparison;
 use crate::machine::Guest;
@@ -21,17 +20,12 @@ use crate::register::Register;
 use crate::span::Span;
 use crate::width::Width;
 use definedness::Bits;
-use shadow_memory::Loaded;
+use shadow_memory::{Loaded, Memory};
 use std::alloc::AllocError;
 
 /// Stores the low bytes of a number, and answers the first inaccessible address: each width by itself, so that a word is stored as one.
 #[inline(always)]
-fn put(
-    memory: &mut CachedMemory,
-    start: u32,
-    width: Width,
-    bits: Bits,
-) -> Result<Option<u32>, AllocError>
+fn put(memory: &mut Memory, start: u32, width: Width, bits: Bits) -> Result<Option<u32>, AllocError>
     ensures fault { IfOk result (λ fault. fault ≡ first_inaccessible (shadows_in memory.old) start (width_len width)) }
     ensures shadows { OnOk result (shadows_in memory.new ≡ stored_undef (shadows_in memory.old) start (width_len width) bits.undef) }
     ensures bytes { OnOk result (bytes_in memory.new ≡ written (bytes_in memory.old) start (width_len width) (byte_of bits.value)) }

@@ -9,9 +9,8 @@ ghost use Rattle.guest_machine.specs.Shows.{core_of, bytes_of, Holds, Shows, has
 ghost use Rattle.guest_machine.specs.Doing.{used_of, uses_by, touched_by, Does, DoesRow, DoesRound, DoesStep};
 
 use crate::alu::computed;
-use crate::cached_memory::Fetched;
 use crate::hooks::Hooks;
-use crate::instruction::Instruction;
+use crate::instruction::{Instruction, row_of};
 use crate::machine::registers::known;
 use crate::machine::{Guest, Machine};
 use crate::meter::Meter;
@@ -19,6 +18,7 @@ use crate::register::Register;
 use crate::setup::{Setup, Touched};
 use crate::span::Span;
 use crate::status::{Status, Stop};
+use definedness::Bits;
 use error_events::Kind;
 use error_events::laws::groups_grow;
 use guest_elf::Hook;
@@ -158,21 +158,22 @@ impl Guest {
         }
     }
 
-    /// The word at pc with its undefined bits, where it may be taken, and the row that it decodes to.
+    /// The word at pc with its undefined bits, where it may be taken.
     #[inline(always)]
     #[tactic(auto, unfolding(crate::specs::Exec::fetches))]
-    fn fetch(&mut self) -> Option<Fetched>
-        ensures same { self.new ≡ self.old }
-        ensures none { IfNone result (fetches (core_of self.old) ≡ false) }
-        ensures some { IfSome result (λ fetched. IsFetched (core_of self.old) (bytes_of self.old) fetched.word) }
-        ensures row { IfSome result (λ fetched. fetched.row ≡ row_of fetched.word.value) }
+    fn fetch(&self) -> Option<Bits>
+        ensures none { IfNone result (fetches (core_of self.now) ≡ false) }
+        ensures some { IfSome result (λ word. IsFetched (core_of self.now) (bytes_of self.now) word) }
     {
         if !self.is_ready() {
             return None;
         }
-        let fetched = self.memory.fetch(self.alloc, self.pc);
-        match fetched.bad {
-            None => Some(fetched),
+        let word = self.memory.load(self.pc, 4);
+        match word.bad {
+            None => Some(Bits {
+                value: word.value,
+                undef: word.undef,
+            }),
             Some(_) => None,
         }
     }
@@ -208,24 +209,18 @@ impl Guest {
         Ok(())
     }
 
-    /// Carries an instruction out, between the test of its word's undefined bits and the stack pointer rule.
+    /// Carries a word out, between the test of the word and the stack pointer rule.
     #[inline(never)]
     #[tactic(auto, using(crate::proofs::Showing::note_events_append))]
-    fn round(
-        &mut self,
-        setup: &Setup,
-        undef: u32,
-        row: Option<Instruction>,
-        used: &mut Used,
-    ) -> Result<(), AllocError>
-        requires undef { undef ≡ fetch_undef (core_of self.old) }
+    fn round(&mut self, setup: &Setup, word: Bits, used: &mut Used) -> Result<(), AllocError>
+        requires undef { word.undef ≡ fetch_undef (core_of self.old) }
         requires unused { used.old ≡ used_of nothing }
-        ensures does { OnOk result (DoesRound self.old self.new row setup.now) }
-        ensures uses { OnOk result (used.new ≡ used_of (uses_by self.old row setup.now)) }
+        ensures does { OnOk result (DoesRound self.old self.new (row_of word.value) setup.now) }
+        ensures uses { OnOk result (used.new ≡ used_of (uses_by self.old (row_of word.value) setup.now)) }
     {
         let stack_pointer = self.read_register(Register::new(2));
-        self.test_word(undef)?;
-        self.execute(setup, row, used)?;
+        self.test_word(word.undef)?;
+        self.execute(setup, row_of(word.value), used)?;
         self.stack_rule(stack_pointer)
     }
 
@@ -246,9 +241,9 @@ impl Guest {
                 self.halt()?;
                 Ok(NOTHING.touched(None))
             }
-            Some(fetched) => {
+            Some(word) => {
                 let mut used = NOTHING;
-                self.round(setup, fetched.word.undef, fetched.row, &mut used)?;
+                self.round(setup, word, &mut used)?;
                 Ok(used.touched(Some(Span { start: pc, len: 4 })))
             }
         }
