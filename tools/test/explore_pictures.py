@@ -48,7 +48,7 @@ def test_picture(tests):
     tests.check("picture: bytes and words", "" if "0x00010004" in text and "bit 31" in text else text[:300])
     wide = Made(3).part().replace(b"step 100", b"words 0x00000000..0xffffffff flips\nstep 100")
     begun, (rects, text) = time.monotonic(), drawn(tests, wide)
-    tests.check("picture: more words than anyone can read", time.monotonic() - begun > 5 or "0x00000000" not in text and text)
+    tests.check("picture: more words than anyone can read", time.monotonic() - begun > 5 or "0x00000000" not in text)
     evil = changed(b"total", b'<script>alert("x")</script>&')(Made(6, seed=5, outcomes=["exited 0", f"exited 0\n{ERROR}"]).part())
     rects, text = drawn(tests, evil)
     tests.check("picture: a script in a name", "" if "&lt;script&gt;" in text and "<script" not in text else text[:300])

@@ -136,13 +136,12 @@ CASES = [
     Case("edits that are refused", ["monitor input 41 1", "monitor patch 0 0", "monitor unmark 0", "monitor option colour 1",
          "monitor step"],
          ("refused 3: no such byte", "refused 4: no word", "refused 7: no such mark", "refused 9: ", at(0))),
-    Case("a register can't be set", ["set var $a0 = 5", "print $a0"], (f"Could not write register \"a0\"", REFUSED, "$1 = 0")),
+    Case("a register can't be set", ["set var $a0 = 5", "print $a0"], ('Could not write register "a0"', REFUSED, "$1 = 0")),
     Case("memory can't be set", ["set var *(int *) 0x20000 = 5", "x/xw 0x20000"], (REFUSED, "0x00000000")),
     Case("no jump", ["jump *0x10158"], (REFUSED,)),
     Case("nothing is called", ["print getpid()"], (REFUSED,)),
     Case("gdb leaves", ["detach", "info registers pc"], ("detached", "no registers")),
     Case("gdb kills", ["kill", "info registers pc"], ("killed", "no registers")),
-
 ]
 
 ILL = "E.a packet of gdb can't be read"

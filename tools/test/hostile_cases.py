@@ -51,9 +51,9 @@ def files():
         old = int.from_bytes(good[at:at + size], "little")
         for number in NUMBERS + [old - 1, old + 1]:
             yield case(f"the field at {at} is {number}", put(good, at, size, number))
-    for kind, size, apart in [(1, 1, 1), (1, 1, 4096), (1, 0, 0), (1, 4, 0), (1, 4, 0xFFFFFFFC), (4, 1, 1)]:
+    for kind, size, apart in [(1, 1, 1), (1, 1, 4096), (1, 0, 0), (1, 4, 0), (1, 4, 0x7FFC), (4, 1, 1)]:
         name = f"65,534 segments of kind {kind}, {size} bytes, {apart} apart"
-        yield case(name, many_segments(65534, kind, size, apart % 2**15))
+        yield case(name, many_segments(65534, kind, size, apart))
     for name in ["f", "f" * 500000]:
         symbols = [(name, ENTRY + 4 * (i % 6), 4) for i in range(1000000)]
         yield case(f"a million symbols with one name of {len(name)} bytes", elf(DEEP, 0, symbols))

@@ -1,4 +1,4 @@
-"""Random programs, for tools/test/compare-with-twin and tools/test/test-sweep-table."""
+"""Random programs, for compare-with-twin, test-sweep-table, test-look and test-gdb."""
 import random
 
 from replaycheck.assembly import (EBREAK, ECALL, FENCE, LOADS, STORES, addi, branch, jump, load, load_number, of_immediate,

@@ -136,7 +136,7 @@ def reports_to(options, room, lines):
 def outline(report, with_output):
     """The lines of an outcome."""
     words = report[1].split(" ")
-    state = {"running": "running", "exited": " ".join(words[1:])}.get(words[1], " ".join(words[1:]))
+    state = "running" if words[1] == "running" else " ".join(words[1:])
     found = ["stopped jump" if words[1:3] == ["stopped", "jump"] else state]
     found += [report[3]] if with_output else []
     is_shown = drops = False

@@ -30,7 +30,7 @@ WORDS = {
     30: "more than 16777216 bytes are loaded",
     31: "a bad table of symbols",
 }
-REFUSED = re.compile(r"^(refused|replaycheck: (?:image|input|suppressions|bytes|words) refused) (\d+)(?! at)$")
+REFUSED = re.compile(r"^(refused|replaycheck: (?:image|input|suppressions|bytes|words) refused) (\d+)$")
 AT_LINE = re.compile(r"^(replaycheck: suppressions refused) 13 (at line \d+)$")
 
 

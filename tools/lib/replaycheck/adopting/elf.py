@@ -34,7 +34,7 @@ def ends_within(data, offset, size):
 
 
 class Elf:
-    """A file whose header and tables lie within it: `unreadable` must have found nothing."""
+    """A file whose header and tables lie within it: `refusals` must have found none that isn't readable."""
 
     def __init__(self, data):
         self.data = data

@@ -3,9 +3,11 @@ import re
 from dataclasses import dataclass
 from typing import List, Optional, Tuple, Union
 
+from replaycheck.options import LAST_STEP
+
 from .lines import NUMBER, BadTable, shown
 
-MOST_PARTS, LONGEST_INPUT, LAST_STEP = 1000000, 1048576, 4194304
+MOST_PARTS, LONGEST_INPUT = 1000000, 1048576
 DIGEST = re.compile(rb"(program|input|supp) (%b) ([0-9a-f]{64})" % NUMBER)
 BYTES = re.compile(rb"bytes (%b)\.\.(%b) (all|flips|edges|%b(?:,%b)*)" % ((NUMBER,) * 4))
 WORD = rb"0x[0-9a-f]{8}"

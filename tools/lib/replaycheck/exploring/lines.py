@@ -68,4 +68,3 @@ class Lines:
     def here(self, text):
         """Refuses the next line."""
         raise BadTable(f"{self.name}: line {self.number}: {text}")
-

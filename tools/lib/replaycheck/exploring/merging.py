@@ -209,5 +209,3 @@ class Merged:
         for number, tally in enumerate(self.tallies):
             write(b"tally %d %d\n" % (number, tally))
         write(b"end %d %d %d\n" % (self.edits, len(self.outcomes), self.steps))
-
-

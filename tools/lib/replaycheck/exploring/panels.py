@@ -60,11 +60,7 @@ class Panel:
     # ---- rows
 
     def row_count(self):
-        if self.range.values == "flips":
-            return 8 if self.range.kind == "bytes" else 32
-        if not isinstance(self.range.values, str):
-            return len(self.range.values)
-        return {"all": 256, "edges": 7, "skip": 1}[self.range.values]
+        return 256 if self.range.values == "all" else self.range.most
 
     def rows_of(self, place):
         """The row of each edit of a place, in order."""

@@ -2,14 +2,13 @@
 import re
 
 from replaycheck.adopting.elf import FUNCTION, Elf, refusals, word_at
-from replaycheck.adopting.instructions import LOAD, STORE, SYSTEM, opcode, rd
+from replaycheck.adopting.instructions import AUIPC, IMMEDIATE, LOAD, LUI, REGISTERS, SP, STORE, SYSTEM, opcode, rd
 from replaycheck.endings import Fault
 
 LONGEST_FILE = 1 << 26
 MOST_MARKED = 1 << 20  # so many bytes one mark may have
 HEAP, STACK_TOP, STACK = 0x40000000, 0x80000000, 0x7F000000
 HEAP_FUNCTIONS = ("malloc", "free", "calloc", "realloc")
-SP = 2
 KINDS = {STORE: "store", LOAD: "load", SYSTEM: "call"}
 PATCH = re.compile(r"patch (\S+) (\S+)")
 MARK = re.compile(r"mark (\S+) (\S+) (\S+) undefined")
@@ -40,13 +39,13 @@ class Image:
         word = self.word(address)
         if address in self.heap:
             return self.heap[address]
-        writes = opcode(word) in (0x13, 0x33, 0x37, 0x17, LOAD)
+        writes = opcode(word) in (IMMEDIATE, REGISTERS, LUI, AUIPC, LOAD)
         return "frame" if writes and rd(word) == SP else KINDS.get(opcode(word), "other")
 
     def creates(self, address):
         """Whether an instruction can make bytes undefined."""
         kind, word = self.kind(address), self.word(address)
-        is_raised = word & 0xFFFFF == SP << 15 | SP << 7 | 0x13 and not word >> 31  # addi sp,sp, and no minus
+        is_raised = word & 0xFFFFF == SP << 15 | SP << 7 | IMMEDIATE and not word >> 31  # addi sp,sp, and no minus
         return kind in ("call", "malloc", "realloc") or kind == "frame" and not is_raised
 
     def name(self, address):

@@ -34,7 +34,7 @@ def digest(path):
 
 def entries(tree):
     """All below a folder, in order of their paths: folders, files and links."""
-    return sorted(it for it in tree.rglob("*"))
+    return sorted(tree.rglob("*"))
 
 
 def settle(tree, time):
