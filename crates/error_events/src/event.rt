@@ -1,6 +1,6 @@
 use crate::kind::Kind;
 use call_stacks::Trace;
-use guest_heap::Near;
+use heap_blocks::Near;
 
 /// What an error says of an address (Memcheck manual, section 4.2.1).
 #[derive(Clone, Copy)]

@@ -7,7 +7,7 @@ use Rattle.std.proofs.lemmas.Option.{slice_get-map}
 use Rattle.std.specs.List.{Contains}
 use Rattle.std.proofs.lemmas.Bool.{cases_lt}
 use Rattle.std.proofs.lemmas.Bool.Decides.{nat_tests}
-use Rattle.guest_heap.specs.declared.block.Block.{Block}
+use Rattle.heap_blocks.specs.declared.block.Block.{Block}
 use Rattle.guest_heap.specs.Blocks.{Blocks, IsKept, IsPlace, Places, with_block, queue_with, freed_by, low_end}
 use Rattle.guest_heap.specs.Blocks.{high_end, Meets}
 use Rattle.guest_heap.specs.Entries.{Entries}

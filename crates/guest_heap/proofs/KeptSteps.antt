@@ -5,7 +5,7 @@ use Rattle.std.proofs.Common.{map, slice_get, refl, ap, ap₂, sym, ◌∙◌, s
 use Rattle.std.specs.List.{Contains}
 use Rattle.std.proofs.lemmas.Bool.{cases_lt}
 use Rattle.std.proofs.lemmas.Bool.Decides.{nat_tests}
-use Rattle.guest_heap.specs.declared.block.Block.{Block}
+use Rattle.heap_blocks.specs.declared.block.Block.{Block}
 use Rattle.guest_heap.specs.Blocks.{Blocks, IsKept, low_end, high_end, Meets}
 use Rattle.guest_heap.specs.Entries.{Entries, FirstAt, LastAt}
 use Rattle.guest_heap.specs.States.{slot_of, beginning, shown, kept_at, either, IsPlaced, AreSound, FirstKept, LastKept}

@@ -2,7 +2,7 @@
 -- a block is the number of its start among the multiples of 16 of the heap region.
 use Rattle.std.specs.Prelude.{ℕ, ◌+◌, ◌-◌, ◌*◌, ◌/◌, ◌<◌, ◌≤◌, ◌≡◌, ◌==◌, ◌⊎◌, nat_le, Option, Some, None, List, map}
 use Rattle.std.specs.Prelude.{is_some, option_map, true, slice_get, if◌then◌else◌}
-use Rattle.guest_heap.specs.declared.block.Block.{Block}
+use Rattle.heap_blocks.specs.declared.block.Block.{Block}
 use Rattle.guest_heap.specs.Blocks.{Blocks, IsKept, IsPlace, low_end, high_end, volume_of}
 use Rattle.memory_map.specs.Regions.{heap_begin, heap_end}
 use Rattle.guest_heap.specs.Entries.{Entries}

@@ -43,7 +43,6 @@
 //! it looks at kept blocks only from there on, and forgets no more of this than a block that leaves the queue makes room for.
 #![tactic(auto)]
 
-mod block;
 mod bounds;
 mod entry;
 mod heap;
@@ -54,6 +53,6 @@ mod region;
 mod released;
 mod table;
 
-pub use block::{Block, Near, Place};
 pub use heap::Heap;
+pub use heap_blocks::{Block, Near, Place};
 pub use released::Released;

@@ -1,4 +1,4 @@
-use crate::block::Block;
+use heap_blocks::Block;
 
 /// What the release of an address did.
 #[derive(Clone, Copy)]

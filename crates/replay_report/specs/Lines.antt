@@ -8,10 +8,10 @@ use Rattle.guest_machine.specs.declared.status.Status.{Status}
 use Rattle.guest_machine.specs.declared.status.Status.TheVariants.{Running, Exited, Stopped}
 use Rattle.guest_machine.specs.declared.status.Stop.{Stop}
 use Rattle.guest_machine.specs.declared.status.Stop.TheVariants.{Jump as JumpStop, Break, Illegal, Misaligned}
-use Rattle.guest_heap.specs.declared.block.Block.{Block}
-use Rattle.guest_heap.specs.declared.block.Near.{Near as NearBlock}
-use Rattle.guest_heap.specs.declared.block.Place.{Place}
-use Rattle.guest_heap.specs.declared.block.Place.TheVariants.{Before, Inside, After}
+use Rattle.heap_blocks.specs.declared.block.Block.{Block}
+use Rattle.heap_blocks.specs.declared.block.Near.{Near as NearBlock}
+use Rattle.heap_blocks.specs.declared.block.Place.{Place}
+use Rattle.heap_blocks.specs.declared.block.Place.TheVariants.{Before, Inside, After}
 use Rattle.error_events.specs.Parameters.{parameter_text}
 use Rattle.error_events.specs.declared.parameter.Parameter.{Parameter}
 use Rattle.error_events.specs.declared.kind.Kind.{Kind}

@@ -1,13 +1,13 @@
 //! Places for new blocks.
 ghost use Rattle.std.specs.Prelude.{◌≡◌, ◌<◌, ◌≤◌, ◌+◌, ◌%◌, ◌^◌, ℕ, None};
 
-use crate::block::Block;
 use crate::bounds::{Bound, SizeClass, class_of, past};
 use crate::entry::Entry;
 use crate::heap::Heap;
 use crate::interval::high_end;
 use crate::region::{GREATEST_SIZE, HEAP_BEGIN, HEAP_END, aligned, slot_of};
 use call_stacks::Trace;
+use heap_blocks::Block;
 use std::alloc::{AllocError, Global};
 use std::rc::Rc;
 

@@ -3,9 +3,9 @@ ghost use Rattle.std.specs.Prelude.{◌≡◌, ◌≤◌, ℕ, None};
 ghost use Rattle.guest_heap.specs.Blocks.{near_of, high_end};
 ghost use Rattle.memory_map.specs.Regions.{heap_end};
 
-use crate::block::{Block, Near, Place};
 use crate::heap::Heap;
 use crate::region::{HEAP_BEGIN, HEAP_END, SLOTS};
+use heap_blocks::{Block, Near, Place};
 
 fn near_of(block: &Block, address: u32) -> Near
     requires { high_end block.now ≤ heap_end }

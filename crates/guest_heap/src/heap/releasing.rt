@@ -4,7 +4,6 @@ ghost use Rattle.guest_heap.specs.Blocks.{freed_by};
 ghost use Rattle.guest_heap.specs.Entries.{with_entry};
 ghost use Rattle.guest_heap.specs.Tables.{entries_of};
 
-use crate::block::Block;
 use crate::bounds::Opened;
 use crate::entry::Entry;
 use crate::heap::Heap;
@@ -12,6 +11,7 @@ use crate::region::{HEAP_BEGIN, SLOTS, aligned, slot_of};
 use crate::released::Released;
 use crate::table::Table;
 use call_stacks::Trace;
+use heap_blocks::Block;
 use std::alloc::{AllocError, Global};
 use std::rc::Rc;
 

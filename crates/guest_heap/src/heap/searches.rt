@@ -1,10 +1,10 @@
 //! Blocks found by their places.
 ghost use Rattle.std.specs.Prelude.{◌≡◌, ◌<◌, ◌≤◌, ◌+◌, ◌*◌, ◌==◌, ℕ, IsNone};
 
-use crate::block::Block;
 use crate::heap::Heap;
 use crate::interval::{high_end, low_end};
 use crate::region::{HEAP_BEGIN, HEAP_END, slot_of};
+use heap_blocks::Block;
 
 #[tactic(auto, unfolding(crate::specs::Heaps::live_in, crate::specs::Heaps::freed_in, crate::specs::Heaps::first_in))]
 impl Heap {
