@@ -157,7 +157,7 @@ fn a_machine_that_has_ended_rests(rt: HostRuntime) -> Result<(), Fail> {
     let machine = run(rt.alloc(), &[EXIT, ECALL], 2)?;
     let mut meter = Meter::new();
     if let Status::Exited(_) = machine.status() {
-        machine.rest(3, &mut meter);
+        machine.run(&setup, 3, &mut meter)?;
     }
     assert!(rt; meter.read() == 3);
     Ok(())
