@@ -41,5 +41,5 @@ pub rests : (g : Guest) (s : State) (setup : Setup) (n steps : ℕ) → n ≤ st
 rests g s setup n steps within halted h =
     let all : steps ≡ n + (steps - n) = omega (arith, within) in
     let now : is_running (pre s setup [] n).core.status ≡ false =
-        ap (λ core. is_running core.status) (sym h.core) ∙ halted in
+    ap (λ core. is_running core.status) (sym h.core) ∙ halted in
     subst (Holds g) (sym (ap (pre s setup []) all ∙ stays-for s setup n (steps - n) now)) h
