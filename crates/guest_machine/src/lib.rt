@@ -4,9 +4,9 @@
 //! A [`Machine`] holds, of each of the 2^32 addresses, a byte, whether it may be accessed, and which of its bits are undefined;
 //! the 32 registers with their undefined bits; pc; whether it runs; the frames of the calls that it is in; the blocks of the
 //! heap; how much of the input was read, of the output written, and how many heap calls were made; and the errors so far,
-//! counted by kind and trace. It is moved by [`Machine::step`] alone, one instruction at a time, ECALL included, or one call of a
-//! function of the heap that the setup names by its first address; between steps a range can be marked and a word poked. Once it is
-//! halted a step changes nothing, so that [`Machine::run`] carries none of them out.
+//! counted by kind and trace. It is moved by [`Machine::step`], one instruction, ECALL included, or one call of a function of the heap
+//! that the setup names by its first address, and by [`Machine::run`], many steps; between steps a range can be marked and a word poked.
+//! Once it is halted a step changes nothing, and `run` carries none out.
 //!
 //! # Public items
 //!
