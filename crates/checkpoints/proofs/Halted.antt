@@ -45,20 +45,6 @@ module _ (law : StaysHalted) (start : State) (setup : Setup) (marks : List Mark)
       ap (λ s. is_running s.core.status) (one-more j h)
       ∙ marked-halted (from + j) marks (pre start setup marks (from + j)) h
 
-  stays-there : (j : ℕ) → ((k : ℕ) → from ≤ k → k < from + j → marks_at k marks ≡ [])
-      → pre start setup marks (from + j) ≡ pre start setup marks from
-  stays-there zero none = ap (pre start setup marks) (omega arith)
-  stays-there (suc j) none =
-      one-more j (halted-later j) ∙ after-no_marks (from + j) marks (pre start setup marks (from + j))
-      (none (from + j) (omega arith) (omega arith))
-      ∙ stays-there j (λ k low high. none k low (omega arith))
-
-  pub rests : (to : ℕ) → from ≤ to → ((k : ℕ) → from ≤ k → k < to → marks_at k marks ≡ [])
-      → pre start setup marks to ≡ pre start setup marks from
-  rests to l none =
-      let more : to ≡ from + (to - from) = omega arith in
-      ap (pre start setup marks) more ∙ stays-there (to - from) (λ k low high. none k low (omega arith))
-
   pub halted-after : (k : ℕ) → from ≤ k → is_running (post start setup marks k).core.status ≡ false
   unfolding post
   halted-after k l =

@@ -9,3 +9,4 @@ pub mod HookSteps
 pub mod TestSteps
 pub mod Products
 pub mod Halted
+pub mod Running

@@ -4,9 +4,9 @@
 //! A [`Machine`] holds, of each of the 2^32 addresses, a byte, whether it may be accessed, and which of its bits are undefined;
 //! the 32 registers with their undefined bits; pc; whether it runs; the frames of the calls that it is in; the blocks of the
 //! heap; how much of the input was read, of the output written, and how many heap calls were made; and the errors so far,
-//! counted by kind and trace. It is moved by [`Machine::step`] alone, one instruction at a time, ECALL included, or one call of a
-//! function of the heap that the setup names by its first address; between steps a range can be marked and a word poked. Once it is
-//! halted a step changes nothing, so that [`Machine::rest`] makes any number of them at once.
+//! counted by kind and trace. It is moved by [`Machine::step`], one instruction, ECALL included, or one call of a function of the heap
+//! that the setup names by its first address, and by [`Machine::run`], many steps; between steps a range can be marked and a word poked.
+//! Once it is halted a step changes nothing, and `run` carries none out.
 //!
 //! # Public items
 //!
@@ -14,7 +14,7 @@
 //! |---|---|
 //! | [`Machine::start`] | the machine before the first step of an image |
 //! | [`Machine::step`] | the machine after one step, and the ranges whose bytes it took or wrote |
-//! | [`Machine::rest`] | nothing: it makes steps of a halted machine, which stays as it is, on the meter |
+//! | [`Machine::run`] | the machine many steps later |
 //! | [`Machine::mark`] | the machine with a range made inaccessible, undefined or defined |
 //! | [`Machine::poke_word`] | the machine with the four bytes at an address changed |
 //! | [`Machine::share`] | a copy, which later changes of the other don't reach |
@@ -28,7 +28,7 @@
 //! | [`Input::new`], [`Input::len`], [`Input::into_vec`] | the bytes that can be read, from a vector; how many; the vector again |
 //! | [`Input::push`], [`Input::pop`] | nothing: the input has one byte more, or one less, at its end |
 //! | [`Register::new`] | the register of a number below 32 |
-//! | [`Meter::new`], [`Meter::read`] | a count of steps, raised by `step` and `rest` alone |
+//! | [`Meter::new`], [`Meter::read`] | a count of steps, raised by `step` and `run` alone |
 //! | [`laws::keeps_words`], [`laws::keeps_input`], [`laws::keeps_heap`], [`laws::keeps_pokes`] | nothing: their contracts are laws of one step |
 //! | [`laws::reads_on`], [`laws::keeps_end`], [`laws::end_stays`], [`laws::stays_halted`] | likewise |
 //!

@@ -156,10 +156,8 @@ fn programs_end_and_go_on(rt: HostRuntime) -> Result<(), Fail> {
 fn a_machine_that_has_ended_rests(rt: HostRuntime) -> Result<(), Fail> {
     let machine = run(rt.alloc(), &[EXIT, ECALL], 2)?;
     let mut meter = Meter::new();
-    if let Status::Exited(_) = machine.status() {
-        machine.rest(3, &mut meter);
-    }
-    assert!(rt; meter.read() == 3);
+    let rested = machine.run(&setup(rt.alloc()), 3, &mut meter)?;
+    assert!(rt; meter.read() == 3 && matches!(rested.status(), Status::Exited(_)));
     Ok(())
 }
 

@@ -1,10 +1,11 @@
 //! One step.
-ghost use Rattle.std.specs.Prelude.{◌≡◌, ◌+◌, ◌&&◌, ◌≤◌, min, length, nat_lt, false, Option, Some, None, IfOk, IfSome, IfNone, OnErr, OnOk};
+ghost use Rattle.std.specs.Prelude.{◌≡◌, ◌+◌, ◌&&◌, ◌≤◌, [], min, length, nat_lt, false, Option, Some, None, IfOk, IfSome, IfNone, OnErr, OnOk};
 ghost use Rattle.guest_machine.specs.State.{State};
 ghost use Rattle.guest_machine.specs.Errors.{fetch_undef};
 ghost use Rattle.guest_machine.specs.Instructions.{row_of};
 ghost use Rattle.guest_machine.specs.Exec.{no_intake, nothing, is_running, is_aligned, called_here, fetches, unfetched, jump_fault};
 ghost use Rattle.guest_machine.specs.Exec.{exec, touched_of, IsFetched};
+ghost use Rattle.guest_machine.specs.Run.{pre};
 ghost use Rattle.guest_machine.specs.Shows.{core_of, bytes_of, Holds, Shows, has_raised};
 ghost use Rattle.guest_machine.specs.Doing.{used_of, uses_by, touched_by, Does, DoesRow, DoesRound, DoesStep};
 
@@ -137,12 +138,20 @@ impl Guest {
         Ok(())
     }
 
+    /// Whether it runs.
+    #[inline(always)]
+    fn runs(&self) -> bool
+        ensures { result ≡ is_running (core_of self.now).status }
+    {
+        matches!(self.status, Status::Running)
+    }
+
     /// Whether it runs, and pc is a multiple of 4.
     #[inline(always)]
     fn is_ready(&self) -> bool
         ensures { result ≡ (is_running (core_of self.now).status && is_aligned (core_of self.now).pc) }
     {
-        matches!(self.status, Status::Running) && self.pc % 4 == 0
+        self.runs() && self.pc % 4 == 0
     }
 
     /// The function of the heap that is called by name.
@@ -270,6 +279,19 @@ impl Guest {
         self.begin_step();
         self.perform(setup)
     }
+
+    /// So many steps; once it is halted they leave it as it is.
+    fn run(&mut self, setup: &Setup, steps: u32) -> Result<(), AllocError>
+        ensures { OnOk result ((s : State) → Holds self.old s → Holds self.new (pre s setup.now [] steps)) }
+    {
+        for _step in 0..steps {
+            if !self.runs() {
+                return Ok(());
+            }
+            let _touched = self.step(setup)?;
+        }
+        Ok(())
+    }
 }
 
 impl Machine {
@@ -292,14 +314,19 @@ impl Machine {
         Ok((machine, touched))
     }
 
-    /// Makes so many steps of a machine, which must be halted: a step then leaves it as it is, touches nothing, and raises the meter
-    /// by one ([`laws::stays_halted`](crate::laws::stays_halted)). So the meter rises by what as many calls of [`Machine::step`] would
-    /// raise it by, though none is carried out.
-    pub fn rest(&self, steps: u32, meter: &mut Meter)
-        requires halted { (s : State) → Shows self.now s → is_running s.core.status ≡ false }
+    /// So many steps. The meter rises by as many, also where the machine halts on the way: a step of a halted one leaves it as it is
+    /// ([`laws::stays_halted`](crate::laws::stays_halted)), so that none is carried out. A machine for which memory fails is dropped, and the
+    /// meter stays.
+    #[tactic(auto, unfolding(crate::specs::Shows::Shows))]
+    pub fn run(self, setup: &Setup, steps: u32, meter: &mut Meter) -> Result<Machine, AllocError>
         requires metered { meter.old ≤ u64.MAX }
-        ensures { meter.new ≡ min (meter.old + steps) u64.MAX }
+        ensures shows { IfOk result (λ m. (s : State) → Shows self s → Shows m (pre s setup.now [] steps)) }
+        ensures meter { OnOk result (meter.new ≡ min (meter.old + steps) u64.MAX) }
+        ensures unmoved { OnErr result (meter.new ≡ meter.old) }
     {
+        let mut machine = self;
+        machine.guest.run(setup, steps)?;
         meter.rise_by(steps);
+        Ok(machine)
     }
 }
