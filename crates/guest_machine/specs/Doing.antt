@@ -60,6 +60,13 @@ pub record Changes (old new : Guest) (made : Core) (stored : ℕ → ℕ) : Type
   pub progress : new.progress ≡ old.progress
   pub noted : new.noted ≡ old.noted
 
+-- and these errors are noted too
+pub record Reports (old new : Guest) (made : Core) (stored : ℕ → ℕ) (events : List Event) : Type 0 where
+  pub core : core_of new ≡ made
+  pub bytes : bytes_of new ≡ stored
+  pub progress : new.progress ≡ old.progress
+  pub noted : Raises old new events
+
 -- new is old after this effect, with these uses; a heap call is counted, and so is what is given of the input
 pub record Does (old new : Guest) (effect : Effect) (uses : Uses) (heap : Bool) (intake : Intake) : Type 0 where
   pub core : core_of new ≡ effect.core

@@ -22,7 +22,7 @@ pub struct Setup {
 }
 
 /// A range that is made inaccessible, undefined or defined just before a step.
-#[derive(Clone, Copy, Debug, PartialEq, Eq)]
+#[derive(Clone, Copy)]
 pub struct Mark {
     /// The number of the step, from 0.
     pub step: u32,
@@ -35,7 +35,7 @@ pub struct Mark {
 }
 
 /// The addresses whose bytes a step took or wrote.
-#[derive(Clone, Copy, Debug, PartialEq, Eq)]
+#[derive(Clone, Copy, PartialEq, Eq)]
 pub struct Touched {
     /// The word at pc, where it was taken.
     pub fetch: Option<Span>,

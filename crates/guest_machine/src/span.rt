@@ -1,5 +1,5 @@
 /// A range of addresses: `len` bytes from `start` on, modulo 2^32.
-#[derive(Clone, Copy, Debug, PartialEq, Eq)]
+#[derive(Clone, Copy, PartialEq, Eq)]
 pub struct Span {
     /// The first address.
     pub start: u32,

@@ -1,5 +1,5 @@
 /// Why a run stopped. pc stays at the instruction.
-#[derive(Clone, Copy, Debug, PartialEq, Eq)]
+#[derive(Clone, Copy, PartialEq, Eq)]
 pub enum Stop {
     /// A byte of the word at pc is inaccessible.
     Jump,
@@ -12,7 +12,7 @@ pub enum Stop {
 }
 
 /// Whether a machine runs. A stopped or exited one is its own successor.
-#[derive(Clone, Copy, Debug, PartialEq, Eq)]
+#[derive(Clone, Copy, PartialEq, Eq)]
 pub enum Status {
     /// It goes on.
     Running,

@@ -1,6 +1,7 @@
 -- Marks from one place on, set one by one.
-use Rattle.std.proofs.Common.{◌≡◌, ◌≢◌, ℕ, Bool, true, false, refl, ap, sym, ◌∙◌, ◌+◌, ◌≤◌, inl, inr, cond, arith}
-use Rattle.std.proofs.lemmas.Bool.{cases_Bool, cases_eq}
+use Rattle.std.proofs.Common.{◌≡◌, ◌≢◌, ℕ, Bool, true, false, refl, ap, sym, ◌∙◌, ◌+◌, ◌<◌, ◌≤◌, inl, inr, cond, arith}
+use Rattle.std.proofs.Common.{subst}
+use Rattle.std.proofs.lemmas.Bool.{cases_Bool, cases_eq, cases_lt}
 use Rattle.std.proofs.lemmas.Bool.Decides.{nat_tests}
 use Rattle.shadow_memory.specs.Marks.{mark_of}
 use Rattle.shadow_memory.specs.Places.{Agree, is_between}
@@ -64,4 +65,22 @@ pub between-joins : (from at next k x y : ℕ) → from ≤ at → at ≤ next
 between-joins from at next k x y order more = elim (cases_Bool (is_between at next k)) [
   | inl h ↦ join-true _ _ _ x y h (whole-between from at next k order h)
   | inr h ↦ join-false _ _ _ x y h (outside-between from at next k order more h)
+]
+
+-- what holds at each place from one up to another, and from there on
+pub holds-joins : (P : ℕ → Type 0) (from at next : ℕ) → ((k : ℕ) → from ≤ k → k < at → P k)
+    → ((k : ℕ) → at ≤ k → k < next → P k) → (k : ℕ) → from ≤ k → k < next → P k
+holds-joins P from at next before here k start below = elim (cases_lt k at) [
+  | inl early ↦ before k start early
+  | inr late ↦ here k late below
+]
+
+-- and at the one after them
+pub holds-more : (P : ℕ → Type 0) (from at : ℕ) → ((k : ℕ) → from ≤ k → k < at → P k) → P at
+    → (k : ℕ) → from ≤ k → k < at + 1 → P k
+holds-more P from at before here k start below = elim (cases_lt k at) [
+  | inl early ↦ before k start early
+  | inr late ↦
+      let same : at ≡ k = omega arith in
+      subst P same here
 ]

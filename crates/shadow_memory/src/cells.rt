@@ -6,7 +6,7 @@ ghost use Rattle.shadow_memory.specs.Shadows.{is_bad};
 
 /// The byte at an address, whether it may be accessed, and which of its bits are undefined (a set bit is undefined). An
 /// inaccessible byte has no undefined bits.
-#[derive(Clone, Copy, Debug, PartialEq, Eq)]
+#[derive(Clone, Copy, PartialEq, Eq)]
 pub struct Cell {
     pub byte: u8,
     pub accessible: bool,
@@ -15,7 +15,7 @@ pub struct Cell {
 
 /// What a range of bytes is made (Memcheck manual, section 4.7, client requests `VALGRIND_MAKE_MEM_NOACCESS`, `_UNDEFINED` and
 /// `_DEFINED`).
-#[derive(Clone, Copy, Debug, PartialEq, Eq)]
+#[derive(Clone, Copy, PartialEq, Eq)]
 pub enum RangeKind {
     /// Inaccessible.
     NoAccess,
@@ -26,7 +26,7 @@ pub enum RangeKind {
 }
 
 /// The bytes of a load as a number, its undefined bits, and the first inaccessible address among them.
-#[derive(Clone, Copy, Debug, PartialEq, Eq)]
+#[derive(Clone, Copy)]
 pub struct Loaded {
     pub value: u32,
     pub undef: u32,
@@ -34,14 +34,14 @@ pub struct Loaded {
 }
 
 /// An address that is inaccessible or has an undefined bit.
-#[derive(Clone, Copy, Debug, PartialEq, Eq)]
+#[derive(Clone, Copy, PartialEq, Eq)]
 pub struct Bad {
     pub addr: u32,
     pub accessible: bool,
 }
 
 /// What is known of a byte beside its value.
-#[derive(Clone, Copy, Debug, PartialEq, Eq)]
+#[derive(Clone, Copy, PartialEq, Eq)]
 pub(crate) struct ByteShadow {
     pub(crate) accessible: bool,
     pub(crate) undef: u8,

@@ -12,7 +12,7 @@ ghost use Rattle.guest_machine.specs.Calls.{answered};
 ghost use Rattle.guest_machine.specs.Exec.{work_uses, heap_uses, calloc_uses, taken_from, written_to};
 ghost use Rattle.guest_machine.specs.Spans.{span_at};
 ghost use Rattle.guest_machine.specs.Shows.{core_of, bytes_of};
-ghost use Rattle.guest_machine.specs.Doing.{Raises, Changes, used_of, used_in_move, DoesWork, DoesHeapCall};
+ghost use Rattle.guest_machine.specs.Doing.{Changes, Reports, used_of, used_in_move, DoesWork, DoesHeapCall};
 
 use crate::environment_call::EnvironmentCall;
 use crate::machine::Guest;
@@ -166,10 +166,8 @@ impl Guest {
     /// Frees the block at an address, or notes that there is none.
     #[tactic(auto, unfolding(crate::specs::HeapCalls::freed, crate::specs::HeapCalls::free_errors, crate::specs::Doing::note_events))]
     fn free(&mut self, p: u32, volume: u32) -> Result<(), AllocError>
-        ensures core { OnOk result (core_of self.new ≡ answered (freed (core_of self.old) (released_here (core_of self.old) p) volume) 0) }
-        ensures bytes { OnOk result (bytes_of self.new ≡ bytes_of self.old) }
-        ensures progress { OnOk result (self.new.progress ≡ self.old.progress) }
-        ensures groups { OnOk result (Raises self.old self.new (free_errors (core_of self.old) (released_here (core_of self.old) p) p)) }
+        ensures { OnOk result (Reports self.old self.new (answered (freed (core_of self.old) (released_here (core_of self.old) p) volume) 0)
+            (bytes_of self.old) (free_errors (core_of self.old) (released_here (core_of self.old) p) p)) }
     {
         if self.release(p, volume)? {
             self.raise_about(Kind::Free, Some(p))?;
@@ -239,11 +237,11 @@ impl Guest {
     /// Gives what is at an address another size.
     #[tactic(auto, unfolding(crate::specs::HeapCalls::resizing, crate::specs::HeapCalls::resized, crate::specs::HeapCalls::resize_errors, crate::specs::Doing::note_events))]
     fn resize(&mut self, p: u32, size: u32, redzone: u32, volume: u32) -> Result<Used, AllocError>
-        ensures core { OnOk result (core_of self.new ≡ resized (core_of self.old) p size redzone volume (resizing (core_of self.old).blocks p size redzone)) }
         ensures uses { IfOk result (λ used. used ≡ used_in_move (resizing (core_of self.old).blocks p size redzone) p size) }
-        ensures bytes { IfOk result (λ used. bytes_of self.new ≡ written_to (bytes_of self.old) used.writes (taken_from (bytes_of self.old) used.reads)) }
-        ensures progress { OnOk result (self.new.progress ≡ self.old.progress) }
-        ensures groups { OnOk result (Raises self.old self.new (resize_errors (core_of self.old) p (resizing (core_of self.old).blocks p size redzone))) }
+        ensures reports { IfOk result (λ used. Reports self.old self.new
+            (resized (core_of self.old) p size redzone volume (resizing (core_of self.old).blocks p size redzone))
+            (written_to (bytes_of self.old) used.writes (taken_from (bytes_of self.old) used.reads))
+            (resize_errors (core_of self.old) p (resizing (core_of self.old).blocks p size redzone))) }
     {
         if p == 0 {
             self.give_block(size, redzone)?;

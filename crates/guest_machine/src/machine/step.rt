@@ -61,8 +61,7 @@ impl Guest {
         used: &mut Used,
     ) -> Result<(), AllocError>
         requires { used.old ≡ used_of nothing }
-        ensures does { OnOk result (DoesRow self.old self.new row setup.now) }
-        ensures uses { OnOk result (used.new ≡ used_of (uses_by self.old row setup.now)) }
+        ensures { OnOk result (DoesRow self.old self.new row setup.now × (used.new ≡ used_of (uses_by self.old row setup.now))) }
     {
         let Some(instruction) = row else {
             self.stop(Stop::Illegal);
