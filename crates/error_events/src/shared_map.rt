@@ -77,7 +77,8 @@ fn insert(shared: &mut Rc<IndexMap<Key, Note>>, key: &Key, note: &Note) -> Resul
     ensures ok { OnOk result (shared.new.value.entries ≡ shared.old.value.entries ++ (key.now, note.now) ∷ []) }
     ensures err { OnErr result (shared.new.value.entries ≡ shared.old.value.entries) }
 {
-    put(Rc::make_mut(shared)?, key, note)
+    let own = Rc::make_mut(shared)?;
+    put(own, key, note)
 }
 
 impl SharedMap {
