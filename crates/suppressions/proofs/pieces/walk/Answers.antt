@@ -91,3 +91,15 @@ loop-place-smaller g c =
     let within : c.in-Some.from < length c.args.items.now = omega arith in
     rw c.in-Some.is
     (falls_back (length c.args.items.now) (length c.args.pieces.now) c.loop-place.at c.in-Some.star c.in-Some.from within)
+
+pub overflow_add-at : goal.overflow_add-at
+overflow_add-at g c =
+    let star = c.has_star.ensures.star c.if-has_star.true in
+    let within = stands_within c.args.pieces.now c.loop-place.at star.0 star.1 in
+    omega arith
+
+pub overflow_add-at-then-has_taker : goal.overflow_add-at-then-has_taker
+overflow_add-at-then-has_taker g c =
+    let taker = c.has_taker.ensures.0 c.if-has_taker.true in
+    let within = stands_within c.args.pieces.now c.loop-place.at taker.0 taker.1 in
+    omega arith
