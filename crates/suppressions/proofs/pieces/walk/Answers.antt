@@ -89,8 +89,9 @@ loop-place-smaller g c =
     c.loop-place.at c.loop-place.place c.loop-place.back c.loop-place.invariant.resume in
     let from : c.in-Some.from ≤ c.loop-place.place = rw c.in-Some.is at before in
     let within : c.in-Some.from < length c.args.items.now = omega arith in
-    rw c.in-Some.is
-    (falls_back (length c.args.items.now) (length c.args.pieces.now) c.loop-place.at c.in-Some.star c.in-Some.from within)
+    let n = length c.args.items.now in
+    let m = length c.args.pieces.now in
+    rw c.in-Some.is (falls_back n m c.loop-place.at c.in-Some.star c.in-Some.from within)
 
 pub overflow_add-at : goal.overflow_add-at
 overflow_add-at g c =
