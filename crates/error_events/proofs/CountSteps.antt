@@ -8,6 +8,7 @@ use Rattle.std.proofs.lemmas.Option.{none-some, slice_get-get_or}
 use Rattle.error_events.specs.Counts.{raised_at, in_chunks, AreFull, Chunk}
 use Rattle.error_events.specs.CountLists.{counts_of}
 use Rattle.error_events.specs.declared.counts.Counts.{Counts}
+use Rattle.error_events.proofs.Places.{get-before, get-behind}
 
 full-first : (c : Chunk) (cs : List Chunk) → AreFull (c ∷ cs) → length c.value.items ≡ 256
 full-first c cs h = cc
@@ -57,17 +58,7 @@ chunks-append [] c = append-nil c.value.items
 chunks-append (x ∷ xs) c =
     ap (λ l. x.value.items ++ l) (chunks-append xs c) ∙ sym (append_assoc x.value.items (in_chunks xs) c.value.items)
 
--- a place in one of two lists
-get-before : (xs ys : List ℕ) (i : ℕ) → i < length xs → slice_get (xs ++ ys) i ≡ slice_get xs i
-get-before [] ys i h = absurd (omega arith)
-get-before (x ∷ xs) ys zero h = refl
-get-before (x ∷ xs) ys (suc i) h = let less : i < length xs = omega arith in get-before xs ys i less
-
-get-behind : (xs ys : List ℕ) (i j : ℕ) → j ≡ length xs + i → slice_get (xs ++ ys) j ≡ slice_get ys i
-get-behind [] ys i j e = let same : j ≡ i = omega arith in ap (slice_get ys) same
-get-behind (x ∷ xs) ys i zero e = absurd (omega arith)
-get-behind (x ∷ xs) ys i (suc j) e = let less : j ≡ length xs + i = omega arith in get-behind xs ys i j less
-
+-- a place in one of two lists, raised
 raised-before : (xs ys : List ℕ) (i by : ℕ) → i < length xs → raised_at (xs ++ ys) i by ≡ raised_at xs i by ++ ys
 raised-before [] ys i by h = absurd (omega arith)
 raised-before (x ∷ xs) ys zero by h = refl

@@ -1,14 +1,13 @@
 -- Entries of a map: with a key that is new, and as a clone.
 use Rattle.std.proofs.Common.{◌≡◌, ℕ, ◌+◌, suc, length, nat_lt, not, arith, List, [], ◌∷◌, ◌++◌, Bool, true, false}
 use Rattle.std.proofs.Common.{cond, if◌then◌else◌, Option, Some, None, Result, Ok}
-use Rattle.std.proofs.Common.{Err, map, position, refl, ap, ap₂, subst, sym, ◌∙◌, ◌⊎◌, inl, inr}
-use Rattle.std.specs.Prelude.{MatchResult, IfOk, IsOk, OnErr}
+use Rattle.std.proofs.Common.{map, position, refl, ap, ap₂, subst, sym, ◌∙◌, ◌⊎◌, inl, inr}
+use Rattle.std.specs.Prelude.{IsOk}
 use Rattle.std.specs.Option.{option_map}
 use Rattle.std.specs.List.{AllZip, position_or_len}
 use Rattle.std.proofs.lemmas.Bool.Decides.{nat_tests}
 use Rattle.std.specs.HashMap.{HashMap, IsClone}
 use Rattle.indexmap.specs.IndexMap.{insert_entry}
-use Rattle.error_events.specs.Entries.{IsSameClone}
 
 -- a place was found
 found-not-none : {X : Type 0} (o : Option ℕ) (f : ℕ → X) → option_map f o ≡ None → o ≡ None
@@ -58,6 +57,10 @@ insert-absent eq k v (e ∷ es) h =
     ap (λ b. if b then (e.0, v) ∷ es else e ∷ insert_entry eq es k v) (none-first (eq k) e.0 (map (λ x. x.0) es) h)
     ∙ ap (λ xs. e ∷ xs) (insert-absent eq k v es (none-later (eq k) e.0 (map (λ x. x.0) es) h))
 
+-- a clone is the same value
+abbrev pub IsSameClone : {X : Type 0} → (X → X → Type 0) → Type 0
+IsSameClone {X} is_clone = (x y : X) → is_clone x y → y ≡ x
+
 pub clone-entries : {K V : Type 0} (C : K → K → Type 0) (D : V → V → Type 0) → IsSameClone C → IsSameClone D
     → (es fs : List (K × V)) → AllZip (λ p q. C p.0 q.0 × D p.1 q.1) es fs → fs ≡ es
 clone-entries C D c d [] [] h = refl
@@ -74,16 +77,3 @@ own-entries C D c d m own (inr h) = clone-entries C D c d m.entries own.entries 
 
 pub is-ok : {T E : Type 0} (r : Result T E) (x : T) → r ≡ Ok x → IsOk r
 is-ok r x h = subst IsOk (sym h) refl
-
-pub at-err : {T E : Type 0} (r : Result T E) (e : E) (P : Type 0) → r ≡ Err e → OnErr r P → P
-at-err r e P h on = subst (λ x. OnErr x P) h on
-
-pub on-err : {T E : Type 0} (r : Result T E) (P : Type 0) → P → OnErr r P
-on-err (Ok x) P h = tt
-on-err (Err e) P h = h
-
-pub clone-result : {K V S E : Type 0} (C : K → K → Type 0) (D : V → V → Type 0) → IsSameClone C → IsSameClone D
-    → (m : HashMap K V S) (r : Result (HashMap K V S) E) (Q : E → Type 0)
-    → MatchResult r (λ n. IsClone C D m n) Q → IfOk r (λ n. n.entries ≡ m.entries)
-clone-result C D c d m (Ok n) Q h = clone-entries C D c d m.entries n.entries h
-clone-result C D c d m (Err e) Q h = tt

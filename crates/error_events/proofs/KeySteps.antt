@@ -18,6 +18,7 @@ use Rattle.error_events.specs.declared.parameter.Parameter.TheVariants.{ExitGrou
 use Rattle.error_events.specs.declared.parameter.Parameter.TheVariants.{CallocMembers, CallocSize, ReallocPointer}
 use Rattle.error_events.specs.declared.parameter.Parameter.TheVariants.{ReallocSize}
 use Rattle.error_events.specs.contracts.event.KeyPartialEq.TheImpl.{ghosts}
+use Rattle.error_events.proofs.SameKeys.{same-symm}
 use Rattle.error_events.specs.contracts.kind.KindPartialEq.TheImpl.{ghosts as of_kinds}
 use Rattle.error_events.specs.contracts.kind.ParameterFaultPartialEq.TheImpl.{ghosts as of_faults}
 use Rattle.error_events.specs.contracts.parameter.ParameterPartialEq.TheImpl.{ghosts as of_parameters}
@@ -99,3 +100,6 @@ filled-eq (x ∷ xs) (y ∷ ys) m n h =
 -- `==` of keys
 pub key-eq : (a b : Key) → ghosts.eq a b ≡ (same_kind a.kind b.kind && same_trace a.trace b.trace)
 key-eq a b = ap₂ (λ x y. x && y) (kind-eq a.kind b.kind) (filled-eq a.trace b.trace _ _ (λ e. ap (λ n. 24 - n) e))
+
+pub key-flips : (a b : Key) → ghosts.eq a b ≡ ghosts.eq b a
+key-flips a b = key-eq a b ∙ same-symm a.kind b.kind a.trace b.trace ∙ sym (key-eq b a)

@@ -4,6 +4,7 @@ pub mod GroupSteps
 pub mod EntrySteps
 pub mod LayerSteps
 pub mod ApartSteps
+pub mod Places
 pub mod CountSteps
 pub mod ShownSteps
 pub mod AddSteps

@@ -1,5 +1,6 @@
 -- Errors and groups of one kind and one trace.
-use Rattle.std.proofs.Common.{◌≡◌, ℕ, ◌==◌, List, Bool, true, false, ◌&&◌, ◌||◌, refl, ap, ap₂, sym, subst, ◌∙◌, arith}
+use Rattle.std.proofs.Common.{◌≡◌, ℕ, ◌==◌, List, [], ◌∷◌, Option, Some, None, Bool, true, false, ◌&&◌, ◌||◌}
+use Rattle.std.proofs.Common.{if◌then◌else◌, refl, ap, ap₂, sym, subst, ◌∙◌, arith}
 use Rattle.std.specs.Str.{bytes_eq}
 use Rattle.std.proofs.lemmas.Bool.Decides.{nat_tests}
 use Rattle.std.proofs.lemmas.Slice.Eq.{bytes_eq-Decides}
@@ -59,24 +60,41 @@ number-same a b h = grind (arith, nat_tests)
 number-refl : (a : ℕ) → (a == a) ≡ true
 number-refl a = grind (arith, nat_tests)
 
+parameters : List Parameter
+parameters =
+    SyscallNumber ∷ ReadFd ∷ ReadBuffer ∷ ReadCount ∷ WriteFd
+    ∷ WriteBuffer ∷ WriteCount ∷ ExitStatus ∷ ExitGroupStatus ∷ MallocSize
+    ∷ FreePointer ∷ CallocMembers ∷ CallocSize ∷ ReallocPointer ∷ ReallocSize ∷ []
+
+-- the first of some parameters that has a text
+named_by : List ℕ → List Parameter → Option Parameter
+named_by text [] = None
+named_by text (p ∷ ps) = if bytes_eq text (parameter_text p) then Some p else named_by text ps
+
 -- parameters have texts of their own
+named : (p : Parameter) → named_by (parameter_text p) parameters ≡ Some p
+unfolding named_by parameters
+named SyscallNumber = refl
+named ReadFd = refl
+named ReadBuffer = refl
+named ReadCount = refl
+named WriteFd = refl
+named WriteBuffer = refl
+named WriteCount = refl
+named ExitStatus = refl
+named ExitGroupStatus = refl
+named MallocSize = refl
+named FreePointer = refl
+named CallocMembers = refl
+named CallocSize = refl
+named ReallocPointer = refl
+named ReallocSize = refl
+
 parameter-same : (p q : Parameter) → bytes_eq (parameter_text p) (parameter_text q) ≡ true → p ≡ q
-parameter-same SyscallNumber SyscallNumber h = refl
-parameter-same ReadFd ReadFd h = refl
-parameter-same ReadBuffer ReadBuffer h = refl
-parameter-same ReadCount ReadCount h = refl
-parameter-same WriteFd WriteFd h = refl
-parameter-same WriteBuffer WriteBuffer h = refl
-parameter-same WriteCount WriteCount h = refl
-parameter-same ExitStatus ExitStatus h = refl
-parameter-same ExitGroupStatus ExitGroupStatus h = refl
-parameter-same MallocSize MallocSize h = refl
-parameter-same FreePointer FreePointer h = refl
-parameter-same CallocMembers CallocMembers h = refl
-parameter-same CallocSize CallocSize h = refl
-parameter-same ReallocPointer ReallocPointer h = refl
-parameter-same ReallocSize ReallocSize h = refl
-parameter-same _ _ h = cc
+parameter-same p q h =
+    let texts : parameter_text p ≡ parameter_text q = (bytes_eq-Decides (parameter_text p) (parameter_text q)).0 h in
+    let both : Some p ≡ Some q = sym (named p) ∙ ap (λ text. named_by text parameters) texts ∙ named q in
+    cc
 
 parameter-refl : (p : Parameter) → bytes_eq (parameter_text p) (parameter_text p) ≡ true
 parameter-refl p = (bytes_eq-Decides (parameter_text p) (parameter_text p)).1 refl

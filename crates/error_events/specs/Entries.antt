@@ -11,10 +11,6 @@ abbrev pub entries_of : {K V : Type 0} → Option (Rc (IndexMap K V (BuildHasher
 entries_of None = []
 entries_of (Some shared) = shared.value.entries
 
--- a clone is the same value
-abbrev pub IsSameClone : {X : Type 0} → (X → X → Type 0) → Type 0
-IsSameClone {X} is_clone = (x y : X) → is_clone x y → y ≡ x
-
 -- the keys of some entries are not among those of others
 unfoldable pub AreNew : {K V : Type 0} → (K → K → Bool) → List (K × V) → List (K × V) → Type 0
 AreNew eq old [] = Unit {0}

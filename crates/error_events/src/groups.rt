@@ -13,7 +13,7 @@ use std::alloc::{AllocError, Global};
 /// Errors counted by kind and trace, in order of first occurrence. Contracts see the list of the groups, `groups_of`.
 #[derive(Drop)]
 pub struct Groups {
-    known: LayeredMap<Key, Note>,
+    known: LayeredMap,
     counts: Counts,
     ghost matched: { length known ≡ length (counts_of counts) },
 }
@@ -115,7 +115,7 @@ impl Groups {
         ensures counts_err { OnErr result (counts_of self.new.counts ≡ counts_of self.old.counts) }
     {
         self.counts.make_room()?;
-        self.known.push(self.counts.allocator(), key, note)?;
+        self.known.push(self.counts.allocator(), &key, &note)?;
         self.counts.push(count);
         Ok(())
     }

@@ -1,7 +1,7 @@
 use crate::parameter::Parameter;
 
 /// What is wrong with a parameter of a call (Memcheck manual, section 4.2.3).
-#[derive(Clone, Copy, Debug, PartialEq, Eq, Hash)]
+#[derive(Clone, Copy, PartialEq, Eq, Hash)]
 pub enum ParameterFault {
     /// A register has an undefined bit.
     Contains,
@@ -12,7 +12,7 @@ pub enum ParameterFault {
 }
 
 /// What an error is (Memcheck manual, section 4.2). Each kind has one text in a report.
-#[derive(Clone, Copy, Debug, PartialEq, Eq, Hash)]
+#[derive(Clone, Copy, PartialEq, Eq, Hash)]
 pub enum Kind {
     /// A read, of so many bytes, of which one may not be accessed.
     Read(u8),

@@ -3,39 +3,38 @@
 //! can be halved. Copies share each map.
 ghost use Rattle.std.specs.Prelude.{◌≡◌, ◌≤◌, ◌<◌, ◌^◌, ◌∷◌, [], ◌++◌, length, map, position, slice_get, take, OnOk, OnErr, IfOk};
 ghost use Rattle.std.specs.List.{flat_map};
-ghost use Rattle.error_events.specs.Entries.{AreNew, IsSameClone};
+ghost use Rattle.error_events.specs.Entries.{AreNew};
 ghost use Rattle.error_events.specs.Layers.{AreApart, entries_in};
 
+use crate::event::{Key, Note};
 use crate::shared_map::SharedMap;
 use std::alloc::{AllocError, Global};
-use std::hash::Hash;
 use std::marker::Model;
 
 /// The maps, oldest entries first. Contracts see the list of all entries.
 #[derive(Drop)]
-pub(crate) struct Layers<K: Eq + Hash, V> {
-    maps: Vec<SharedMap<K, V>>,
+pub(crate) struct Layers {
+    maps: Vec<SharedMap>,
     len: usize,
 }
 
-impl<K: Eq + Hash, V> Model for Layers<K, V> {
+impl Model for Layers {
     ghost use Rattle.std.specs.Prelude.{List, ◌≡◌, length};
     ghost use Rattle.error_events.specs.Layers.{AreApart, entries_in};
+    ghost use Rattle.error_events.specs.declared.event.Key.{Key};
+    ghost use Rattle.error_events.specs.declared.event.Note.{Note};
 
-    ghost Value = { List (K × V) };
+    ghost Value = { List (Key × Note) };
 
     ghost view = { λ layers. entries_in layers.maps.items };
 
-    ghost invariant = { λ layers. AreApart K.eq layers.maps.items × (layers.len ≡ length (entries_in layers.maps.items)) };
+    ghost invariant = { λ layers. AreApart ⟦<Key as PartialEq>⟧.eq layers.maps.items × (layers.len ≡ length (entries_in layers.maps.items)) };
 }
 
 /// The index of a key among the entries of some maps.
-fn position_in<K: Eq + Hash + Copy + Drop, V: Copy + Drop>(
-    maps: &[SharedMap<K, V>],
-    key: &K,
-) -> Option<usize>
+fn position_in(maps: &[SharedMap], key: &Key) -> Option<usize>
     requires { length (entries_in maps.now) < 2 ^ 64 }
-    ensures { result ≡ position (K.eq key.now) (map (λ e. e.0) (entries_in maps.now)) }
+    ensures { result ≡ position (⟦<Key as PartialEq>⟧.eq key.now) (map (λ e. e.0) (entries_in maps.now)) }
 {
     let (oldest, later) = maps.split_first()?;
     match oldest.position(key) {
@@ -48,10 +47,7 @@ fn position_in<K: Eq + Hash + Copy + Drop, V: Copy + Drop>(
 }
 
 /// The entry at an index among those of some maps.
-fn entry_in<K: Eq + Hash + Copy + Drop, V: Copy + Drop>(
-    maps: &[SharedMap<K, V>],
-    index: usize,
-) -> Option<(K, V)>
+fn entry_in(maps: &[SharedMap], index: usize) -> Option<(Key, Note)>
     ensures { result ≡ slice_get (entries_in maps.now) index }
 {
     let (oldest, later) = maps.split_first()?;
@@ -64,17 +60,15 @@ fn entry_in<K: Eq + Hash + Copy + Drop, V: Copy + Drop>(
 }
 
 /// How many of some maps stay as a new one comes, and the map that takes up the others and the new one's entries.
-fn taken_up<K: Eq + Hash + Copy + Drop, V: Copy + Drop>(
+fn taken_up(
     alloc: Global,
-    maps: &[SharedMap<K, V>],
-    young: SharedMap<K, V>,
-) -> Result<(usize, SharedMap<K, V>), AllocError>
-    requires keys { IsSameClone K.is_clone }
-    requires values { IsSameClone V.is_clone }
-    requires apart { AreApart K.eq (maps.now ++ young ∷ []) }
+    maps: &[SharedMap],
+    young: SharedMap,
+) -> Result<(usize, SharedMap), AllocError>
+    requires { AreApart ⟦<Key as PartialEq>⟧.eq (maps.now ++ young ∷ []) }
     ensures count { IfOk result (λ r. r.0 ≤ length maps.now) }
     ensures entries { IfOk result (λ r. entries_in (take r.0 maps.now ++ r.1 ∷ []) ≡ entries_in (maps.now ++ young ∷ [])) }
-    ensures apart { IfOk result (λ r. AreApart K.eq (take r.0 maps.now ++ r.1 ∷ [])) }
+    ensures apart { IfOk result (λ r. AreApart ⟦<Key as PartialEq>⟧.eq (take r.0 maps.now ++ r.1 ∷ [])) }
 {
     match maps.split_last() {
         Some((last, before)) if last.len() / 2 < young.len() => {
@@ -86,15 +80,9 @@ fn taken_up<K: Eq + Hash + Copy + Drop, V: Copy + Drop>(
 }
 
 /// Puts a new map behind others. It takes up the smaller ones before it.
-fn put_behind<K: Eq + Hash + Copy + Drop, V: Copy + Drop>(
-    alloc: Global,
-    maps: &mut Vec<SharedMap<K, V>>,
-    young: SharedMap<K, V>,
-) -> Result<(), AllocError>
-    requires keys { IsSameClone K.is_clone }
-    requires values { IsSameClone V.is_clone }
-    requires apart { AreApart K.eq (maps.old.items ++ young ∷ []) }
-    ensures apart { OnOk result (AreApart K.eq maps.new.items) }
+fn put_behind(alloc: Global, maps: &mut Vec<SharedMap>, young: SharedMap) -> Result<(), AllocError>
+    requires { AreApart ⟦<Key as PartialEq>⟧.eq (maps.old.items ++ young ∷ []) }
+    ensures apart { OnOk result (AreApart ⟦<Key as PartialEq>⟧.eq maps.new.items) }
     ensures entries { OnOk result (entries_in maps.new.items ≡ entries_in (maps.old.items ++ young ∷ [])) }
     ensures err { OnErr result (maps.new.items ≡ maps.old.items) }
 {
@@ -105,7 +93,7 @@ fn put_behind<K: Eq + Hash + Copy + Drop, V: Copy + Drop>(
     Ok(())
 }
 
-impl<K: Eq + Hash + Copy + Drop, V: Copy + Drop> Layers<K, V> {
+impl Layers {
     /// No maps, which take no memory.
     pub(crate) fn new(alloc: Global) -> Self
         ensures { result ≡ [] }
@@ -117,15 +105,15 @@ impl<K: Eq + Hash + Copy + Drop, V: Copy + Drop> Layers<K, V> {
     }
 
     /// The index of a key.
-    pub(crate) fn position(&self, key: &K) -> Option<usize>
+    pub(crate) fn position(&self, key: &Key) -> Option<usize>
         requires { length self.now < 2 ^ 64 }
-        ensures { result ≡ position (K.eq key.now) (map (λ e. e.0) self.now) }
+        ensures { result ≡ position (⟦<Key as PartialEq>⟧.eq key.now) (map (λ e. e.0) self.now) }
     {
         position_in(&self.maps, key)
     }
 
     /// The entry at an index.
-    pub(crate) fn get(&self, index: usize) -> Option<(K, V)>
+    pub(crate) fn get(&self, index: usize) -> Option<(Key, Note)>
         ensures { result ≡ slice_get self.now index }
     {
         entry_in(&self.maps, index)
@@ -139,10 +127,8 @@ impl<K: Eq + Hash + Copy + Drop, V: Copy + Drop> Layers<K, V> {
     }
 
     /// Adds the entries of a map, whose keys are not there, as the last.
-    pub(crate) fn push(&mut self, alloc: Global, young: &SharedMap<K, V>) -> Result<(), AllocError>
-        requires keys { IsSameClone K.is_clone }
-        requires values { IsSameClone V.is_clone }
-        requires apart { AreNew K.eq self.old young.now }
+    pub(crate) fn push(&mut self, alloc: Global, young: &SharedMap) -> Result<(), AllocError>
+        requires { AreNew ⟦<Key as PartialEq>⟧.eq self.old young.now }
         ensures ok { OnOk result (self.new ≡ self.old ++ young.now) }
         ensures err { OnErr result (self.new ≡ self.old) }
     {

@@ -2,7 +2,7 @@ ghost use Rattle.std.specs.Prelude.{◌≡◌};
 ghost use Rattle.error_events.specs.Parameters.{parameter_text};
 
 /// A parameter of a call, as reports name it.
-#[derive(Clone, Copy, Debug, PartialEq, Eq, Hash)]
+#[derive(Clone, Copy, PartialEq, Eq, Hash)]
 pub enum Parameter {
     SyscallNumber,
     ReadFd,

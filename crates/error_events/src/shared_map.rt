@@ -1,7 +1,9 @@
-//! A map in order of insertion, whose copies share it until one of them gets a new key.
-ghost use Rattle.error_events.specs.Entries.{AreNew, IsSameClone};
+//! A map from keys to notes in order of insertion, whose copies share it until one of them gets a new key.
+ghost use Rattle.error_events.specs.Entries.{AreNew};
+ghost use Rattle.indexmap.specs.IndexMap.{insert_entry};
 ghost use Rattle.std.specs.Prelude.{◌≡◌, [], ◌∷◌, ◌++◌, None, length, map, position, slice_get, OnOk, OnErr, IfOk};
 
+use crate::event::{Key, Note};
 use indexmap::IndexMap;
 use std::alloc::{AllocError, Global};
 use std::hash::Hash;
@@ -10,14 +12,16 @@ use std::rc::Rc;
 
 /// The map. Contracts see it as the list of its entries.
 #[derive(Drop)]
-pub(crate) struct SharedMap<K: Eq + Hash, V> {
-    map: Option<Rc<IndexMap<K, V>>>,
+pub(crate) struct SharedMap {
+    map: Option<Rc<IndexMap<Key, Note>>>,
 }
 
-impl<K: Eq + Hash, V> Model for SharedMap<K, V> {
+impl Model for SharedMap {
     ghost use Rattle.std.specs.Prelude.{List};
+    ghost use Rattle.error_events.specs.declared.event.Key.{Key};
+    ghost use Rattle.error_events.specs.declared.event.Note.{Note};
 
-    ghost Value = { List (K × V) };
+    ghost Value = { List (Key × Note) };
 
     ghost use Rattle.error_events.specs.Entries.{entries_of};
 
@@ -25,24 +29,15 @@ impl<K: Eq + Hash, V> Model for SharedMap<K, V> {
 }
 
 /// A copy of its own.
-fn copy<K: Eq + Hash + Copy + Drop, V: Copy + Drop>(
-    map: &IndexMap<K, V>,
-) -> Result<IndexMap<K, V>, AllocError>
-    requires keys { IsSameClone K.is_clone }
-    requires values { IsSameClone V.is_clone }
+fn copy(map: &IndexMap<Key, Note>) -> Result<IndexMap<Key, Note>, AllocError>
     ensures { IfOk result (λ copy. copy.entries ≡ map.now.entries) }
 {
     map.clone()
 }
 
 /// Puts copies of a map's entries behind those of another.
-fn append<K: Eq + Hash + Copy + Drop, V: Copy + Drop>(
-    whole: &mut IndexMap<K, V>,
-    second: &IndexMap<K, V>,
-) -> Result<(), AllocError>
-    requires keys { IsSameClone K.is_clone }
-    requires values { IsSameClone V.is_clone }
-    requires apart { AreNew K.eq whole.old.entries second.now.entries }
+fn append(whole: &mut IndexMap<Key, Note>, second: &IndexMap<Key, Note>) -> Result<(), AllocError>
+    requires { AreNew ⟦<Key as PartialEq>⟧.eq whole.old.entries second.now.entries }
     ensures { OnOk result (whole.new.entries ≡ whole.old.entries ++ second.now.entries) }
 {
     whole.reserve(second.len())?;
@@ -51,13 +46,11 @@ fn append<K: Eq + Hash + Copy + Drop, V: Copy + Drop>(
 }
 
 /// A map of the entries of two.
-fn join<K: Eq + Hash + Copy + Drop, V: Copy + Drop>(
-    first: &IndexMap<K, V>,
-    second: &IndexMap<K, V>,
-) -> Result<IndexMap<K, V>, AllocError>
-    requires keys { IsSameClone K.is_clone }
-    requires values { IsSameClone V.is_clone }
-    requires apart { AreNew K.eq first.now.entries second.now.entries }
+fn join(
+    first: &IndexMap<Key, Note>,
+    second: &IndexMap<Key, Note>,
+) -> Result<IndexMap<Key, Note>, AllocError>
+    requires { AreNew ⟦<Key as PartialEq>⟧.eq first.now.entries second.now.entries }
     ensures { IfOk result (λ whole. whole.entries ≡ first.now.entries ++ second.now.entries) }
 {
     let mut whole = copy(first)?;
@@ -65,24 +58,30 @@ fn join<K: Eq + Hash + Copy + Drop, V: Copy + Drop>(
     Ok(whole)
 }
 
-/// Inserts a pair. The other owners keep the map as it was.
-fn insert<K: Eq + Hash + Copy + Drop, V: Copy + Drop>(
-    shared: &mut Rc<IndexMap<K, V>>,
-    key: K,
-    value: V,
+/// Inserts copies of a pair. What stood at the key is dropped.
+fn put<K: Eq + Hash + Copy + Drop, V: Copy + Drop>(
+    map: &mut IndexMap<K, V>,
+    key: &K,
+    value: &V,
 ) -> Result<(), AllocError>
-    requires keys { IsSameClone K.is_clone }
-    requires values { IsSameClone V.is_clone }
-    requires absent { position (K.eq key) (map (λ e. e.0) shared.old.value.entries) ≡ None }
-    ensures ok { OnOk result (shared.new.value.entries ≡ shared.old.value.entries ++ (key, value) ∷ []) }
-    ensures err { OnErr result (shared.new.value.entries ≡ shared.old.value.entries) }
+    ensures ok { OnOk result (map.new.entries ≡ insert_entry K.eq map.old.entries key.now value.now) }
+    ensures err { OnErr result (map.new.entries ≡ map.old.entries) }
 {
-    let own = Rc::make_mut(shared)?;
-    own.insert(key, value)?;
+    map.insert(*key, *value)?;
     Ok(())
 }
 
-impl<K: Eq + Hash + Copy + Drop, V: Copy + Drop> SharedMap<K, V> {
+/// Inserts copies of a pair. The other owners keep the map as it was.
+fn insert(shared: &mut Rc<IndexMap<Key, Note>>, key: &Key, note: &Note) -> Result<(), AllocError>
+    requires { position (⟦<Key as PartialEq>⟧.eq key.now) (map (λ e. e.0) shared.old.value.entries) ≡ None }
+    ensures ok { OnOk result (shared.new.value.entries ≡ shared.old.value.entries ++ (key.now, note.now) ∷ []) }
+    ensures err { OnErr result (shared.new.value.entries ≡ shared.old.value.entries) }
+{
+    let own = Rc::make_mut(shared)?;
+    put(own, key, note)
+}
+
+impl SharedMap {
     /// The empty map, which takes no memory.
     pub(crate) fn new() -> Self
         ensures { result ≡ [] }
@@ -91,8 +90,8 @@ impl<K: Eq + Hash + Copy + Drop, V: Copy + Drop> SharedMap<K, V> {
     }
 
     /// The index of a key.
-    pub(crate) fn position(&self, key: &K) -> Option<usize>
-        ensures { result ≡ position (K.eq key.now) (map (λ e. e.0) self.now) }
+    pub(crate) fn position(&self, key: &Key) -> Option<usize>
+        ensures { result ≡ position (⟦<Key as PartialEq>⟧.eq key.now) (map (λ e. e.0) self.now) }
     {
         match &self.map {
             Some(map) => map.get_index_of(key),
@@ -101,43 +100,41 @@ impl<K: Eq + Hash + Copy + Drop, V: Copy + Drop> SharedMap<K, V> {
     }
 
     /// The entry at an index.
-    pub(crate) fn get(&self, index: usize) -> Option<(K, V)>
+    pub(crate) fn get(&self, index: usize) -> Option<(Key, Note)>
         ensures { result ≡ slice_get self.now index }
     {
         match &self.map {
-            Some(map) => map.get_index(index).map(|(key, value)| (*key, *value)),
+            Some(map) => map.get_index(index).map(|(key, note)| (*key, *note)),
             None => None,
         }
     }
 
     /// Adds a key that is not there, as the last.
-    pub(crate) fn push(&mut self, alloc: Global, key: K, value: V) -> Result<(), AllocError>
-        requires keys { IsSameClone K.is_clone }
-        requires values { IsSameClone V.is_clone }
-        requires absent { position (K.eq key) (map (λ e. e.0) self.old) ≡ None }
-        ensures ok { OnOk result (self.new ≡ self.old ++ (key, value) ∷ []) }
+    pub(crate) fn push(&mut self, alloc: Global, key: &Key, note: &Note) -> Result<(), AllocError>
+        requires { position (⟦<Key as PartialEq>⟧.eq key.now) (map (λ e. e.0) self.old) ≡ None }
+        ensures ok { OnOk result (self.new ≡ self.old ++ (key.now, note.now) ∷ []) }
         ensures err { OnErr result (self.new ≡ self.old) }
     {
         match &mut self.map {
-            Some(shared) => insert(shared, key, value),
+            Some(shared) => insert(shared, key, note),
             None => {
-                *self = Self::with_one(alloc, key, value)?;
+                *self = Self::with_one(alloc, key, note)?;
                 Ok(())
             }
         }
     }
 
     /// A map of one entry.
-    fn with_one(alloc: Global, key: K, value: V) -> Result<Self, AllocError>
-        ensures { IfOk result (λ one. one ≡ (key, value) ∷ []) }
+    fn with_one(alloc: Global, key: &Key, note: &Note) -> Result<Self, AllocError>
+        ensures { IfOk result (λ one. one ≡ (key.now, note.now) ∷ []) }
     {
         let mut map = IndexMap::new(alloc);
-        map.insert(key, value)?;
+        put(&mut map, key, note)?;
         Self::unshared(alloc, map)
     }
 
     /// A map that nothing shares yet.
-    fn unshared(alloc: Global, map: IndexMap<K, V>) -> Result<Self, AllocError>
+    fn unshared(alloc: Global, map: IndexMap<Key, Note>) -> Result<Self, AllocError>
         ensures { IfOk result (λ unshared. unshared ≡ map.entries) }
     {
         Ok(SharedMap {
@@ -165,9 +162,7 @@ impl<K: Eq + Hash + Copy + Drop, V: Copy + Drop> SharedMap<K, V> {
 
     /// A map of its own, with the entries of another after those of this one.
     pub(crate) fn joined(&self, alloc: Global, other: &Self) -> Result<Self, AllocError>
-        requires keys { IsSameClone K.is_clone }
-        requires values { IsSameClone V.is_clone }
-        requires apart { AreNew K.eq self.now other.now }
+        requires { AreNew ⟦<Key as PartialEq>⟧.eq self.now other.now }
         ensures { IfOk result (λ whole. whole ≡ self.now ++ other.now) }
     {
         match (&self.map, &other.map) {
@@ -190,12 +185,12 @@ impl<K: Eq + Hash + Copy + Drop, V: Copy + Drop> SharedMap<K, V> {
     }
 }
 
-impl<K: Eq + Hash + Copy + Drop, V: Copy + Drop> Clone for SharedMap<K, V> {
+impl Clone for SharedMap {
     ghost use Rattle.std.specs.Prelude.{◌≡◌};
 
     ghost is_clone = { λ source clone. clone ≡ source };
 
-    fn clone(&self) -> Result<SharedMap<K, V>, AllocError> {
+    fn clone(&self) -> Result<SharedMap, AllocError> {
         self.share()
     }
 }

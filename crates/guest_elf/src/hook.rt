@@ -6,7 +6,7 @@ ghost use Rattle.guest_elf.specs.Sections.{name_from};
 use crate::lookups::name_from;
 
 /// A function of the heap of the C library, which a program may have under its name (ISO/IEC 9899, 7.22.3).
-#[derive(Clone, Copy, Debug, PartialEq, Eq)]
+#[derive(Clone, Copy, PartialEq, Eq)]
 pub enum Hook {
     /// `malloc`, of a size.
     Malloc,

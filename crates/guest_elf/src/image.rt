@@ -17,7 +17,7 @@ use std::alloc::{AllocError, Global};
 const WORD_SIZE: u32 = 4;
 
 /// What an executable file loads, and where it begins.
-#[derive(Debug, Drop)]
+#[derive(Drop)]
 pub struct Image<'a> {
     segments: Vec<Segment<'a>>,
     entry: u32,

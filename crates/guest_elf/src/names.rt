@@ -14,7 +14,7 @@ const UNKNOWN: &[u8] = b"???";
 
 /// The naming symbols of a file in the order of their addresses, those of one address in the order of the
 /// symbol table, and the bytes of its string table.
-#[derive(Debug, Drop)]
+#[derive(Drop)]
 pub(crate) struct FunctionNames<'a> {
     symbols: Vec<Symbol>,
     strings: &'a [u8],

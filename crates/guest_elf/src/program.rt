@@ -13,7 +13,7 @@ const PT_INTERP: u32 = 3;
 pub(crate) const PROGRAM_HEADER_SIZE: usize = 32;
 
 /// The fields of a program header that matter here (Elf32_Phdr, figure 5-1).
-#[derive(Clone, Copy, Debug)]
+#[derive(Clone, Copy)]
 pub(crate) struct ProgramHeader {
     /// p_type.
     pub(crate) kind: u32,

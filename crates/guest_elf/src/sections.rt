@@ -12,7 +12,7 @@ const SECTION_HEADER_SIZE: usize = 40;
 const SYMBOL_TABLE: u32 = 2;
 
 /// The fields of a section header that matter here (Elf32_Shdr, figure 4-8).
-#[derive(Clone, Copy, Debug)]
+#[derive(Clone, Copy)]
 pub(crate) struct SectionHeader {
     /// sh_type.
     pub(crate) kind: u32,

@@ -3,7 +3,7 @@ ghost use Rattle.std.specs.Prelude.{◌≡◌, ◌+◌, ◌^◌, ◌≤◌, leng
 
 /// A range of addresses that a file loads: `bytes` from `vaddr` on, and zeros after them, `memsz` bytes
 /// in all (System V ABI, edition 4.1, chapter 5, "Program Header").
-#[derive(Clone, Copy, Debug)]
+#[derive(Clone, Copy)]
 pub struct Segment<'a> {
     /// The address of the first byte.
     pub vaddr: u32,

@@ -17,7 +17,7 @@ const FUNCTION: u8 = 2;
 const UNDEFINED: u16 = 0;
 
 /// The fields of a symbol that matter here (Elf32_Sym, figure 4-15).
-#[derive(Clone, Copy, Debug)]
+#[derive(Clone, Copy)]
 pub(crate) struct Symbol {
     /// st_name: where its name begins in the string table.
     pub(crate) name: u32,

@@ -4,7 +4,7 @@ use Rattle.std.proofs.Common.{replicate, is_some, true, false, ◌≤◌, ◌*�
 use Rattle.std.proofs.Math.Path.{fun_ext}
 use Rattle.std.specs.List.{AllZip}
 use Rattle.std.proofs.lemmas.Bool.{cases_lt}
-use Rattle.std.proofs.lemmas.List.{get_or_past, length-replicate}
+use Rattle.std.proofs.lemmas.List.{get_or_past}
 use Rattle.std.specs.declared.alloc.Global.{Global}
 use Rattle.std.specs.declared.rc.Rc.{Rc}
 use Rattle.guest_heap.specs.Entries.{AreNone, entry_of}
@@ -71,15 +71,17 @@ pub branch_by_value : (p q : Rc Branch Global) → q.value ≡ p.value → entri
 unfolding entries_below
 branch_by_value p q e = rw e refl
 
--- n slots, each empty: what is at a place, how many there are, and that none is in use
+-- a clone of no pointer is none
+pub cloned_none : {T : Type 0} (clone : Option (Rc T Global)) → slot_clone None clone → clone ≡ None
+cloned_none None h = refl
+cloned_none (Some p) h = absurd h
+
+-- n slots, each empty: what is at a place, and that none is in use
 none_replicated : {T : Type 0} (n k : ℕ) → slice_index_or (replicate n (let none : Option T = None in none)) k None
     ≡ None
 none_replicated zero k = refl
 none_replicated (suc n) zero = refl
 none_replicated (suc n) (suc k) = none_replicated n k
-
-pub as_many : {T : Type 0} (slots : List (Option T)) (n : ℕ) → slots ≡ replicate n None → length slots ≡ n
-as_many slots n e = ap length e ∙ length-replicate n None
 
 pub none_used : {T : Type 0} (slots : List (Option T)) (n : ℕ) → slots ≡ replicate n None → AreUnused slots 0
 none_used slots n e k _ = ap (λ xs. is_some (slice_index_or xs k None)) e ∙ ap is_some (none_replicated n k)

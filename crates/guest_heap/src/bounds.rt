@@ -196,15 +196,12 @@ impl Bounds {
         }
     }
 
-    /// A bound for each class, and nothing is known any more; where memory fails of fewer classes.
+    /// A bound for each class, and nothing is known any more; where memory fails there are none.
     pub(crate) fn forget(&mut self) -> Result<(), AllocError>
         ensures { AreFresh self.new.list.items }
     {
         self.list.clear();
-        for _class in 0..CLASSES {
-            self.list.push(NOTHING_KNOWN)?;
-        }
-        Ok(())
+        self.list.resize(CLASSES, NOTHING_KNOWN)
     }
 
     /// A range came free.

@@ -128,3 +128,7 @@ module _ {P X : Type 0} (Fits : P → List X → Type 0) where
 
   pub closed_front : (ps : List P) (xs : List X) → FitsPieces Fits ps xs → FitsFront Fits false ps xs
   closed_front ps xs h = (xs, [], sym (append-nil xs), h, inr refl)
+
+pub one_stands : {X : Type 0} (xs : List X) (at : ℕ) (x y : X) → StandsAt xs at x → StandsAt xs at y → x ≡ y
+one_stands xs at x y here there =
+    let both : x ∷ drop (at + 1) xs ≡ y ∷ drop (at + 1) xs = sym here ∙ there in cc

@@ -1,8 +1,10 @@
 -- The walk over a pattern and items that goes back to the last star: what it keeps, and how each of its steps keeps it.
-use Rattle.std.proofs.Common.{◌≡◌, ℕ, zero, suc, ◌+◌, ◌-◌, ◌<◌, ◌≤◌, ◌⊎◌, inl, inr, List, [], ◌∷◌, length, drop, Option}
-use Rattle.std.proofs.Common.{Some, None, Bool, true, false, IsTrue, sym, ap, ◌∙◌, arith}
+use Rattle.std.proofs.Common.{◌≡◌, ℕ, zero, suc, ◌+◌, ◌-◌, ◌*◌, ◌<◌, ◌≤◌, ◌⊎◌, inl, inr, List, [], ◌∷◌, length, drop}
+use Rattle.std.proofs.Common.{Option, Some, None, Bool, true, false, IsTrue, sym, ap, ◌∙◌, arith}
 use Rattle.std.proofs.lemmas.List.{drop-drop, drop_all}
 use Rattle.std.proofs.lemmas.Bool.{cases_lt}
+use Rattle.std.proofs.lemmas.Nat.{mul-add-lt}
+use Rattle.std.proofs.Math.Nat.{mul-le-mul_right, mul_comm}
 use Rattle.suppressions.specs.Fitting.{FitsPieces, FitsFront, IsStar, IsSingle, StandsAt}
 use Rattle.suppressions.proofs.FittingSteps.{stands_within, some_stands, star_takes, some_taken, single_rest}
 use Rattle.suppressions.proofs.FittingSteps.{single_first, one_more, end_open, end_closed, none_left, none_whole}
@@ -220,3 +222,31 @@ module _ {P X : Type 0} (Fits : P → List X → Type 0) (may_go_on : Bool) (p :
       ends None r (inr h) = absurd h
       ends (Some back) r (inr h) =
           rw (drop_all (place + 1 + h.0) t (omega arith)) at (further at place back.0 back.1 h.0 r h.1)
+
+-- what is left of the walk falls with each turn: a star, a piece that takes an item, and a step back --
+
+pub falls_star : (n m at place last : ℕ) → at < m → last ≤ place
+    → (n - place) * (m + 1) + (m - (at + 1)) < (n - last) * (m + 1) + (m - at)
+falls_star n m at place last within later =
+    let rest : n - place ≤ n - last = omega arith in
+    let rows : (n - place) * (m + 1) ≤ (n - last) * (m + 1) = mul-le-mul_right (m + 1) rest in
+    omega arith
+
+pub falls_one : (rest m at : ℕ) → at < m → rest + (m - (at + 1)) < rest + (m - at)
+falls_one rest m at within = omega arith
+
+pub falls_back : (n m at star from : ℕ) → from < n
+    → (n - (from + 1)) * (m + 1) + (m - star) < (n - from) * (m + 1) + (m - at)
+falls_back n m at star from within =
+    let rest : n - (from + 1) < n - from = omega arith in
+    let piece : m - star < m + 1 = omega arith in
+    let row : (n - (from + 1)) * (m + 1) + (m - star) < (m + 1) * (n - from) =
+    mul-add-lt (n - (from + 1)) (m + 1) (m - star) (n - from) rest piece in
+    let same : (m + 1) * (n - from) ≡ (n - from) * (m + 1) = mul_comm (m + 1) (n - from) in
+    omega arith
+
+-- the last star was met at or before where the walk is
+pub star_before : {P X : Type 0} (Front : List P → List X → Type 0) (p : List P) (t : List X) (at place : ℕ)
+    (back : Option (ℕ × ℕ)) → CanResume Front p t at place back → last_star back ≤ place
+star_before Front p t at place None h = omega arith
+star_before Front p t at place (Some back) h = let level = h.level in let behind = h.behind in omega arith

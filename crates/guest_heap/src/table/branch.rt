@@ -29,10 +29,7 @@ impl Branch {
     pub(crate) fn new(alloc: Global) -> Result<Branch, AllocError>
         ensures { IfOk result (λ branch. entries_under branch ≡ (λ _. None)) }
     {
-        let mut leaves = Vec::with_capacity(alloc, LEAF)?;
-        for _i in 0..LEAF {
-            leaves.push(None)?;
-        }
+        let leaves = vec![in alloc; None; LEAF]?;
         Ok(Branch { leaves, used: 0 })
     }
 

@@ -3,4 +3,4 @@ use Rattle.error_events.proofs.layers.+entry_in.Given as goal
 
 -- how many maps are left
 abbrev pub decreases-entry_in : goal.decreases-entry_in
-decreases-entry_in g l = length l.maps.now
+decreases-entry_in l = length l.maps.now

@@ -3,4 +3,4 @@ use Rattle.error_events.proofs.layers.+position_in.Given as goal
 
 -- how many maps are left
 abbrev pub decreases-position_in : goal.decreases-position_in
-decreases-position_in g l = length l.maps.now
+decreases-position_in l = length l.maps.now

@@ -3,4 +3,4 @@ use Rattle.error_events.proofs.layers.+taken_up.Given as goal
 
 -- how many maps are left
 abbrev pub decreases-taken_up : goal.decreases-taken_up
-decreases-taken_up g l = length l.maps.now
+decreases-taken_up l = length l.maps.now

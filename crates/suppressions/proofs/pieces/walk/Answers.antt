@@ -1,9 +1,11 @@
 -- Each turn is a step of the walk.
-use Rattle.std.proofs.Common.{◌≡◌, ◌-◌, length, take, drop, take_all, refl, arith, length-drop}
+use Rattle.std.proofs.Common.{◌≡◌, ◌-◌, ◌<◌, ◌≤◌, length, take, drop, take_all, refl, arith, length-drop}
 use Rattle.std.proofs.lemmas.Bool.{iff_false}
-use Rattle.suppressions.proofs.FittingSteps.{stands_here}
+use Rattle.suppressions.specs.Fitting.{FitsFront}
+use Rattle.suppressions.proofs.FittingSteps.{stands_here, stands_within}
 use Rattle.suppressions.proofs.FittingWalk.{walk_begins, walk_star, walk_one, walk_back, walk_stuck, walk_goes_on}
-use Rattle.suppressions.proofs.FittingWalk.{walk_ends, nothing_fits}
+use Rattle.suppressions.proofs.FittingWalk.{walk_ends, nothing_fits, last_star, falls_star, falls_one, falls_back}
+use Rattle.suppressions.proofs.FittingWalk.{star_before}
 use Rattle.suppressions.proofs.pieces.walk.Goals as goal
 
 pub loop-place-init : goal.loop-place-init
@@ -66,3 +68,39 @@ returns g c =
     let ends = walk_ends g.P.Piece.takes c.args.may_go_on p c.args.items.now at c.loop-place.place c.loop-place.back
     c.loop-place-test.false c.loop-place.invariant in
     (λ h. ends.0 (rw rest at (c.are_stars.ensures.0 h)), λ h. c.are_stars.ensures.1 (rw rest (ends.1 h)))
+
+pub loop-place-smaller-then-has_star : goal.loop-place-smaller-then-has_star
+loop-place-smaller-then-has_star g c =
+    let star = c.has_star.ensures.star c.if-has_star.true in
+    falls_star (length c.args.items.now) (length c.args.pieces.now) c.loop-place.at c.loop-place.place
+    (last_star c.loop-place.back) (stands_within c.args.pieces.now c.loop-place.at star.0 star.1)
+    (star_before (FitsFront g.P.Piece.takes c.args.may_go_on) c.args.pieces.now c.args.items.now c.loop-place.at
+    c.loop-place.place c.loop-place.back c.loop-place.invariant.resume)
+
+pub loop-place-smaller-then-has_taker : goal.loop-place-smaller-then-has_taker
+loop-place-smaller-then-has_taker g c =
+    let taker = c.has_taker.ensures.0 c.if-has_taker.true in
+    falls_one _ (length c.args.pieces.now) c.loop-place.at
+    (stands_within c.args.pieces.now c.loop-place.at taker.0 taker.1)
+
+pub loop-place-smaller : goal.loop-place-smaller
+loop-place-smaller g c =
+    let before = star_before (FitsFront g.P.Piece.takes c.args.may_go_on) c.args.pieces.now c.args.items.now
+    c.loop-place.at c.loop-place.place c.loop-place.back c.loop-place.invariant.resume in
+    let from : c.in-Some.from ≤ c.loop-place.place = rw c.in-Some.is at before in
+    let within : c.in-Some.from < length c.args.items.now = omega arith in
+    let n = length c.args.items.now in
+    let m = length c.args.pieces.now in
+    rw c.in-Some.is (falls_back n m c.loop-place.at c.in-Some.star c.in-Some.from within)
+
+pub overflow_add-at : goal.overflow_add-at
+overflow_add-at g c =
+    let star = c.has_star.ensures.star c.if-has_star.true in
+    let within = stands_within c.args.pieces.now c.loop-place.at star.0 star.1 in
+    omega arith
+
+pub overflow_add-at-then-has_taker : goal.overflow_add-at-then-has_taker
+overflow_add-at-then-has_taker g c =
+    let taker = c.has_taker.ensures.0 c.if-has_taker.true in
+    let within = stands_within c.args.pieces.now c.loop-place.at taker.0 taker.1 in
+    omega arith

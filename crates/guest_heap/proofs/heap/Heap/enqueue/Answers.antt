@@ -1,4 +1,4 @@
-use Rattle.std.proofs.Common.{ℕ, ◌+◌, length, refl, ap, sym, subst, ◌∙◌, arith}
+use Rattle.std.proofs.Common.{ℕ, ◌+◌, length, refl, ap, ap₂, sym, subst, ◌∙◌, arith}
 use Rattle.guest_heap.specs.Heaps.{blocks_of}
 use Rattle.guest_heap.specs.Blocks.{Blocks, freed_by}
 use Rattle.guest_heap.specs.States.{shown, volume_in}
@@ -7,7 +7,7 @@ use Rattle.guest_heap.specs.Tables.{entries_of}
 use Rattle.guest_heap.specs.Queues.{queued}
 use Rattle.guest_heap.specs.declared.entry.Entry.{Entry}
 use Rattle.guest_heap.proofs.FreeSteps.{old, spared_sound, enqueued_sound, enqueued_shown, enqueued_volume}
-use Rattle.guest_heap.proofs.FreeSteps.{enqueued_length}
+use Rattle.guest_heap.proofs.FreeSteps.{enqueued_length, same_sound, on_any}
 use Rattle.guest_heap.proofs.BoundSteps.{no_more_freed, same_bounds}
 use Rattle.guest_heap.proofs.heap.Heap.enqueue.Goals as goal
 
@@ -78,3 +78,27 @@ invariant_of-self-in-Break-branch-3 c =
           (queued c.prepare.new.self) heap.redzone
           heap.bounds.list.items c.in_err-move_to_freed.ensures.live_err c.prepare.ensures.same heap.bounded;
     }
+
+pub invariant_of-self : goal.invariant_of-self
+unfolding blocks_of
+invariant_of-self c =
+    let heap = c.args.self.now in
+    let same = c.prepare.ensures.same in
+    record {
+      sound = same_sound _ _ _ _ _ _ heap.first refl refl same heap.sound;
+      numbered = heap.numbered ∙ ap (λ es. heap.first + length es) (sym same);
+      volume = heap.volume ∙ ap volume_in (sym same);
+      bounded =
+          same_bounds (entries_of heap.live) (entries_of heap.live) (queued heap.queue) (queued c.prepare.new.self)
+          heap.redzone heap.bounds.list.items refl same heap.bounded;
+    }
+
+pub returns-in_err-prepare-clause-err : goal.returns-in_err-prepare-clause-err
+unfolding blocks_of
+returns-in_err-prepare-clause-err c =
+    (on_any _ (ap (λ es. shown (entries_of c.args.self.now.live) es) c.prepare.ensures.same)).1
+
+pub returns-in_err-move_to_freed-clause-err : goal.returns-in_err-move_to_freed-clause-err
+unfolding blocks_of
+returns-in_err-move_to_freed-clause-err c =
+    (on_any _ (ap₂ shown c.in_err-move_to_freed.ensures.live_err c.prepare.ensures.same)).1

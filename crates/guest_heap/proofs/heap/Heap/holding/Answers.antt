@@ -1,7 +1,7 @@
 use Rattle.std.proofs.Common.{inl, inr, ap, sym, subst, ◌∙◌, arith}
 use Rattle.heap_blocks.specs.declared.block.Block.{Block}
 use Rattle.guest_heap.specs.Heaps.{blocks_of}
-use Rattle.guest_heap.specs.Blocks.{IsKept, Holds}
+use Rattle.guest_heap.specs.Blocks.{IsKept, Holds, near_of}
 use Rattle.guest_heap.specs.Tables.{entries_of}
 use Rattle.guest_heap.specs.Queues.{queued}
 use Rattle.guest_heap.proofs.NearSteps.{one_holds, none_holds, near_block}
@@ -38,3 +38,24 @@ returns-in-Some-clause-only c b kept holds =
     ∙ one_holds (entries_of c.args.self.now.live) (entries_of c.args.self.now.freed) (queued c.args.self.now.queue)
     c.args.self.now.first c.args.self.now.sound
     c.args.address c.in-Some.block.now b c.in-Some.ensures.some kept here holds
+
+pub returns-in-Some-clause-holds : goal.returns-in-Some-clause-holds
+returns-in-Some-clause-holds c =
+    let P : Block → Type 0 = λ b. Holds b c.args.address in
+    let low = c.from-low.ensures in
+    let past = c.in-Some.ensures.meets.0 in
+    let under = c.in-Some.ensures.meets.1 in
+    let here : Holds c.in-Some.block.now c.args.address = (omega arith, omega arith) in
+    subst P (sym (ap (λ near. near.block) c.near_of.ensures ∙ near_block c.in-Some.block.now c.args.address)) here
+
+pub returns-in-Some-clause-near : goal.returns-in-Some-clause-near
+returns-in-Some-clause-near c =
+    c.near_of.ensures ∙ ap (λ b. near_of b c.args.address)
+    (sym (ap (λ near. near.block) c.near_of.ensures ∙ near_block c.in-Some.block.now c.args.address))
+
+pub returns-in-None-clause-only : goal.returns-in-None-clause-only
+returns-in-None-clause-only c b kept holds =
+    let low = c.from-low.ensures in
+    let under = holds.0 in
+    let over = holds.1 in
+    absurd (c.in-None.ensures.none b kept (omega arith, omega arith))

@@ -1,0 +1,31 @@
+use Rattle.std.proofs.Common.{◌+◌, length, List, ap, ap₂, sym, subst, ◌∙◌}
+use Rattle.guest_heap.specs.Heaps.{blocks_of}
+use Rattle.guest_heap.specs.Tables.{entries_of}
+use Rattle.guest_heap.specs.Queues.{queued}
+use Rattle.guest_heap.specs.States.{shown, volume_in}
+use Rattle.guest_heap.specs.Bounds.{AreBounds}
+use Rattle.guest_heap.specs.declared.bounds.Bound.{Bound}
+use Rattle.guest_heap.proofs.FreeSteps.{same_sound}
+use Rattle.guest_heap.proofs.BoundSteps.{same_bounds}
+use Rattle.guest_heap.proofs.heap.Heap.share.Goals as goal
+
+pub invariant_of-result : goal.invariant_of-result
+invariant_of-result c =
+    let heap = c.args.self.now in
+    let live = c.in_ok-live.ensures in
+    let queue = c.in_ok-queue.ensures in
+    let P : List Bound → Type 0 = λ bounds. AreBounds
+    (shown (entries_of c.in_ok-live.live) (queued c.in_ok-queue.queue)) heap.redzone bounds in
+    record {
+      sound = same_sound _ _ _ _ _ _ heap.first live c.in_ok-freed.ensures queue heap.sound;
+      numbered = heap.numbered ∙ ap (λ es. heap.first + length es) (sym queue);
+      volume = heap.volume ∙ ap volume_in (sym queue);
+      bounded =
+          subst P (sym c.in_ok-bounds.ensures) (same_bounds (entries_of heap.live) (entries_of c.in_ok-live.live)
+          (queued heap.queue) (queued c.in_ok-queue.queue) heap.redzone heap.bounds.list.items live queue
+          heap.bounded);
+    }
+
+pub returns : goal.returns
+unfolding blocks_of
+returns c = ap₂ shown c.in_ok-live.ensures c.in_ok-queue.ensures
