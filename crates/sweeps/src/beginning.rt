@@ -49,7 +49,7 @@ fn unedited_outcome(
 }
 
 /// Counts what the unedited run comes to, before any edit, and appends it.
-pub(crate) fn count_unedited(
+fn count_unedited(
     alloc: Global,
     trail: &mut Trail,
     scenario: &Scenario,
@@ -71,4 +71,22 @@ pub(crate) fn count_unedited(
         edits: 0,
         steps: 0,
     })
+}
+
+/// The trail of the unedited run, and its outcome counted and appended.
+pub(crate) fn unedited_run(
+    alloc: Global,
+    scenario: &Scenario,
+    with_output: bool,
+    out: &mut Vec<u8>,
+) -> Result<(Trail, Counts), AllocError>
+    requires { scenario.now.words ≡ [] }
+    ensures loads { IfOk result (λ made. LoadsAs made.0 scenario.now.image) }
+    ensures right { IfOk result (λ made. IsRightForRun made.0 (run_of scenario.now)) }
+    ensures counted { IfOk result (λ made. (first : List ℕ) × Counted made.1 with_output scenario.now first []
+        × (out.new.items ≡ out.old.items ++ rows_text first [])) }
+{
+    let mut trail = Trail::begin(alloc, scenario.image())?;
+    let counts = count_unedited(alloc, &mut trail, scenario, with_output, out)?;
+    Ok((trail, counts))
 }

@@ -7,7 +7,7 @@ ghost use Rattle.guest_machine.specs.Shows.{Shows};
 ghost use Rattle.scenario.specs.Limits.{most_steps};
 ghost use Rattle.scenario.specs.Scenario.{first_state, run_of};
 
-use crate::beginning::{count_unedited, scenario_at};
+use crate::beginning::{scenario_at, unedited_run};
 use crate::change::Change;
 use crate::counting::Counts;
 use crate::meeting::{Spot, meet_each};
@@ -85,8 +85,7 @@ impl<'a> Sweep<'a> {
         ensures met { IfOk result (λ sweep. (first : List ℕ) × HasMet sweep first [] × (out.new.items ≡ out.old.items ++ rows_text first [])) }
     {
         let start = Machine::start(alloc, scenario.image())?;
-        let mut trail = Trail::begin(alloc, scenario.image())?;
-        let counts = count_unedited(alloc, &mut trail, &scenario, with_output, out)?;
+        let (trail, counts) = unedited_run(alloc, &scenario, with_output, out)?;
         Ok(Sweep {
             alloc,
             scenario,
