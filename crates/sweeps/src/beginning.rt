@@ -2,8 +2,9 @@
 ghost use Rattle.std.specs.Prelude.{◌≡◌, ◌≤◌, ◌++◌, [], ℕ, List, IfOk, length};
 ghost use Rattle.checkpoints.specs.Edits.{IsRightForRun};
 ghost use Rattle.checkpoints.specs.Trails.{LoadsAs};
+ghost use Rattle.guest_machine.specs.Shows.{Shows};
 ghost use Rattle.scenario.specs.Limits.{longest_input};
-ghost use Rattle.scenario.specs.Scenario.{IsOutlineOf, at_step, begun, run_of};
+ghost use Rattle.scenario.specs.Scenario.{IsOutlineOf, at_step, begun, first_state, run_of};
 ghost use Rattle.sweeps.specs.Sweeps.{Counted};
 ghost use Rattle.sweeps.specs.Tables.{rows_text};
 
@@ -11,6 +12,7 @@ use crate::counting::Counts;
 use crate::rows::push_first;
 use checkpoints::Trail;
 use guest_elf::Image;
+use guest_machine::Machine;
 use scenario::Scenario;
 use std::alloc::{AllocError, Global};
 use suppressions::Suppression;
@@ -73,20 +75,22 @@ fn count_unedited(
     })
 }
 
-/// The trail of the unedited run, and its outcome counted and appended.
+/// The machine before the unedited run, the trail of that run, and its outcome counted and appended.
 pub(crate) fn unedited_run(
     alloc: Global,
     scenario: &Scenario,
     with_output: bool,
     out: &mut Vec<u8>,
-) -> Result<(Trail, Counts), AllocError>
+) -> Result<(Machine, Trail, Counts), AllocError>
     requires { scenario.now.words ≡ [] }
-    ensures loads { IfOk result (λ made. LoadsAs made.0 scenario.now.image) }
-    ensures right { IfOk result (λ made. IsRightForRun made.0 (run_of scenario.now)) }
-    ensures counted { IfOk result (λ made. (first : List ℕ) × Counted made.1 with_output scenario.now first []
+    ensures starts { IfOk result (λ made. Shows made.0 (first_state scenario.now)) }
+    ensures loads { IfOk result (λ made. LoadsAs made.1 scenario.now.image) }
+    ensures right { IfOk result (λ made. IsRightForRun made.1 (run_of scenario.now)) }
+    ensures counted { IfOk result (λ made. (first : List ℕ) × Counted made.2 with_output scenario.now first []
         × (out.new.items ≡ out.old.items ++ rows_text first [])) }
 {
+    let start = Machine::start(alloc, scenario.image())?;
     let mut trail = Trail::begin(alloc, scenario.image())?;
     let counts = count_unedited(alloc, &mut trail, scenario, with_output, out)?;
-    Ok((trail, counts))
+    Ok((start, trail, counts))
 }

@@ -84,8 +84,7 @@ impl<'a> Sweep<'a> {
         ensures output { IfOk result (λ sweep. tells_output sweep ≡ with_output) }
         ensures met { IfOk result (λ sweep. (first : List ℕ) × HasMet sweep first [] × (out.new.items ≡ out.old.items ++ rows_text first [])) }
     {
-        let start = Machine::start(alloc, scenario.image())?;
-        let (trail, counts) = unedited_run(alloc, &scenario, with_output, out)?;
+        let (start, trail, counts) = unedited_run(alloc, &scenario, with_output, out)?;
         Ok(Sweep {
             alloc,
             scenario,
