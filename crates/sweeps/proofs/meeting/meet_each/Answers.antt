@@ -62,7 +62,7 @@ meet-requires-clause-fork c =
     let spot = c.args.spot.now in
     let value = get_or c.args.values.now c.loop-value.value-index 0 in
     subst (λ (s : Scenario). IsForkFor (row s (edit_of (changed_to spot.standing value))).effect (run_of s) s.step
-        spot.fork.now) (sym c.loop-value.invariant.same) (c.requires.fork value)
+    spot.fork.now) (sym c.loop-value.invariant.same) (c.requires.fork value)
 
 pub returns-clause-met : goal.returns-clause-met
 returns-clause-met c first met h =
