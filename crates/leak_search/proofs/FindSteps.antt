@@ -1,13 +1,19 @@
 -- Which block a value points to, and whose a word is.
-use Rattle.std.proofs.Common.{◌≡◌, ℕ, ◌+◌, ◌-◌, ◌<◌, ◌≤◌, ◌%◌, inl, inr, List, true, false, Some, length, get_or, arith}
-use Rattle.std.proofs.Common.{sym, ◌∙◌, subst, slice_get, nat_le}
-use Rattle.std.proofs.lemmas.Bool.{cases_lt, cases_eq}
+use Rattle.std.proofs.Common.{◌≡◌, ℕ, ◌+◌, ◌-◌, ◌<◌, ◌≤◌, ◌%◌, inl, inr, Bool, List, true, false, Some, length}
+use Rattle.std.proofs.Common.{get_or, arith, refl, sym, ◌∙◌, subst, slice_get, nat_le}
+use Rattle.std.proofs.lemmas.Bool.{cases_lt, cases_eq, false≢true}
 use Rattle.std.proofs.lemmas.Bool.Decides.{nat_tests}
 use Rattle.std.proofs.lemmas.Option.{same_Some, slice_get-get_or, slice_get_within, get_or_from_slice_get}
 use Rattle.std.specs.List.Sorted.{IsPartitionPoint, IsPartitionedBy}
+<<<<<<< HEAD
 use Rattle.heap_blocks.specs.declared.block.Block.{Block}
 use Rattle.leak_search.specs.Pointing.{IsPointer, IsInNoBlock, IsWordIn}
 use Rattle.leak_search.specs.Gathering.{AreOrdered, IsLastAt}
+=======
+use Rattle.guest_heap.specs.declared.block.Block.{Block}
+use Rattle.leak_search.specs.Pointing.{IsPointer, PointsTo, IsInNoBlock, IsWordIn}
+use Rattle.leak_search.specs.Gathering.{AreOrdered, Finds, IsLastAt}
+>>>>>>> h3
 
 le_true : (m n : ℕ) → m ≤ n → nat_le m n ≡ true
 le_true m n h = grind (arith, nat_tests)
@@ -75,6 +81,71 @@ only_last blocks value k apart last b block at p =
             absurd (omega arith))
       ]
     ]
+
+-- a pointer of one sort is one of either sort, and doesn't lie below its block
+of_either : (starts : Bool) (value : ℕ) (block : Block) → IsPointer starts value block → IsPointer false value block
+of_either true value block p = inl p
+of_either false value block p = p
+
+not_below : (value : ℕ) (block : Block) → IsPointer false value block → block.start ≤ value
+not_below value block (inl e) = omega arith
+not_below value block (inr w) = let low = w.0 in omega arith
+
+at_start : (starts : Bool) (value : ℕ) (block : Block) → value ≡ block.start → IsPointer starts value block
+at_start true value block e = e
+at_start false value block e = inl e
+
+-- above the start of its block it is no start-pointer
+not_start : (starts : Bool) (value : ℕ) (block : Block) → block.start < value → IsPointer starts value block
+    → starts ≡ true → false ≡ true
+not_start true value block above p e = absurd (omega arith)
+not_start false value block above p e = e
+
+-- below the blocks a value points to none
+pub points_below : (blocks : List Block) (value : ℕ)
+    → ((k : ℕ) (b : Block) → slice_get blocks k ≡ Some b → value < b.start)
+    → (starts : Bool) (b : ℕ) → PointsTo starts blocks value b → ⊥
+points_below blocks value above starts b p =
+    let over = above b p.0 p.1 in
+    let low = not_below value p.0 (of_either starts value p.0 p.2) in
+    omega arith
+
+module _ (blocks : List Block) (value k : ℕ) (block : Block) (apart : AreOrdered blocks) (last : IsLastAt blocks value k)
+    (at : slice_get blocks k ≡ Some block) where
+  -- what it points to is the last block that starts at it or below
+  the_last : (starts : Bool) (b : ℕ) → PointsTo starts blocks value b → (k ≡ b) × IsPointer starts value block
+  the_last starts b p =
+      let same : k ≡ b = only_last blocks value k apart last b p.0 p.1 (of_either starts value p.0 p.2) in
+      let there : p.0 ≡ block = same_Some p.0 block (sym p.1
+      ∙ subst (λ (x : ℕ). slice_get blocks x ≡ Some block) same at) in
+      (same, subst (λ (x : Block). IsPointer starts value x) there p.2)
+
+  pub points_past : (value ≡ block.start → ⊥) → block.start + block.size ≤ value
+      → (starts : Bool) (b : ℕ) → PointsTo starts blocks value b → ⊥
+  points_past other past starts b p =
+      elim (of_either starts value block (the_last starts b p).1) as (λ _. ⊥) [
+        | inl e ↦ other e
+        | inr w ↦ (let high = w.1 in omega arith)
+      ]
+
+  pub finds_start : value ≡ block.start → Finds blocks value (record { block = k; is_start = true })
+  finds_start e = record {
+    to = λ starts b leads. subst (λ (n : ℕ). PointsTo starts blocks value n) leads.0
+        (block, at, at_start starts value block e);
+    back = λ starts b p. ((the_last starts b p).0, λ _. refl);
+  }
+
+  pub finds_inside : block.start < value → value < block.start + block.size
+      → Finds blocks value (record { block = k; is_start = false })
+  finds_inside low high = record {
+    to = inside;
+    back = λ starts b p. (let there = the_last starts b p in (there.0, not_start starts value block low there.1));
+  }
+    where
+      inside : (starts : Bool) (b : ℕ) → (k ≡ b) × (starts ≡ true → false ≡ true) → PointsTo starts blocks value b
+      inside true b leads = absurd (false≢true (leads.1 refl))
+      inside false b leads =
+          subst (λ (n : ℕ). PointsTo false blocks value n) leads.0 (block, at, inr (low, high))
 
 -- a word of a block begins at a pointer into it
 word_points : (blocks : List Block) (w a : ℕ) (word : IsWordIn blocks w a) → IsPointer false w word.0

@@ -12,7 +12,7 @@ use Rattle.leak_graph.specs.declared.graph.Pointer.{Pointer}
 use Rattle.leak_graph.specs.Graphs.{HasPointer}
 use Rattle.leak_search.specs.Gathering.{AreOrdered, GoesOn, HasNoEdge}
 
-row_push : {X : Type 0} (xs : List X) (last : X) (a : ℕ) (x : X) → slice_get (xs ++ last ∷ []) a ≡ Some x
+pub row_push : {X : Type 0} (xs : List X) (last : X) (a : ℕ) (x : X) → slice_get (xs ++ last ∷ []) a ≡ Some x
     → (slice_get xs a ≡ Some x) ⊎ ((a ≡ length xs) × (last ≡ x))
 row_push [] last zero x e = inr (refl, same_Some last x e)
 row_push [] last (suc a) x e = absurd (none-some x e)

@@ -22,7 +22,7 @@ pub(crate) struct Reach {
 }
 
 /// A range in which all values lie that point to a block: from the first one's start up to the last one's end.
-#[tactic(auto, using(crate::proofs::ReachSteps::from_first, crate::proofs::ReachSteps::to_last, crate::proofs::ReachSteps::to_nothing))]
+#[tactic(auto, using(crate::proofs::ReachSteps::to_nothing))]
 pub(crate) fn reach_of(blocks: &[Block]) -> Option<Reach>
     requires { AreOrdered blocks.now }
     ensures none { IfNone result ((starts : Bool) (value b : ℕ) → PointsTo starts blocks.now value b → ⊥) }

@@ -27,6 +27,7 @@
 //! sweep has met).
 #![tactic(auto)]
 
+mod beginning;
 mod change;
 mod counting;
 mod loaded;

@@ -7,19 +7,18 @@ ghost use Rattle.guest_machine.specs.Shows.{Shows};
 ghost use Rattle.scenario.specs.Limits.{most_steps};
 ghost use Rattle.scenario.specs.Scenario.{first_state, run_of};
 
+use crate::beginning::{scenario_at, unedited_run};
 use crate::change::Change;
 use crate::counting::Counts;
 use crate::meeting::{Spot, meet_each};
 use crate::outcomes::fork_at;
 use crate::plan::{Place, Plan};
-use crate::rows::push_first;
 use checkpoints::Trail;
 use guest_elf::Image;
 use guest_machine::Machine;
 use scenario::{Edit, Scenario};
 use std::alloc::{AllocError, Global};
 use suppressions::Suppression;
-use tallies::Tallies;
 
 /// A run whose edits are made one after another, each alone; what they have come to so far; and how many edits and steps were made.
 #[derive(Drop)]
@@ -64,27 +63,36 @@ impl<'a> Sweep<'a> {
         ensures output { IfOk result (λ sweep. tells_output sweep ≡ with_output) }
         ensures met { IfOk result (λ sweep. (first : List ℕ) × HasMet sweep first [] × (out.new.items ≡ out.old.items ++ rows_text first [])) }
     {
-        let start = Machine::start(alloc, &image)?;
-        let mut trail = Trail::begin(alloc, &image)?;
         let copy = input.as_slice().to_vec(alloc)?;
-        let mut scenario = Scenario::begin(alloc, image, input, suppressions)?;
-        scenario.choose(step);
-        let machine = trail.at(step, scenario.setup(), scenario.marks())?;
-        let first = scenario.outline(&machine, with_output)?;
-        push_first(out, &first)?;
-        let tallies = Tallies::begin(alloc, first)?;
+        let scenario = scenario_at(alloc, image, input, suppressions, step)?;
+        Sweep::over(alloc, scenario, copy, with_output, out)
+    }
+
+    /// A sweep of a scenario that nothing has edited, with a copy of its input: its run is made, and its outcome appended.
+    #[tactic(auto, unfolding(crate::specs::Sweeps::scenario_of, crate::specs::Sweeps::tells_output))]
+    fn over(
+        alloc: Global,
+        scenario: Scenario<'a>,
+        input: Vec<u8>,
+        with_output: bool,
+        out: &mut Vec<u8>,
+    ) -> Result<Self, AllocError>
+        requires near { scenario.step ≤ most_steps }
+        requires unedited { scenario.words ≡ [] }
+        requires copied { input.items ≡ scenario.setup.input }
+        ensures scenario { IfOk result (λ sweep. scenario_of sweep ≡ scenario.entry) }
+        ensures output { IfOk result (λ sweep. tells_output sweep ≡ with_output) }
+        ensures met { IfOk result (λ sweep. (first : List ℕ) × HasMet sweep first [] × (out.new.items ≡ out.old.items ++ rows_text first [])) }
+    {
+        let (start, trail, counts) = unedited_run(alloc, &scenario, with_output, out)?;
         Ok(Sweep {
             alloc,
             scenario,
             trail,
             start,
-            input: copy,
+            input,
             with_output,
-            counts: Counts {
-                tallies,
-                edits: 0,
-                steps: 0,
-            },
+            counts,
         })
     }
 

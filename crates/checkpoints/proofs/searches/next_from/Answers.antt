@@ -1,4 +1,4 @@
-use Rattle.std.proofs.Common.{sym, ◌∙◌, refl, arith, inl, inr}
+use Rattle.std.proofs.Common.{◌≡◌, ℕ, ◌+◌, ◌-◌, ◌<◌, ◌≤◌, min, sym, ◌∙◌, refl, arith, inl, inr}
 use Rattle.std.proofs.lemmas.Bool.{cases_lt}
 use Rattle.guest_machine.specs.Run.{pre, post}
 use Rattle.checkpoints.specs.Searches.{Hits}
@@ -53,3 +53,25 @@ loop-k-preserved c =
 
 pub returns-clause-price : goal.returns-clause-price
 returns-clause-price c = omega (arith, c.loop-k.invariant.within, c.loop-k.invariant.meter)
+
+-- what a search of some steps is made for
+steps-price : (old now from k end : ℕ) → k < end → now ≡ min (old + (k - from)) 18446744073709551615
+    → now ≤ old + (end - from)
+steps-price old now from k end l e = omega arith
+
+hit-price : (old now new from k : ℕ) → from ≤ k → now ≡ min (old + (k - from)) 18446744073709551615
+    → new ≡ min (now + 1) 18446744073709551615 → new ≤ old + (k + 1 - from)
+hit-price old now new from k l e f = omega arith
+
+pub returns-then-not-is_running-clause-price : goal.returns-then-not-is_running-clause-price
+returns-then-not-is_running-clause-price c =
+    steps-price c.args.meter.now c.loop-k.meter c.args.from c.loop-k.k c.args.end c.loop-k-test.true
+    c.loop-k.invariant.meter
+
+pub returns-then-is_hit-clause-price : goal.returns-then-is_hit-clause-price
+returns-then-is_hit-clause-price c =
+    hit-price c.args.meter.now c.loop-k.meter c.step_watching.new.meter c.args.from c.loop-k.k (omega arith)
+    c.loop-k.invariant.meter c.in_ok-stepped.ensures.meter
+
+pub returns-clause-next : goal.returns-clause-next
+returns-clause-next c start h j low high = c.loop-k.invariant.unhit start h j low (omega arith)

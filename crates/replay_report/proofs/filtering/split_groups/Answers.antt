@@ -1,6 +1,19 @@
-use Rattle.std.proofs.Common.{◌∙◌}
+use Rattle.std.proofs.Common.{◌≡◌, ◌∙◌, ap, length}
+use Rattle.std.proofs.lemmas.List.{length-map}
 use Rattle.replay_report.proofs.Filters.{hidden-are, shown-are}
 use Rattle.replay_report.proofs.filtering.split_groups.Goals as goal
+
+pub shown_groups-requires : goal.shown_groups-requires
+shown_groups-requires c = record {
+  each = ap (λ x. length x) (c.deref.ensures.value ∙ c.in_ok-hidden.ensures) ∙ length-map _ _;
+  some = c.requires;
+}
+
+pub regroup-requires : goal.regroup-requires
+regroup-requires c = record {
+  each = ap (λ x. length x) (c.deref-2.ensures.value ∙ c.in_ok-hidden.ensures) ∙ length-map _ _;
+  some = c.requires;
+}
 
 pub returns-clause-shown : goal.returns-clause-shown
 returns-clause-shown c s h =

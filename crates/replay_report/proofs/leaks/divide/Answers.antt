@@ -1,4 +1,4 @@
-use Rattle.std.proofs.Common.{◌∙◌, ap, sym, append-nil, take, ◌∷◌, []}
+use Rattle.std.proofs.Common.{◌∙◌, ◌++◌, ap, sym, append-nil, take, take_all, ◌∷◌, [], arith}
 use Rattle.replay_report.specs.Leaks.{shown_records, hidden_records}
 use Rattle.replay_report.proofs.Joins.{joined_more, joined_same}
 use Rattle.replay_report.proofs.LeakSteps.{shown_more, shown_same, hidden_more, hidden_same}
@@ -38,3 +38,15 @@ loop-record-preserved c =
                 (hidden_same hides image before r shown) (ap (λ v. v.items) w.hidden-is),
           ))
     ]
+
+pub returns-clause-shown : goal.returns-clause-shown
+returns-clause-shown c =
+    c.loop-record.invariant.0
+    ∙ ap (λ records. c.args.shown.now.items ++ shown_records c.args.suppressions.now c.args.image.now records)
+    (take_all c.loop-record.record-index c.args.records.now (omega arith))
+
+pub returns-clause-hidden : goal.returns-clause-hidden
+returns-clause-hidden c =
+    c.loop-record.invariant.1
+    ∙ ap (λ records. c.args.hidden.now.items ++ hidden_records c.args.suppressions.now c.args.image.now records)
+    (take_all c.loop-record.record-index c.args.records.now (omega arith))

@@ -1,9 +1,11 @@
-use Rattle.std.proofs.Common.{◌++◌, ◌∷◌, [], List, map, take, get_or, refl, ap, ap₂, sym, ◌∙◌, subst, append_assoc}
-use Rattle.std.proofs.Common.{append-nil}
+use Rattle.std.proofs.Common.{◌≡◌, ◌++◌, ◌∷◌, [], List, Some, map, take, take_all, get_or, refl, ap, ap₂, sym, ◌∙◌}
+use Rattle.std.proofs.Common.{subst, append_assoc, append-nil, arith}
 use Rattle.std.proofs.lemmas.List.{map_push, take_more}
-use Rattle.scenario.specs.Scenario.{Scenario}
+use Rattle.checkpoints.specs.Forks.{IsForkFor}
+use Rattle.scenario.specs.Edits.{row}
+use Rattle.scenario.specs.Scenario.{Scenario, run_of}
 use Rattle.sweeps.specs.Outcomes.{Met, tallied}
-use Rattle.sweeps.specs.Plans.{changed_to}
+use Rattle.sweeps.specs.Plans.{changed_to, edit_of, stood}
 use Rattle.sweeps.specs.Sweeps.{Counted}
 use Rattle.sweeps.specs.Tables.{met_text, rows_after}
 use Rattle.sweeps.proofs.Steps.{row-more}
@@ -49,3 +51,25 @@ loop-value-preserved c = record {
             ∙ ap (λ text. c.args.out.now.items ++ text) (sym (row-more first met more m)),
       );
 }
+
+pub meet-requires-clause-stands : goal.meet-requires-clause-stands
+meet-requires-clause-stands c =
+    let standing = c.args.spot.now.standing in
+    subst (λ (s : Scenario). stood s standing ≡ Some standing) (sym c.loop-value.invariant.same) c.requires.stands
+
+pub meet-requires-clause-fork : goal.meet-requires-clause-fork
+meet-requires-clause-fork c =
+    let spot = c.args.spot.now in
+    let value = get_or c.args.values.now c.loop-value.value-index 0 in
+    subst (λ (s : Scenario). IsForkFor (row s (edit_of (changed_to spot.standing value))).effect (run_of s) s.step
+    spot.fork.now) (sym c.loop-value.invariant.same) (c.requires.fork value)
+
+pub returns-clause-met : goal.returns-clause-met
+returns-clause-met c first met h =
+    let told = c.loop-value.invariant.met first met h in (
+      told.0,
+      told.1 ∙ ap (map (changed_to c.args.spot.now.standing)) (take_all c.loop-value.value-index c.args.values.now
+          (omega arith)),
+      told.2,
+      told.3,
+    )

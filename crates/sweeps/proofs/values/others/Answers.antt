@@ -1,4 +1,4 @@
-use Rattle.std.proofs.Common.{◌++◌, ◌∷◌, ◌==◌, [], not, if◌then◌else◌, get_or, take, ap, sym, ◌∙◌}
+use Rattle.std.proofs.Common.{◌++◌, ◌∷◌, ◌==◌, [], not, if◌then◌else◌, get_or, take, take_all, ap, sym, ◌∙◌, arith}
 use Rattle.std.proofs.lemmas.List.{take_more}
 use Rattle.sweeps.specs.Plans.{word_values}
 use Rattle.sweeps.proofs.ListSteps.{word-more}
@@ -17,3 +17,8 @@ loop-word-preserved c =
     ∙ ap (λ values. values ++ (if not (word == c.args.old) then word ∷ [] else [])) c.loop-word.invariant
     ∙ sym (word-more c.args.old (take i words) word)
     ∙ ap (word_values c.args.old) (sym (take_more words i 0 c.loop-word-test.true))
+
+pub returns : goal.returns
+returns c =
+    c.loop-word.invariant
+    ∙ ap (word_values c.args.old) (take_all c.loop-word.word-index c.args.words.now (omega arith))

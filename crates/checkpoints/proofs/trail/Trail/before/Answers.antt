@@ -36,3 +36,10 @@ returns-clause-shows c start h =
     start c.args.setup.now c.args.marks.now
     r.held c.index.ensures (omega (arith, c.in_ok-reach.ensures.held, held-count c.reach.new.self)) (omega arith) in
     c.in_ok-machine.ensures.shows start (c.in_ok-copy.ensures _ here)
+
+pub invariant_of-self : goal.invariant_of-self
+invariant_of-self c = record {
+  begun = c.reach.new.self.begun;
+  within = c.reach.new.self.within;
+  metered = c.run_on.ensures.metered;
+}

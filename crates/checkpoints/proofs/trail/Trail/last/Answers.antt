@@ -1,4 +1,13 @@
 use Rattle.checkpoints.proofs.trail.Trail.last.Goals as goal
 
-pub returns-clause-last : goal.returns-clause-last
-returns-clause-last c start h = c.in_ok-found.ensures.last start (c.in_ok-_machine.ensures.right start h)
+pub returns : goal.returns
+returns c = record {
+  last = λ start h. c.in_ok-found.ensures.last start (c.in_ok-_machine.ensures.right start h);
+  price = c.in_ok-found.ensures.price;
+  right = c.in_ok-_machine.ensures.right;
+  held = c.in_ok-_machine.ensures.held;
+  kept = tt;
+  meter = c.in_ok-_machine.ensures.meter;
+  short = c.in_ok-_machine.ensures.short;
+  loaded = c.in_ok-_machine.ensures.loaded;
+}

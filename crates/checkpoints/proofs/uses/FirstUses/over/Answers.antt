@@ -88,3 +88,17 @@ loop-range-preserved c =
 pub returns-clause-none : goal.returns-clause-none
 unfolding entry_of
 returns-clause-none c w = c.loop-range.invariant.none _
+
+pub invariant_of-result : goal.invariant_of-result
+invariant_of-result c =
+    let inv = c.loop-range.invariant in
+    let is = c.deref-range-items.ensures.value in
+    let all : take c.loop-range.range-index c.args.ranges.items ≡ c.args.ranges.items =
+    take_all c.loop-range.range-index c.args.ranges.items (omega (arith, ap (length {A = Span}) is)) in record {
+      sorted = c.requires;
+      laid = inv.rows ∙ ap (rows_from 0 0) all;
+      enough = inv.words ∙ ap words_of all;
+      early = λ k entered. absurd (entered (inv.none k));
+      grouped = c.in_ok-resize-2.ensures.len ∙ ap (λ n. n / 64 + 1) c.len-2.ensures;
+      bounded = λ k entered. absurd (entered (inv.none k));
+    }

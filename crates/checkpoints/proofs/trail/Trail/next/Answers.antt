@@ -1,0 +1,13 @@
+use Rattle.checkpoints.proofs.trail.Trail.next.Goals as goal
+
+pub returns : goal.returns
+returns c = record {
+  next = λ start h. c.in_ok-found.ensures.next start (c.in_ok-machine.ensures.shows start h);
+  price = c.in_ok-found.ensures.price;
+  right = c.in_ok-machine.ensures.right;
+  held = c.in_ok-machine.ensures.held;
+  kept = tt;
+  meter = c.in_ok-machine.ensures.meter;
+  short = c.in_ok-machine.ensures.short;
+  loaded = c.in_ok-machine.ensures.loaded;
+}
