@@ -5,15 +5,9 @@ use Rattle.std.proofs.lemmas.Bool.{cases_lt, cases_eq, false≢true}
 use Rattle.std.proofs.lemmas.Bool.Decides.{nat_tests}
 use Rattle.std.proofs.lemmas.Option.{same_Some, slice_get-get_or, slice_get_within, get_or_from_slice_get}
 use Rattle.std.specs.List.Sorted.{IsPartitionPoint, IsPartitionedBy}
-<<<<<<< HEAD
 use Rattle.heap_blocks.specs.declared.block.Block.{Block}
-use Rattle.leak_search.specs.Pointing.{IsPointer, IsInNoBlock, IsWordIn}
-use Rattle.leak_search.specs.Gathering.{AreOrdered, IsLastAt}
-=======
-use Rattle.guest_heap.specs.declared.block.Block.{Block}
 use Rattle.leak_search.specs.Pointing.{IsPointer, PointsTo, IsInNoBlock, IsWordIn}
 use Rattle.leak_search.specs.Gathering.{AreOrdered, Finds, IsLastAt}
->>>>>>> h3
 
 le_true : (m n : ℕ) → m ≤ n → nat_le m n ≡ true
 le_true m n h = grind (arith, nat_tests)
@@ -110,7 +104,8 @@ points_below blocks value above starts b p =
     let low = not_below value p.0 (of_either starts value p.0 p.2) in
     omega arith
 
-module _ (blocks : List Block) (value k : ℕ) (block : Block) (apart : AreOrdered blocks) (last : IsLastAt blocks value k)
+module _ (blocks : List Block) (value k : ℕ) (block : Block) (apart : AreOrdered blocks)
+    (last : IsLastAt blocks value k)
     (at : slice_get blocks k ≡ Some block) where
   -- what it points to is the last block that starts at it or below
   the_last : (starts : Bool) (b : ℕ) → PointsTo starts blocks value b → (k ≡ b) × IsPointer starts value block
