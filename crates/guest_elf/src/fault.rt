@@ -4,51 +4,55 @@ ghost use Rattle.guest_elf.specs.Faults.{number_of};
 ghost use Rattle.guest_elf.specs.declared.fault.ElfFault.TheVariants.{Memory};
 
 use std::alloc::AllocError;
-use std::error::Error;
-use std::fmt;
+use thiserror::Error;
 
 /// Why a file gives no image. But for `Memory`, the first that holds in the order of the numbers.
-#[derive(Clone, Copy, Debug, PartialEq, Eq)]
+#[derive(Clone, Copy, Debug, PartialEq, Eq, Error)]
 pub enum ElfFault {
     /// A growth of a list was refused.
+    #[error("no memory")]
     Memory,
     /// Fewer than 52 bytes, or another beginning than `7F 45 4C 46`.
+    #[error("not an ELF file")]
     NotElf,
     /// EI_CLASS is not ELFCLASS32.
+    #[error("not an ELF file of 32 bits")]
     NotClass32,
     /// EI_DATA is not ELFDATA2LSB.
+    #[error("not a little-endian ELF file")]
     NotLittleEndian,
     /// EI_VERSION or e_version is not EV_CURRENT.
+    #[error("not an ELF file of version 1")]
     BadVersion,
     /// e_type is not ET_EXEC.
+    #[error("not an executable file")]
     NotExecutable,
     /// e_machine is not EM_RISCV.
+    #[error("not a RISC-V file")]
     NotRiscV,
     /// e_phnum is PN_XNUM; or there are program headers and e_phentsize is not 32 or their table ends past
     /// the file; or there are sections and e_shentsize is not 40 or their table ends past the file.
+    #[error("bad table of program or section headers")]
     BadTable,
     /// A program header of type PT_INTERP.
+    #[error("the file asks for an interpreter")]
     Interpreter,
     /// A PT_LOAD with p_filesz above p_memsz, or bytes past the end of the file, or an end above 2^32.
+    #[error("bad segment")]
     BadSegment,
     /// A segment has an address of another, of the heap (from 0x40000000 up to 0x60000000) or of the
     /// stack (from 0x7F000000 up to 0x80000000).
+    #[error("segments overlap")]
     Overlap,
     /// The file or the sum of p_memsz has more than 16,777,216 bytes.
+    #[error("the file is too large")]
     TooLarge,
     /// A symbol table with sh_entsize other than 16, a size that is no multiple of 16, or an end past the
     /// file; its sh_link is not below e_shnum; its string table ends past the file; or a function (STT_FUNC
     /// with st_shndx not 0) has a name without a zero byte before the string table's end.
+    #[error("bad symbol table")]
     BadSymbols,
 }
-
-impl fmt::Display for ElfFault {
-    fn fmt<W: fmt::Write>(&self, f: &mut fmt::Formatter<W>) -> fmt::Result {
-        f.write_str(self.text())
-    }
-}
-
-impl Error for ElfFault {}
 
 impl From<AllocError> for ElfFault {
     ghost from_gives = { λ _ fault. fault ≡ Memory };
@@ -59,25 +63,6 @@ impl From<AllocError> for ElfFault {
 }
 
 impl ElfFault {
-    /// What is said of it.
-    fn text(self) -> &'static str {
-        match self {
-            ElfFault::Memory => "no memory",
-            ElfFault::NotElf => "not an ELF file",
-            ElfFault::NotClass32 => "not an ELF file of 32 bits",
-            ElfFault::NotLittleEndian => "not a little-endian ELF file",
-            ElfFault::BadVersion => "not an ELF file of version 1",
-            ElfFault::NotExecutable => "not an executable file",
-            ElfFault::NotRiscV => "not a RISC-V file",
-            ElfFault::BadTable => "bad table of program or section headers",
-            ElfFault::Interpreter => "the file asks for an interpreter",
-            ElfFault::BadSegment => "bad segment",
-            ElfFault::Overlap => "segments overlap",
-            ElfFault::TooLarge => "the file is too large",
-            ElfFault::BadSymbols => "bad symbol table",
-        }
-    }
-
     /// The number of the refusal: 1 or from 20 to 31.
     pub fn number(self) -> u8
         ensures { result ≡ number_of self }
