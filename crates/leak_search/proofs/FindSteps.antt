@@ -104,9 +104,8 @@ points_below blocks value above starts b p =
     let low = not_below value p.0 (of_either starts value p.0 p.2) in
     omega arith
 
-module _ (blocks : List Block) (value k : ℕ) (block : Block) (apart : AreOrdered blocks)
-    (last : IsLastAt blocks value k)
-    (at : slice_get blocks k ≡ Some block) where
+module _ (blocks : List Block) (value k : ℕ) (block : Block)
+    (apart : AreOrdered blocks) (last : IsLastAt blocks value k) (at : slice_get blocks k ≡ Some block) where
   -- what it points to is the last block that starts at it or below
   the_last : (starts : Bool) (b : ℕ) → PointsTo starts blocks value b → (k ≡ b) × IsPointer starts value block
   the_last starts b p =

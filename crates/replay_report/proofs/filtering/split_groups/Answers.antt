@@ -1,4 +1,4 @@
-use Rattle.std.proofs.Common.{◌≡◌, ◌∙◌, ap, length}
+use Rattle.std.proofs.Common.{◌∙◌, ap, length}
 use Rattle.std.proofs.lemmas.List.{length-map}
 use Rattle.replay_report.proofs.Filters.{hidden-are, shown-are}
 use Rattle.replay_report.proofs.filtering.split_groups.Goals as goal

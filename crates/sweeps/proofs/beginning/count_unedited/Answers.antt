@@ -1,4 +1,4 @@
-use Rattle.std.proofs.Common.{◌≡◌, ◌++◌, refl, ap, sym, ◌∙◌, append-nil}
+use Rattle.std.proofs.Common.{◌++◌, refl, ap, sym, ◌∙◌, append-nil}
 use Rattle.sweeps.specs.Outcomes.{tallied}
 use Rattle.sweeps.specs.Tables.{first_lines, rows_after, rows_text}
 use Rattle.sweeps.proofs.beginning.count_unedited.Goals as goal
