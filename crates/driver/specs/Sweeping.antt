@@ -25,17 +25,26 @@ use Rattle.driver.specs.Swept.{Case, Writes, head_text}
 use Rattle.driver.specs.declared.ends.End.{End}
 use Rattle.driver.specs.declared.ends.End.TheVariants.{BytesRefused, CannotReadInput, InputTooLarge, NoMemory}
 use Rattle.driver.specs.declared.ends.End.TheVariants.{Suppressions, SuppressionsTooLong, Usage, WordsRefused}
+use Rattle.driver.specs.declared.sweeping.request.Part.{Part}
+use Rattle.driver.specs.declared.sweeping.request.Range.{Range}
 use Rattle.driver.specs.declared.sweeping.request.Request.{Request}
 
--- the sweep of a program with an input and suppressions, of which these bytes were read, by the plan of a request
-abbrev pub case_of : List ℕ → List ℕ → ProgramImage → List ℕ → List Rule → SweepWords → Request → Plan → Case
-case_of file text image input list words request plan = record {
-  head = head_text file input text words plan.bytes request.words request.part;
+-- the sweep of a program with an input and suppressions, of which these bytes were read, by a plan: where words are
+-- named, those, and a part of the places
+abbrev pub case_with : List ℕ → List ℕ → ProgramImage → List ℕ → List Rule → SweepWords → Option Range → Part → Plan
+    → Case
+case_with file text image input list words named part plan = record {
+  head = head_text file input text words plan.bytes named part;
   with_output = words.with_output;
   sc = at_step (begun image input list) words.step;
   plan = plan;
-  from = part_from plan request.part;
+  from = part_from plan part;
 }
+
+-- and by the plan of a request
+abbrev pub case_of : List ℕ → List ℕ → ProgramImage → List ℕ → List Rule → SweepWords → Request → Plan → Case
+case_of file text image input list words request plan =
+    case_with file text image input list words request.words request.part plan
 
 -- the places that are meant are refused, and nothing is written; or the table of those of the part is
 abbrev pub Sweeps : List ℕ → List ℕ → ProgramImage → List ℕ → List Rule → SweepWords → Request → Option (List ℕ)

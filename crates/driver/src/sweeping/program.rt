@@ -1,9 +1,9 @@
 //! A sweep of a program with an input and suppressions.
-ghost use Rattle.std.specs.Prelude.{◌≡◌, ◌≤◌, ◌++◌, [], ℕ, List, Option, IfOk, length};
+ghost use Rattle.std.specs.Prelude.{◌≡◌, ◌≤◌, ◌-◌, ◌++◌, [], ℕ, List, Option, IfOk, length};
 ghost use Rattle.driver.specs.Ends.{end_of};
-ghost use Rattle.driver.specs.Planned.{IsPart};
-ghost use Rattle.driver.specs.Swept.{head_text};
-ghost use Rattle.driver.specs.Sweeping.{Sweeps, case_of};
+ghost use Rattle.driver.specs.Planned.{IsPart, part_from, part_to};
+ghost use Rattle.driver.specs.Swept.{Case, Writes, head_text};
+ghost use Rattle.driver.specs.Sweeping.{Sweeps, case_with};
 ghost use Rattle.scenario.specs.Limits.{longest_input, most_steps};
 ghost use Rattle.scenario.specs.Scenario.{at_step, begun};
 ghost use Rattle.sweeps.specs.Sweeps.{HasMet, scenario_of, tells_output};
@@ -19,7 +19,7 @@ use guest_elf::Image;
 use std::alloc::{AllocError, Global};
 use std::io::Write;
 use suppressions::Suppression;
-use sweeps::{Places, Sweep};
+use sweeps::{Places, Plan, Sweep};
 
 /// The head of a table, and the unedited run's outcome behind it; and the sweep that has met that run.
 fn begin_table<'p>(
@@ -60,6 +60,67 @@ fn begin_table<'p>(
     )
 }
 
+/// Writes the first lines of a table, and behind them the rows of the places from one on, up to another, and what ends it.
+fn write_behind<'a, W: Write>(
+    alloc: Global,
+    first_lines: &[u8],
+    sweep: &mut Sweep<'_>,
+    plan: &Plan,
+    from: u64,
+    to: u64,
+    writer: &mut W,
+) -> Result<(), End<'a>>
+    requires { from ≤ to }
+    ensures { (case : Case) (first : List ℕ) → case.plan ≡ plan.now → case.from ≡ from → scenario_of sweep.old ≡ case.sc
+        → tells_output sweep.old ≡ case.with_output → HasMet sweep.old first [] → first_lines.now ≡ case.head ++ rows_text first []
+        → Writes case (to - from) (W.contents writer.old) (W.contents writer.new) (end_of result) }
+{
+    write_all(writer, first_lines)?;
+    write_table(alloc, sweep, plan, from, to, writer)
+}
+
+/// Sweeps the places of a plan that lie in a part, and writes the table.
+fn sweep_part<'a, W: Write>(
+    alloc: Global,
+    file: &[u8],
+    text: &[u8],
+    image: Image<'_>,
+    input: Vec<u8>,
+    suppressions: Vec<Suppression>,
+    words: &SweepWords<'a>,
+    plan: &Plan,
+    named: Option<Range>,
+    part: Part,
+    writer: &mut W,
+) -> Result<(), End<'a>>
+    requires short { length input.items ≤ longest_input }
+    requires near { words.now.step ≤ most_steps }
+    requires part { IsPart part }
+    ensures { Writes (case_with file.now text.now image.entry input.items suppressions.items words.now named part plan.now)
+        (part_to plan.now part - part_from plan.now part) (W.contents writer.old) (W.contents writer.new) (end_of result) }
+{
+    let places = plan.places();
+    let from = first_place(places, part.index - 1, part.count);
+    let to = first_place(places, part.index, part.count);
+    let mut out = Vec::new(alloc);
+    let Ok(mut sweep) = begin_table(
+        alloc,
+        file,
+        text,
+        image,
+        input,
+        suppressions,
+        words,
+        plan.bytes,
+        named,
+        part,
+        &mut out,
+    ) else {
+        return Err(End::NoMemory);
+    };
+    write_behind(alloc, &out, &mut sweep, plan, from, to, writer)
+}
+
 /// Sweeps a program with an input and suppressions, as a request has it, and writes the table.
 pub(crate) fn sweep_program<'a, W: Write>(
     alloc: Global,
@@ -80,11 +141,7 @@ pub(crate) fn sweep_program<'a, W: Write>(
     let part = request.part;
     let named = request.words;
     let plan = plan_of(request, &image, input.len() as u32)?;
-    let places = plan.places();
-    let from = first_place(places, part.index - 1, part.count);
-    let to = first_place(places, part.index, part.count);
-    let mut out = Vec::new(alloc);
-    let Ok(mut sweep) = begin_table(
+    sweep_part(
         alloc,
         file,
         text,
@@ -92,13 +149,9 @@ pub(crate) fn sweep_program<'a, W: Write>(
         input,
         suppressions,
         words,
-        plan.bytes,
+        &plan,
         named,
         part,
-        &mut out,
-    ) else {
-        return Err(End::NoMemory);
-    };
-    write_all(writer, &out)?;
-    write_table(alloc, &mut sweep, &plan, from, to, writer)
+        writer,
+    )
 }
