@@ -1,10 +1,11 @@
 -- The stages of a command on a program.
 use Rattle.std.proofs.Common.{◌≡◌, ◌⊎◌, ◌∙◌, ℕ, List, [], Bool, false, Option, Some, Result, Ok, Err, IfErr, IsErrAnd}
-use Rattle.std.proofs.Common.{ap, inr, sym, subst}
+use Rattle.std.proofs.Common.{ap, inl, inr, sym, subst}
 use Rattle.std.proofs.KnownBytes.{Appends-nil, Consumes-nil}
 use Rattle.std.specs.Io.KnownBytes.{Appends, Consumes}
 use Rattle.command_line.specs.Orders.{input_path, rules_path}
 use Rattle.command_line.specs.declared.order.Order.{Order}
+use Rattle.command_line.specs.declared.order.SweepWords.{SweepWords}
 use Rattle.guest_elf.specs.File.{IsImageOf, early_refusal, refusal}
 use Rattle.guest_elf.specs.declared.fault.ElfFault.{ElfFault}
 use Rattle.guest_elf.specs.declared.fault.ElfFault.TheVariants.{Memory}
@@ -20,10 +21,13 @@ use Rattle.driver.specs.Carried.{Serves, Streams, Untouched}
 use Rattle.driver.specs.Carried.{most_judged, streams}
 use Rattle.driver.specs.Ends.{end_of, end_of_serve}
 use Rattle.driver.specs.Once.{IsReportOnce}
+use Rattle.driver.specs.Planned.{IsRequestOf}
+use Rattle.driver.specs.Sweeping.{CarriedSweep, Sweeps, SweepsImage}
 use Rattle.driver.specs.declared.carrying.Action.{Action}
 use Rattle.driver.specs.declared.carrying.Action.TheVariants.{Report}
 use Rattle.driver.specs.declared.ends.End.{End}
 use Rattle.driver.specs.declared.ends.End.TheVariants.{Image}
+use Rattle.driver.specs.declared.sweeping.request.Request.{Request}
 use Rattle.checkpoints.specs.Trails.{is_short}
 use Rattle.checkpoints.specs.Work.{Work}
 use Rattle.replay_session.specs.Session.{turn_of, trail_of}
@@ -33,6 +37,7 @@ use Rattle.replay_session.specs.Work.{no_work, work_on}
 use Rattle.replay_session.specs.declared.session.Session.{Session}
 use Rattle.looks.specs.Views.{ViewsLines}
 use Rattle.suppressions.specs.Rules.{Rule}
+use Rattle.suppressions.specs.Texts.{rules}
 
 pub untouched : (left held : Option (List ℕ)) → Untouched (streams left held) (streams left held)
 untouched left held = (Consumes-nil left, Appends-nil held)
@@ -135,3 +140,31 @@ module _ (session : Session) (turn : Turn) (said : turn_of session ≡ turn) (wo
       serves-fault (ViewsLines (fresh turn)) (λ replies none. none) fault left-old left-new held-old held-new
       (subst (λ (stage : Stage). StoppedBy fault (ViewsLines stage) left-old left-new held-old held-new) begins-fresh
       stopped)
+
+-- where the words make a request and the file gives a program, what becomes of a sweep of it is what becomes of the
+-- command; the bytes as they were read, as the program was read of, and as they are swept
+pub with-texts : (gives : Giving) (order : Order) (words : SweepWords) (request : Request) (front bytes file : List ℕ)
+    (image : ProgramImage) (old : Streams) (held : Option (List ℕ)) (end : End)
+    → IsRequestOf words request → IsFront gives order.file.now most_judged front → bytes ≡ front → IsImageOf bytes image
+    → file ≡ front
+    → SweepsImage gives order words request file image old held end
+    → CarriedSweep gives order words old held end
+with-texts gives order words request front bytes file image old held end asks read same has_image swept (inl none) =
+    inl (inr (inr (inr none.0)), none.1)
+with-texts gives order words request front bytes file image old held end asks read same has_image swept (inr whole) =
+    inr (
+      record {
+        request = request;
+        file = front;
+        image = image;
+        text = whole.0;
+        input = whole.1;
+        asks = asks;
+        reads = read;
+        has_image = subst (λ xs. IsImageOf xs image) same has_image;
+        has_text = whole.2;
+        has_rules = whole.3;
+        has_input = whole.4;
+      },
+      subst (λ xs. Sweeps xs whole.0 image whole.1 (rules whole.0) words request old.held held end) swept whole.5,
+    )

@@ -114,15 +114,27 @@ pub record HasAll (gives : Giving) (order : Order) (words : SweepWords) (left : 
   pub has_rules : faults text ≡ []
   pub has_input : HasSweepInput gives (input_path order) left input
 
+-- or the suppressions or the input weren't, and end the program
+abbrev pub HasNoTexts : Giving → Order → Option (List ℕ) → End → Type 0
+HasNoTexts gives order left end =
+    NoText gives (rules_path order) end
+    ⊎ (((text : List ℕ) × HasText gives (rules_path order) text × NoRulesIn text end)
+    ⊎ NoSweepInput gives (input_path order) left end)
+
 -- or it wasn't: the step is too great, the words make no request, or a file ends the program
 abbrev pub HasNotAll : Giving → Order → SweepWords → Option (List ℕ) → End → Type 0
 HasNotAll gives order words left end =
     ((end ≡ Usage) × (most_steps < words.step))
-    ⊎ (IsNoRequest words end
-    ⊎ (NoImage gives order.file.now end
-    ⊎ (NoText gives (rules_path order) end
-    ⊎ (((text : List ℕ) × HasText gives (rules_path order) text × NoRulesIn text end)
-    ⊎ NoSweepInput gives (input_path order) left end))))
+    ⊎ (IsNoRequest words end ⊎ (NoImage gives order.file.now end ⊎ HasNoTexts gives order left end))
+
+-- a program was swept by what else an order names
+abbrev pub SweepsImage : Giving → Order → SweepWords → Request → List ℕ → ProgramImage → Streams → Option (List ℕ) → End
+    → Type 0
+SweepsImage gives order words request file image old held end =
+    (HasNoTexts gives order old.left end × Appends old.held held [])
+    ⊎ ((text : List ℕ) × (input : List ℕ) × HasText gives (rules_path order) text × (faults text ≡ [])
+    × HasSweepInput gives (input_path order) old.left input
+    × Sweeps file text image input (rules text) words request old.held held end)
 
 -- a command for a sweep was carried out
 abbrev pub CarriedSweep : Giving → Order → SweepWords → Streams → Option (List ℕ) → End → Type 0

@@ -5,10 +5,11 @@ ghost use Rattle.replay_session.specs.Stages.{fresh};
 ghost use Rattle.replay_session.specs.Turns.{opening};
 ghost use Rattle.looks.specs.Views.{ViewsLines};
 ghost use Rattle.driver.specs.Carried.{Carried, HasInput, HasRules, IsFront, NoBytes, NoInput, NoRules, Reports, Serves, streams};
-ghost use Rattle.driver.specs.Sweeping.{CarriedOut, CarriedSweep, HasStream, HasSweepInput, HasText, is_stream, NoStream, NoSweepInput, NoText};
+ghost use Rattle.driver.specs.Planned.{IsPart};
+ghost use Rattle.driver.specs.Sweeping.{CarriedOut, CarriedSweep, SweepsImage, HasStream, HasSweepInput, HasText, is_stream, NoStream, NoSweepInput, NoText};
 ghost use Rattle.driver.specs.Ends.{end_of};
 ghost use Rattle.driver.specs.Once.{IsReportOnce};
-ghost use Rattle.scenario.specs.Limits.{longest_input};
+ghost use Rattle.scenario.specs.Limits.{longest_input, most_steps};
 
 use crate::ends::End;
 use crate::files::{Files, ReadFault, front_of};
@@ -237,6 +238,39 @@ fn follow_order<'a, F: Files, R: Read, W: Write>(
     }
 }
 
+/// Sweeps a program by what else an order names: the suppressions are read, then the input, each judged before the next.
+fn sweep_image<'a, F: Files, R: Read, W: Write>(
+    alloc: Global,
+    order: &Order<'a>,
+    words: &SweepWords<'a>,
+    request: Request,
+    file: &[u8],
+    image: Image<'_>,
+    files: &F,
+    reader: &mut R,
+    writer: &mut W,
+) -> Result<(), End<'a>>
+    requires near { words.now.step ≤ most_steps }
+    requires part { IsPart request.part }
+    ensures { SweepsImage (F.gives files.now) order.now words.now request file.now image.entry
+        (streams (R.remaining reader.old) (W.contents writer.old)) (W.contents writer.new) (end_of result) }
+{
+    let text = read_named_text(alloc, files, order.suppressions)?;
+    let suppressions = parse(alloc, &text)?;
+    let input = read_sweep_input(alloc, files, reader, order.input)?;
+    sweep_program(
+        alloc,
+        file,
+        &text,
+        image,
+        input,
+        suppressions,
+        words,
+        request,
+        writer,
+    )
+}
+
 /// Follows an order for a sweep: its words are read, and then the program, the suppressions and the input, each judged before the next.
 fn follow_sweep<'a, F: Files, R: Read, W: Write>(
     alloc: Global,
@@ -254,19 +288,8 @@ fn follow_sweep<'a, F: Files, R: Read, W: Write>(
     let request = Request::of(alloc, words)?;
     let file = read_front(alloc, files, order.file, MOST_READ)?;
     let image = read(alloc, &file)?;
-    let text = read_named_text(alloc, files, order.suppressions)?;
-    let suppressions = parse(alloc, &text)?;
-    let input = read_sweep_input(alloc, files, reader, order.input)?;
-    sweep_program(
-        alloc,
-        &file,
-        &text,
-        image,
-        input,
-        suppressions,
-        words,
-        request,
-        writer,
+    sweep_image(
+        alloc, order, words, request, &file, image, files, reader, writer,
     )
 }
 
