@@ -13,6 +13,6 @@ returns-in_err-image g c =
 
 pub returns : goal.returns
 returns g c =
-    with-texts (g.F.Files.gives c.args.files.now) c.args.order.now c.args.words.now c.in_ok-request.request _ _ _ _ _ _ _
-    c.in_ok-request.ensures.ok c.in_ok-file.ensures.ok c.deref.ensures.value c.in_ok-image.ensures.image
+    with-texts (g.F.Files.gives c.args.files.now) c.args.order.now c.args.words.now c.in_ok-request.request _ _ _ _ _ _
+    _ c.in_ok-request.ensures.ok c.in_ok-file.ensures.ok c.deref.ensures.value c.in_ok-image.ensures.image
     c.deref-2.ensures.value c.sweep_image.ensures
