@@ -1,5 +1,5 @@
-"""What `try-bodies` and `time-proofs` share: checks of crates by the toolchain's own words, over the libraries that are built, in a folder of
-their own that ends with them."""
+"""What `try-bodies` and `time-proofs` share: checks of crates by the toolchain's own words, over the libraries that are built, in a folder
+of their own that ends with them."""
 import importlib.machinery
 import importlib.util
 import os
