@@ -9,7 +9,7 @@ use Rattle.guest_machine.specs.State.{State}
 use Rattle.guest_machine.specs.Run.{pre, poked}
 use Rattle.guest_machine.specs.Shows.{Shows}
 use Rattle.guest_machine.specs.Laws.{KeepsInput, KeepsHeap, KeepsEnd, EndStays, ReadsOn}
-use Rattle.guest_machine.specs.declared.setup.Mark.{Mark}
+use Rattle.run_values.specs.declared.mark.Mark.{Mark}
 use Rattle.guest_machine.specs.declared.setup.Setup.{Setup}
 use Rattle.checkpoints.specs.Entries.{below}
 use Rattle.checkpoints.specs.FirstUses.{uses_word, IsFirstBelow}

@@ -7,7 +7,7 @@ use Rattle.guest_machine.specs.State.{State}
 use Rattle.guest_machine.specs.Exec.{touches}
 use Rattle.guest_machine.specs.Run.{pre, post, poked}
 use Rattle.guest_machine.specs.Laws.{KeepsPokes, TouchesNone, InWord}
-use Rattle.guest_machine.specs.declared.setup.Mark.{Mark}
+use Rattle.run_values.specs.declared.mark.Mark.{Mark}
 use Rattle.guest_machine.specs.declared.setup.Setup.{Setup}
 use Rattle.checkpoints.specs.Entries.{below}
 use Rattle.checkpoints.specs.FirstUses.{uses_word, IsFirstBelow}

@@ -1,15 +1,15 @@
 -- A run from where its machine doesn't run any more.
-use Rattle.std.proofs.Common.{◌≡◌, ℕ, zero, suc, ◌+◌, ◌-◌, ◌<◌, ◌≤◌, List, [], ◌∷◌, false, refl, ap, sym, ◌∙◌, arith}
+use Rattle.std.proofs.Common.{◌≡◌, ℕ, zero, suc, ◌+◌, ◌-◌, ◌≤◌, List, [], ◌∷◌, false, refl, ap, sym, ◌∙◌, arith}
 use Rattle.std.specs.Prelude.{fold}
 use Rattle.guest_machine.specs.State.{State}
 use Rattle.guest_machine.specs.Run.{after_marks, marks_at, marked, pre, post}
 use Rattle.guest_machine.specs.Exec.{touches, is_running}
 use Rattle.guest_machine.specs.Laws.{StaysHalted}
-use Rattle.guest_machine.specs.declared.setup.Mark.{Mark}
+use Rattle.run_values.specs.declared.mark.Mark.{Mark}
 use Rattle.guest_machine.specs.declared.setup.Setup.{Setup}
 use Rattle.checkpoints.specs.FirstUses.{uses_word}
 use Rattle.checkpoints.proofs.WordSteps.{meets-nowhere}
-use Rattle.checkpoints.proofs.MarkSteps.{pre-more, after-no_marks}
+use Rattle.checkpoints.proofs.MarkSteps.{pre-more}
 
 marks-keep-status : (marks : List Mark) (s : State) → (fold marked s marks).core.status ≡ s.core.status
 unfolding marked

@@ -3,7 +3,7 @@ use Rattle.std.proofs.Common.{◌≡◌, ℕ, zero, suc, ◌+◌, ◌-◌, ◌/�
 use Rattle.std.proofs.Common.{◌∷◌, refl, ap, arith, max, length, get_or}
 use Rattle.std.proofs.lemmas.Bool.Decides.{nat_tests}
 use Rattle.std.specs.List.Sorted.{IsNonDecreasingBy}
-use Rattle.guest_machine.specs.declared.span.Span.{Span}
+use Rattle.run_values.specs.declared.span.Span.{Span}
 use Rattle.checkpoints.specs.declared.uses.Row.{Row}
 use Rattle.checkpoints.specs.Words.{words_in, words_of, has_word, word_end, place_in, rows_from}
 

@@ -5,7 +5,7 @@ use Rattle.std.proofs.lemmas.Bool.{true≢false}
 use Rattle.std.proofs.lemmas.Bool.Decides.{nat_tests}
 use Rattle.shadow_memory.specs.Ranges.{above, is_in, offset}
 use Rattle.shadow_memory.specs.Shadows.{Shadow}
-use Rattle.guest_machine.specs.declared.span.Span.{Span}
+use Rattle.run_values.specs.declared.span.Span.{Span}
 use Rattle.checkpoints.specs.Searches.{AreAlikeIn, DiffersIn}
 
 -- an address in a range is that at its offset

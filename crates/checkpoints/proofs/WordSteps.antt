@@ -2,17 +2,18 @@
 use Rattle.std.proofs.Common.{◌≡◌, ℕ, zero, suc, ◌+◌, ◌-◌, ◌*◌, ◌/◌, ◌%◌, ◌^◌, ◌<◌, ◌≤◌, ◌||◌, nat_lt, Bool, true}
 use Rattle.std.proofs.Common.{false, cond, List, [], ◌∷◌, refl, ap, sym, add-zero}
 use Rattle.std.proofs.Common.{◌++◌, ◌⊎◌, ◌∙◌, inl, inr, arith, min, length, get_or}
+use Rattle.std.specs.Prelude.{replicate}
 use Rattle.std.proofs.Math.ListN.{set}
 use Rattle.std.proofs.lemmas.Bool.{cases_eq, cases_lt, false≢true}
 use Rattle.std.proofs.lemmas.Bool.Decides.{nat_tests}
 use Rattle.std.proofs.lemmas.List.{get_or-set_other, get_or-set_same}
 use Rattle.shadow_memory.specs.Ranges.{is_in, offset}
 use Rattle.guest_machine.specs.Spans.{covers}
-use Rattle.guest_machine.specs.declared.span.Span.{Span}
+use Rattle.run_values.specs.declared.span.Span.{Span}
 use Rattle.guest_machine.specs.declared.setup.Touched.{Touched}
 use Rattle.guest_machine.specs.Exec.{has_touched}
 use Rattle.checkpoints.specs.Words.{meets, has_address, is_among, is_from, IsWordIn, words_in, words_of, has_word}
-use Rattle.checkpoints.specs.Words.{place_in, IsPlaced}
+use Rattle.checkpoints.specs.Words.{place_in, IsPlaced, AreEntered, never}
 
 -- words in and out of a range
 inside : (r : Span) (w : ℕ) → has_word r w ≡ true → (r.start / 4 ≤ w) × (w < r.start / 4 + words_in r)
@@ -218,6 +219,29 @@ span-words span w words small some few size = elim (cases_lt d words) [
         meets-at (span.start % 4) (is_in span.start span.len) (4 * w) (omega arith)
         (let o = offset-first span.start w small few (omega arith) in
         is-in span.start span.len (4 * w + span.start % 4) (omega arith) (omega arith))
+
+-- no word is among those of which none is remembered
+pub none-in : (n k : ℕ) → get_or (replicate n never) k never ≡ never
+none-in zero k = refl
+none-in (suc n) zero = refl
+none-in (suc n) (suc k) = none-in n k
+
+pub none-remembered : (ranges : List Span) (steps : List ℕ) (n : ℕ) → AreEntered ranges steps (replicate n never)
+none-remembered ranges steps n k few = let none = none-in n k in absurd (omega arith)
+
+-- a range inside of a word meets no other one
+pub meets-no-other : (span : Span) (w : ℕ) → span.start < 2 ^ 32 → w < 2 ^ 30 → span.len ≤ 4 - span.start % 4
+    → (w ≡ span.start / 4 → ⊥) → meets (is_in span.start span.len) (4 * w) ≡ false
+unfolding word_in distance
+meets-no-other span w small few short other = elim (cases_lt 0 span.len) [
+  | inl some ↦ span-words span w 1 small some few (omega (arith, some, short)) ∙ apart
+  | inr none ↦
+      meets-nowhere (is_in span.start span.len) (4 * w)
+      (λ j l. not-in span.start span.len (4 * w + j) (omega (arith, none)))
+]
+  where
+    apart : word_in (span.start / 4) 1 w ≡ false
+    apart = grind (arith, nat_tests)
 
 -- three ranges, one after another
 pub after-three : (f r w : Bool) (x k one two three : ℕ) → one ≡ cond f (min x k) x → two ≡ cond r (min one k) one

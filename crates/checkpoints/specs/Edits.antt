@@ -6,7 +6,7 @@ use Rattle.guest_machine.specs.Run.{poked}
 use Rattle.guest_machine.specs.Shows.{Shows}
 use Rattle.guest_machine.specs.declared.machine.Machine.{Machine}
 use Rattle.guest_machine.specs.declared.setup.Setup.{Setup}
-use Rattle.guest_machine.specs.declared.setup.Mark.{Mark}
+use Rattle.run_values.specs.declared.mark.Mark.{Mark}
 use Rattle.checkpoints.specs.FirstEffects.{IsBelowFirst}
 use Rattle.checkpoints.specs.Effects.{EffectShows, Tells, DifferBy, Run, LeadsTo, written_by}
 use Rattle.checkpoints.specs.Work.{IsBelow, lowered}

@@ -4,8 +4,8 @@ use Rattle.guest_machine.specs.State.{State}
 use Rattle.guest_machine.specs.Run.{poked, marks_at}
 use Rattle.guest_machine.specs.Laws.{SharesFront, Extends}
 use Rattle.guest_machine.specs.declared.setup.Setup.{Setup}
-use Rattle.guest_machine.specs.declared.setup.Mark.{Mark}
-use Rattle.guest_machine.specs.declared.span.Span.{Span}
+use Rattle.run_values.specs.declared.mark.Mark.{Mark}
+use Rattle.run_values.specs.declared.span.Span.{Span}
 use Rattle.checkpoints.specs.Words.{IsWordIn}
 use Rattle.checkpoints.specs.FirstEffects.{IsBelowFirst, MarkShows, InputShows, EndShows, HeapShows, PatchShows}
 use Rattle.checkpoints.specs.declared.effect.Effect.{Effect}

@@ -5,7 +5,7 @@ use Rattle.guest_machine.specs.Run.{pre, post}
 use Rattle.guest_machine.specs.Shows.{Shows}
 use Rattle.guest_machine.specs.declared.machine.Machine.{Machine}
 use Rattle.guest_machine.specs.declared.setup.Setup.{Setup}
-use Rattle.guest_machine.specs.declared.setup.Mark.{Mark}
+use Rattle.run_values.specs.declared.mark.Mark.{Mark}
 use Rattle.guest_machine.specs.State.{State}
 use Rattle.checkpoints.specs.Effects.{EffectShows, LeadsTo, Run}
 use Rattle.checkpoints.specs.FirstEffects.{IsBelowFirst}

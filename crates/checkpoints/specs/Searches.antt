@@ -7,9 +7,9 @@ use Rattle.guest_machine.specs.State.{State}
 use Rattle.guest_machine.specs.Exec.{exec, is_running, touched_of}
 use Rattle.guest_machine.specs.Run.{post}
 use Rattle.guest_machine.specs.Spans.{covers}
-use Rattle.guest_machine.specs.declared.setup.Mark.{Mark}
+use Rattle.run_values.specs.declared.mark.Mark.{Mark}
 use Rattle.guest_machine.specs.declared.setup.Setup.{Setup}
-use Rattle.guest_machine.specs.declared.span.Span.{Span}
+use Rattle.run_values.specs.declared.span.Span.{Span}
 use Rattle.checkpoints.specs.declared.searches.Watch.{Watch}
 use Rattle.checkpoints.specs.declared.searches.Watch.TheVariants.{Run, Read, Write, Shadow as OfShadow, Error}
 use Rattle.checkpoints.specs.declared.searches.Sought.{Sought}

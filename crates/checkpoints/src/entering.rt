@@ -1,19 +1,20 @@
 //! How first uses are entered, looked up and forgotten.
-ghost use Rattle.std.specs.Prelude.{◌≡◌, ℕ, ◌+◌, ◌-◌, ◌*◌, ◌/◌, ◌%◌, ◌^◌, ◌<◌, ◌≤◌, slice_index_or, slice_set, if◌then◌else◌, true, map, min, max, length, IfOk};
+ghost use Rattle.std.specs.Prelude.{◌≡◌, ℕ, ◌+◌, ◌-◌, ◌*◌, ◌/◌, ◌%◌, ◌^◌, ◌<◌, ◌≤◌, slice_index_or, slice_set, if◌then◌else◌, true, map, min, max, length, IfOk, IsTrue, Some};
 ghost use Rattle.std.specs.List.{list_any};
 ghost use Rattle.std.specs.List.Sorted.{IsNonDecreasingBy};
-ghost use Rattle.guest_machine.specs.declared.span.Span.{Span as SpanOf};
+ghost use Rattle.run_values.specs.declared.span.Span.{Span as SpanOf};
 ghost use Rattle.checkpoints.specs.declared.uses.Row.{Row as RowOf};
+ghost use Rattle.checkpoints.specs.declared.uses.Place.TheVariants.{At};
 ghost use Rattle.guest_elf.specs.Segments.{has_address};
 ghost use Rattle.guest_machine.specs.Exec.{has_touched};
 ghost use Rattle.guest_machine.specs.Spans.{span_at};
 ghost use Rattle.guest_machine.specs.Spans.{covers};
 ghost use Rattle.guest_elf.specs.declared.segment.Segment.{Segment as SegmentOf};
-ghost use Rattle.checkpoints.specs.Words.{meets, is_among, is_from, words_in, word_end, words_of, IsPlaced, IsPlace, never, kept_below, group_size, AreBelowBounds, DropsAt, is_in_group};
+ghost use Rattle.checkpoints.specs.Words.{meets, is_among, is_from, words_in, word_end, words_of, IsPlaced, IsPlace, never, kept_below, group_size, AreBelowBounds, DropsAt, IsEntered, is_in_group};
 ghost use Rattle.checkpoints.specs.Entries.{ranges_of, entry_of, below, EntersAt};
 
 use crate::searches::later;
-use crate::uses::{FirstUses, GROUP, Place, Row};
+use crate::uses::{FirstUses, GROUP, Place, REMEMBERED, Row};
 use guest_elf::Segment;
 use guest_machine::{Span, Touched};
 use std::alloc::{AllocError, Global};
@@ -107,6 +108,7 @@ impl FirstUses {
             steps,
             bounds,
             entered: 0,
+            remembered: [NEVER; REMEMBERED],
         })
     }
 
@@ -152,13 +154,43 @@ impl FirstUses {
     {
         match self.place_of(word) {
             Place::At(place) => {
-                if step < self.steps[place] {
-                    self.put(place, step);
-                }
+                self.enter_at(word, place, step);
                 1
             }
-            Place::NoneBelow(end) => end.saturating_sub(word).min(most),
+            Place::NoneBelow(end) => {
+                self.remember(word);
+                end.saturating_sub(word).min(most)
+            }
         }
+    }
+
+    /// Enters a step at the place of a word.
+    #[inline(always)]
+    #[tactic(auto, unfolding(crate::specs::Entries::ranges_of, crate::specs::Entries::entry_of))]
+    fn enter_at(&mut self, word: u32, place: usize, step: u32)
+        requires place { IsPlace (ranges_of self.old) word (At place) }
+        ensures ranges { ranges_of self.new ≡ ranges_of self.old }
+        ensures entries { (w : ℕ) → w < 2 ^ 30 → IsPlaced (ranges_of self.old) w
+            → entry_of self.new w ≡ (if is_from word 1 w then min (entry_of self.old w) step else entry_of self.old w) }
+    {
+        let first = self.steps[place];
+        if step < first {
+            self.put(place, step);
+            self.remember(word);
+        } else if first < NEVER {
+            self.remember(word);
+        }
+    }
+
+    /// Remembers a word for which a step was entered, or which has no place.
+    #[inline(always)]
+    #[tactic(auto, unfolding(crate::specs::Entries::ranges_of, crate::specs::Entries::entry_of))]
+    fn remember(&mut self, word: u32)
+        requires { IsEntered (ranges_of self.old) self.old.steps.items word }
+        ensures ranges { ranges_of self.new ≡ ranges_of self.old }
+        ensures steps { self.new.steps.items ≡ self.old.steps.items }
+    {
+        self.remembered[word as usize % REMEMBERED] = word;
     }
 
     /// Puts a step at a place. Out of line, since most steps touch words that were touched before.
@@ -176,15 +208,37 @@ impl FirstUses {
         self.steps[place] = step;
     }
 
+    /// Whether a range lies in a word that is remembered, and no later step was entered than this one: then the step changes nothing.
+    #[inline(always)]
+    #[tactic(auto, unfolding(crate::specs::Entries::ranges_of, crate::specs::Entries::entry_of))]
+    fn is_known(&self, span: Span, step: u32) -> bool
+        ensures { IsTrue result → EntersAt step (covers (Some span)) self.now self.now }
+    {
+        let word = span.start / 4;
+        self.remembered[word as usize % REMEMBERED] == word
+            && span.len <= 4 - span.start % 4
+            && self.entered.saturating_sub(1) <= step
+    }
+
     /// Enters a step for each word that a range meets.
     #[inline(always)]
     fn enter_span(&mut self, span: Option<Span>, step: u32)
         ensures ranges { ranges_of self.new ≡ ranges_of self.old }
         ensures entries { EntersAt step (covers span) self.old self.new }
     {
-        let Some(span) = span else {
-            return;
-        };
+        if let Some(span) = span {
+            if !self.is_known(span, step) {
+                self.enter_words(span, step);
+            }
+        }
+    }
+
+    /// The same, word by word.
+    #[inline(never)]
+    fn enter_words(&mut self, span: Span, step: u32)
+        ensures ranges { ranges_of self.new ≡ ranges_of self.old }
+        ensures entries { EntersAt step (covers (Some span)) self.old self.new }
+    {
         if span.len == 0 {
             return;
         }
@@ -215,6 +269,7 @@ impl FirstUses {
         if self.entered > step {
             forget_groups(&mut self.steps, &mut self.bounds, step);
             self.entered = step;
+            self.remembered = [NEVER; REMEMBERED];
         }
     }
 }

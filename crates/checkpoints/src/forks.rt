@@ -4,7 +4,7 @@ ghost use Rattle.guest_machine.specs.State.{State};
 ghost use Rattle.guest_machine.specs.Run.{pre};
 ghost use Rattle.guest_machine.specs.Shows.{Shows};
 ghost use Rattle.guest_machine.specs.declared.setup.Setup.{Setup as SetupOf};
-ghost use Rattle.guest_machine.specs.declared.setup.Mark.{Mark as MarkOf};
+ghost use Rattle.run_values.specs.declared.mark.Mark.{Mark as MarkOf};
 ghost use Rattle.checkpoints.specs.Effects.{written_by};
 ghost use Rattle.checkpoints.specs.FirstEffects.{IsBelowFirst, InputShows};
 ghost use Rattle.checkpoints.specs.Forks.{IsLastUnshown, IsForkFor, ShowsEdited, WritesAligned, IsStepOf, IsForkOf};

@@ -5,7 +5,7 @@ use Rattle.std.specs.List.{starts_with}
 use Rattle.std.specs.Str.Parse.{AllDigits}
 use Rattle.std.proofs.lemmas.Fmt.{decimal_is_IsNumeral, length-decimal-le}
 use Rattle.std.proofs.lemmas.Bool.Decides.{nat_tests}
-use Rattle.replay_session.specs.Commands.{number}
+use Rattle.commands.specs.Commands.{number}
 use Rattle.driver.proofs.Numerals.{in_greater_base, number_of_digits}
 
 -- decimal digits begin no hexadecimal number, and are no word that begins with a letter

@@ -6,8 +6,8 @@ use Rattle.std.specs.Fmt.{digit_glyph}
 use Rattle.std.specs.Str.Parse.{AllDigits, digits_value, digits_value_after}
 use Rattle.std.proofs.lemmas.Bool.Decides.{nat_tests}
 use native.Mathlib.Nat.{div-div-eq-div-mul}
-use Rattle.replay_report.specs.Text.{address_text, hex_digit}
-use Rattle.replay_session.specs.Commands.{number}
+use Rattle.report_lines.specs.Text.{address_text, hex_digit}
+use Rattle.commands.specs.Commands.{number}
 use Rattle.driver.proofs.Numerals.{in_greater_base, number_of_digits}
 
 -- a hexadecimal digit is read as the value that it was written for

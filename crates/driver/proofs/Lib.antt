@@ -1,8 +1,6 @@
 pub mod RunSteps
 pub mod Fronts
-pub mod Pieces
 pub mod Stages
-pub mod TableSteps
 pub mod Numerals
 pub mod Decimals
 pub mod Hexadecimals

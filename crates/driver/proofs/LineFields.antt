@@ -3,7 +3,7 @@ use Rattle.std.proofs.Common.{◌≡◌, ℕ, ◌<◌, ◌==◌, List, [], ◌�
 use Rattle.std.specs.Str.Parse.{AllDigits}
 use Rattle.std.proofs.lemmas.Bool.Decides.{nat_tests}
 use Rattle.std.proofs.lemmas.List.Splits.{slice_split_at, slice_split_none}
-use Rattle.replay_session.specs.Commands.{fields, has_empty}
+use Rattle.commands.specs.Commands.{fields, has_empty}
 use Rattle.driver.proofs.Numerals.{no_space}
 
 module _ (word a b : List ℕ) where

@@ -6,8 +6,8 @@ use Rattle.std.specs.List.{All, list_all}
 use Rattle.std.specs.Str.Parse.{AllDigits, digits_value}
 use Rattle.std.proofs.lemmas.List.Elements.{All-nil, All-cons}
 use Rattle.std.proofs.lemmas.Bool.Decides.{nat_tests}
-use Rattle.replay_session.specs.Commands.{number_in}
-use Rattle.replay_session.proofs.NumberSteps.{counted_where_digits}
+use Rattle.commands.specs.Commands.{number_in}
+use Rattle.commands.proofs.NumberSteps.{counted_where_digits}
 
 -- digits of a base are digits of a greater one
 pub in_greater_base : (low high : ℕ) (ds : List ℕ) → low ≤ high → AllDigits low ds → AllDigits high ds

@@ -4,13 +4,13 @@ use Rattle.std.proofs.Common.{length, length-append, arith, codes, decimal, byte
 use Rattle.std.specs.List.{starts_with}
 use Rattle.std.specs.Str.Parse.{AllDigits}
 use Rattle.std.proofs.lemmas.Bool.Decides.{nat_tests}
-use Rattle.replay_report.specs.Text.{address_text}
-use Rattle.replay_session.specs.Commands.{command_of, fields, has_empty, input_of, input_with, number, parsed, patch_of}
-use Rattle.replay_session.specs.Commands.{patch_with, replace_of, taken}
+use Rattle.report_lines.specs.Text.{address_text}
+use Rattle.commands.specs.Commands.{command_of, fields, has_empty, input_of, input_with, number, parsed, patch_of}
+use Rattle.commands.specs.Commands.{patch_with, replace_of, taken}
 use Rattle.replay_session.specs.Turns.{Turn, accepted, after, if_command, most_lines}
 use Rattle.line_server.specs.Lines.{longest_line}
 use Rattle.sweeps.specs.Tables.{change_text}
-use Rattle.sweeps.specs.declared.change.Change.TheVariants.{Byte, Word}
+use Rattle.sweep_plans.specs.declared.change.Change.TheVariants.{Byte, Word}
 use Rattle.driver.specs.Laws.{RowsAreLines}
 use Rattle.driver.proofs.Decimals.{decimal_digits, decimal_plain, decimal_short, decimal_some, not_word}
 use Rattle.driver.proofs.Decimals.{number_of_decimal}

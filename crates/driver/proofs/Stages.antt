@@ -1,5 +1,5 @@
 -- The stages of a command on a program.
-use Rattle.std.proofs.Common.{◌≡◌, ◌⊎◌, ◌∙◌, ℕ, List, [], Bool, false, Option, Some, Result, Ok, Err, IfErr, IsErrAnd}
+use Rattle.std.proofs.Common.{◌≡◌, ◌⊎◌, ◌∙◌, ℕ, List, [], Bool, false, Option, Some, Result, Err}
 use Rattle.std.proofs.Common.{ap, inl, inr, sym, subst}
 use Rattle.std.proofs.KnownBytes.{Appends-nil, Consumes-nil}
 use Rattle.std.specs.Io.KnownBytes.{Appends, Consumes}
@@ -19,15 +19,16 @@ use Rattle.line_server.specs.declared.fault.ServeFault.TheVariants.{NoMemory as 
 use Rattle.driver.specs.Carried.{Carried, CarriedWithImage, Does, Giving, HasInput, HasRules, IsFront, NoImage, Reports}
 use Rattle.driver.specs.Carried.{Serves, Streams, Untouched}
 use Rattle.driver.specs.Carried.{most_judged, streams}
-use Rattle.driver.specs.Ends.{end_of, end_of_serve}
+use Rattle.ends.specs.Ends.{end_of_serve}
 use Rattle.driver.specs.Once.{IsReportOnce}
-use Rattle.driver.specs.Planned.{IsRequestOf}
-use Rattle.driver.specs.Sweeping.{CarriedSweep, Sweeps, SweepsImage}
+use Rattle.sweep_plans.specs.Planned.{IsRequestOf}
+use Rattle.driver.specs.Sweeping.{CarriedSweep, SweepsImage}
+use Rattle.sweep_tables.specs.Swept.{Sweeps}
 use Rattle.driver.specs.declared.carrying.Action.{Action}
 use Rattle.driver.specs.declared.carrying.Action.TheVariants.{Report}
-use Rattle.driver.specs.declared.ends.End.{End}
-use Rattle.driver.specs.declared.ends.End.TheVariants.{Image}
-use Rattle.driver.specs.declared.sweeping.request.Request.{Request}
+use Rattle.ends.specs.declared.ends.End.{End}
+use Rattle.ends.specs.declared.ends.End.TheVariants.{Image}
+use Rattle.sweep_plans.specs.declared.request.Request.{Request}
 use Rattle.checkpoints.specs.Trails.{is_short}
 use Rattle.checkpoints.specs.Work.{Work}
 use Rattle.replay_session.specs.Session.{turn_of, trail_of}
@@ -41,11 +42,6 @@ use Rattle.suppressions.specs.Texts.{rules}
 
 pub untouched : (left held : Option (List ℕ)) → Untouched (streams left held) (streams left held)
 untouched left held = (Consumes-nil left, Appends-nil held)
-
--- the end that was passed on
-pub passed-on : {T : Type 0} (result : Result T End) (end : End) → IsErrAnd result (λ e. e ≡ end) → end_of result ≡ end
-passed-on (Ok x) end is = absurd is
-passed-on (Err e) end is = is
 
 pub no-image : {T : Type 0} (gives : Giving) (path front bytes : List ℕ) (fault : ElfFault)
     → IsFront gives path most_judged front → bytes ≡ front
@@ -92,12 +88,6 @@ pub does-same : (action other : Action) (image : ProgramImage) (list : List Rule
     → Does other image list input old new end → Does action image list input old new end
 does-same action other image list input old new end is does =
     subst (λ (done : Action). Does done image list input old new end) (sym is) does
-
--- what holds of the error that was passed on
-pub same-error : {T E : Type 0} (result : Result T E) (error : E) (P : E → Type 0) → IsErrAnd result (λ e. e ≡ error)
-    → P error → IfErr result P
-same-error (Ok x) error P is holds = tt
-same-error (Err e) error P is holds = subst P (sym is) holds
 
 -- what a fault of a service comes to, where no lines have no replies
 pub serves-fault : (AreReplies : Relation) (none-of : (replies : List (List ℕ)) → AreReplies [] replies

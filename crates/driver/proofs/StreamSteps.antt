@@ -3,8 +3,8 @@ use Rattle.std.proofs.Common.{◌≡◌, ℕ, ◌+◌, ◌<◌, ◌≤◌, List,
 use Rattle.std.proofs.Common.{arith, subst}
 use Rattle.driver.specs.Carried.{Giving, NoRules, longest_text}
 use Rattle.driver.specs.Sweeping.{HasText, NoRulesIn, NoText}
-use Rattle.driver.specs.declared.ends.End.{End}
-use Rattle.driver.specs.declared.ends.End.TheVariants.{Suppressions}
+use Rattle.ends.specs.declared.ends.End.{End}
+use Rattle.ends.specs.declared.ends.End.TheVariants.{Suppressions}
 use Rattle.suppressions.specs.Texts.{faults, IsLeast}
 use Rattle.suppressions.specs.declared.fault.SuppFault.{SuppFault}
 use Rattle.suppressions.specs.declared.fault.SuppFault.TheVariants as Supp

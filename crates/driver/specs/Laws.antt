@@ -1,12 +1,12 @@
 -- A sweep and a session: the line of a row makes the row's edit.
 use Rattle.std.specs.Prelude.{◌≡◌, ℕ, ◌^◌, ◌<◌, List, Some}
 use Rattle.scenario.specs.Edits.{IsTaken, row}
-use Rattle.replay_session.specs.Commands.{input_with, patch_with, taken}
+use Rattle.commands.specs.Commands.{input_with, patch_with, taken}
 use Rattle.replay_session.specs.Turns.{Turn, accepted, applied, most_lines}
-use Rattle.sweeps.specs.Plans.{edit_of}
+use Rattle.sweep_plans.specs.Plans.{edit_of}
 use Rattle.sweeps.specs.Tables.{change_text}
-use Rattle.sweeps.specs.declared.change.Change.{Change}
-use Rattle.sweeps.specs.declared.change.Change.TheVariants.{Byte, Word}
+use Rattle.sweep_plans.specs.declared.change.Change.{Change}
+use Rattle.sweep_plans.specs.declared.change.Change.TheVariants.{Byte, Word}
 
 -- the numbers of a change fit their types
 abbrev pub IsSmall : Change → Type 0

@@ -1,9 +1,5 @@
 pub mod Once
-pub mod Ends
 pub mod Opened
 pub mod Carried
-pub mod Requests
-pub mod Planned
-pub mod Swept
 pub mod Sweeping
 pub mod Laws

@@ -3,6 +3,8 @@ use Rattle.std.specs.Prelude.{ℕ, ◌≤◌, List, [], Option, length, take}
 use Rattle.std.specs.Io.KnownBytes.{Appends}
 use Rattle.guest_elf.specs.declared.image.Image.{Image}
 use Rattle.scenario.specs.Scenario.{begun, at_step, IsReportOf}
+use Rattle.ends.specs.declared.ends.End.{End as AnEnd}
+use Rattle.ends.specs.declared.ends.End.TheVariants as End
 use Rattle.driver.specs.declared.reporting.RunFault.{RunFault}
 use Rattle.driver.specs.declared.reporting.RunFault.TheVariants.{InputTooLarge, NoMemory, WriteFailed}
 use Rattle.suppressions.specs.Rules.{Rule}
@@ -21,3 +23,9 @@ StopsBy InputTooLarge is_report old new = Appends old new []
 StopsBy NoMemory is_report old new = Appends old new []
 StopsBy (WriteFailed sent) is_report old new =
     (text : List ℕ) × is_report text × (sent ≤ length text) × Appends old new (take sent text)
+
+-- what a fault of a report comes to
+abbrev pub end_of_run : RunFault → AnEnd
+end_of_run InputTooLarge = End.InputTooLarge
+end_of_run NoMemory = End.NoMemory
+end_of_run (WriteFailed sent) = End.CannotWrite

@@ -1,6 +1,5 @@
--- What a sweep of a program does, and what becomes of a command for one: its words are read, then the files, each
--- judged before the next.
-use Rattle.std.specs.Prelude.{◌≡◌, ℕ, ◌-◌, ◌<◌, ◌≤◌, ◌⊎◌, Bool, true, false, List, [], Option, Some, None, codes}
+-- What becomes of a command for a sweep: its words are read, then the files, each judged before the next.
+use Rattle.std.specs.Prelude.{◌≡◌, ℕ, ◌<◌, ◌≤◌, ◌⊎◌, Bool, true, false, List, [], Option, Some, None, codes}
 use Rattle.std.specs.Prelude.{IfSome, length}
 use Rattle.std.specs.Str.{bytes_eq}
 use Rattle.std.specs.Io.KnownBytes.{Appends}
@@ -12,49 +11,17 @@ use Rattle.command_line.specs.declared.order.Task.TheVariants.{Report, Session, 
 use Rattle.guest_elf.specs.File.{IsImageOf}
 use Rattle.guest_elf.specs.declared.image.Image.{Image as ProgramImage}
 use Rattle.scenario.specs.Limits.{longest_input, most_steps}
-use Rattle.scenario.specs.Scenario.{at_step, begun}
-use Rattle.suppressions.specs.Rules.{Rule}
 use Rattle.suppressions.specs.Texts.{faults, rules, IsLeast}
 use Rattle.suppressions.specs.declared.fault.SuppFault.TheVariants as Supp
-use Rattle.sweeps.specs.declared.plan.Plan.{Plan}
 use Rattle.driver.specs.declared.carrying.Action.TheVariants as Action
 use Rattle.driver.specs.Carried.{Carried, Giving, HasInput, IsFront, NoBytes, NoImage, NoInput, Streams, longest_text}
 use Rattle.driver.specs.Carried.{most_judged}
-use Rattle.driver.specs.Planned.{IsNoRequest, IsPlanOf, IsRequestOf, bytes_meant, part_from, part_to, words_by}
-use Rattle.driver.specs.Swept.{Case, Writes, head_text}
-use Rattle.driver.specs.declared.ends.End.{End}
-use Rattle.driver.specs.declared.ends.End.TheVariants.{BytesRefused, CannotReadInput, InputTooLarge, NoMemory}
-use Rattle.driver.specs.declared.ends.End.TheVariants.{Suppressions, SuppressionsTooLong, Usage, WordsRefused}
-use Rattle.driver.specs.declared.sweeping.request.Part.{Part}
-use Rattle.driver.specs.declared.sweeping.request.Range.{Range}
-use Rattle.driver.specs.declared.sweeping.request.Request.{Request}
-
--- the sweep of a program with an input and suppressions, of which these bytes were read, by a plan: where words are
--- named, those, and a part of the places
-abbrev pub case_with : List ℕ → List ℕ → ProgramImage → List ℕ → List Rule → SweepWords → Option Range → Part → Plan
-    → Case
-case_with file text image input list words named part plan = record {
-  head = head_text file input text words plan.bytes named part;
-  with_output = words.with_output;
-  sc = at_step (begun image input list) words.step;
-  plan = plan;
-  from = part_from plan part;
-}
-
--- and by the plan of a request
-abbrev pub case_of : List ℕ → List ℕ → ProgramImage → List ℕ → List Rule → SweepWords → Request → Plan → Case
-case_of file text image input list words request plan =
-    case_with file text image input list words request.words request.part plan
-
--- the places that are meant are refused, and nothing is written; or the table of those of the part is
-abbrev pub Sweeps : List ℕ → List ℕ → ProgramImage → List ℕ → List Rule → SweepWords → Request → Option (List ℕ)
-    → Option (List ℕ) → End → Type 0
-Sweeps file text image input list words request old new end =
-    ((end ≡ BytesRefused) × (bytes_meant request (length input) ≡ None) × Appends old new [])
-    ⊎ (((end ≡ WordsRefused) × (words_by image request.words ≡ None) × Appends old new [])
-    ⊎ ((plan : Plan) × IsPlanOf request image (length input) plan
-    × Writes (case_of file text image input list words request plan)
-    (part_to plan request.part - part_from plan request.part) old new end))
+use Rattle.sweep_plans.specs.Planned.{IsNoRequest, IsRequestOf}
+use Rattle.sweep_tables.specs.Swept.{Sweeps}
+use Rattle.ends.specs.declared.ends.End.{End}
+use Rattle.ends.specs.declared.ends.End.TheVariants.{CannotReadInput, InputTooLarge, NoMemory}
+use Rattle.ends.specs.declared.ends.End.TheVariants.{Suppressions, SuppressionsTooLong, Usage}
+use Rattle.sweep_plans.specs.declared.request.Request.{Request}
 
 -- the text of suppressions, or none where no file is named
 abbrev pub HasText : Giving → Option (List ℕ) → List ℕ → Type 0

@@ -5,23 +5,23 @@ ghost use Rattle.replay_session.specs.Stages.{fresh};
 ghost use Rattle.replay_session.specs.Turns.{opening};
 ghost use Rattle.looks.specs.Views.{ViewsLines};
 ghost use Rattle.driver.specs.Carried.{Carried, HasInput, HasRules, IsFront, NoBytes, NoInput, NoRules, Reports, Serves, streams};
-ghost use Rattle.driver.specs.Planned.{IsPart};
+ghost use Rattle.sweep_plans.specs.Planned.{IsPart};
 ghost use Rattle.driver.specs.Sweeping.{CarriedOut, CarriedSweep, SweepsImage, HasStream, HasSweepInput, HasText, is_stream, NoStream, NoSweepInput, NoText};
-ghost use Rattle.driver.specs.Ends.{end_of};
+ghost use Rattle.ends.specs.Ends.{end_of};
 ghost use Rattle.driver.specs.Once.{IsReportOnce};
 ghost use Rattle.scenario.specs.Limits.{longest_input, most_steps};
 
-use crate::ends::End;
 use crate::files::{Files, ReadFault, front_of};
 use crate::reporting::run_once;
-use crate::sweeping::request::Request;
-use crate::sweeping::sweep_program;
 use command_line::{Order, SweepWords, Task};
+use ends::End;
 use guest_elf::{Image, read};
 use replay_session::{LONGEST_INPUT, MOST_STEPS, Session, serve};
 use std::alloc::Global;
 use std::io::{Read, Write};
 use suppressions::{Suppression, TEXT_LIMIT, parse};
+use sweep_plans::Request;
+use sweep_tables::sweep_program;
 
 /// How many bytes of a program's file are judged, and one more where it has more. A file is refused for its size at fewer; of one that has
 /// more still, the refusal is that of this front.

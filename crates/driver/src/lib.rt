@@ -17,16 +17,14 @@
 //! - [`tell`]: the exit status is that of the end (`status_of`), and what was written is its line (`line_of`), or a front of it.
 //!
 //! A program's file is judged by its first 67,108,865 bytes, and so whole up to 67,108,864: the number of its refusal is the least that
-//! holds of the file. The definitions stand in `specs/`: `Ends`, `Once`, `Opened`, `Carried` and `Laws`.
+//! holds of the file. The definitions stand in `specs/`: `Once`, `Opened`, `Carried`, `Sweeping` and `Laws`; how the program ends in those of the crate
+//! `ends`, and what a sweep writes in those of `sweep_tables`.
 #![tactic(auto)]
 
 mod carrying;
-mod ends;
 mod files;
 pub mod laws;
-mod lines;
 mod reporting;
-mod sweeping;
 
 pub use carrying::{MOST_READ, run_order};
 pub use ends::{End, SweepOption, tell};

@@ -1,12 +1,13 @@
 //! One program, one report.
 ghost use Rattle.std.specs.Prelude.{◌≡◌, ◌<◌, ◌↔◌, Err, IfOk, OnOk, IfErr, length};
-ghost use Rattle.driver.specs.Once.{IsReportOnce, WritesReport, StopsBy};
+ghost use Rattle.driver.specs.Once.{IsReportOnce, WritesReport, StopsBy, end_of_run};
 ghost use Rattle.scenario.specs.Limits.{longest_input};
 
+use ends::End;
 use guest_elf::Image;
 use guest_machine::Meter;
+use line_server::{Sent, send};
 use replay_report::Options;
-use replay_session::{Sent, send};
 use scenario::{LONGEST_INPUT, ScenarioRef, setup_with};
 use std::alloc::{AllocError, Global};
 use std::io::Write;
@@ -25,6 +26,18 @@ pub enum RunFault {
     /// A write or the flush at the end failed, or a write took nothing; so many bytes of the report were taken.
     #[error("the write failed after {bytes} bytes")]
     WriteFailed { bytes: u64 },
+}
+
+impl From<RunFault> for End<'_> {
+    ghost from_gives = { λ fault end. end ≡ end_of_run fault };
+
+    fn from(fault: RunFault) -> Self {
+        match fault {
+            RunFault::InputTooLarge => End::InputTooLarge,
+            RunFault::NoMemory => End::NoMemory,
+            RunFault::WriteFailed { .. } => End::CannotWrite,
+        }
+    }
 }
 
 /// The report of a program with an input and suppressions at a step, with no marks and default options.

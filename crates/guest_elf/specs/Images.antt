@@ -1,5 +1,5 @@
 -- What callers see of an image.
-use Rattle.std.specs.Prelude.{ℕ, List, map, Option}
+use Rattle.std.specs.Prelude.{ℕ, ◌+◌, ◌%◌, ◌^◌, ◌==◌, ◌&&◌, Bool, List, is_some, map, Option}
 use Rattle.guest_elf.specs.Hooks.{hooks_by}
 use Rattle.guest_elf.specs.Names.{named_by}
 use Rattle.guest_elf.specs.Segments.{SegmentContent, content_of, loaded}
@@ -22,6 +22,16 @@ entry_of image = image.entry
 -- the byte that the image loads at an address
 unfoldable pub loaded_at : Image → ℕ → Option ℕ
 loaded_at image address = loaded (segments_of image) address
+
+-- is the byte so far after an address loaded?
+abbrev pub is_loaded : Image → ℕ → ℕ → Bool
+is_loaded image addr i = is_some (loaded_at image ((addr + i) % 2 ^ 32))
+
+-- is an address that of a loaded word: a multiple of 4, each of whose four bytes is loaded?
+unfoldable pub is_word : Image → ℕ → Bool
+is_word image addr =
+    (addr % 4 == 0) && (is_loaded image addr 0
+    && (is_loaded image addr 1 && (is_loaded image addr 2 && is_loaded image addr 3)))
 
 -- the name of the function at an address, by the image's symbols
 unfoldable pub name_at : Image → ℕ → List ℕ

@@ -13,7 +13,7 @@ use Rattle.guest_machine.specs.Exec.{is_heap_deed, plan, outcome, deed_terms, de
 use Rattle.guest_machine.specs.Exec.{intake_of, left_at, given_at, taken_from, written_to, seen_also, counted}
 use Rattle.guest_machine.specs.Effects.{Effect, quiet, stops}
 use Rattle.guest_machine.specs.Laws.{StaysHalted}
-use Rattle.guest_machine.specs.declared.status.Stop.TheVariants.{Misaligned}
+use Rattle.run_values.specs.declared.status.Stop.TheVariants.{Misaligned}
 use Rattle.guest_machine.specs.declared.setup.Setup.{Setup}
 
 halts : (core : Core) (bytes : ℕ → ℕ) (hooks : List (ℕ × Hook)) → is_running core.status ≡ false

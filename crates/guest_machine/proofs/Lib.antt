@@ -7,6 +7,5 @@ pub mod SetupLaw
 pub mod HeapSteps
 pub mod HookSteps
 pub mod TestSteps
-pub mod Products
 pub mod Halted
 pub mod Running

@@ -9,7 +9,7 @@ use Rattle.guest_machine.specs.State.{State}
 use Rattle.guest_machine.specs.Exec.{exec, touches, touched_at, uses_at, effect_at, written_to, deed_at, fetch_span}
 use Rattle.guest_machine.specs.Run.{poked}
 use Rattle.guest_machine.specs.Laws.{DifferWithin, InWord, KeepsPokes, ReadsOn}
-use Rattle.guest_machine.specs.declared.span.Span.{Span}
+use Rattle.run_values.specs.declared.span.Span.{Span}
 use Rattle.guest_machine.specs.declared.setup.Setup.{Setup}
 use Rattle.guest_machine.proofs.WordLaw.{keeps-words, right-false}
 

@@ -23,7 +23,7 @@ use Rattle.guest_machine.specs.Doing.{noted_of, note_events, touched_by, DoesSte
 use Rattle.shadow_memory.specs.declared.memory.Memory.{Memory}
 use Rattle.guest_machine.specs.declared.machine.Guest.{Guest}
 use Rattle.guest_machine.specs.declared.setup.Setup.{Setup}
-use Rattle.guest_machine.specs.declared.setup.Mark.{Mark}
+use Rattle.run_values.specs.declared.mark.Mark.{Mark}
 use Rattle.guest_machine.specs.declared.setup.Touched.{Touched}
 
 is-less : (m n : ℕ) → m < n → nat_lt m n ≡ true

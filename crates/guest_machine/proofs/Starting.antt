@@ -23,7 +23,7 @@ use Rattle.guest_machine.specs.Shows.{Holds}
 use Rattle.shadow_memory.specs.declared.cells.RangeKind.TheVariants.{NoAccess, Defined}
 use Rattle.shadow_memory.specs.declared.memory.Memory.{Memory}
 use Rattle.error_events.specs.declared.groups.Groups.{Groups}
-use Rattle.guest_machine.specs.declared.status.Status.TheVariants.{Running}
+use Rattle.run_values.specs.declared.status.Status.TheVariants.{Running}
 
 pub holds-start : (alloc : Global) (image : Image) (fresh loaded memory : Memory) (groups : Groups)
     (frames : List Frame) (heap : Heap) (segments : List Segment) (pc : ℕ) (zeros top : Bits)

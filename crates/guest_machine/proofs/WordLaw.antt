@@ -12,7 +12,7 @@ use Rattle.guest_machine.specs.Exec.{is_heap_deed, given_at, taken_from, written
 use Rattle.guest_machine.specs.Exec.{fetch_span, seen_also, intake_of, intake_at, deed_asks}
 use Rattle.guest_machine.specs.Exec.{left_at}
 use Rattle.guest_machine.specs.Laws.{DifferWithin, TouchesNone, InWord, KeepsWords}
-use Rattle.guest_machine.specs.declared.span.Span.{Span}
+use Rattle.run_values.specs.declared.span.Span.{Span}
 use Rattle.guest_machine.specs.declared.setup.Setup.{Setup}
 use Rattle.guest_elf.specs.declared.hook.Hook.{Hook}
 

@@ -117,8 +117,8 @@ most_moved = 4096
 unfoldable pub moved_len : Core → ℕ
 moved_len core = min (argument core 12) most_moved
 
--- the buffer is tested as far as the count goes, and the n bytes that are given of the input are stored all the same,
--- with no undefined bits. Descriptor 0 is the input
+-- the buffer is tested for as many bytes as the call may move, and the n bytes that are given of the input are stored
+-- all the same, with no undefined bits. Descriptor 0 is the input
 unfoldable pub read_call : Core → ℕ → List ℕ → Effect
 read_call core n given =
     if argument core 10 == 0

@@ -17,7 +17,7 @@ use Rattle.error_events.specs.declared.event.Event.{Event}
 use Rattle.error_events.specs.declared.event.Group.{Group}
 use Rattle.guest_elf.specs.declared.hook.Hook.{Hook}
 use Rattle.guest_machine.specs.declared.environment_call.EnvironmentCall.TheVariants.{Read}
-use Rattle.guest_machine.specs.declared.instruction.Instruction.{Instruction}
+use Rattle.instructions.specs.declared.instruction.Instruction.{Instruction}
 use Rattle.guest_machine.specs.declared.machine.Guest.{Guest}
 use Rattle.guest_machine.specs.declared.machine.Noted.{Noted}
 use Rattle.guest_machine.specs.declared.machine.step.Used.{Used}

@@ -5,19 +5,19 @@ use Rattle.definedness.specs.declared.Bits.{Bits}
 use Rattle.shadow_memory.specs.Ranges.{little_word}
 use Rattle.shadow_memory.specs.Shadows.{stored_undef}
 use Rattle.shadow_memory.specs.Ranges.{byte_of}
-use Rattle.guest_machine.specs.Widths.{width_len}
+use Rattle.instructions.specs.Widths.{width_len}
 use Rattle.guest_machine.specs.State.{Core}
 use Rattle.guest_machine.specs.Registers.{known, register, set_register, defined, tested}
-use Rattle.guest_machine.specs.Alu.{computed, passes, is_undecided, extended}
+use Rattle.instructions.specs.Alu.{computed, passes, is_undecided, extended}
 use Rattle.guest_machine.specs.Errors.{here, event_unless, value_errors, access_errors, taken_undef}
-use Rattle.guest_machine.specs.CallStack.{jal_hint, jalr_hint, hinted}
-use Rattle.guest_machine.specs.declared.hint.StackHint.{StackHint}
-use Rattle.guest_machine.specs.declared.width.Width.{Width}
-use Rattle.guest_machine.specs.declared.instruction.Comparison.{Comparison}
-use Rattle.guest_machine.specs.declared.instruction.Operation.{Operation}
-use Rattle.guest_machine.specs.declared.status.Status.TheVariants.{Exited, Stopped}
-use Rattle.guest_machine.specs.declared.status.Stop.{Stop}
-use Rattle.guest_machine.specs.declared.status.Stop.TheVariants.{Misaligned}
+use Rattle.instructions.specs.CallStack.{jal_hint, jalr_hint, hinted}
+use Rattle.instructions.specs.declared.hint.StackHint.{StackHint}
+use Rattle.instructions.specs.declared.width.Width.{Width}
+use Rattle.instructions.specs.declared.instruction.Comparison.{Comparison}
+use Rattle.instructions.specs.declared.instruction.Operation.{Operation}
+use Rattle.run_values.specs.declared.status.Status.TheVariants.{Exited, Stopped}
+use Rattle.run_values.specs.declared.status.Stop.{Stop}
+use Rattle.run_values.specs.declared.status.Stop.TheVariants.{Misaligned}
 use Rattle.error_events.specs.declared.event.Event.{Event}
 use Rattle.error_events.specs.declared.kind.Kind.TheVariants.{Read, Write, Cond}
 

@@ -6,9 +6,9 @@ use Rattle.std.specs.Prelude.{List, ◌++◌, take, drop, length, min, Option, S
 use Rattle.shadow_memory.specs.Ranges.{window, little_word, written}
 use Rattle.guest_machine.specs.Spans.{span_at, covers}
 use Rattle.shadow_memory.specs.Shadows.{first_inaccessible}
-use Rattle.guest_machine.specs.Widths.{width_len}
+use Rattle.instructions.specs.Widths.{width_len}
 use Rattle.guest_machine.specs.State.{Core, State}
-use Rattle.guest_machine.specs.Instructions.{row_of}
+use Rattle.instructions.specs.Instructions.{row_of}
 use Rattle.guest_machine.specs.Effects.{Effect, no_bytes, quiet, raising, advanced, stopped, target, load_upper}
 use Rattle.guest_machine.specs.Effects.{add_upper, compute_immediate, compute, load, store, branch, jump, jump_register}
 use Rattle.guest_machine.specs.Effects.{stops}
@@ -33,18 +33,18 @@ use Rattle.guest_elf.specs.declared.hook.Hook.TheVariants.{Malloc, Free, Calloc,
 use Rattle.guest_heap.specs.Blocks.{Blocks}
 use Rattle.guest_heap.specs.Steps.{place}
 use Rattle.guest_machine.specs.HeapCalls.{Resizing, Moves, resizing, moved_size, heap_call}
-use Rattle.guest_machine.specs.declared.width.Width.{Width}
-use Rattle.guest_machine.specs.declared.span.Span.{Span}
+use Rattle.instructions.specs.declared.width.Width.{Width}
+use Rattle.run_values.specs.declared.span.Span.{Span}
 use Rattle.guest_machine.specs.declared.setup.Setup.{Setup}
 use Rattle.guest_machine.specs.declared.setup.Touched.{Touched}
-use Rattle.guest_machine.specs.declared.instruction.Instruction.{Instruction}
-use Rattle.guest_machine.specs.declared.instruction.Instruction.TheVariants.{LoadUpper, AddUpper, Jump, JumpRegister}
-use Rattle.guest_machine.specs.declared.instruction.Instruction.TheVariants.{Branch, Load, Store, Immediate, Registers}
-use Rattle.guest_machine.specs.declared.instruction.Instruction.TheVariants.{Fence, CallEnvironment as CallRow}
-use Rattle.guest_machine.specs.declared.instruction.Instruction.TheVariants.{Breakpoint}
-use Rattle.guest_machine.specs.declared.status.Status.{Status}
-use Rattle.guest_machine.specs.declared.status.Status.TheVariants.{Running, Exited, Stopped}
-use Rattle.guest_machine.specs.declared.status.Stop.TheVariants.{Jump as JumpStop, Break, Illegal, Misaligned}
+use Rattle.instructions.specs.declared.instruction.Instruction.{Instruction}
+use Rattle.instructions.specs.declared.instruction.Instruction.TheVariants.{LoadUpper, AddUpper, Jump, JumpRegister}
+use Rattle.instructions.specs.declared.instruction.Instruction.TheVariants.{Branch, Load, Store, Immediate, Registers}
+use Rattle.instructions.specs.declared.instruction.Instruction.TheVariants.{Fence, CallEnvironment as CallRow}
+use Rattle.instructions.specs.declared.instruction.Instruction.TheVariants.{Breakpoint}
+use Rattle.run_values.specs.declared.status.Status.{Status}
+use Rattle.run_values.specs.declared.status.Status.TheVariants.{Running, Exited, Stopped}
+use Rattle.run_values.specs.declared.status.Stop.TheVariants.{Jump as JumpStop, Break, Illegal, Misaligned}
 use Rattle.error_events.specs.declared.kind.Kind.TheVariants.{Jump as JumpError}
 
 -- the word at pc --

@@ -1,12 +1,8 @@
-pub mod Widths
 pub mod Spans
 pub mod State
 pub mod Registers
-pub mod Instructions
 pub mod Errors
-pub mod CallStack
 pub mod StackPointer
-pub mod Alu
 pub mod Effects
 pub mod Sieve
 pub mod Calls

@@ -11,8 +11,8 @@ use Rattle.guest_machine.specs.Errors.{value_errors}
 use Rattle.guest_machine.specs.Effects.{Effect, raising, moved_to, stopped, followed}
 use Rattle.guest_machine.specs.Calls.{argument, heap_parameters, tested_from, errors_from}
 use Rattle.guest_machine.specs.HeapCalls.{heap_work, between}
-use Rattle.guest_machine.specs.declared.hint.StackHint.TheVariants.{Pop}
-use Rattle.guest_machine.specs.declared.status.Stop.TheVariants.{Misaligned}
+use Rattle.instructions.specs.declared.hint.StackHint.TheVariants.{Pop}
+use Rattle.run_values.specs.declared.status.Stop.TheVariants.{Misaligned}
 
 -- where the function returns to: x1 with its lowest bit cleared, as JALR clears it
 abbrev pub return_address : Core → ℕ

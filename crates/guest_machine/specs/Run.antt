@@ -13,8 +13,8 @@ use Rattle.guest_machine.specs.Exec.{exec}
 use Rattle.shadow_memory.specs.declared.cells.RangeKind.{RangeKind}
 use Rattle.shadow_memory.specs.declared.cells.RangeKind.TheVariants.{NoAccess, Defined}
 use Rattle.guest_machine.specs.declared.setup.Setup.{Setup}
-use Rattle.guest_machine.specs.declared.setup.Mark.{Mark}
-use Rattle.guest_machine.specs.declared.status.Status.TheVariants.{Running}
+use Rattle.run_values.specs.declared.mark.Mark.{Mark}
+use Rattle.run_values.specs.declared.status.Status.TheVariants.{Running}
 
 -- the loaded bytes, and 0 elsewhere
 abbrev pub image_bytes : Image → ℕ → ℕ

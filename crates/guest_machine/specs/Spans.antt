@@ -1,7 +1,7 @@
 -- Ranges of addresses, as a step names them.
 use Rattle.std.specs.Prelude.{ℕ, Bool, Option, Some, None, false}
 use Rattle.shadow_memory.specs.Ranges.{is_in}
-use Rattle.guest_machine.specs.declared.span.Span.{Span}
+use Rattle.run_values.specs.declared.span.Span.{Span}
 
 abbrev pub span_at : ℕ → ℕ → Span
 span_at start len = record { start = start; len = len }

@@ -2,7 +2,7 @@
 use Rattle.std.specs.Prelude.{ℕ, Bool, List}
 use Rattle.definedness.specs.declared.Bits.{Bits}
 use Rattle.shadow_memory.specs.Shadows.{Shadow}
-use Rattle.guest_machine.specs.declared.status.Status.{Status}
+use Rattle.run_values.specs.declared.status.Status.{Status}
 use Rattle.call_stacks.specs.declared.stack.Frame.{Frame}
 use Rattle.guest_heap.specs.Blocks.{Blocks}
 use Rattle.error_events.specs.declared.event.Event.{Event}

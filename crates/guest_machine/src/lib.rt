@@ -77,26 +77,18 @@
 //! of the crate `definedness`, the instruction table that of `rv_decode`, the image that of `guest_elf`.
 #![tactic(auto)]
 
-mod alu;
 mod environment_call;
-mod hint;
 mod hooks;
 mod input;
-mod instruction;
 pub mod laws;
 mod machine;
 mod meter;
-mod register;
 mod setup;
-mod span;
-mod status;
-mod width;
 
 pub use hooks::Hooks;
 pub use input::Input;
+pub use instructions::Register;
 pub use machine::Machine;
 pub use meter::Meter;
-pub use register::Register;
-pub use setup::{Mark, Setup, Touched, USUAL_REDZONE, USUAL_VOLUME};
-pub use span::Span;
-pub use status::{Status, Stop};
+pub use run_values::{Mark, Span, Status, Stop};
+pub use setup::{Setup, Touched, USUAL_REDZONE, USUAL_VOLUME};

@@ -14,11 +14,11 @@ mod registers;
 mod stack;
 mod step;
 
-use crate::status::Status;
 use call_stacks::CallStack;
 use definedness::Bits;
 use error_events::{Event, Groups};
 use guest_heap::Heap;
+use run_values::Status;
 use shadow_memory::Memory;
 use std::alloc::{AllocError, Global};
 

@@ -1,11 +1,12 @@
 use crate::hooks::Hooks;
 use crate::input::Input;
-use crate::span::Span;
-use shadow_memory::RangeKind;
+use run_values::Span;
 
-/// How many bytes beside each block of the heap are inaccessible unless something else is chosen (Memcheck manual, `--redzone-size`).
+/// How many bytes beside each block of the heap are inaccessible unless something else is chosen (Valgrind core manual, section 2.6,
+/// `--redzone-size`).
 pub const USUAL_REDZONE: u32 = 16;
-/// How many bytes the freed blocks may have unless something else is chosen (Memcheck manual, `--freelist-vol`).
+/// How many bytes the freed blocks may have unless something else is chosen (Memcheck manual, section 4.3,
+/// `--freelist-vol`).
 pub const USUAL_VOLUME: u32 = 20_000_000;
 
 /// What a run is given: its input, the options of its heap, and the functions in whose place a step does a heap call.
@@ -19,19 +20,6 @@ pub struct Setup {
     pub volume: u32,
     /// A step at one of their addresses does the heap call of the function there, and returns to x1.
     pub hooks: Hooks,
-}
-
-/// A range that is made inaccessible, undefined or defined just before a step.
-#[derive(Clone, Copy)]
-pub struct Mark {
-    /// The number of the step, from 0.
-    pub step: u32,
-    /// The first address.
-    pub addr: u32,
-    /// How many bytes there are; addresses are modulo 2^32.
-    pub len: u32,
-    /// What the bytes are made.
-    pub kind: RangeKind,
 }
 
 /// The addresses whose bytes a step took or wrote.

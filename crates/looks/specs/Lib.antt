@@ -1,4 +1,2 @@
 pub mod LongLines
-pub mod Looks
-pub mod Texts
 pub mod Views

@@ -1,5 +1,5 @@
 -- Lines that are too long are answered alike: a lemma for the server of lines, which keeps a front of such a line.
-use Rattle.std.proofs.Common.{◌≡◌, ◌<◌, ◌&&◌, ℕ, List, Bool, true, false, refl, subst, sym, length, nat_le}
+use Rattle.std.proofs.Common.{◌≡◌, ◌<◌, ◌&&◌, ℕ, List, Bool, true, false, refl, subst, sym, length}
 use Rattle.std.proofs.lemmas.Bool.{lt-leb}
 use Rattle.std.specs.Prelude.{codes, nat_eq, not}
 use Rattle.std.specs.Bool.{MatchBool}
@@ -9,8 +9,8 @@ use Rattle.replay_session.specs.LongLines.{long_alike as session_alike}
 use Rattle.replay_session.specs.Replies.{Replies, is_over}
 use Rattle.replay_session.specs.Stages.{Stage}
 use Rattle.replay_session.specs.Turns.{Turn}
-use Rattle.looks.specs.Looks.{asked, looks}
-use Rattle.looks.specs.Views.{Looked, Views}
+use Rattle.look_lines.specs.Looks.{asked}
+use Rattle.looks.specs.Views.{looks, Looked, Views}
 
 -- a test that fails makes a conjunction fail
 last-fails : (a b c : Bool) → c ≡ false → (a && b && c) ≡ false

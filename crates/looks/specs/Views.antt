@@ -1,16 +1,38 @@
 -- The reply to a line of a session that may also be looked at.
-use Rattle.std.specs.Prelude.{◌≡◌, ◌⊎◌, ℕ, if◌then◌else◌, List, MatchBool, Result, Ok, Err}
+use Rattle.std.specs.Prelude.{◌≡◌, ◌⊎◌, ◌&&◌, ℕ, nat_eq, nat_le, Bool, not, if◌then◌else◌, List, MatchBool, Option}
+use Rattle.std.specs.Prelude.{Result, Ok, Err, codes, length}
+use Rattle.std.specs.List.{starts_with}
+use Rattle.checkpoints.specs.Searches.{IsNext, IsLast}
 use Rattle.checkpoints.specs.Work.{ReportMoves}
 use Rattle.line_server.specs.Answers.{AnswersBy}
+use Rattle.line_server.specs.Lines.{longest_line}
 use Rattle.replay_session.specs.Replies.{Replies, is_over, refused_line}
 use Rattle.replay_session.specs.Stages.{Stage}
+use Rattle.replay_session.specs.Session.{Finds}
 use Rattle.replay_session.specs.Texts.{last_text}
-use Rattle.replay_session.specs.declared.fault.Fault.{Fault}
-use Rattle.replay_session.specs.declared.fault.Fault.TheVariants.{Memory}
-use Rattle.looks.specs.Looks.{asked, looks}
-use Rattle.looks.specs.Texts.{Tells}
-use Rattle.looks.specs.declared.look.Look.{Look}
+use Rattle.replay_session.specs.Turns.{Turn}
+use Rattle.scenario.specs.Scenario.{Scenario, chosen_state}
+use Rattle.commands.specs.declared.fault.Fault.{Fault}
+use Rattle.commands.specs.declared.fault.Fault.TheVariants.{Memory}
+use Rattle.look_lines.specs.Looks.{asked}
+use Rattle.look_lines.specs.Texts.{memory_text, registers_text, step_text}
+use Rattle.look_lines.specs.declared.look.Look.{Look}
+use Rattle.look_lines.specs.declared.look.Look.TheVariants.{Registers, Memory, Next, Last}
 use Rattle.looks.specs.declared.viewer.Viewer.{Viewer}
+
+-- does a line look? One that is too long doesn't, and none does once all lines were given that are answered
+unfoldable pub looks : Turn → List ℕ → Bool
+looks turn line = starts_with nat_eq line (codes "look ") && not (is_over turn) && nat_le (length line) longest_line
+
+-- a text is what a look tells at the chosen step of one run from step zero: of its state; or which step from it on is
+-- the first, or before it the last, that does what is sought
+abbrev pub Tells : Scenario → Look → List ℕ → Type 0
+Tells sc Registers text = text ≡ registers_text (chosen_state sc)
+Tells sc (Memory range) text = text ≡ memory_text (chosen_state sc) range
+Tells sc (Next search) text =
+    (found : Option ℕ) × IsNext (Finds sc search.sought) sc.step search.bound found × (text ≡ step_text found)
+Tells sc (Last search) text =
+    (found : Option ℕ) × IsLast (Finds sc search.sought) search.bound sc.step found × (text ≡ step_text found)
 
 -- a look changes nothing that was said, nor whether the trail is short
 pub record Leaves (old new : Stage) : Type 0 where

@@ -28,15 +28,10 @@
 //! chosen step of **one run from step zero of the edited program** (`Tells`), and leaves what was said as it is; the work is moved as by a
 //! report there. Any other line is answered as in a session (`Replies`).
 //!
-//! In `specs/`: `Looks`, the lines; `Texts`, what they are told; `Views`, the reply to any line.
-//!
-//! Source of `__`: Valgrind's gdbserver, `monitor get_vbits` (Memcheck manual, section 4.6).
+//! In `specs/`: `Views`, what a look tells, and the reply to any line, over `Looks` and `Texts` of the crate `look_lines`.
 #![tactic(auto)]
 
-mod look;
-mod parsing;
 mod serving;
-mod texts;
 mod viewer;
 
 pub use serving::serve;

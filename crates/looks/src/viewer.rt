@@ -4,18 +4,16 @@ ghost use Rattle.checkpoints.specs.Trails.{is_short};
 ghost use Rattle.checkpoints.specs.Work.{ReportMoves};
 ghost use Rattle.replay_session.specs.Session.{scenario_of, trail_of, turn_of};
 ghost use Rattle.replay_session.specs.Work.{work_on};
-ghost use Rattle.looks.specs.Looks.{look_refusal, looks};
-ghost use Rattle.looks.specs.Texts.{Tells};
+ghost use Rattle.look_lines.specs.Looks.{look_refusal};
+ghost use Rattle.looks.specs.Views.{looks, Tells};
 
-use crate::look::Look;
-use crate::parsing::asked;
-use crate::texts::{push_memory, push_registers, push_step};
 use line_server::{LONGEST_LINE, Listener};
+use look_lines::{Look, asked, push_memory, push_registers, push_step};
 use replay_session::{Fault, Session, Texts};
 use std::alloc::AllocError;
 
 /// Whether a line looks at the run of a session.
-#[tactic(auto, unfolding(crate::specs::Looks::looks))]
+#[tactic(auto, unfolding(crate::specs::Views::looks))]
 fn looks(session: &Session<'_>, line: &[u8]) -> bool
     ensures { result ≡ looks (turn_of session.now) line.now }
 {
@@ -65,7 +63,7 @@ impl<'a> Viewer<'a> {
     ghost use Rattle.std.specs.Prelude.{◌≡◌, IfOk, None, Ok};
     ghost use Rattle.replay_session.specs.Replies.{refused_line};
     ghost use Rattle.replay_session.specs.Stages.{stage_of};
-    ghost use Rattle.looks.specs.Looks.{asked, look_refusal};
+    ghost use Rattle.look_lines.specs.Looks.{asked, look_refusal};
     ghost use Rattle.looks.specs.Views.{Looked, reply_of};
 
     pub(crate) fn new(session: Session<'a>) -> Result<Self, AllocError>

@@ -1,4 +1,3 @@
-pub mod Joins
 pub mod Filters
 pub mod LeakSteps
 pub mod OneReport

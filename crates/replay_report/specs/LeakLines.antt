@@ -8,8 +8,8 @@ use Rattle.leak_graph.specs.declared.leak_kind.LeakKind.{LeakKind}
 use Rattle.leak_graph.specs.declared.leak_kind.LeakKind.TheVariants.{Definite, Indirect, Possible, Reachable}
 use Rattle.leak_search.specs.declared.record.LeakRecord.{LeakRecord}
 use Rattle.suppressions.specs.Rules.{Rule}
-use Rattle.replay_report.specs.Text.{newline}
-use Rattle.replay_report.specs.Lines.{trace_lines}
+use Rattle.report_lines.specs.Text.{newline}
+use Rattle.report_lines.specs.Lines.{trace_lines}
 use Rattle.replay_report.specs.Leaks.{shown_records, hidden_records, of_kind, sum_of, leak_groups, is_shown}
 use Rattle.replay_report.specs.declared.options.Options.{Options}
 use Rattle.replay_report.specs.declared.leaks.LeakKey.{LeakKey}

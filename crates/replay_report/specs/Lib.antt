@@ -1,5 +1,3 @@
-pub mod Text
-pub mod Lines
 pub mod Filtering
 pub mod Leaks
 pub mod LeakLines

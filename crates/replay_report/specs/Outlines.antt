@@ -6,18 +6,18 @@ use Rattle.std.specs.List.{flat_map}
 use Rattle.std.specs.Fmt.{decimal}
 use Rattle.guest_elf.specs.declared.image.Image.{Image}
 use Rattle.guest_machine.specs.State.{State}
-use Rattle.guest_machine.specs.declared.status.Status.{Status}
-use Rattle.guest_machine.specs.declared.status.Status.TheVariants.{Running, Exited, Stopped}
-use Rattle.guest_machine.specs.declared.status.Stop.{Stop}
-use Rattle.guest_machine.specs.declared.status.Stop.TheVariants.{Jump as JumpStop}
+use Rattle.run_values.specs.declared.status.Status.{Status}
+use Rattle.run_values.specs.declared.status.Status.TheVariants.{Running, Exited, Stopped}
+use Rattle.run_values.specs.declared.status.Stop.{Stop}
+use Rattle.run_values.specs.declared.status.Stop.TheVariants.{Jump as JumpStop}
 use Rattle.error_events.specs.declared.kind.Kind.{Kind}
 use Rattle.error_events.specs.declared.kind.Kind.TheVariants.{Jump}
 use Rattle.error_events.specs.declared.event.Group.{Group}
 use Rattle.leak_search.specs.Records.{AreRecordsOf}
 use Rattle.leak_search.specs.declared.record.LeakRecord.{LeakRecord}
 use Rattle.suppressions.specs.Rules.{Rule}
-use Rattle.replay_report.specs.Text.{address_text, newline}
-use Rattle.replay_report.specs.Lines.{kind_text, stop_word, output_line, trace_lines}
+use Rattle.report_lines.specs.Text.{address_text, newline}
+use Rattle.report_lines.specs.Lines.{kind_text, stop_word, output_line, trace_lines}
 use Rattle.replay_report.specs.LeakLines.{leak_text}
 use Rattle.replay_report.specs.Filtering.{shown_groups}
 use Rattle.replay_report.specs.Leaks.{shown_records, leak_groups, is_shown}

@@ -6,7 +6,7 @@ use Rattle.guest_machine.specs.State.{State}
 use Rattle.leak_search.specs.Records.{AreRecordsOf}
 use Rattle.leak_search.specs.declared.record.LeakRecord.{LeakRecord}
 use Rattle.suppressions.specs.Rules.{Rule}
-use Rattle.replay_report.specs.Lines.{step_line, state_line, input_line, output_line, group_lines, summary_line}
+use Rattle.report_lines.specs.Lines.{step_line, state_line, input_line, output_line, group_lines, summary_line}
 use Rattle.replay_report.specs.Filtering.{shown_groups, hidden_groups}
 use Rattle.replay_report.specs.LeakLines.{leak_section}
 use Rattle.replay_report.specs.declared.options.Options.{Options}

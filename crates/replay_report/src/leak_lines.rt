@@ -5,13 +5,12 @@ ghost use Rattle.replay_report.specs.Leaks.{leak_groups};
 ghost use Rattle.replay_report.specs.LeakLines.{leak_text, amount_text, leak_line, leak_lines, blocks_line, kind_line, total_lines, leak_section};
 
 use crate::leaks::{BlockSum, LeakKey, is_shown, leak_groups, split_records, sum_of, sum_of_kind};
-use crate::lines::push_trace;
 use crate::options::View;
-use crate::text::{push_number, push_text};
 use guest_elf::Image;
 use indexmap::IndexMap;
 use leak_graph::LeakKind;
 use leak_search::LeakRecord;
+use report_lines::{push_number, push_text, push_trace};
 use std::alloc::{AllocError, Global};
 
 /// How a block was lost, or that it was not.

@@ -58,25 +58,21 @@
 //! - `Report`: the whole report (`IsReport`, `report_text`). `Outlines`: the outline (`IsOutline`, `outline_text`).
 //! - `Filtering`: which groups of errors are shown, and which only counted.
 //! - `Leaks`: the same of leaked blocks, with their groups and sums.
-//! - `Lines` and `LeakLines`: each line, from `step_line` to `summary_line`.
+//! - `LeakLines`: the lines of leaks; the others are those of the crate `report_lines`.
 //! - `Laws`: a state has one report and one outline.
-//! - `Text`: an address, a byte, a byte of a name, and the end of a line. Decimal numbers are std's `decimal`.
 //!
-//! Source: Memcheck manual (Valgrind 3), sections 2.5 and 4.2: how errors, traces, notes and the summary are worded.
+//! Source: Memcheck manual (Valgrind 3), section 4.2: how leaks are worded.
 #![tactic(auto)]
 
 mod filtering;
 pub mod laws;
 mod leak_lines;
 mod leaks;
-mod lines;
 mod options;
 mod outlining;
 mod rendering;
-mod text;
 
-pub use lines::push_state;
 pub use options::Options;
 pub use outlining::outline;
 pub use rendering::render;
-pub use text::{push_address, push_byte, push_number, push_text};
+pub use report_lines::{push_address, push_byte, push_number, push_state, push_text};

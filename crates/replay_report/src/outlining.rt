@@ -9,14 +9,15 @@ ghost use Rattle.replay_report.specs.Outlines.{stop_place, end_line, told_trace,
 use crate::filtering::told_groups;
 use crate::leak_lines::leak_text;
 use crate::leaks::{BlockSum, LeakKey, is_shown, leak_groups, split_records};
-use crate::lines::{front, push_kind, push_output, push_trace, stop_word};
 use crate::options::{Options, View};
-use crate::text::{push_address, push_number, push_text};
 use error_events::{Group, Kind};
 use guest_elf::Image;
 use guest_machine::{Machine, Status, Stop};
 use indexmap::IndexMap;
 use leak_search::{LeakRecord, search};
+use report_lines::{
+    front, push_address, push_kind, push_number, push_output, push_text, push_trace, stop_word,
+};
 use std::alloc::{AllocError, Global};
 use suppressions::Suppression;
 

@@ -4,18 +4,18 @@ ghost use Rattle.call_stacks.specs.Frames.{longest_trace};
 ghost use Rattle.guest_machine.specs.State.{State};
 ghost use Rattle.guest_machine.specs.Shows.{Shows};
 ghost use Rattle.std.specs.List.{flat_map};
-ghost use Rattle.replay_report.specs.Lines.{group_lines, summary_line};
+ghost use Rattle.report_lines.specs.Lines.{group_lines, summary_line};
 ghost use Rattle.replay_report.specs.LeakLines.{leak_section};
 ghost use Rattle.replay_report.specs.Report.{head_lines, report_text, IsReport, AppendsReport};
 
 use crate::filtering::split_groups;
 use crate::leak_lines::push_leaks;
-use crate::lines::{push_groups, push_input, push_output, push_state, push_step, push_summary};
 use crate::options::{Options, View};
 use error_events::Group;
 use guest_elf::Image;
 use guest_machine::Machine;
 use leak_search::{LeakRecord, search};
+use report_lines::{push_groups, push_input, push_output, push_state, push_step, push_summary};
 use std::alloc::{AllocError, Global};
 use suppressions::Suppression;
 

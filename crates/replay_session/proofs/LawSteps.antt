@@ -20,9 +20,9 @@ use Rattle.replay_session.specs.Turns.{Turn, accepted, applied}
 use Rattle.replay_session.specs.Work.{ShowsAt, MovesWork, LineMoves, no_work}
 use Rattle.replay_session.specs.LinesWork.{Given, outcome_of, given_from, Reaches, Spares, IsKept, IsHeldAfter}
 use Rattle.replay_session.specs.LinesWork.{IsLastHeld, Adds, AddUp, LinesMove, HeldByLines, MadeByLines, WorkIsOne}
-use Rattle.replay_session.specs.declared.fault.Fault.{Fault}
-use Rattle.replay_session.specs.declared.command.Command.{Command}
-use Rattle.replay_session.specs.declared.command.Command.TheVariants.{Report, Edit}
+use Rattle.commands.specs.declared.fault.Fault.{Fault}
+use Rattle.commands.specs.declared.command.Command.{Command}
+use Rattle.commands.specs.declared.command.Command.TheVariants.{Report, Edit}
 use Rattle.replay_session.proofs.LeastSteps.{DecidesEach, kept-by}
 
 nowhere : DecidesEach (λ k. false) (λ k. ⊥)

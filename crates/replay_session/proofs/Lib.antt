@@ -1,4 +1,3 @@
-pub mod NumberSteps
 pub mod SessionSteps
 pub mod ReplySteps
 pub mod StageSteps

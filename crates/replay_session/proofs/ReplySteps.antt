@@ -7,9 +7,9 @@ use Rattle.replay_session.specs.Turns.{Turn, accepted}
 use Rattle.replay_session.specs.Session.{Meets, AppendsFor, replied, trail_of, turn_of, work_of}
 use Rattle.replay_session.specs.Stages.{stage_of}
 use Rattle.replay_session.specs.Work.{WorksLine}
-use Rattle.replay_session.specs.declared.command.Command.{Command}
-use Rattle.replay_session.specs.declared.command.Command.TheVariants.{Report, Worked}
-use Rattle.replay_session.specs.declared.fault.Fault.{Fault}
+use Rattle.commands.specs.declared.command.Command.{Command}
+use Rattle.commands.specs.declared.command.Command.TheVariants.{Report, Worked}
+use Rattle.commands.specs.declared.fault.Fault.{Fault}
 use Rattle.replay_session.specs.declared.session.Session.{Session}
 use Rattle.replay_session.specs.declared.reply.Reply.{Reply}
 

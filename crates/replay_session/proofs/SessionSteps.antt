@@ -13,9 +13,9 @@ use Rattle.checkpoints.specs.declared.effect.Effect.{Effect}
 use Rattle.checkpoints.specs.declared.trail.Trail.{Trail}
 use Rattle.scenario.specs.Edits.{Follows, IsTaken, row}
 use Rattle.scenario.specs.Scenario.{Scenario, run_of}
-use Rattle.scenario.specs.declared.edit.Edit.{Edit as AnEdit}
-use Rattle.scenario.specs.declared.edit.Edit.TheVariants.{Input, Append, Cut, Patch, Mark, Unmark, Switch, Add, Callers}
-use Rattle.scenario.specs.declared.edit.Edit.TheVariants.{Redzone, Volume, Show}
+use Rattle.commands.specs.declared.edit.Edit.{Edit as AnEdit}
+use Rattle.commands.specs.declared.edit.Edit.TheVariants.{Input, Append, Cut, Patch, Mark, Unmark, Switch, Add, Callers}
+use Rattle.commands.specs.declared.edit.Edit.TheVariants.{Redzone, Volume, Show}
 use Rattle.scenario.proofs.EditLaws.{cut-appended, image_kept}
 
 -- ---- edits

@@ -17,9 +17,9 @@ use Rattle.replay_session.specs.Turns.{Turn, accepted, applied}
 use Rattle.replay_session.specs.Session.{TakesMemory}
 use Rattle.replay_session.specs.Stages.{Stage, fresh}
 use Rattle.replay_session.specs.Work.{LineMoves, MayShorten}
-use Rattle.replay_session.specs.declared.command.Command.{Command}
-use Rattle.replay_session.specs.declared.command.Command.TheVariants.{Edit, Worked}
-use Rattle.replay_session.specs.declared.fault.Fault.{Fault}
+use Rattle.commands.specs.declared.command.Command.{Command}
+use Rattle.commands.specs.declared.command.Command.TheVariants.{Edit, Worked}
+use Rattle.commands.specs.declared.fault.Fault.{Fault}
 
 -- none is left where one list is as long as another that is empty
 none-left : (lines replies : List (List ℕ)) → replies ≡ [] → length replies ≡ length lines → lines ≡ []

@@ -1,5 +1,3 @@
-pub mod Commands
-pub mod Faults
 pub mod Turns
 pub mod Session
 pub mod Stages

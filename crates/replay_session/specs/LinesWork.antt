@@ -8,9 +8,9 @@ use Rattle.checkpoints.specs.Work.{Work}
 use Rattle.replay_session.specs.Replies.{Answers, HadMemory, Replies, worked_line}
 use Rattle.replay_session.specs.Stages.{Stage, fresh}
 use Rattle.replay_session.specs.Work.{ShowsAt, LineMoves, no_work}
-use Rattle.replay_session.specs.declared.fault.Fault.{Fault}
-use Rattle.replay_session.specs.declared.command.Command.{Command}
-use Rattle.replay_session.specs.declared.command.Command.TheVariants.{Report, Worked}
+use Rattle.commands.specs.declared.fault.Fault.{Fault}
+use Rattle.commands.specs.declared.command.Command.{Command}
+use Rattle.commands.specs.declared.command.Command.TheVariants.{Report, Worked}
 
 -- a line that was given, and what it met
 pub record Given : Type 0 where

@@ -7,8 +7,8 @@ use Rattle.replay_session.specs.Session.{TakesMemory}
 use Rattle.replay_session.specs.Stages.{Stage}
 use Rattle.replay_session.specs.Turns.{Turn, accepted, after, passed}
 use Rattle.replay_session.specs.Work.{LineMoves, MayShorten}
-use Rattle.replay_session.specs.declared.command.Command.{Command}
-use Rattle.replay_session.specs.declared.fault.Fault.{Fault}
+use Rattle.commands.specs.declared.command.Command.{Command}
+use Rattle.commands.specs.declared.fault.Fault.{Fault}
 
 -- two lines that are accepted alike have the same replies
 says-alike : (turn : Turn) (made : ℕ) (next : Turn) (a b text : List ℕ) → accepted turn a ≡ accepted turn b

@@ -2,16 +2,16 @@
 use Rattle.std.specs.Prelude.{ℕ, ◌≡◌, ◌⊎◌, ◌++◌, List, [], ◌∷◌, Bool, false, Result, Ok, Err, IsOkAnd, codes, decimal}
 use Rattle.std.specs.Prelude.{nat_le}
 use Rattle.line_server.specs.Answers.{AnswersBy, Relation}
-use Rattle.replay_session.specs.Faults.{number_of}
+use Rattle.commands.specs.Faults.{number_of}
 use Rattle.scenario.specs.Scenario.{Scenario, IsReportOf}
 use Rattle.replay_session.specs.Turns.{Turn, accepted, applied, passed, most_lines}
 use Rattle.replay_session.specs.Session.{TakesMemory}
 use Rattle.replay_session.specs.Stages.{Stage}
 use Rattle.replay_session.specs.Work.{LineMoves, MayShorten}
-use Rattle.replay_session.specs.declared.command.Command.{Command}
-use Rattle.replay_session.specs.declared.command.Command.TheVariants.{Report, Worked}
-use Rattle.replay_session.specs.declared.fault.Fault.{Fault}
-use Rattle.replay_session.specs.declared.fault.Fault.TheVariants.{Memory}
+use Rattle.commands.specs.declared.command.Command.{Command}
+use Rattle.commands.specs.declared.command.Command.TheVariants.{Report, Worked}
+use Rattle.commands.specs.declared.fault.Fault.{Fault}
+use Rattle.commands.specs.declared.fault.Fault.TheVariants.{Memory}
 use Rattle.replay_session.specs.declared.reply.Reply.{Reply}
 use Rattle.replay_session.specs.declared.reply.Reply.TheVariants.{Done, Work, Report as Reported}
 

@@ -9,12 +9,12 @@ use Rattle.scenario.specs.Edits.{row}
 use Rattle.scenario.specs.Scenario.{Scenario, IsReportOf, first_state}
 use Rattle.replay_session.specs.Turns.{Turn, accepted, applied, changed, passed}
 use Rattle.replay_session.specs.declared.session.Session.{Session}
-use Rattle.replay_session.specs.declared.fault.Fault.{Fault}
-use Rattle.replay_session.specs.declared.fault.Fault.TheVariants.{Memory}
+use Rattle.commands.specs.declared.fault.Fault.{Fault}
+use Rattle.commands.specs.declared.fault.Fault.TheVariants.{Memory}
 use Rattle.replay_session.specs.declared.reply.Reply.{Reply}
 use Rattle.replay_session.specs.declared.reply.Reply.TheVariants.{Done as IsDone, Work, Report as Reported}
-use Rattle.replay_session.specs.declared.command.Command.{Command}
-use Rattle.replay_session.specs.declared.command.Command.TheVariants.{Report, Edit, Worked}
+use Rattle.commands.specs.declared.command.Command.{Command}
+use Rattle.commands.specs.declared.command.Command.TheVariants.{Report, Edit, Worked}
 
 -- what was said to a session: its scenario, and how many lines were given
 unfoldable pub turn_of : Session → Turn

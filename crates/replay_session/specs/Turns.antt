@@ -8,12 +8,12 @@ use Rattle.suppressions.specs.Rules.{Rule}
 use Rattle.scenario.specs.Edits.{row}
 use Rattle.scenario.specs.Limits.{most_steps}
 use Rattle.scenario.specs.Scenario.{Scenario, begun, at_step}
-use Rattle.replay_session.specs.Commands.{parsed}
-use Rattle.replay_session.specs.Faults.{fault_of}
-use Rattle.replay_session.specs.declared.command.Command.{Command}
-use Rattle.replay_session.specs.declared.command.Command.TheVariants.{Goto, Report, Worked, Edit}
-use Rattle.replay_session.specs.declared.fault.Fault.{Fault}
-use Rattle.replay_session.specs.declared.fault.Fault.TheVariants.{StepLimit, LineTooLong, TooManyCommands}
+use Rattle.commands.specs.Commands.{parsed}
+use Rattle.commands.specs.Faults.{fault_of}
+use Rattle.commands.specs.declared.command.Command.{Command}
+use Rattle.commands.specs.declared.command.Command.TheVariants.{Goto, Report, Worked, Edit}
+use Rattle.commands.specs.declared.fault.Fault.{Fault}
+use Rattle.commands.specs.declared.fault.Fault.TheVariants.{StepLimit, LineTooLong, TooManyCommands}
 
 -- a scenario, and how many lines were given
 pub record Turn : Type 0 where

@@ -10,11 +10,11 @@ use Rattle.scenario.specs.Scenario.{Scenario, first_state}
 use Rattle.replay_session.specs.Turns.{accepted}
 use Rattle.replay_session.specs.Session.{turn_of, scenario_of, trail_of}
 use Rattle.replay_session.specs.declared.session.Session.{Session}
-use Rattle.replay_session.specs.declared.fault.Fault.{Fault}
-use Rattle.replay_session.specs.declared.fault.Fault.TheVariants.{Memory}
+use Rattle.commands.specs.declared.fault.Fault.{Fault}
+use Rattle.commands.specs.declared.fault.Fault.TheVariants.{Memory}
 use Rattle.replay_session.specs.declared.reply.Reply.{Reply}
-use Rattle.replay_session.specs.declared.command.Command.{Command}
-use Rattle.replay_session.specs.declared.command.Command.TheVariants.{Report, Edit}
+use Rattle.commands.specs.declared.command.Command.{Command}
+use Rattle.commands.specs.declared.command.Command.TheVariants.{Report, Edit}
 
 -- at which steps an accepted command may show in the run: an edit where its effect shows, and all else nowhere
 abbrev pub ShowsAt : Scenario → Command → ℕ → Type 0

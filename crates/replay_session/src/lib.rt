@@ -69,7 +69,8 @@
 //!
 //! In `specs/`, in the order to read them:
 //!
-//! - `Commands`: the language, a definition for each command over the fields of a line; `Faults`: the numbers of the refusals.
+//! - `Commands`, of the crate `commands`: the language, a definition for each command over the fields of a line; `Faults` there: the numbers of
+//!   the refusals.
 //! - `Turns`: which lines are refused, and what an accepted command leaves, over the scenario and the table of edits of the crate `scenario`.
 //! - `Session`: what was said to a session, and one line of it.
 //! - `Work`: how a line moves the last held step and the number of steps made; `Stages`: what the lines so far have left.
@@ -82,18 +83,13 @@
 //! and the limits are this project's.
 #![tactic(auto)]
 
-mod command;
-mod fault;
 pub mod laws;
-mod numbers;
-mod parsing;
 mod reply;
 mod serving;
 mod session;
 
-pub use fault::{BeginFault, Fault};
+pub use commands::{BeginFault, Fault, number};
 pub use line_server::{READS, Sent, ServeFault, send};
-pub use numbers::number;
 pub use reply::Reply;
 pub use scenario::{LONGEST_INPUT, MOST_STEPS, setup_with};
 pub use serving::serve;

@@ -5,17 +5,15 @@ ghost use Rattle.checkpoints.specs.OneProof.{right-prop};
 ghost use Rattle.checkpoints.specs.Trails.{LoadsAs};
 ghost use Rattle.scenario.specs.Scenario.{run_of};
 
-use crate::command::Command;
-use crate::fault::{BeginFault, Fault};
-use crate::parsing::parse;
 use crate::reply::Reply;
 use checkpoints::laws::keeps_lower;
 use checkpoints::{Sought, Trail};
+use commands::{BeginFault, Command, Edit, Fault, parse};
 use guest_elf::Image;
 use guest_machine::{Machine, Meter};
 use line_server::LONGEST_LINE;
 use scenario::laws::edits_follow;
-use scenario::{Edit, LONGEST_INPUT, MOST_STEPS, Scenario};
+use scenario::{LONGEST_INPUT, MOST_STEPS, Scenario};
 use std::alloc::{AllocError, Global};
 use suppressions::Suppression;
 
@@ -42,7 +40,7 @@ impl<'a> Session<'a> {
     ghost use Rattle.scenario.specs.Limits.{longest_input};
     ghost use Rattle.guest_machine.specs.Shows.{Shows};
     ghost use Rattle.scenario.specs.Scenario.{IsReportOf, chosen_state};
-    ghost use Rattle.replay_session.specs.Commands.{Reads};
+    ghost use Rattle.commands.specs.Commands.{Reads};
     ghost use Rattle.replay_session.specs.Replies.{is_over};
     ghost use Rattle.replay_session.specs.Session.{Carried, Finds, Meets, scenario_of, turn_of, trail_of, work_of};
     ghost use Rattle.replay_session.specs.Turns.{accepted, changed, command_refusal, counted, opening, passed};

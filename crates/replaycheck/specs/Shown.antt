@@ -2,8 +2,8 @@
 use Rattle.std.specs.Prelude.{Bool, true, false}
 use Rattle.clap.specs.declared.error.kind.ErrorKind.{ErrorKind}
 use Rattle.clap.specs.declared.error.kind.ErrorKind.TheVariants.{DisplayHelp, DisplayVersion, OutOfMemory}
-use Rattle.driver.specs.declared.ends.End.{End}
-use Rattle.driver.specs.declared.ends.End.TheVariants.{Done, CannotWrite, Usage, NoMemory}
+use Rattle.ends.specs.declared.ends.End.{End}
+use Rattle.ends.specs.declared.ends.End.TheVariants.{Done, CannotWrite, Usage, NoMemory}
 
 -- by the kind of what the parser answers, and whether its text was printed: help and the version are done, or can't be
 -- written; all else but want of memory is a fault of the command line

@@ -5,15 +5,15 @@ use Rattle.std.specs.Prelude.{slice_get, slice_set, slice_index_or}
 use Rattle.std.proofs.lemmas.Bool.Decides.{nat_tests}
 use Rattle.std.proofs.lemmas.List.{length-set, length-append, length-take}
 use Rattle.guest_machine.specs.Run.{marks_at, start_state}
-use Rattle.guest_machine.specs.declared.setup.Mark.{Mark as MarkAt}
+use Rattle.run_values.specs.declared.mark.Mark.{Mark as MarkAt}
 use Rattle.suppressions.specs.Rules.{Rule}
 use Rattle.checkpoints.specs.Effects.{DifferAtStep}
 use Rattle.scenario.specs.Scenario.{Scenario, first_state}
 use Rattle.scenario.specs.Edits.{Follows, TakesBack, IsTaken, row, refused_if, mark_step, switched, is_on}
-use Rattle.scenario.specs.declared.edit.Edit.{Edit}
-use Rattle.scenario.specs.declared.edit.Edit.TheVariants.{Input, Append, Cut, Patch, Mark, Unmark, Switch, Add, Callers}
-use Rattle.scenario.specs.declared.edit.Edit.TheVariants.{Redzone, Volume, Show}
-use Rattle.scenario.specs.declared.refusal.Refusal.{Refusal}
+use Rattle.commands.specs.declared.edit.Edit.{Edit}
+use Rattle.commands.specs.declared.edit.Edit.TheVariants.{Input, Append, Cut, Patch, Mark, Unmark, Switch, Add, Callers}
+use Rattle.commands.specs.declared.edit.Edit.TheVariants.{Redzone, Volume, Show}
+use Rattle.commands.specs.declared.refusal.Refusal.{Refusal}
 use Rattle.scenario.proofs.FrontSteps.{with-more}
 
 -- a test that refuses fails where nothing is refused

@@ -12,7 +12,7 @@ use Rattle.guest_machine.specs.Shows.{Shows}
 use Rattle.guest_machine.specs.State.{State}
 use Rattle.guest_machine.specs.declared.machine.Machine.{Machine}
 use Rattle.guest_machine.specs.declared.setup.Setup.{Setup}
-use Rattle.guest_machine.specs.declared.setup.Mark.{Mark}
+use Rattle.run_values.specs.declared.mark.Mark.{Mark}
 use Rattle.checkpoints.specs.Edits.{IsRightForRun}
 use Rattle.checkpoints.specs.Effects.{WritesWithin}
 use Rattle.checkpoints.specs.Trails.{IsRightFor, LoadsAs, loaded_of}
@@ -20,7 +20,8 @@ use Rattle.checkpoints.specs.Words.{IsWordIn}
 use Rattle.checkpoints.specs.declared.effect.Effect.{Effect}
 use Rattle.checkpoints.specs.declared.effect.Effect.TheVariants.{Word as WordAt}
 use Rattle.checkpoints.specs.declared.trail.Trail.{Trail}
-use Rattle.scenario.specs.Edits.{is_word, is_loaded, WritesLoaded}
+use Rattle.guest_elf.specs.Images.{is_word, is_loaded}
+use Rattle.scenario.specs.Edits.{WritesLoaded}
 use Rattle.scenario.specs.Scenario.{Scenario, chosen_state, first_state, run_of}
 
 -- a loaded word of an image is one of the ranges of its trail

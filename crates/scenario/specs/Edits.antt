@@ -1,10 +1,10 @@
 -- The one table of edits, and its two laws.
-use Rattle.std.specs.Prelude.{◌≡◌, ℕ, zero, suc, ◌+◌, ◌-◌, ◌^◌, ◌%◌, ◌<◌, ◌==◌, ◌||◌, ◌&&◌, nat_le, nat_lt, Bool, true}
+use Rattle.std.specs.Prelude.{◌≡◌, ℕ, zero, suc, ◌+◌, ◌-◌, ◌^◌, ◌<◌, ◌||◌, nat_le, nat_lt, Bool, true}
 use Rattle.std.specs.Prelude.{false, not, if◌then◌else◌, List, [], ◌∷◌, ◌++◌, length, take, remove, slice_set}
-use Rattle.std.specs.Prelude.{slice_index_or, map, Option, Some, None, is_some}
-use Rattle.guest_elf.specs.Images.{loaded_at}
+use Rattle.std.specs.Prelude.{slice_index_or, map, Option, Some, None}
+use Rattle.guest_elf.specs.Images.{is_word}
 use Rattle.guest_elf.specs.declared.image.Image.{Image}
-use Rattle.guest_machine.specs.declared.setup.Mark.{Mark as MarkAt}
+use Rattle.run_values.specs.declared.mark.Mark.{Mark as MarkAt}
 use Rattle.suppressions.specs.Rules.{Rule}
 use Rattle.suppressions.specs.declared.leak_kinds.LeakKinds.{LeakKinds}
 use Rattle.checkpoints.specs.Effects.{LeadsTo}
@@ -14,28 +14,18 @@ use Rattle.checkpoints.specs.declared.effect.Effect.TheVariants.{Word as WordAt}
 use Rattle.scenario.specs.Limits.{longest_input, most_steps, most_marks, longest_mark, most_callers, largest_redzone}
 use Rattle.scenario.specs.Limits.{largest_volume}
 use Rattle.scenario.specs.Scenario.{Scenario, run_of}
-use Rattle.scenario.specs.declared.edit.Edit.{Edit}
-use Rattle.scenario.specs.declared.edit.Edit.TheVariants.{Input, Append, Cut, Patch, Mark, Unmark, Switch, Add, Callers}
-use Rattle.scenario.specs.declared.edit.Edit.TheVariants.{Redzone, Volume, Show}
-use Rattle.scenario.specs.declared.refusal.Refusal.{Refusal}
-use Rattle.scenario.specs.declared.refusal.Refusal.TheVariants.{OutsideInput, InputTooLarge, NotPatchable, StepLimit}
-use Rattle.scenario.specs.declared.refusal.Refusal.TheVariants.{BadRange, TooManyMarks, NoSuchMark, NoSuchSuppression}
-use Rattle.scenario.specs.declared.refusal.Refusal.TheVariants.{BadOption}
+use Rattle.commands.specs.declared.edit.Edit.{Edit}
+use Rattle.commands.specs.declared.edit.Edit.TheVariants.{Input, Append, Cut, Patch, Mark, Unmark, Switch, Add, Callers}
+use Rattle.commands.specs.declared.edit.Edit.TheVariants.{Redzone, Volume, Show}
+use Rattle.commands.specs.declared.refusal.Refusal.{Refusal}
+use Rattle.commands.specs.declared.refusal.Refusal.TheVariants.{OutsideInput, InputTooLarge, NotPatchable, StepLimit}
+use Rattle.commands.specs.declared.refusal.Refusal.TheVariants.{BadRange, TooManyMarks, NoSuchMark, NoSuchSuppression}
+use Rattle.commands.specs.declared.refusal.Refusal.TheVariants.{BadOption}
 
 -- a refusal where a test holds
 abbrev pub refused_if : Bool → Refusal → Option Refusal
 refused_if true refusal = Some refusal
 refused_if false refusal = None
-
--- is the byte so far after an address loaded?
-abbrev pub is_loaded : Image → ℕ → ℕ → Bool
-is_loaded image addr i = is_some (loaded_at image ((addr + i) % 2 ^ 32))
-
--- is an address that of a loaded word: a multiple of 4, each of whose four bytes is loaded?
-unfoldable pub is_word : Image → ℕ → Bool
-is_word image addr =
-    (addr % 4 == 0) && (is_loaded image addr 0
-    && (is_loaded image addr 1 && (is_loaded image addr 2 && is_loaded image addr 3)))
 
 -- why a mark is refused where there are so many, in order: its step, its range, too many marks
 unfoldable pub mark_refusal : ℕ → MarkAt → Option Refusal

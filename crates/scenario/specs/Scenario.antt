@@ -4,7 +4,7 @@ use Rattle.guest_elf.specs.declared.image.Image.{Image}
 use Rattle.guest_machine.specs.State.{State}
 use Rattle.guest_machine.specs.Run.{start_state, poked, post}
 use Rattle.guest_machine.specs.declared.setup.Setup.{Setup}
-use Rattle.guest_machine.specs.declared.setup.Mark.{Mark}
+use Rattle.run_values.specs.declared.mark.Mark.{Mark}
 use Rattle.replay_report.specs.Outlines.{IsOutline}
 use Rattle.replay_report.specs.Report.{IsReport}
 use Rattle.replay_report.specs.declared.options.Options.{Options}

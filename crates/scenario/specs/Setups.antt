@@ -4,11 +4,11 @@ use Rattle.guest_elf.specs.Images.{hooks_of}
 use Rattle.guest_elf.specs.declared.image.Image.{Image}
 use Rattle.guest_machine.specs.declared.setup.Setup.{Setup}
 
--- Memcheck's redzone, in bytes (Memcheck manual, `--redzone-size`)
+-- Memcheck's redzone, in bytes (Valgrind core manual, section 2.6, `--redzone-size`)
 abbrev pub usual_redzone : ℕ
 usual_redzone = 16
 
--- Memcheck's volume of freed blocks, in bytes (`--freelist-vol`)
+-- Memcheck's volume of freed blocks, in bytes (Memcheck manual, section 4.3, `--freelist-vol`)
 abbrev pub usual_volume : ℕ
 usual_volume = 20000000
 

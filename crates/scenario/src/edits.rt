@@ -8,10 +8,9 @@ mod words;
 ghost use Rattle.std.specs.Prelude.{◌≡◌};
 ghost use Rattle.scenario.specs.Edits.{refused_if};
 
-use crate::edit::Edit;
-use crate::refusal::Refusal;
 use crate::scenario::Scenario;
 use checkpoints::Effect;
+use commands::{Edit, Refusal};
 use std::alloc::AllocError;
 
 /// A refusal where a test holds.

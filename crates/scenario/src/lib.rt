@@ -36,20 +36,17 @@
 //! In `specs/`: `Scenario` (the record, its run, its report and its outline), `Edits` (the table and its laws), `Limits`, `Setups`.
 #![tactic(auto)]
 
-mod edit;
 mod edits;
 pub mod laws;
 mod lent;
 mod limits;
-mod refusal;
 mod scenario;
 mod setups;
 mod word;
 
-pub use edit::Edit;
+pub use commands::{Edit, Refusal};
 pub use lent::ScenarioRef;
 pub use limits::{LONGEST_INPUT, MOST_STEPS};
-pub use refusal::Refusal;
 pub use scenario::Scenario;
 pub use setups::setup_with;
 pub use word::Word;

@@ -3,7 +3,7 @@ use Rattle.std.specs.Prelude.{ℕ, Bool, true, false, ◌&&◌, ◌+◌, ◌%◌
 use Rattle.shadow_memory.specs.Ranges.{little_word}
 use Rattle.shadow_memory.specs.Shadows.{Shadow, holds_word}
 
--- the value of the four bytes at an address, the lowest first (RISC-V ISA, section 1.4)
+-- the value of the four bytes at an address, the lowest first (RISC-V Unprivileged ISA 20191213, section 1.5)
 abbrev pub value_at : (ℕ → ℕ) → ℕ → ℕ
 value_at bytes a = little_word (λ i. bytes (a + i))
 

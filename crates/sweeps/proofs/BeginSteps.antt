@@ -5,7 +5,7 @@ use Rattle.guest_machine.specs.Run.{start_state}
 use Rattle.guest_machine.specs.Shows.{Shows}
 use Rattle.guest_machine.specs.declared.machine.Machine.{Machine}
 use Rattle.guest_machine.specs.declared.setup.Setup.{Setup}
-use Rattle.guest_machine.specs.declared.setup.Mark.{Mark}
+use Rattle.run_values.specs.declared.mark.Mark.{Mark}
 use Rattle.checkpoints.specs.Edits.{IsRightForRun}
 use Rattle.checkpoints.specs.Trails.{IsRightFor, LoadsAs}
 use Rattle.checkpoints.specs.declared.trail.Trail.{Trail}

@@ -7,16 +7,18 @@ use Rattle.std.proofs.lemmas.Bool.Decides.{nat_tests}
 use Rattle.std.proofs.lemmas.List.{length-set}
 use Rattle.shadow_memory.specs.Ranges.{little_word, window}
 use Rattle.scenario.proofs.EditLaws.{cut-appended}
-use Rattle.scenario.specs.Edits.{row, refused_if, IsTaken, TakesBack, is_word}
+use Rattle.guest_elf.specs.Images.{is_word}
+use Rattle.scenario.specs.Edits.{row, refused_if, IsTaken, TakesBack}
 use Rattle.scenario.specs.Scenario.{Scenario, first_state}
-use Rattle.scenario.specs.declared.edit.Edit.{Edit}
-use Rattle.scenario.specs.declared.refusal.Refusal.{Refusal}
-use Rattle.scenario.specs.declared.refusal.Refusal.TheVariants.{OutsideInput, NotPatchable}
-use Rattle.sweeps.specs.Plans.{changed_to, edit_of, stood, standing_byte, standing_in, standing_word}
-use Rattle.sweeps.specs.declared.plan.Place.{Place}
-use Rattle.sweeps.specs.declared.plan.Place.TheVariants.{Byte as ByteAt, Word as WordAt, Nowhere}
-use Rattle.sweeps.specs.declared.change.Change.{Change}
-use Rattle.sweeps.specs.declared.change.Change.TheVariants.{Byte, Word}
+use Rattle.commands.specs.declared.edit.Edit.{Edit}
+use Rattle.commands.specs.declared.refusal.Refusal.{Refusal}
+use Rattle.commands.specs.declared.refusal.Refusal.TheVariants.{OutsideInput, NotPatchable}
+use Rattle.sweep_plans.specs.Plans.{changed_to, edit_of}
+use Rattle.sweeps.specs.Standing.{stood, standing_byte, standing_in, standing_word}
+use Rattle.sweep_plans.specs.declared.plan.Place.{Place}
+use Rattle.sweep_plans.specs.declared.plan.Place.TheVariants.{Byte as ByteAt, Word as WordAt, Nowhere}
+use Rattle.sweep_plans.specs.declared.change.Change.{Change}
+use Rattle.sweep_plans.specs.declared.change.Change.TheVariants.{Byte, Word}
 
 -- something that stands where a test holds
 there : {A : Type 0} (b : Bool) (x y : A) → (if b then Some x else None) ≡ Some y → (b ≡ true) × (x ≡ y)

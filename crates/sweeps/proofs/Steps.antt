@@ -1,13 +1,13 @@
 -- One more change that was met, and the rows of some changes after those of others.
 use Rattle.std.proofs.Common.{◌≡◌, ℕ, ◌+◌, Bool, List, [], ◌∷◌, ◌++◌, length, fold, refl, ap, sym, ◌∙◌, append_assoc}
-use Rattle.std.proofs.Common.{append-nil, arith}
+use Rattle.std.proofs.Common.{append-nil, arith, rules}
 use Rattle.std.proofs.lemmas.List.{length-append}
 use Rattle.std.proofs.lemmas.List.Sums.{fold-append, sum_by_push}
 use Rattle.scenario.specs.Scenario.{Scenario}
 use Rattle.tallies.specs.Tallied.{entries_of, with_text}
 use Rattle.sweeps.specs.Outcomes.{Met, AreMet, IsOutcome, TakesSteps, standing, steps_of, tallied}
 use Rattle.sweeps.specs.Sweeps.{Counted}
-use Rattle.sweeps.specs.Tables.{first_lines, met_text, rows_after, rows_text}
+use Rattle.sweeps.specs.Tables.{first_lines, met_text, rows_after, rows_text, tally_line, tally_lines}
 use Rattle.sweeps.specs.declared.counting.Counts.{Counts}
 
 -- the texts with those of some changes counted
@@ -68,3 +68,13 @@ row-more first met more m =
     (append-nil (met_text (counted (tallied first met) more) m.change m.outcome))
     ∙ ap (λ es. rows_after (tallied first met) more ++ met_text es m.change m.outcome)
     (sym (tallied-more first met more))
+
+-- one tally more
+pub tally-more : (from : ℕ) (counts : List ℕ) (count : ℕ)
+    → tally_lines from (counts ++ count ∷ []) ≡ tally_lines from counts ++ tally_line (from + length counts) count
+unfolding tally_lines
+tally-more from [] count = search rules
+tally-more from (c ∷ cs) count =
+    ap (λ rest. tally_line from c ++ rest) (tally-more (from + 1) cs count)
+    ∙ sym (append_assoc (tally_line from c) (tally_lines (from + 1) cs) _)
+    ∙ ap (λ n. (tally_line from c ++ tally_lines (from + 1) cs) ++ tally_line n count) (omega arith)

@@ -1,4 +1,4 @@
-pub mod Plans
+pub mod Standing
 pub mod Outcomes
 pub mod Tables
 pub mod Sweeps

@@ -5,8 +5,8 @@ use Rattle.checkpoints.specs.Forks.{IsLastUnshown}
 use Rattle.scenario.specs.Edits.{row}
 use Rattle.scenario.specs.Scenario.{Scenario, IsOutlineOf, run_of}
 use Rattle.tallies.specs.Tallied.{with_text}
-use Rattle.sweeps.specs.Plans.{edit_of}
-use Rattle.sweeps.specs.declared.change.Change.{Change}
+use Rattle.sweep_plans.specs.Plans.{edit_of}
+use Rattle.sweep_plans.specs.declared.change.Change.{Change}
 
 -- a text is the outcome of a change: the outline of the scenario with that edit
 unfoldable pub IsOutcome : Bool → Scenario → Change → List ℕ → Type 0

@@ -2,12 +2,12 @@
 -- the outcome is.
 use Rattle.std.specs.Prelude.{ℕ, ◌+◌, Bool, if◌then◌else◌, List, [], ◌∷◌, ◌++◌, codes, length}
 use Rattle.std.specs.Fmt.{decimal}
-use Rattle.replay_report.specs.Text.{address_text, newline}
+use Rattle.report_lines.specs.Text.{address_text, newline}
 use Rattle.tallies.specs.Tallied.{counts_of, is_met, number_of, with_text}
 use Rattle.tallies.specs.declared.Found.{Found}
 use Rattle.sweeps.specs.Outcomes.{Met, standing, steps_of, tallied}
-use Rattle.sweeps.specs.declared.change.Change.{Change}
-use Rattle.sweeps.specs.declared.change.Change.TheVariants.{Byte, Word}
+use Rattle.sweep_plans.specs.declared.change.Change.{Change}
+use Rattle.sweep_plans.specs.declared.change.Change.TheVariants.{Byte, Word}
 
 -- a change, as a line of a session makes it: `input OFFSET BYTE` or `patch ADDR WORD`
 unfoldable pub change_text : Change → List ℕ

@@ -4,9 +4,9 @@ ghost use Rattle.tallies.specs.Tallied.{entries_of, with_text};
 ghost use Rattle.sweeps.specs.Outcomes.{standing};
 ghost use Rattle.sweeps.specs.Tables.{found_text, met_text, total_lines};
 
-use crate::change::Change;
 use crate::rows::{push_end, push_outcome, push_row, push_tallies};
 use std::alloc::{AllocError, Global};
+use sweep_plans::Change;
 use tallies::{Found, Tallies};
 
 /// The outcomes, and how many edits and steps were made. The numbers stand still at 2^64 - 1.

@@ -1,6 +1,6 @@
 //! Every edit of a run alone: what each changed byte of an input, and each changed word of a program, comes to.
 //!
-//! A [`Sweep`] goes over the places of a [`Plan`] one after another. At each it makes every edit that is asked for, alone, and appends the
+//! A [`Sweep`] goes over the places of a [`sweep_plans::Plan`] one after another. At each it makes every edit that is asked for, alone, and appends the
 //! edit's row of the table: the line of a session that makes it, and the number of its outcome.
 //!
 //! # Public items
@@ -10,9 +10,6 @@
 //! | [`Sweep::begin`] | makes the unedited run, and appends its outcome |
 //! | [`Sweep::visit`] | makes each edit of a place, and appends its row, after what its outcome is where that is new |
 //! | [`Sweep::finish`] | appends how many edits lead to each outcome, and how many edits, outcomes and steps there were |
-//! | [`has_word`] | whether some of the words of a program that are named is loaded whole |
-//! | [`Plan::places`] | how many places there are |
-//! | [`Change::edit`] | the edit of a scenario that a change is |
 //!
 //! # What a caller relies on
 //!
@@ -23,22 +20,15 @@
 //!
 //! # Where the definitions stand
 //!
-//! In `specs/`: `Plans` (the places and the changes at each), `Outcomes` (what a change comes to), `Tables` (the text), `Sweeps` (what a
-//! sweep has met).
+//! In `specs/`: `Standing` (what stands at a place, and the changes there), `Outcomes` (what a change comes to), `Tables` (the text), `Sweeps`
+//! (what a sweep has met). The places of a plan are defined in the crate `sweep_plans`.
 #![tactic(auto)]
 
 mod beginning;
-mod change;
 mod counting;
-mod loaded;
 mod meeting;
 mod outcomes;
-mod plan;
 mod rows;
 mod sweep;
-mod values;
 
-pub use change::Change;
-pub use loaded::has_word;
-pub use plan::{ByteValues, Places, Plan, WordValues};
 pub use sweep::Sweep;

@@ -4,16 +4,17 @@ ghost use Rattle.checkpoints.specs.Forks.{IsForkFor};
 ghost use Rattle.scenario.specs.Edits.{row};
 ghost use Rattle.scenario.specs.Scenario.{run_of};
 ghost use Rattle.sweeps.specs.Outcomes.{Met, tallied};
-ghost use Rattle.sweeps.specs.Plans.{changed_to, edit_of, stood};
+ghost use Rattle.sweep_plans.specs.Plans.{changed_to, edit_of};
+ghost use Rattle.sweeps.specs.Standing.{stood};
 ghost use Rattle.sweeps.specs.Sweeps.{Counted};
 ghost use Rattle.sweeps.specs.Tables.{met_text, rows_after};
 
-use crate::change::Change;
 use crate::counting::Counts;
 use crate::outcomes::outcome_of;
 use checkpoints::Fork;
 use scenario::Scenario;
 use std::alloc::AllocError;
+use sweep_plans::Change;
 
 /// What stands at a place, and the machine from which each run goes on in which another value stands there.
 #[derive(Clone, Copy)]

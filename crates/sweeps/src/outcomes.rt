@@ -8,14 +8,15 @@ ghost use Rattle.scenario.specs.Edits.{row, IsTaken};
 ghost use Rattle.scenario.specs.Limits.{most_steps};
 ghost use Rattle.scenario.specs.Scenario.{Scenario as ScenarioOf, IsOutlineOf, run_of};
 ghost use Rattle.sweeps.specs.Outcomes.{IsOutcome};
-ghost use Rattle.sweeps.specs.Plans.{changed_to, edit_of, stood};
+ghost use Rattle.sweep_plans.specs.Plans.{changed_to, edit_of};
+ghost use Rattle.sweeps.specs.Standing.{stood};
 
-use crate::change::Change;
 use checkpoints::{Effect, Fork, Trail};
 use guest_machine::Meter;
 use scenario::Scenario;
 use scenario::laws::{edits_follow, edits_go_back};
 use std::alloc::AllocError;
+use sweep_plans::Change;
 
 /// The machine from which each run goes on in which another value stands somewhere.
 pub(crate) fn fork_at(

@@ -2,9 +2,9 @@
 ghost use Rattle.std.specs.Prelude.{◌≡◌, ◌++◌, [], OnOk, if◌then◌else◌, length};
 ghost use Rattle.sweeps.specs.Tables.{change_text, change_row, outcome_lines, first_lines, tally_line, tally_lines, end_line};
 
-use crate::change::Change;
 use replay_report::{push_address, push_number, push_text};
 use std::alloc::AllocError;
+use sweep_plans::Change;
 
 /// A change, as a line of a session makes it.
 #[tactic(auto, unfolding(crate::specs::Tables::change_text), using(std::proofs::Common::append_assoc))]

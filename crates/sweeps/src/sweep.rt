@@ -8,17 +8,16 @@ ghost use Rattle.scenario.specs.Limits.{most_steps};
 ghost use Rattle.scenario.specs.Scenario.{first_state, run_of};
 
 use crate::beginning::{scenario_at, unedited_run};
-use crate::change::Change;
 use crate::counting::Counts;
 use crate::meeting::{Spot, meet_each};
 use crate::outcomes::fork_at;
-use crate::plan::{Place, Plan};
 use checkpoints::Trail;
 use guest_elf::Image;
 use guest_machine::Machine;
 use scenario::{Edit, Scenario};
 use std::alloc::{AllocError, Global};
 use suppressions::Suppression;
+use sweep_plans::{Change, Place, Plan};
 
 /// A run whose edits are made one after another, each alone; what they have come to so far; and how many edits and steps were made.
 #[derive(Drop)]
@@ -42,7 +41,8 @@ impl<'a> Sweep<'a> {
     ghost use Rattle.scenario.specs.Limits.{longest_input};
     ghost use Rattle.scenario.specs.Scenario.{at_step, begun};
     ghost use Rattle.sweeps.specs.Outcomes.{Met};
-    ghost use Rattle.sweeps.specs.Plans.{changes_by, standing_at, standing_byte, standing_word};
+    ghost use Rattle.sweep_plans.specs.Plans.{changes_by};
+    ghost use Rattle.sweeps.specs.Standing.{standing_at, standing_byte, standing_word};
     ghost use Rattle.sweeps.specs.Sweeps.{HasMet, scenario_of, tells_output};
     ghost use Rattle.sweeps.specs.Tables.{rows_text, table_text};
 
@@ -97,7 +97,7 @@ impl<'a> Sweep<'a> {
     }
 
     /// What stands at a byte of the input, if there is one.
-    #[tactic(auto, unfolding(crate::specs::Sweeps::scenario_of, crate::specs::Plans::standing_byte))]
+    #[tactic(auto, unfolding(crate::specs::Sweeps::scenario_of, crate::specs::Standing::standing_byte))]
     fn standing_byte(&self, offset: u32) -> Option<Change>
         ensures { result ≡ standing_byte (scenario_of self.now) offset }
     {
@@ -106,7 +106,7 @@ impl<'a> Sweep<'a> {
     }
 
     /// What stands at a word of the program, if it is loaded whole.
-    #[tactic(auto, unfolding(crate::specs::Sweeps::scenario_of, crate::specs::Plans::standing_word))]
+    #[tactic(auto, unfolding(crate::specs::Sweeps::scenario_of, crate::specs::Standing::standing_word))]
     fn standing_word(&self, addr: u32) -> Option<Change>
         ensures { result ≡ standing_word (scenario_of self.now) addr }
     {

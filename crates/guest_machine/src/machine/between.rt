@@ -8,12 +8,11 @@ ghost use Rattle.guest_machine.specs.Shows.{Holds, Shows};
 
 use crate::machine::registers::known;
 use crate::machine::{Guest, Machine, Noted, Progress};
-use crate::setup::Mark;
-use crate::status::Status;
 use call_stacks::CallStack;
 use error_events::Groups;
 use guest_elf::{Image, Segment};
 use guest_heap::Heap;
+use run_values::{Mark, Status};
 use shadow_memory::Memory;
 use std::alloc::{AllocError, Global};
 

@@ -9,15 +9,13 @@ ghost use Rattle.guest_machine.specs.Shows.{core_of, bytes_of};
 ghost use Rattle.guest_machine.specs.Doing.{used_of, uses_by, read_intake, Changes, Notes, Does, DoesRow, DoesRead, DoesWrite};
 
 use crate::environment_call::EnvironmentCall;
-use crate::instruction::Instruction;
 use crate::machine::Guest;
 use crate::machine::step::{NOTHING, Used};
-use crate::register::Register;
 use crate::setup::Setup;
-use crate::span::Span;
-use crate::status::Status;
 use error_events::{Kind, Parameter, ParameterFault};
 use guest_elf::Hook;
+use instructions::{Instruction, Register};
+use run_values::{Span, Status};
 use shadow_memory::Bad;
 use std::alloc::AllocError;
 

@@ -6,11 +6,9 @@ ghost use Rattle.guest_machine.specs.Errors.{here, event_of, event_unless, event
 ghost use Rattle.guest_machine.specs.Shows.{core_of};
 ghost use Rattle.guest_machine.specs.Doing.{Notes};
 
-use crate::alu::is_undecided;
-use crate::instruction::Comparison;
 use crate::machine::Guest;
-use crate::register::Register;
 use error_events::{Event, Kind, Note};
+use instructions::{Comparison, Register, is_undecided};
 use memory_map::{STACK_BEGIN, STACK_END};
 use std::alloc::AllocError;
 

@@ -1,20 +1,19 @@
 //! Where a machine goes next: pc, whether it runs, and the frames of the calls that it is in.
 ghost use Rattle.std.specs.Prelude.{◌≡◌, ◌%◌};
 ghost use Rattle.guest_machine.specs.Effects.{advanced, stopped, jumped, linked_jump};
-ghost use Rattle.guest_machine.specs.CallStack.{hinted};
+ghost use Rattle.instructions.specs.CallStack.{hinted};
 ghost use Rattle.guest_machine.specs.NamedCalls.{returned_to};
 ghost use Rattle.guest_machine.specs.Shows.{core_of};
 ghost use Rattle.guest_machine.specs.Doing.{Sets};
 
-use crate::hint::StackHint;
 use crate::machine::Guest;
 use crate::machine::registers::known;
-use crate::register::Register;
-use crate::status::{Status, Stop};
 use call_stacks::CallStack;
+use instructions::{Register, StackHint};
+use run_values::{Status, Stop};
 
 /// Calls and returns, by the hint of a jump from an address to another.
-#[tactic(auto, unfolding(crate::specs::CallStack::hinted))]
+#[tactic(auto, unfolding(instructions::specs::CallStack::hinted))]
 fn follow(frames: &mut CallStack, hint: StackHint, pc: u32, to: u32)
     ensures { frames.new ≡ hinted hint pc to frames.old }
 {
@@ -76,7 +75,7 @@ impl Guest {
     }
 
     /// Returns to an address.
-    #[tactic(auto, unfolding(crate::specs::CallStack::hinted))]
+    #[tactic(auto, unfolding(instructions::specs::CallStack::hinted))]
     pub(super) fn return_to(&mut self, to: u32)
         ensures { Sets self.old self.new (returned_to to (core_of self.old)) }
     {

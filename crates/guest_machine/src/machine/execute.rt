@@ -6,20 +6,16 @@ ghost use Rattle.shadow_memory.specs.Memories.{bytes_in, shadows_in};
 ghost use Rattle.error_events.specs.declared.kind.Kind.TheVariants.{Read as ReadError};
 ghost use Rattle.shadow_memory.specs.Ranges.{little_word, window};
 ghost use Rattle.guest_machine.specs.Errors.{access_errors, taken_undef};
-ghost use Rattle.guest_machine.specs.Widths.{width_len, width_limit};
+ghost use Rattle.instructions.specs.Widths.{width_len, width_limit};
 ghost use Rattle.guest_machine.specs.Effects.{results_in, load, store, branch, jump, jump_register, branched};
 ghost use Rattle.guest_machine.specs.Exec.{no_intake, nothing, accessed, writing, taken_from};
 ghost use Rattle.guest_machine.specs.Shows.{core_of, bytes_of};
 ghost use Rattle.guest_machine.specs.Doing.{Notes, Does};
 
-use crate::alu::{extended, passes};
-use crate::hint::StackHint;
-use crate::instruction::Comparison;
 use crate::machine::Guest;
-use crate::register::Register;
-use crate::span::Span;
-use crate::width::Width;
 use definedness::Bits;
+use instructions::{Comparison, Register, StackHint, Width, extended, passes};
+use run_values::Span;
 use shadow_memory::{Loaded, Memory};
 use std::alloc::AllocError;
 

@@ -19,12 +19,12 @@ use crate::machine::Guest;
 use crate::machine::calls::{A0, A1};
 use crate::machine::step::{NOTHING, Used};
 use crate::setup::Setup;
-use crate::span::Span;
 use call_stacks::Trace;
 use error_events::Kind;
 use guest_elf::Hook;
 use guest_heap::laws::place_is_least;
 use guest_heap::{Block, Released};
+use run_values::Span;
 use shadow_memory::RangeKind;
 use std::alloc::AllocError;
 

@@ -5,10 +5,10 @@ ghost use Rattle.guest_machine.specs.Doing.{used_of, uses_by_name, DoesNamed};
 use crate::machine::Guest;
 use crate::machine::calls::{A0, A1, heap_parameters};
 use crate::machine::step::{NOTHING, Used};
-use crate::register::Register;
 use crate::setup::Setup;
-use crate::status::Stop;
 use guest_elf::Hook;
+use instructions::Register;
+use run_values::Stop;
 use std::alloc::AllocError;
 
 /// The register of the address that a function returns to.

@@ -9,11 +9,11 @@ ghost use Rattle.error_events.specs.Shown.{groups_of};
 ghost use Rattle.guest_machine.specs.Shows.{Shows, has_raised};
 
 use crate::machine::Machine;
-use crate::register::Register;
-use crate::status::Status;
 use definedness::Bits;
 use error_events::Groups;
 use guest_heap::Heap;
+use instructions::Register;
+use run_values::Status;
 use shadow_memory::Memory;
 
 #[tactic(auto, unfolding(crate::specs::Shows::Shows))]

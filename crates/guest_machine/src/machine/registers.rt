@@ -7,8 +7,8 @@ ghost use Rattle.guest_machine.specs.Shows.{core_of};
 ghost use Rattle.guest_machine.specs.Doing.{Sets};
 
 use crate::machine::Guest;
-use crate::register::Register;
 use definedness::Bits;
+use instructions::Register;
 
 /// A number with no undefined bit.
 #[inline(always)]

@@ -5,8 +5,8 @@ ghost use Rattle.guest_machine.specs.Shows.{core_of, bytes_of};
 ghost use Rattle.guest_machine.specs.Doing.{Changes};
 
 use crate::machine::Guest;
-use crate::register::Register;
 use definedness::Bits;
+use instructions::Register;
 use memory_map::{STACK_BEGIN, STACK_END};
 use shadow_memory::RangeKind;
 use std::alloc::AllocError;

@@ -2,27 +2,24 @@
 ghost use Rattle.std.specs.Prelude.{◌≡◌, ◌+◌, ◌&&◌, ◌≤◌, [], min, length, nat_lt, false, Option, Some, None, IfOk, IfSome, IfNone, OnErr, OnOk};
 ghost use Rattle.guest_machine.specs.State.{State};
 ghost use Rattle.guest_machine.specs.Errors.{fetch_undef};
-ghost use Rattle.guest_machine.specs.Instructions.{row_of};
+ghost use Rattle.instructions.specs.Instructions.{row_of};
 ghost use Rattle.guest_machine.specs.Exec.{no_intake, nothing, is_running, is_aligned, called_here, fetches, unfetched, jump_fault};
 ghost use Rattle.guest_machine.specs.Exec.{exec, touched_of, IsFetched};
 ghost use Rattle.guest_machine.specs.Run.{pre};
 ghost use Rattle.guest_machine.specs.Shows.{core_of, bytes_of, Holds, Shows, has_raised};
 ghost use Rattle.guest_machine.specs.Doing.{used_of, uses_by, touched_by, Does, DoesRow, DoesRound, DoesStep};
 
-use crate::alu::computed;
 use crate::hooks::Hooks;
-use crate::instruction::{Instruction, row_of};
 use crate::machine::registers::known;
 use crate::machine::{Guest, Machine};
 use crate::meter::Meter;
-use crate::register::Register;
 use crate::setup::{Setup, Touched};
-use crate::span::Span;
-use crate::status::{Status, Stop};
 use definedness::Bits;
 use error_events::Kind;
 use error_events::laws::groups_grow;
 use guest_elf::Hook;
+use instructions::{Instruction, Register, computed, row_of};
+use run_values::{Span, Status, Stop};
 use std::alloc::AllocError;
 
 /// The ranges whose bytes an instruction took and wrote.

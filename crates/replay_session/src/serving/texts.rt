@@ -2,9 +2,9 @@
 ghost use Rattle.std.specs.Prelude.{◌≡◌, ◌≤◌, length, vec_capacity};
 ghost use Rattle.replay_session.specs.Replies.{number_line, short_text};
 
-use crate::fault::Fault;
 use crate::reply::Reply;
 use crate::session::Session;
+use commands::Fault;
 use itoa::Buffer;
 use std::alloc::{AllocError, Global};
 

@@ -3,9 +3,9 @@ ghost use Rattle.std.specs.Prelude.{◌≡◌, ◌<◌, length, slice_set};
 
 use crate::edits::refused_if;
 use crate::limits::LONGEST_INPUT;
-use crate::refusal::Refusal;
 use crate::scenario::Scenario;
 use checkpoints::Effect;
+use commands::Refusal;
 use guest_machine::Input;
 use std::alloc::AllocError;
 use std::mem;
@@ -23,7 +23,7 @@ fn with_byte(input: Input, offset: u32, byte: u8) -> Input
 impl<'a> Scenario<'a> {
     ghost use Rattle.std.specs.Prelude.{◌≡◌, OnOk, OnErr};
     ghost use Rattle.scenario.specs.Edits.{row, IsTaken};
-    ghost use Rattle.scenario.specs.declared.edit.Edit.TheVariants.{Input as Replace, Append, Cut};
+    ghost use Rattle.commands.specs.declared.edit.Edit.TheVariants.{Input as Replace, Append, Cut};
 
     pub(crate) fn input_refusal(&self, offset: u32) -> Option<Refusal>
         ensures { result ≡ (row self.now (Replace offset 0)).refusal }

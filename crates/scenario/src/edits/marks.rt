@@ -4,9 +4,9 @@ ghost use Rattle.scenario.specs.Edits.{mark_refusal};
 
 use crate::edits::refused_if;
 use crate::limits::{LONGEST_MARK, MOST_MARKS, MOST_STEPS};
-use crate::refusal::Refusal;
 use crate::scenario::Scenario;
 use checkpoints::Effect;
+use commands::Refusal;
 use guest_machine::Mark;
 use std::alloc::AllocError;
 
@@ -30,7 +30,7 @@ fn refusal_of(marks: usize, mark: &Mark) -> Option<Refusal>
 impl<'a> Scenario<'a> {
     ghost use Rattle.std.specs.Prelude.{◌≡◌, OnOk, OnErr};
     ghost use Rattle.scenario.specs.Edits.{row, IsTaken};
-    ghost use Rattle.scenario.specs.declared.edit.Edit.TheVariants.{Mark as MarkEdit, Unmark};
+    ghost use Rattle.commands.specs.declared.edit.Edit.TheVariants.{Mark as MarkEdit, Unmark};
 
     pub(crate) fn mark_refusal(&self, mark: &Mark) -> Option<Refusal>
         ensures { result ≡ (row self.now (MarkEdit mark.now)).refusal }

@@ -1,14 +1,14 @@
 //! Options of the heap and of the report.
 use crate::edits::refused_if;
 use crate::limits::{LARGEST_REDZONE, LARGEST_VOLUME, MOST_CALLERS};
-use crate::refusal::Refusal;
 use crate::scenario::Scenario;
+use commands::Refusal;
 use suppressions::LeakKinds;
 
 impl<'a> Scenario<'a> {
     ghost use Rattle.std.specs.Prelude.{◌≡◌};
     ghost use Rattle.scenario.specs.Edits.{row, IsTaken};
-    ghost use Rattle.scenario.specs.declared.edit.Edit.TheVariants.{Callers, Redzone, Volume, Show};
+    ghost use Rattle.commands.specs.declared.edit.Edit.TheVariants.{Callers, Redzone, Volume, Show};
 
     pub(crate) fn callers_refusal(&self, n: u32) -> Option<Refusal>
         ensures { result ≡ (row self.now (Callers n)).refusal }

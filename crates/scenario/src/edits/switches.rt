@@ -1,14 +1,14 @@
 //! Suppressions and their switches.
 use crate::edits::refused_if;
-use crate::refusal::Refusal;
 use crate::scenario::Scenario;
+use commands::Refusal;
 use std::alloc::AllocError;
 use suppressions::Suppression;
 
 impl<'a> Scenario<'a> {
     ghost use Rattle.std.specs.Prelude.{◌≡◌, false, OnOk, OnErr};
     ghost use Rattle.scenario.specs.Edits.{row, IsTaken};
-    ghost use Rattle.scenario.specs.declared.edit.Edit.TheVariants.{Switch, Add};
+    ghost use Rattle.commands.specs.declared.edit.Edit.TheVariants.{Switch, Add};
 
     pub(crate) fn switch_refusal(&self, index: u32) -> Option<Refusal>
         ensures { result ≡ (row self.now (Switch index false)).refusal }

@@ -1,16 +1,16 @@
 //! Words written into the program.
 ghost use Rattle.std.specs.Prelude.{◌≡◌};
-ghost use Rattle.scenario.specs.Edits.{is_word};
+ghost use Rattle.guest_elf.specs.Images.{is_word};
 
 use crate::edits::refused_if;
-use crate::refusal::Refusal;
 use crate::scenario::Scenario;
 use crate::word::Word;
+use commands::Refusal;
 use guest_elf::Image;
 use std::alloc::AllocError;
 
 /// Whether an address is that of a loaded word.
-#[tactic(auto, unfolding(crate::specs::Edits::is_word))]
+#[tactic(auto, unfolding(guest_elf::specs::Images::is_word))]
 fn is_word(image: &Image, addr: u32) -> bool
     ensures { result ≡ is_word image.now addr }
 {
@@ -20,7 +20,7 @@ fn is_word(image: &Image, addr: u32) -> bool
 impl<'a> Scenario<'a> {
     ghost use Rattle.std.specs.Prelude.{◌≡◌, ◌-◌, take, length, OnOk, OnErr};
     ghost use Rattle.scenario.specs.Edits.{row};
-    ghost use Rattle.scenario.specs.declared.edit.Edit.TheVariants.{Patch};
+    ghost use Rattle.commands.specs.declared.edit.Edit.TheVariants.{Patch};
 
     pub(crate) fn patch_refusal(&self, addr: u32) -> Option<Refusal>
         ensures { result ≡ (row self.now (Patch addr 0)).refusal }

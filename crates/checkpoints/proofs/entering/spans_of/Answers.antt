@@ -3,7 +3,7 @@ use Rattle.std.proofs.Common.{arith}
 use Rattle.std.proofs.lemmas.List.{map_push, take_more}
 use Rattle.guest_elf.specs.declared.segment.Segment.{Segment}
 use Rattle.guest_machine.specs.Spans.{span_at}
-use Rattle.guest_machine.specs.declared.span.Span.{Span}
+use Rattle.run_values.specs.declared.span.Span.{Span}
 use Rattle.checkpoints.proofs.entering.spans_of.Goals as goal
 
 abbrev at : Segment → Span

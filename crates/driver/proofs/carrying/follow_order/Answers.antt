@@ -1,7 +1,8 @@
 use Rattle.std.proofs.Common.{inl, inr, List, subst}
-use Rattle.driver.proofs.Stages.{does-report, does-same, no-image, passed-on, untouched, with-all, with-image}
+use Rattle.ends.proofs.EndSteps.{passed-on}
+use Rattle.driver.proofs.Stages.{does-report, does-same, no-image, untouched, with-all, with-image}
 use Rattle.driver.specs.Carried.{Reports}
-use Rattle.driver.specs.Ends.{end_of}
+use Rattle.ends.specs.Ends.{end_of}
 use Rattle.driver.specs.Once.{IsReportOnce}
 use Rattle.driver.specs.declared.carrying.Action.TheVariants.{Session, Look}
 use Rattle.suppressions.specs.Rules.{Rule}

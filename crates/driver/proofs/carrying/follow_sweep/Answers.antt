@@ -1,6 +1,7 @@
 use Rattle.std.proofs.Common.{inl, inr}
 use Rattle.std.proofs.KnownBytes.{Appends-nil}
-use Rattle.driver.proofs.Stages.{no-image, passed-on, with-texts}
+use Rattle.ends.proofs.EndSteps.{passed-on}
+use Rattle.driver.proofs.Stages.{no-image, with-texts}
 use Rattle.driver.proofs.carrying.follow_sweep.Goals as goal
 
 pub returns-in_err-image : goal.returns-in_err-image

@@ -1,8 +1,8 @@
 use Rattle.std.proofs.Common.{◌≡◌, ◌≤◌, ◌∙◌, length, sym, List, [], ℕ, Err, ap, option_map, subst}
 use Rattle.driver.proofs.Fronts.{bad-text, has-rules}
-use Rattle.driver.proofs.Stages.{same-error}
+use Rattle.ends.proofs.EndSteps.{same-error}
 use Rattle.driver.proofs.StreamSteps.{no-text}
-use Rattle.driver.specs.declared.ends.End.TheVariants.{Suppressions}
+use Rattle.ends.specs.declared.ends.End.TheVariants.{Suppressions}
 use Rattle.driver.specs.Carried.{longest_text}
 use Rattle.suppressions.specs.Texts.{faults, rules as rules_of, IsLeast}
 use Rattle.driver.proofs.carrying.read_suppressions.Goals as goal

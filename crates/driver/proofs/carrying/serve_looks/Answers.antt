@@ -1,4 +1,5 @@
-use Rattle.driver.proofs.Stages.{passed-on, viewed-fault}
+use Rattle.ends.proofs.EndSteps.{passed-on}
+use Rattle.driver.proofs.Stages.{viewed-fault}
 use Rattle.driver.proofs.carrying.serve_looks.Goals as goal
 
 pub returns-in_err-serve : goal.returns-in_err-serve

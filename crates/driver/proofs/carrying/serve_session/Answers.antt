@@ -1,4 +1,5 @@
-use Rattle.driver.proofs.Stages.{passed-on, serves-fault}
+use Rattle.ends.proofs.EndSteps.{passed-on}
+use Rattle.driver.proofs.Stages.{serves-fault}
 use Rattle.replay_session.specs.Replies.{Answers}
 use Rattle.replay_session.specs.Stages.{fresh}
 use Rattle.replay_session.specs.Turns.{opening}

@@ -4,9 +4,9 @@ use Rattle.std.proofs.Math.Path.{transport}
 use Rattle.command_line.specs.Orders.{rules_path}
 use Rattle.suppressions.specs.Texts.{faults, rules, IsLeast}
 use Rattle.driver.specs.Carried.{longest_text}
-use Rattle.driver.specs.Ends.{end_of}
-use Rattle.driver.specs.Sweeping.{Sweeps}
-use Rattle.driver.proofs.Stages.{passed-on}
+use Rattle.ends.specs.Ends.{end_of}
+use Rattle.sweep_tables.specs.Swept.{Sweeps}
+use Rattle.ends.proofs.EndSteps.{passed-on}
 use Rattle.driver.proofs.StreamSteps.{refused-rules, short-text}
 use Rattle.driver.proofs.carrying.sweep_image.Goals as goal
 

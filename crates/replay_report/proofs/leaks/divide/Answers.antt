@@ -1,6 +1,6 @@
 use Rattle.std.proofs.Common.{◌∙◌, ◌++◌, ap, sym, append-nil, take, take_all, ◌∷◌, [], arith}
 use Rattle.replay_report.specs.Leaks.{shown_records, hidden_records}
-use Rattle.replay_report.proofs.Joins.{joined_more, joined_same}
+use Rattle.report_lines.proofs.Joins.{joined_more, joined_same}
 use Rattle.replay_report.proofs.LeakSteps.{shown_more, shown_same, hidden_more, hidden_same}
 use Rattle.replay_report.proofs.leaks.divide.Goals as goal
 use Rattle.replay_report.proofs.leaks.divide.Goals.{then-branch+in_ok-push, else-branch+in_ok-push-2}

@@ -1,6 +1,6 @@
 use Rattle.std.proofs.Common.{ap, ap₂, sym, ◌∙◌, take, take_all, arith}
 use Rattle.replay_report.specs.Leaks.{leak_groups, with_leak}
-use Rattle.replay_report.proofs.Joins.{next_taken}
+use Rattle.report_lines.proofs.Joins.{next_taken}
 use Rattle.replay_report.proofs.LeakSteps.{groups_more}
 use Rattle.replay_report.proofs.leaks.leak_groups.Goals as goal
 

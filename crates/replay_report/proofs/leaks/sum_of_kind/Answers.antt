@@ -1,6 +1,6 @@
 use Rattle.std.proofs.Common.{◌∙◌, ap, sym, take}
 use Rattle.replay_report.specs.Leaks.{of_kind, sum_of, with_block}
-use Rattle.replay_report.proofs.Joins.{next_taken}
+use Rattle.report_lines.proofs.Joins.{next_taken}
 use Rattle.replay_report.proofs.LeakSteps.{kind_more, kind_same, leak_eq}
 use Rattle.replay_report.proofs.leaks.sum_of_kind.Goals as goal
 use Rattle.replay_report.proofs.leaks.sum_of_kind.Goals.{then-eq, else-eq}

@@ -1,7 +1,7 @@
 use Rattle.std.proofs.Common.{ap, sym, ◌∙◌, ◌++◌, append-nil, take_all, arith}
 use Rattle.std.specs.List.{flat_map}
 use Rattle.replay_report.specs.Outlines.{error_outline}
-use Rattle.replay_report.proofs.Joins.{flat_joined}
+use Rattle.report_lines.proofs.Joins.{flat_joined}
 use Rattle.replay_report.proofs.outlining.push_errors.Goals as goal
 
 pub loop-group-init : goal.loop-group-init

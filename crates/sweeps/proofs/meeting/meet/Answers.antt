@@ -1,7 +1,7 @@
 use Rattle.std.proofs.Common.{◌≡◌, ◌+◌, ◌-◌, ◌++◌, refl, ap, ◌∙◌}
 use Rattle.tallies.specs.Tallied.{entries_of, with_text}
 use Rattle.sweeps.specs.Outcomes.{Met, TakesSteps, standing}
-use Rattle.sweeps.specs.Plans.{changed_to}
+use Rattle.sweep_plans.specs.Plans.{changed_to}
 use Rattle.sweeps.specs.Tables.{met_text}
 use Rattle.sweeps.proofs.Steps.{counted-more}
 use Rattle.sweeps.proofs.meeting.meet.Goals as goal

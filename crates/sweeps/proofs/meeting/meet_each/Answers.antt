@@ -5,7 +5,8 @@ use Rattle.checkpoints.specs.Forks.{IsForkFor}
 use Rattle.scenario.specs.Edits.{row}
 use Rattle.scenario.specs.Scenario.{Scenario, run_of}
 use Rattle.sweeps.specs.Outcomes.{Met, tallied}
-use Rattle.sweeps.specs.Plans.{changed_to, edit_of, stood}
+use Rattle.sweep_plans.specs.Plans.{changed_to, edit_of}
+use Rattle.sweeps.specs.Standing.{stood}
 use Rattle.sweeps.specs.Sweeps.{Counted}
 use Rattle.sweeps.specs.Tables.{met_text, rows_after}
 use Rattle.sweeps.proofs.Steps.{row-more}

@@ -1,6 +1,6 @@
 use Rattle.std.proofs.Common.{◌≡◌, ◌++◌, ℕ, List, map, take}
 use Rattle.sweeps.specs.Outcomes.{Met, tallied}
-use Rattle.sweeps.specs.Plans.{changed_to}
+use Rattle.sweep_plans.specs.Plans.{changed_to}
 use Rattle.sweeps.specs.Sweeps.{Counted}
 use Rattle.sweeps.specs.Tables.{rows_after}
 use Rattle.sweeps.proofs.meeting.meet_each.Given as goal

@@ -2,9 +2,9 @@ use Rattle.std.proofs.Common.{◌≡◌, Some, subst, arith}
 use Rattle.std.proofs.lemmas.Result.{IfOk-weaker}
 use Rattle.checkpoints.specs.declared.effect.Effect.TheVariants.{Input, Word as WordAt}
 use Rattle.scenario.proofs.TrailFacts.{moved, word-in}
-use Rattle.sweeps.specs.Plans.{stood}
-use Rattle.sweeps.specs.declared.change.Change.{Change}
-use Rattle.sweeps.specs.declared.change.Change.TheVariants.{Word}
+use Rattle.sweeps.specs.Standing.{stood}
+use Rattle.sweep_plans.specs.declared.change.Change.{Change}
+use Rattle.sweep_plans.specs.declared.change.Change.TheVariants.{Word}
 use Rattle.sweeps.proofs.ChangeSteps.{loaded}
 use Rattle.sweeps.proofs.ForkSteps.{fork-for}
 use Rattle.sweeps.proofs.outcomes.fork_at.Goals as goal

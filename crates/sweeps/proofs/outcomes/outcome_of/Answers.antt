@@ -6,7 +6,7 @@ use Rattle.checkpoints.specs.Forks.{IsForkFor}
 use Rattle.scenario.specs.Edits.{row, IsTaken}
 use Rattle.scenario.specs.Scenario.{IsOutlineOf, run_of}
 use Rattle.sweeps.specs.Outcomes.{IsOutcome}
-use Rattle.sweeps.specs.Plans.{changed_to, edit_of}
+use Rattle.sweep_plans.specs.Plans.{changed_to, edit_of}
 use Rattle.sweeps.proofs.ChangeSteps.{taken, taken-back}
 use Rattle.sweeps.proofs.outcomes.outcome_of.Goals as goal
 

@@ -1,7 +1,7 @@
 use Rattle.std.proofs.Common.{◌≡◌, ◌+◌, ◌++◌, get_or, length, take, ap, sym, ◌∙◌, append-nil, append_assoc, arith}
 use Rattle.std.proofs.lemmas.List.{length-take, take_more}
 use Rattle.sweeps.specs.Tables.{tally_line, tally_lines}
-use Rattle.sweeps.proofs.ListSteps.{tally-more}
+use Rattle.sweeps.proofs.Steps.{tally-more}
 use Rattle.sweeps.proofs.rows.push_tallies.Goals as goal
 
 pub loop-number-init : goal.loop-number-init

@@ -1,5 +1,5 @@
 use Rattle.std.proofs.Common.{◌*◌, ◌∙◌, ap, cond, min, sym, subst, List}
-use Rattle.guest_machine.specs.declared.span.Span.{Span}
+use Rattle.run_values.specs.declared.span.Span.{Span}
 use Rattle.guest_machine.specs.Spans.{covers}
 use Rattle.checkpoints.specs.Words.{meets, IsPlaced}
 use Rattle.checkpoints.specs.Entries.{entry_of}

@@ -5,7 +5,7 @@ use Rattle.std.proofs.lemmas.List.Sorted.{list_any-IsPermutation, IsNonDecreasin
 use Rattle.guest_elf.specs.declared.segment.Segment.{Segment}
 use Rattle.guest_elf.specs.Segments.{has_address}
 use Rattle.guest_machine.specs.Spans.{span_at}
-use Rattle.guest_machine.specs.declared.span.Span.{Span}
+use Rattle.run_values.specs.declared.span.Span.{Span}
 use Rattle.checkpoints.specs.Words.{is_among, has_address as in_range}
 use Rattle.checkpoints.specs.Entries.{ranges_of}
 use Rattle.checkpoints.specs.declared.uses.FirstUses.{FirstUses}

@@ -1,13 +1,13 @@
-use Rattle.std.proofs.Common.{◌≡◌, ◌+◌, ◌-◌, ◌/◌, ◌≤◌, ◌∙◌, ◌++◌, List, [], ◌∷◌, zero, suc, inl, inr, ap, ap₂, refl}
+use Rattle.std.proofs.Common.{◌≡◌, ◌+◌, ◌-◌, ◌/◌, ◌≤◌, ◌∙◌, ◌++◌, List, [], ◌∷◌, inl, inr, ap, ap₂, refl}
 use Rattle.std.proofs.Common.{sym, arith, rules, ℕ, get_or, take, take_all, length, vec_len, max}
 use Rattle.std.specs.Prelude.{replicate}
 use Rattle.std.proofs.lemmas.Bool.{cases_lt}
 use Rattle.std.proofs.lemmas.List.{get_or_append_left, get_or-append_right, take_more}
-use Rattle.guest_machine.specs.declared.span.Span.{Span}
+use Rattle.run_values.specs.declared.span.Span.{Span}
 use Rattle.checkpoints.specs.declared.uses.Row.{Row}
 use Rattle.checkpoints.specs.Entries.{entry_of}
 use Rattle.checkpoints.specs.Words.{words_of, word_end, rows_from, never}
-use Rattle.checkpoints.proofs.WordSteps.{words-none, words-more}
+use Rattle.checkpoints.proofs.WordSteps.{none-in, none-remembered, words-none, words-more}
 use Rattle.checkpoints.proofs.Places.{furthest, furthest-more, rows-more}
 use Rattle.checkpoints.proofs.uses.FirstUses.over.Goals as goal
 
@@ -32,13 +32,8 @@ longer old new n e l h k =
     ∙ elim (cases_lt k (length old)) [
       | inl early ↦ get_or_append_left old (replicate (n - length old) never) never k early ∙ h k
       | inr late ↦ get_or-append_right old (replicate (n - length old) never) (length old) k never refl late
-          ∙ all (n - length old) (k - length old)
+          ∙ none-in (n - length old) (k - length old)
     ]
-  where
-    all : (n k : ℕ) → get_or (replicate n never) k never ≡ never
-    all zero k = refl
-    all (suc n) zero = refl
-    all (suc n) (suc k) = all n k
 
 pub overflow_add-len : goal.overflow_add-len
 overflow_add-len c = omega (arith, c.words_in.ensures.few, c.loop-range.steps.small, c.len-in-loop-range.ensures)
@@ -101,4 +96,6 @@ invariant_of-result c =
       early = λ k entered. absurd (entered (inv.none k));
       grouped = c.in_ok-resize-2.ensures.len ∙ ap (λ n. n / 64 + 1) c.len-2.ensures;
       bounded = λ k entered. absurd (entered (inv.none k));
+      known = none-remembered _ _ 64;
+      room = refl;
     }

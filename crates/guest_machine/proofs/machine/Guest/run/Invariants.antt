@@ -1,4 +1,4 @@
-use Rattle.std.proofs.Common.{[], ◌≤◌}
+use Rattle.std.proofs.Common.{[]}
 use Rattle.guest_machine.specs.State.{State}
 use Rattle.guest_machine.specs.Run.{pre}
 use Rattle.guest_machine.specs.Shows.{Holds}

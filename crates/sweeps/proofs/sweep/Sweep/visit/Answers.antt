@@ -2,7 +2,8 @@ use Rattle.std.proofs.Common.{◌≡◌, Some, ap, sym, ◌∙◌, subst, map, �
 use Rattle.std.proofs.lemmas.Result.{on_ok_weaker}
 use Rattle.scenario.specs.Scenario.{Scenario}
 use Rattle.sweeps.specs.Outcomes.{tallied}
-use Rattle.sweeps.specs.Plans.{changed_to, changes_by, changes_of, place_at, standing_at}
+use Rattle.sweep_plans.specs.Plans.{changed_to, changes_by, changes_of, place_at}
+use Rattle.sweeps.specs.Standing.{standing_at}
 use Rattle.sweeps.specs.Sweeps.{Counted, HasMet, scenario_of, tells_output}
 use Rattle.sweeps.specs.Tables.{rows_after}
 use Rattle.sweeps.proofs.ChangeSteps.{stands-there}

@@ -1,0 +1,15 @@
+//! What a line asks for.
+use crate::edit::Edit;
+
+/// A command of a session.
+#[derive(Drop)]
+pub enum Command {
+    /// Chooses a step.
+    Goto(u32),
+    /// Asks for the report at the chosen step.
+    Report,
+    /// Edits the scenario.
+    Edit(Edit),
+    /// Asks how many steps were made so far.
+    Worked,
+}

@@ -1,0 +1,96 @@
+-- How the program ends: its exit statuses, its lines on standard error, and what faults come to.
+use Rattle.std.specs.Prelude.{ℕ, ◌≤◌, List, [], ◌∷◌, ◌++◌, Option, Result, Ok, Err, codes, decimal, length, take}
+use Rattle.std.specs.Io.KnownBytes.{Appends}
+use Rattle.guest_elf.specs.Faults.{number_of}
+use Rattle.guest_elf.specs.declared.fault.ElfFault.{ElfFault}
+use Rattle.guest_elf.specs.declared.fault.ElfFault.TheVariants.{Memory}
+use Rattle.ends.specs.declared.ends.End.{End}
+use Rattle.ends.specs.declared.ends.End.TheVariants.{Done, CannotRead, CannotReadInput, CannotWrite, Usage, NotText}
+use Rattle.ends.specs.declared.ends.End.TheVariants.{BadText, BytesRefused, WordsRefused, Image, Suppressions}
+use Rattle.ends.specs.declared.ends.End.TheVariants.{SuppressionsTooLong, InputTooLarge, NoMemory}
+use Rattle.ends.specs.declared.ends.SweepOption.{SweepOption}
+use Rattle.ends.specs.declared.ends.SweepOption.TheVariants as Sweep
+use Rattle.commands.specs.declared.fault.BeginFault.{BeginFault}
+use Rattle.commands.specs.declared.fault.BeginFault.TheVariants as Begin
+use Rattle.line_server.specs.declared.fault.ServeFault.{ServeFault}
+use Rattle.line_server.specs.declared.fault.ServeFault.TheVariants as Serve
+use Rattle.suppressions.specs.declared.fault.SuppFault.TheVariants as Supp
+
+-- 0: done, 1: a file or standard input cannot be read, or the output written, 2: the command line, 3: the program, the
+-- suppressions or the input is refused, 4: no memory
+abbrev pub status_of : End → ℕ
+status_of Done = 0
+status_of (CannotRead path) = 1
+status_of CannotReadInput = 1
+status_of CannotWrite = 1
+status_of Usage = 2
+status_of NotText = 2
+status_of (BadText option text) = 2
+status_of BytesRefused = 3
+status_of WordsRefused = 3
+status_of (Image Memory) = 4
+status_of (Image fault) = 3
+status_of (Suppressions Supp.Memory) = 4
+status_of (Suppressions (Supp.BadSuppression line)) = 3
+status_of SuppressionsTooLong = 3
+status_of InputTooLarge = 3
+status_of NoMemory = 4
+
+-- a word, what follows it, and a newline
+abbrev pub line_with : List ℕ → List ℕ → List ℕ
+line_with word rest = word ++ rest ++ 10 ∷ []
+
+abbrev pub no_memory_line : List ℕ
+no_memory_line = line_with (codes "replaycheck: out of memory") []
+
+-- a refusal of the program, by its number
+abbrev pub image_line : ElfFault → List ℕ
+image_line Memory = no_memory_line
+image_line fault = line_with (codes "replaycheck: image refused ") (decimal (number_of fault))
+
+-- what the line says of an option of a sweep, before the text that it was given
+abbrev pub complaint : SweepOption → List ℕ
+complaint Sweep.Bytes = codes "replaycheck: no range, list or part: --bytes "
+complaint Sweep.Values = codes "replaycheck: no range, list or part: --values "
+complaint Sweep.Words = codes "replaycheck: no range, list or part: --words "
+complaint Sweep.WordsValues = codes "replaycheck: no range, list or part: --words-values "
+complaint Sweep.Part = codes "replaycheck: no range, list or part: --part "
+
+-- the line on standard error: none where all is done, and none for the command line, whose parser has written it
+abbrev pub line_of : End → List ℕ
+line_of Done = []
+line_of (CannotRead path) = line_with (codes "replaycheck: cannot read ") path.now
+line_of CannotReadInput = line_with (codes "replaycheck: cannot read standard input") []
+line_of CannotWrite = line_with (codes "replaycheck: cannot write") []
+line_of Usage = []
+line_of NotText = line_with (codes "error: invalid UTF-8 was detected in one or more arguments") []
+line_of (BadText option text) = line_with (complaint option) text.now
+line_of BytesRefused = line_with (codes "replaycheck: bytes refused 3") []
+line_of WordsRefused = line_with (codes "replaycheck: words refused 4") []
+line_of (Image fault) = image_line fault
+line_of (Suppressions Supp.Memory) = no_memory_line
+line_of (Suppressions (Supp.BadSuppression line)) =
+    line_with (codes "replaycheck: suppressions refused 13 at line ") (decimal line)
+line_of SuppressionsTooLong = line_with (codes "replaycheck: suppressions refused 15") []
+line_of InputTooLarge = line_with (codes "replaycheck: input refused 14") []
+line_of NoMemory = no_memory_line
+
+-- a line was written, or a front of it
+abbrev pub AppendsFront : Option (List ℕ) → Option (List ℕ) → List ℕ → Type 0
+AppendsFront old new line = (sent : ℕ) × (sent ≤ length line) × Appends old new (take sent line)
+
+-- what a fault of a session's beginning comes to, and of its service
+abbrev pub end_of_begin : BeginFault → End
+end_of_begin Begin.Memory = NoMemory
+end_of_begin Begin.InputTooLarge = InputTooLarge
+
+abbrev pub end_of_serve : ServeFault → End
+end_of_serve (Serve.ReadFailed replies bytes) = CannotReadInput
+end_of_serve (Serve.WriteFailed replies bytes) = CannotWrite
+end_of_serve (Serve.NoMemory replies bytes) = NoMemory
+end_of_serve (Serve.Endless replies bytes) = CannotReadInput
+
+-- what a result comes to: done, or the end that it has in the place of a value
+abbrev pub end_of : {T : Type 0} → Result T End → End
+end_of (Ok value) = Done
+end_of (Err end) = end

@@ -1,0 +1,176 @@
+//! How the program ends: its error line and exit status.
+ghost use Rattle.std.specs.Prelude.{◌≡◌, [], IsTrue, MatchOption};
+ghost use Rattle.std.specs.Io.KnownBytes.{Appends};
+ghost use Rattle.ends.specs.Ends.{AppendsFront, complaint, end_of_begin, end_of_serve, line_of, line_with, status_of};
+ghost use Rattle.ends.specs.declared.ends.End.TheVariants.{Image, Suppressions};
+
+use crate::lines::send_line;
+use commands::BeginFault;
+use guest_elf::ElfFault;
+use itoa::Buffer;
+use line_server::ServeFault;
+use std::io::Write;
+use suppressions::SuppFault;
+
+/// What follows the word of a line that is fixed.
+const NOTHING: &[u8] = b"";
+
+/// An option of a sweep whose text is read.
+#[derive(Clone, Copy)]
+pub enum SweepOption {
+    Bytes,
+    Values,
+    Words,
+    WordsValues,
+    Part,
+}
+
+impl SweepOption {
+    /// What an error line says before the text that the option was given.
+    fn complaint(self) -> &'static str
+        ensures { result.now ≡ complaint self }
+    {
+        match self {
+            SweepOption::Bytes => "replaycheck: no range, list or part: --bytes ",
+            SweepOption::Values => "replaycheck: no range, list or part: --values ",
+            SweepOption::Words => "replaycheck: no range, list or part: --words ",
+            SweepOption::WordsValues => "replaycheck: no range, list or part: --words-values ",
+            SweepOption::Part => "replaycheck: no range, list or part: --part ",
+        }
+    }
+}
+
+/// How the program ends. `Done` stands for help too, and `Usage` for a fault of the command line, whose text the command-line
+/// parser has written.
+#[derive(Clone, Copy)]
+pub enum End<'a> {
+    Done,
+    /// A file, named as it was given.
+    CannotRead(&'a str),
+    /// Standard input, or it has no end.
+    CannotReadInput,
+    CannotWrite,
+    Usage,
+    /// A word of the command line is no UTF-8.
+    NotText,
+    /// What an option of a sweep was given is no range, list or part.
+    BadText { option: SweepOption, text: &'a str },
+    /// The bytes of a sweep lie outside of the input.
+    BytesRefused,
+    /// None of the words of a sweep is loaded.
+    WordsRefused,
+    Image(ElfFault),
+    Suppressions(SuppFault),
+    /// A text of more than 1,048,576 bytes.
+    SuppressionsTooLong,
+    /// An input of more than 1,048,576 bytes.
+    InputTooLarge,
+    NoMemory,
+}
+
+impl From<ElfFault> for End<'_> {
+    ghost from_gives = { λ fault end. end ≡ Image fault };
+
+    fn from(fault: ElfFault) -> Self {
+        End::Image(fault)
+    }
+}
+
+impl From<SuppFault> for End<'_> {
+    ghost from_gives = { λ fault end. end ≡ Suppressions fault };
+
+    fn from(fault: SuppFault) -> Self {
+        End::Suppressions(fault)
+    }
+}
+
+impl From<BeginFault> for End<'_> {
+    ghost from_gives = { λ fault end. end ≡ end_of_begin fault };
+
+    fn from(fault: BeginFault) -> Self {
+        match fault {
+            BeginFault::InputTooLarge => End::InputTooLarge,
+            BeginFault::Memory => End::NoMemory,
+        }
+    }
+}
+
+impl From<ServeFault> for End<'_> {
+    ghost from_gives = { λ fault end. end ≡ end_of_serve fault };
+
+    fn from(fault: ServeFault) -> Self {
+        match fault {
+            ServeFault::ReadFailed { .. } | ServeFault::Endless { .. } => End::CannotReadInput,
+            ServeFault::WriteFailed { .. } => End::CannotWrite,
+            ServeFault::NoMemory { .. } => End::NoMemory,
+        }
+    }
+}
+
+/// Writes the error line, if the end has one, and answers the exit status, whatever becomes of the write.
+pub fn tell<W: Write>(end: &End, writer: &mut W) -> u8
+    ensures status { result ≡ status_of end.now }
+    ensures line { AppendsFront (W.contents writer.old) (W.contents writer.new) (line_of end.now) }
+{
+    let _is_whole = write_line(end, writer);
+    match end {
+        End::Done => 0,
+        End::CannotRead(_) | End::CannotReadInput | End::CannotWrite => 1,
+        End::Usage | End::NotText | End::BadText { .. } => 2,
+        End::Image(ElfFault::Memory) | End::Suppressions(SuppFault::Memory) | End::NoMemory => 4,
+        End::Image(_)
+        | End::Suppressions(SuppFault::BadSuppression(_))
+        | End::SuppressionsTooLong
+        | End::InputTooLarge
+        | End::BytesRefused
+        | End::WordsRefused => 3,
+    }
+}
+
+/// Writes the error line, if the end has one, and tells whether all of it was taken.
+fn write_line<W: Write>(end: &End, writer: &mut W) -> bool
+    ensures line { AppendsFront (W.contents writer.old) (W.contents writer.new) (line_of end.now) }
+    ensures whole { IsTrue result → Appends (W.contents writer.old) (W.contents writer.new) (line_of end.now) }
+{
+    let mut digits = Buffer::new();
+    match pieces_of(*end, &mut digits) {
+        Some((word, rest)) => send_line(writer, word, rest),
+        None => true,
+    }
+}
+
+/// The word of the error line, if the end has one, and what follows it.
+fn pieces_of<'a>(end: End<'a>, digits: &'a mut Buffer) -> Option<(&'a str, &'a [u8])>
+    ensures { MatchOption result (line_of end.entry ≡ []) (λ pieces. line_of end.entry ≡ line_with pieces.0.now pieces.1.now) }
+{
+    let pieces = match end {
+        End::Done | End::Usage => return None,
+        End::CannotRead(path) => ("replaycheck: cannot read ", path.as_bytes()),
+        End::CannotReadInput => ("replaycheck: cannot read standard input", NOTHING),
+        End::CannotWrite => ("replaycheck: cannot write", NOTHING),
+        End::NotText => (
+            "error: invalid UTF-8 was detected in one or more arguments",
+            NOTHING,
+        ),
+        End::Image(ElfFault::Memory) | End::Suppressions(SuppFault::Memory) | End::NoMemory => {
+            ("replaycheck: out of memory", NOTHING)
+        }
+        End::Image(fault) => {
+            let number = digits.format(fault.number());
+            ("replaycheck: image refused ", number.as_bytes())
+        }
+        End::Suppressions(SuppFault::BadSuppression(line)) => {
+            let number = digits.format(line);
+            (
+                "replaycheck: suppressions refused 13 at line ",
+                number.as_bytes(),
+            )
+        }
+        End::SuppressionsTooLong => ("replaycheck: suppressions refused 15", NOTHING),
+        End::InputTooLarge => ("replaycheck: input refused 14", NOTHING),
+        End::BytesRefused => ("replaycheck: bytes refused 3", NOTHING),
+        End::WordsRefused => ("replaycheck: words refused 4", NOTHING),
+        End::BadText { option, text } => (option.complaint(), text.as_bytes()),
+    };
+    Some(pieces)
+}

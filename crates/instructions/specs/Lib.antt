@@ -1,0 +1,4 @@
+pub mod Widths
+pub mod Instructions
+pub mod CallStack
+pub mod Alu

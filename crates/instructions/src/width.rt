@@ -1,0 +1,34 @@
+ghost use Rattle.std.specs.Prelude.{◌≡◌};
+ghost use Rattle.instructions.specs.Widths.{width_len};
+
+/// How many bytes a load or a store has.
+#[derive(Clone, Copy)]
+pub enum Width {
+    Byte,
+    Half,
+    Word,
+}
+
+impl Width {
+    /// The number of bytes, as an error names it.
+    pub fn byte_len(self) -> u8
+        ensures { result ≡ width_len self }
+    {
+        match self {
+            Width::Byte => 1,
+            Width::Half => 2,
+            Width::Word => 4,
+        }
+    }
+
+    /// The number of bytes: 1, 2 or 4.
+    pub fn len(self) -> u32
+        ensures { result ≡ width_len self }
+    {
+        match self {
+            Width::Byte => 1,
+            Width::Half => 2,
+            Width::Word => 4,
+        }
+    }
+}

@@ -1,0 +1,119 @@
+-- What a look asks for, and the line that asks for it.
+use Rattle.std.specs.Prelude.{ℕ, ◌+◌, ◌^◌, ◌&&◌, nat_le, nat_lt, Bool, if◌then◌else◌, List, [], ◌∷◌}
+use Rattle.std.specs.Prelude.{Option, Some, None, option_map, Result, Ok, Err, codes}
+use Rattle.std.specs.Str.{bytes_eq}
+use Rattle.checkpoints.specs.declared.searches.Sought.{Sought}
+use Rattle.checkpoints.specs.declared.searches.Watch.{Watch}
+use Rattle.checkpoints.specs.declared.searches.Watch.TheVariants.{Run, Read, Write, Shadow, Error}
+use Rattle.run_values.specs.declared.span.Span.{Span}
+use Rattle.scenario.specs.Limits.{most_steps}
+use Rattle.commands.specs.Commands.{fields, number}
+use Rattle.commands.specs.declared.fault.Fault.{Fault}
+use Rattle.commands.specs.declared.fault.Fault.TheVariants.{BadCommand, BadRange, StepLimit}
+use Rattle.look_lines.specs.declared.look.Look.{Look}
+use Rattle.look_lines.specs.declared.look.Search.{Search}
+use Rattle.look_lines.specs.declared.look.Look.TheVariants.{Registers, Memory, Next, Last}
+
+-- how many bytes a look at memory may show, and a search for a change of what is known of them may watch
+abbrev pub longest_view : ℕ
+longest_view = 4096
+
+-- `ADDR LEN`
+abbrev pub span_with : Option ℕ → Option ℕ → Option Span
+span_with (Some addr) (Some len) = Some (record { start = addr; len = len })
+span_with (Some addr) None = None
+span_with None len = None
+
+-- what a step is watched for
+unfoldable pub watch_of : List ℕ → Option Watch
+watch_of word =
+    if bytes_eq word (codes "run") then Some Run
+    else if bytes_eq word (codes "read") then Some Read
+    else if bytes_eq word (codes "write") then Some Write
+    else if bytes_eq word (codes "shadow") then Some Shadow
+    else if bytes_eq word (codes "error") then Some Error
+    else None
+
+-- `KIND ADDR LEN`
+abbrev pub sought_with : Option Watch → Option Span → Option Sought
+sought_with (Some watch) (Some range) = Some (record { watch = watch; range = range })
+sought_with (Some watch) None = None
+sought_with None range = None
+
+-- `registers`
+unfoldable pub registers_of : List (List ℕ) → Option Look
+registers_of [] = Some Registers
+registers_of (field ∷ more) = None
+
+-- `memory ADDR LEN`
+unfoldable pub memory_of : List (List ℕ) → Option Look
+memory_of (addr ∷ len ∷ []) = option_map (λ range. Memory range) (span_with (number addr) (number len))
+memory_of _ = None
+
+-- `KIND ADDR LEN STEP`
+abbrev pub search_with : Option Sought → Option ℕ → Option Search
+search_with (Some sought) (Some bound) = Some (record { sought = sought; bound = bound })
+search_with (Some sought) None = None
+search_with None bound = None
+
+unfoldable pub search_of : List (List ℕ) → Option Search
+search_of (kind ∷ addr ∷ len ∷ bound ∷ []) =
+    search_with (sought_with (watch_of kind) (span_with (number addr) (number len))) (number bound)
+search_of _ = None
+
+-- the look of the word after `look`, and the fields after that
+unfoldable pub look_of : List ℕ → List (List ℕ) → Option Look
+look_of word more =
+    if bytes_eq word (codes "registers") then registers_of more
+    else if bytes_eq word (codes "memory") then memory_of more
+    else if bytes_eq word (codes "next") then option_map (λ search. Next search) (search_of more)
+    else if bytes_eq word (codes "last") then option_map (λ search. Last search) (search_of more)
+    else None
+
+-- the look of a line's fields, of which the first is `look`
+abbrev pub look_among : List (List ℕ) → Option Look
+look_among (first ∷ word ∷ more) = look_of word more
+look_among _ = None
+
+-- has a range some bytes, and does it end at 2^32 or below?
+abbrev pub is_range : Span → Bool
+is_range range = nat_lt 0 range.len && nat_le (range.start + range.len) (2 ^ 32)
+
+-- and is it no longer than one that may be shown?
+abbrev pub is_view : Span → Bool
+is_view range = is_range range && nat_le range.len longest_view
+
+-- may a step be watched so in a range? What is known of its bytes is compared at each step, and no more of them than
+-- may be shown
+abbrev pub may_watch : Watch → Span → Bool
+may_watch Run range = is_range range
+may_watch Read range = is_range range
+may_watch Write range = is_range range
+may_watch Shadow range = is_view range
+may_watch Error range = is_range range
+
+-- why a search is refused, if it is
+abbrev pub search_refusal : Search → Option Fault
+search_refusal search =
+    if nat_lt most_steps search.bound then Some StepLimit
+    else if may_watch search.sought.watch search.sought.range then None
+    else Some BadRange
+
+-- why a look is refused, if it is
+abbrev pub look_refusal : Look → Option Fault
+look_refusal Registers = None
+look_refusal (Memory range) = if is_view range then None else Some BadRange
+look_refusal (Next search) = search_refusal search
+look_refusal (Last search) = search_refusal search
+
+abbrev pub unless : Option Fault → Look → Result Look Fault
+unless None look = Ok look
+unless (Some fault) look = Err fault
+
+abbrev pub taken : Option Look → Result Look Fault
+taken None = Err BadCommand
+taken (Some look) = unless (look_refusal look) look
+
+-- the look that a line asks for, or why it is refused
+unfoldable pub asked : List ℕ → Result Look Fault
+asked line = taken (look_among (fields line))

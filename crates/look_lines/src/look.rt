@@ -1,0 +1,25 @@
+//! What a look asks for.
+use checkpoints::Sought;
+use run_values::Span;
+
+/// A search among the steps of a run, from the chosen one on to another one.
+#[derive(Clone, Copy)]
+pub struct Search {
+    /// What a step does that is looked for.
+    pub sought: Sought,
+    /// The first step after those that are asked forwards, and the first of those that are asked backwards.
+    pub bound: u32,
+}
+
+/// What is asked of the run of a session, at its chosen step.
+#[derive(Clone, Copy)]
+pub enum Look {
+    /// Whether it runs, and the registers with their undefined bits.
+    Registers,
+    /// The bytes of a range, with their undefined bits.
+    Memory(Span),
+    /// The first step, from the chosen one on, that does what is sought.
+    Next(Search),
+    /// The last step, before the chosen one, that does what is sought.
+    Last(Search),
+}

@@ -1,0 +1,202 @@
+//! A line read as a look.
+ghost use Rattle.std.specs.Prelude.{◌≡◌, IfOk, None};
+ghost use Rattle.commands.specs.Commands.{number as number_of};
+ghost use Rattle.look_lines.specs.Looks.{watch_of, asked, is_range, is_view, look_among, look_of, look_refusal, may_watch, memory_of, registers_of, search_of, search_refusal, span_with};
+
+use crate::look::{Look, Search};
+use checkpoints::{Sought, Watch};
+use commands::{Fault, number};
+use run_values::Span;
+use scenario::MOST_STEPS;
+use text_parts::Parts;
+
+const RUN: &[u8] = b"run";
+
+const READ: &[u8] = b"read";
+
+const WRITE: &[u8] = b"write";
+
+const SHADOW: &[u8] = b"shadow";
+
+const ERROR: &[u8] = b"error";
+
+const REGISTERS: &[u8] = b"registers";
+
+const MEMORY: &[u8] = b"memory";
+
+const NEXT: &[u8] = b"next";
+
+const LAST: &[u8] = b"last";
+
+/// How many bytes a look at memory may show, and a search for a change of what is known of them may watch.
+const LONGEST_VIEW: u32 = 4096;
+
+/// The range of a first address and a number of bytes.
+fn span_of(addr: &[u8], len: &[u8]) -> Option<Span>
+    ensures { result ≡ span_with (number_of addr.now) (number_of len.now) }
+{
+    let start = number(addr)?;
+    let len = number(len)?;
+    Some(Span { start, len })
+}
+
+/// What a step is watched for.
+#[tactic(auto, unfolding(crate::specs::Looks::watch_of))]
+fn watch_of(word: &[u8]) -> Option<Watch>
+    ensures { result ≡ watch_of word.now }
+{
+    if word == RUN {
+        Some(Watch::Run)
+    } else if word == READ {
+        Some(Watch::Read)
+    } else if word == WRITE {
+        Some(Watch::Write)
+    } else if word == SHADOW {
+        Some(Watch::Shadow)
+    } else if word == ERROR {
+        Some(Watch::Error)
+    } else {
+        None
+    }
+}
+
+/// `registers`.
+#[tactic(auto, unfolding(crate::specs::Looks::registers_of))]
+fn registers_of(mut fields: Parts<'_>) -> Option<Look>
+    ensures { result ≡ registers_of fields.entry }
+{
+    match fields.next() {
+        None => Some(Look::Registers),
+        Some(_) => None,
+    }
+}
+
+/// `memory ADDR LEN`.
+#[tactic(auto, unfolding(crate::specs::Looks::memory_of))]
+fn memory_of(mut fields: Parts<'_>) -> Option<Look>
+    ensures { result ≡ memory_of fields.entry }
+{
+    let addr = fields.next()?;
+    let len = fields.next()?;
+    if fields.next().is_some() {
+        return None;
+    }
+    Some(Look::Memory(span_of(addr, len)?))
+}
+
+/// `KIND ADDR LEN STEP`.
+#[tactic(auto, unfolding(crate::specs::Looks::search_of))]
+fn search_of(mut fields: Parts<'_>) -> Option<Search>
+    ensures { result ≡ search_of fields.entry }
+{
+    let kind = fields.next()?;
+    let addr = fields.next()?;
+    let len = fields.next()?;
+    let bound = fields.next()?;
+    if fields.next().is_some() {
+        return None;
+    }
+    let watch = watch_of(kind)?;
+    let range = span_of(addr, len)?;
+    let bound = number(bound)?;
+    Some(Search {
+        sought: Sought { watch, range },
+        bound,
+    })
+}
+
+/// The look of the word after `look`, and the fields after that.
+#[tactic(auto, unfolding(crate::specs::Looks::look_of))]
+fn look_of(word: &[u8], fields: Parts<'_>) -> Option<Look>
+    ensures { result ≡ look_of word.now fields.entry }
+{
+    if word == REGISTERS {
+        registers_of(fields)
+    } else if word == MEMORY {
+        memory_of(fields)
+    } else if word == NEXT {
+        Some(Look::Next(search_of(fields)?))
+    } else if word == LAST {
+        Some(Look::Last(search_of(fields)?))
+    } else {
+        None
+    }
+}
+
+/// The look of a line's fields, of which the first is `look`.
+fn look_among(mut fields: Parts<'_>) -> Option<Look>
+    ensures { result ≡ look_among fields.entry }
+{
+    let _look = fields.next()?;
+    let word = fields.next()?;
+    look_of(word, fields)
+}
+
+/// Whether a range has some bytes, and ends at 2^32 or below.
+fn is_range(range: Span) -> bool
+    ensures { result ≡ is_range range }
+{
+    0 < range.len && u64::from(range.start) + u64::from(range.len) <= 1 << 32
+}
+
+/// Whether it is also no longer than one that may be shown.
+fn is_view(range: Span) -> bool
+    ensures { result ≡ is_view range }
+{
+    is_range(range) && range.len <= LONGEST_VIEW
+}
+
+/// Whether a step may be watched so in a range.
+fn may_watch(watch: Watch, range: Span) -> bool
+    ensures { result ≡ may_watch watch range }
+{
+    match watch {
+        Watch::Run | Watch::Read | Watch::Write | Watch::Error => is_range(range),
+        Watch::Shadow => is_view(range),
+    }
+}
+
+/// Why a search is refused, if it is.
+fn search_refusal(search: Search) -> Option<Fault>
+    ensures { result ≡ search_refusal search }
+{
+    if search.bound > MOST_STEPS {
+        Some(Fault::StepLimit)
+    } else if may_watch(search.sought.watch, search.sought.range) {
+        None
+    } else {
+        Some(Fault::BadRange)
+    }
+}
+
+/// Why a look is refused, if it is.
+fn look_refusal(look: Look) -> Option<Fault>
+    ensures { result ≡ look_refusal look }
+{
+    match look {
+        Look::Registers => None,
+        Look::Memory(range) => {
+            if is_view(range) {
+                None
+            } else {
+                Some(Fault::BadRange)
+            }
+        }
+        Look::Next(search) | Look::Last(search) => search_refusal(search),
+    }
+}
+
+/// The look that a line asks for, or why it is refused.
+#[tactic(auto, unfolding(crate::specs::Looks::asked))]
+pub fn asked(line: &[u8]) -> Result<Look, Fault>
+    ensures asked { result ≡ asked line.now }
+    ensures taken { IfOk result (λ look. look_refusal look ≡ None) }
+{
+    let Some(look) = look_among(Parts::new(line, b' ')) else {
+        return Err(Fault::BadCommand);
+    };
+    match look_refusal(look) {
+        Some(fault) => Err(fault),
+        None => Ok(look),
+    }
+}

@@ -1,0 +1,104 @@
+//! What a look tells, as text.
+ghost use Rattle.std.specs.Prelude.{◌≡◌, ◌+◌, ◌++◌, ◌≤◌, ◌^◌, OnOk};
+ghost use Rattle.guest_machine.specs.State.{State};
+ghost use Rattle.guest_machine.specs.Shows.{Shows};
+ghost use Rattle.shadow_memory.specs.Cells.{shadow_in};
+ghost use Rattle.shadow_memory.specs.Memories.{bytes_in, shadows_in};
+ghost use Rattle.look_lines.specs.Texts.{bytes_text, memory_text, register_line, registers_text, step_text, undef_text, undefs_text};
+
+use definedness::Bits;
+use guest_machine::{Machine, Register};
+use report_lines::{push_address, push_byte, push_number, push_state, push_text};
+use run_values::Span;
+use shadow_memory::{Cell, Memory};
+use std::alloc::AllocError;
+
+/// How many registers are shown: all but x0, which is 0.
+const SHOWN: u8 = 31;
+
+/// Appends a register's line.
+#[tactic(auto, unfolding(crate::specs::Texts::register_line), using(std::proofs::Common::append_assoc))]
+fn push_register(out: &mut Vec<u8>, number: u8, bits: Bits) -> Result<(), AllocError>
+    ensures { OnOk result (out.new.items ≡ out.old.items ++ register_line number bits) }
+{
+    push_text(out, b"x")?;
+    push_number(out, u64::from(number))?;
+    push_text(out, b" ")?;
+    push_address(out, bits.value)?;
+    push_text(out, b" ")?;
+    push_address(out, bits.undef)?;
+    push_text(out, b"\n")
+}
+
+/// Appends whether a machine runs, and its registers.
+#[tactic(auto, unfolding(crate::specs::Texts::registers_text), using(std::proofs::Common::append_assoc))]
+pub fn push_registers(out: &mut Vec<u8>, machine: &Machine) -> Result<(), AllocError>
+    ensures { OnOk result ((s : State) → Shows machine.now s → out.new.items ≡ out.old.items ++ registers_text s) }
+{
+    push_state(out, machine.status(), machine.pc())?;
+    for i in 0..SHOWN {
+        push_register(out, i + 1, machine.register(Register::new(i + 1)))?;
+    }
+    Ok(())
+}
+
+/// Appends the undefined bits of a byte.
+fn push_undef(out: &mut Vec<u8>, cell: Cell) -> Result<(), AllocError>
+    ensures { OnOk result (out.new.items ≡ out.old.items ++ undef_text (shadow_in cell)) }
+{
+    if cell.accessible {
+        push_byte(out, cell.undef)
+    } else {
+        push_text(out, b"__")
+    }
+}
+
+/// Appends the bytes of a range.
+fn push_bytes(out: &mut Vec<u8>, memory: &Memory, range: Span) -> Result<(), AllocError>
+    requires { range.start + range.len ≤ 2 ^ 32 }
+    ensures { OnOk result (out.new.items ≡ out.old.items ++ bytes_text (bytes_in memory.now) range.start range.len) }
+{
+    for i in 0..range.len {
+        push_byte(out, memory.byte(range.start + i).byte)?;
+    }
+    Ok(())
+}
+
+/// Appends the undefined bits of a range.
+fn push_undefs(out: &mut Vec<u8>, memory: &Memory, range: Span) -> Result<(), AllocError>
+    requires { range.start + range.len ≤ 2 ^ 32 }
+    ensures { OnOk result (out.new.items ≡ out.old.items ++ undefs_text (shadows_in memory.now) range.start range.len) }
+{
+    for i in 0..range.len {
+        push_undef(out, memory.byte(range.start + i))?;
+    }
+    Ok(())
+}
+
+/// Appends the bytes of a range, and below each its undefined bits.
+#[tactic(auto, unfolding(crate::specs::Texts::memory_text), using(std::proofs::Common::append_assoc))]
+pub fn push_memory(out: &mut Vec<u8>, machine: &Machine, range: Span) -> Result<(), AllocError>
+    requires { range.start + range.len ≤ 2 ^ 32 }
+    ensures { OnOk result ((s : State) → Shows machine.now s → out.new.items ≡ out.old.items ++ memory_text s range) }
+{
+    push_text(out, b"bytes ")?;
+    push_bytes(out, machine.memory(), range)?;
+    push_text(out, b"\nundef ")?;
+    push_undefs(out, machine.memory(), range)?;
+    push_text(out, b"\n")
+}
+
+/// Appends a step that was found, if one was.
+#[tactic(auto, unfolding(crate::specs::Texts::step_text))]
+pub fn push_step(out: &mut Vec<u8>, found: Option<u32>) -> Result<(), AllocError>
+    ensures { OnOk result (out.new.items ≡ out.old.items ++ step_text found) }
+{
+    match found {
+        Some(step) => {
+            push_text(out, b"step ")?;
+            push_number(out, u64::from(step))?;
+            push_text(out, b"\n")
+        }
+        None => push_text(out, b"none\n"),
+    }
+}

@@ -1,8 +1,0 @@
-use Rattle.std.proofs.lemmas.Result.{on_ok_weaker}
-use Rattle.replay_report.proofs.Joins.{running_joined}
-use Rattle.replay_report.proofs.lines.push_running.Goals as goal
-
-pub returns : goal.returns
-returns c =
-    on_ok_weaker c.push_text-2.result (running_joined _ _ _ _ c.args.pc c.in_ok-push_text.ensures
-    c.in_ok-push_address.ensures) c.push_text-2.ensures

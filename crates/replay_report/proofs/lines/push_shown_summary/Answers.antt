@@ -1,8 +1,0 @@
-use Rattle.replay_report.proofs.Joins.{shown_joined}
-use Rattle.replay_report.proofs.lines.push_shown_summary.Goals as goal
-
-pub returns : goal.returns
-returns c =
-    shown_joined _ _ _ _ _ _ _ c.args.groups.now c.error_total.ensures c.in_ok-push_text.ensures
-    c.in_ok-push_number.ensures c.in_ok-push_text-2.ensures
-    c.in_ok-push_number-2.ensures c.in_ok-push_text-3.ensures

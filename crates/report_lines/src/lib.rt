@@ -1,0 +1,23 @@
+//! The lines of a report, but for those of leaks, each appended to a vector of bytes, of which nothing is said where memory fails.
+//!
+//! | Call | What it appends |
+//! |---|---|
+//! | [`push_text`], [`push_number`], [`push_address`], [`push_byte`], [`push_name`] | bytes; a number, decimal; an address and a byte, hexadecimal; a function's name |
+//! | [`push_step`], [`push_state`], [`push_input`], [`push_output`] | a line: the step, whether the machine runs, how much was read, how much written |
+//! | [`push_kind`], [`push_trace`], [`push_groups`] | what an error is called; a line for each address of a trace; those of each group of errors |
+//! | [`push_summary`] | the line of the sums of errors |
+//! | [`stop_word`], [`front`] | nothing: why a machine stopped, in one word; so many addresses of a trace, or all |
+//!
+//! In `specs/`: `Lines`, each line; `Text`, an address, a byte, a byte of a name, and the end of a line. Decimal numbers are std's `decimal`.
+//!
+//! Source: Memcheck manual (Valgrind 3), sections 2.5 and 4.2: how errors, traces, notes and the summary are worded.
+#![tactic(auto)]
+
+mod lines;
+mod text;
+
+pub use lines::{
+    front, push_groups, push_input, push_kind, push_output, push_state, push_step, push_summary,
+    push_trace, stop_word,
+};
+pub use text::{push_address, push_byte, push_name, push_number, push_text};

@@ -1,0 +1,389 @@
+//! The lines of a report.
+ghost use Rattle.std.specs.Prelude.{◌≡◌, ◌++◌, ◌≤◌, ◌<◌, OnOk, codes, take};
+ghost use Rattle.std.specs.Fmt.{decimal};
+ghost use Rattle.std.specs.List.{flat_map};
+ghost use Rattle.report_lines.specs.Lines.{step_line, state_line, stop_word, input_line, output_line, fault_text, param_text, kind_text, error_line, frame_line, trace_lines, place_text, state_text, last_trace, near_front, near_back, near_line, note_lines, group_lines, error_total, shown_summary, hidden_summary, summary_line};
+ghost use Rattle.report_lines.specs.Text.{address_text, newline};
+
+use crate::text::{push_address, push_name, push_number, push_text};
+use call_stacks::Trace;
+use error_events::{Group, Kind, Note, Parameter, ParameterFault};
+use guest_elf::Image;
+use heap_blocks::{Block, Near, Place};
+use run_values::{Status, Stop};
+use std::alloc::AllocError;
+
+/// Appends `step N`.
+#[tactic(auto, unfolding(crate::specs::Lines::step_line), using(std::proofs::Common::append_assoc))]
+pub fn push_step(out: &mut Vec<u8>, step: u32) -> Result<(), AllocError>
+    ensures { OnOk result (out.new.items ≡ out.old.items ++ step_line step) }
+{
+    push_text(out, b"step ")?;
+    push_number(out, u64::from(step))?;
+    push_text(out, b"\n")
+}
+
+/// Why a machine stopped, in one word.
+pub fn stop_word(stop: Stop) -> &'static [u8]
+    ensures { result.now ≡ stop_word stop }
+{
+    match stop {
+        Stop::Jump => b"jump",
+        Stop::Break => b"break",
+        Stop::Illegal => b"illegal",
+        Stop::Misaligned => b"misaligned",
+    }
+}
+
+/// `state running A`
+#[tactic(auto, using(std::proofs::Common::append_assoc))]
+fn push_running(out: &mut Vec<u8>, pc: u32) -> Result<(), AllocError>
+    ensures { OnOk result (out.new.items ≡ out.old.items ++ (codes "state running " ++ address_text pc ++ newline)) }
+{
+    push_text(out, b"state running ")?;
+    push_address(out, pc)?;
+    push_text(out, b"\n")
+}
+
+/// `state exited C`
+#[tactic(auto, using(std::proofs::Common::append_assoc))]
+fn push_exited(out: &mut Vec<u8>, code: u8) -> Result<(), AllocError>
+    ensures { OnOk result (out.new.items ≡ out.old.items ++ (codes "state exited " ++ decimal code ++ newline)) }
+{
+    push_text(out, b"state exited ")?;
+    push_number(out, u64::from(code))?;
+    push_text(out, b"\n")
+}
+
+/// `state stopped W A`
+#[tactic(auto, using(std::proofs::Common::append_assoc))]
+fn push_stopped(out: &mut Vec<u8>, stop: Stop, pc: u32) -> Result<(), AllocError>
+    ensures { OnOk result (out.new.items ≡ out.old.items ++ (codes "state stopped " ++ stop_word stop ++ codes " " ++ address_text pc ++ newline)) }
+{
+    push_text(out, b"state stopped ")?;
+    push_text(out, stop_word(stop))?;
+    push_text(out, b" ")?;
+    push_address(out, pc)?;
+    push_text(out, b"\n")
+}
+
+/// Appends the line `state running A`, `state exited C` or `state stopped W A`, where A is pc.
+#[tactic(auto, unfolding(crate::specs::Lines::state_line))]
+pub fn push_state(out: &mut Vec<u8>, status: Status, pc: u32) -> Result<(), AllocError>
+    ensures { OnOk result (out.new.items ≡ out.old.items ++ state_line status pc) }
+{
+    match status {
+        Status::Running => push_running(out, pc),
+        Status::Exited(code) => push_exited(out, code),
+        Status::Stopped(stop) => push_stopped(out, stop, pc),
+    }
+}
+
+/// Appends `input P of L`, in bytes.
+#[tactic(auto, unfolding(crate::specs::Lines::input_line), using(std::proofs::Common::append_assoc))]
+pub fn push_input(out: &mut Vec<u8>, position: u64, len: u64) -> Result<(), AllocError>
+    ensures { OnOk result (out.new.items ≡ out.old.items ++ input_line position len) }
+{
+    push_text(out, b"input ")?;
+    push_number(out, position)?;
+    push_text(out, b" of ")?;
+    push_number(out, len)?;
+    push_text(out, b"\n")
+}
+
+/// Appends `output W`, in bytes.
+#[tactic(auto, unfolding(crate::specs::Lines::output_line), using(std::proofs::Common::append_assoc))]
+pub fn push_output(out: &mut Vec<u8>, n: u64) -> Result<(), AllocError>
+    ensures { OnOk result (out.new.items ≡ out.old.items ++ output_line n) }
+{
+    push_text(out, b"output ")?;
+    push_number(out, n)?;
+    push_text(out, b"\n")
+}
+
+/// What is wrong with a parameter.
+fn fault_text(fault: ParameterFault) -> &'static [u8]
+    ensures { result.now ≡ fault_text fault }
+{
+    match fault {
+        ParameterFault::Contains => b" contains uninitialised byte(s)",
+        ParameterFault::Uninit => b" points to uninitialised byte(s)",
+        ParameterFault::Unaddressable => b" points to unaddressable byte(s)",
+    }
+}
+
+/// What an error of a parameter is called.
+#[tactic(auto, unfolding(crate::specs::Lines::param_text), using(std::proofs::Common::append_assoc))]
+fn push_param(
+    out: &mut Vec<u8>,
+    parameter: Parameter,
+    fault: ParameterFault,
+) -> Result<(), AllocError>
+    ensures { OnOk result (out.new.items ≡ out.old.items ++ param_text parameter fault) }
+{
+    push_text(out, b"Syscall param ")?;
+    push_text(out, parameter.text())?;
+    push_text(out, fault_text(fault))?;
+    Ok(())
+}
+
+/// Bytes, and a number after them.
+#[tactic(auto, using(std::proofs::Common::append_assoc))]
+fn push_sized(out: &mut Vec<u8>, text: &[u8], n: u8) -> Result<(), AllocError>
+    ensures { OnOk result (out.new.items ≡ out.old.items ++ (text.now ++ decimal n)) }
+{
+    push_text(out, text)?;
+    push_number(out, u64::from(n))
+}
+
+/// Appends what an error is called.
+#[tactic(auto, unfolding(crate::specs::Lines::kind_text))]
+pub fn push_kind(out: &mut Vec<u8>, kind: Kind) -> Result<(), AllocError>
+    ensures { OnOk result (out.new.items ≡ out.old.items ++ kind_text kind) }
+{
+    match kind {
+        Kind::Read(n) => push_sized(out, b"Invalid read of size ", n),
+        Kind::Write(n) => push_sized(out, b"Invalid write of size ", n),
+        Kind::Value => push_text(out, b"Use of uninitialised value of size 4"),
+        Kind::Cond => push_text(
+            out,
+            b"Conditional jump or move depends on uninitialised value(s)",
+        ),
+        Kind::Param(parameter, fault) => push_param(out, parameter, fault),
+        Kind::Free => push_text(out, b"Invalid free() / realloc()"),
+        Kind::Jump => push_text(out, b"Jump to the invalid address stated on the next line"),
+    }
+}
+
+/// `error COUNT: TEXT`
+#[tactic(auto, unfolding(crate::specs::Lines::error_line), using(std::proofs::Common::append_assoc))]
+fn push_error(out: &mut Vec<u8>, count: u64, kind: Kind) -> Result<(), AllocError>
+    ensures { OnOk result (out.new.items ≡ out.old.items ++ error_line count kind) }
+{
+    push_text(out, b"error ")?;
+    push_number(out, count)?;
+    push_text(out, b": ")?;
+    push_kind(out, kind)?;
+    push_text(out, b"\n")
+}
+
+/// An address of a trace, after `at` or `by`, with its name.
+#[tactic(auto, unfolding(crate::specs::Lines::frame_line), using(std::proofs::Common::append_assoc))]
+fn push_frame(out: &mut Vec<u8>, word: &[u8], image: &Image, addr: u32) -> Result<(), AllocError>
+    ensures { OnOk result (out.new.items ≡ out.old.items ++ frame_line word.now image.now addr) }
+{
+    push_text(out, b"   ")?;
+    push_text(out, word)?;
+    push_text(out, b" ")?;
+    push_address(out, addr)?;
+    push_text(out, b": ")?;
+    push_name(out, image.name_of(addr))?;
+    push_text(out, b"\n")
+}
+
+/// The addresses of a trace after the first.
+fn push_callers(out: &mut Vec<u8>, image: &Image, callers: &[u32]) -> Result<(), AllocError>
+    ensures { OnOk result (out.new.items ≡ out.old.items ++ flat_map (frame_line (codes "by") image.now) callers.now) }
+{
+    for addr in callers {
+        push_frame(out, b"by", image, *addr)?;
+    }
+    Ok(())
+}
+
+/// Appends the addresses of a trace, a line each.
+#[tactic(auto, unfolding(crate::specs::Lines::trace_lines), using(std::proofs::Common::append_assoc))]
+pub fn push_trace(out: &mut Vec<u8>, image: &Image, addresses: &[u32]) -> Result<(), AllocError>
+    ensures { OnOk result (out.new.items ≡ out.old.items ++ trace_lines image.now addresses.now) }
+{
+    match addresses {
+        [] => Ok(()),
+        [first, callers @ ..] => {
+            push_frame(out, b"at", image, *first)?;
+            push_callers(out, image, callers)
+        }
+    }
+}
+
+/// So many elements, or all.
+pub fn front(addresses: &[u32], n: u32) -> &[u32]
+    ensures { result.now ≡ take n addresses.now }
+{
+    let n = (n as usize).min(addresses.len());
+    &addresses[..n]
+}
+
+/// On which side of a block an address lies.
+fn place_text(place: Place) -> &'static [u8]
+    ensures { result.now ≡ place_text place }
+{
+    match place {
+        Place::Before => b" bytes before",
+        Place::Inside => b" bytes inside",
+        Place::After => b" bytes after",
+    }
+}
+
+/// Whether a block is live.
+fn state_text(freed: Option<Trace>) -> &'static [u8]
+    ensures { result.now ≡ state_text freed }
+{
+    match freed {
+        None => b" alloc'd",
+        Some(_) => b" free'd",
+    }
+}
+
+/// Where a block was allocated or, if it is freed, where that was.
+fn last_trace(block: &Block) -> Trace
+    ensures { result ≡ last_trace block.now }
+{
+    block.freed.unwrap_or(block.trace)
+}
+
+/// ` Address A is I bytes inside`
+#[tactic(auto, unfolding(crate::specs::Lines::near_front), using(std::proofs::Common::append_assoc))]
+fn push_near_front(out: &mut Vec<u8>, addr: u32, near: &Near) -> Result<(), AllocError>
+    ensures { OnOk result (out.new.items ≡ out.old.items ++ near_front addr near.now) }
+{
+    push_text(out, b" Address ")?;
+    push_address(out, addr)?;
+    push_text(out, b" is ")?;
+    push_number(out, u64::from(near.distance))?;
+    push_text(out, place_text(near.place))
+}
+
+/// ` a block of size S alloc'd`
+#[tactic(auto, unfolding(crate::specs::Lines::near_back), using(std::proofs::Common::append_assoc))]
+fn push_near_back(out: &mut Vec<u8>, block: &Block) -> Result<(), AllocError>
+    ensures { OnOk result (out.new.items ≡ out.old.items ++ near_back block.now) }
+{
+    push_text(out, b" a block of size ")?;
+    push_number(out, u64::from(block.size))?;
+    push_text(out, state_text(block.freed))?;
+    push_text(out, b"\n")?;
+    Ok(())
+}
+
+/// What an error says of an address in a block, or near one.
+#[tactic(auto, using(std::proofs::Common::append_assoc))]
+fn push_near(
+    out: &mut Vec<u8>,
+    image: &Image,
+    callers: u32,
+    addr: u32,
+    near: &Near,
+) -> Result<(), AllocError>
+    ensures { OnOk result (out.new.items ≡ out.old.items ++ (near_line addr near.now ++ trace_lines image.now (take callers (last_trace near.now.block)))) }
+{
+    push_near_front(out, addr, near)?;
+    push_near_back(out, &near.block)?;
+    let trace = last_trace(&near.block);
+    push_trace(out, image, front(trace.addresses(), callers))
+}
+
+/// ` Address A`, and what is said of it.
+#[tactic(auto, using(std::proofs::Common::append_assoc))]
+fn push_about(out: &mut Vec<u8>, addr: u32, text: &[u8]) -> Result<(), AllocError>
+    ensures { OnOk result (out.new.items ≡ out.old.items ++ (codes " Address " ++ address_text addr ++ text.now ++ newline)) }
+{
+    push_text(out, b" Address ")?;
+    push_address(out, addr)?;
+    push_text(out, text)?;
+    push_text(out, b"\n")
+}
+
+/// What an error says of an address, if it says anything.
+#[tactic(auto, unfolding(crate::specs::Lines::note_lines))]
+fn push_note(out: &mut Vec<u8>, image: &Image, callers: u32, note: &Note) -> Result<(), AllocError>
+    ensures { OnOk result (out.new.items ≡ out.old.items ++ note_lines image.now callers note.now) }
+{
+    match note {
+        Note::Absent => Ok(()),
+        Note::Near(addr, near) => push_near(out, image, callers, *addr, near),
+        Note::Stack(addr) => push_about(out, *addr, b" is in the stack region"),
+        Note::Elsewhere(addr) => {
+            push_about(
+                out,
+                *addr,
+                b" is not stack'd, malloc'd or (recently) free'd",
+            )
+        }
+    }
+}
+
+/// A group of errors, with at most `callers` addresses of its trace.
+#[tactic(auto, unfolding(crate::specs::Lines::group_lines), using(std::proofs::Common::append_assoc))]
+fn push_group(
+    out: &mut Vec<u8>,
+    image: &Image,
+    callers: u32,
+    group: &Group,
+) -> Result<(), AllocError>
+    ensures { OnOk result (out.new.items ≡ out.old.items ++ group_lines image.now callers group.now) }
+{
+    push_error(out, group.count, group.kind)?;
+    push_trace(out, image, front(group.trace.addresses(), callers))?;
+    push_note(out, image, callers, &group.note)
+}
+
+/// Appends the groups of errors, in their order.
+pub fn push_groups(
+    out: &mut Vec<u8>,
+    image: &Image,
+    callers: u32,
+    groups: &[Group],
+) -> Result<(), AllocError>
+    ensures { OnOk result (out.new.items ≡ out.old.items ++ flat_map (group_lines image.now callers) groups.now) }
+{
+    for group in groups {
+        push_group(out, image, callers, group)?;
+    }
+    Ok(())
+}
+
+/// How many errors there are, or the greatest `u64`.
+fn error_total(groups: &[Group]) -> u64
+    ensures { result ≡ error_total groups.now }
+{
+    let mut total: u64 = 0;
+    for group in groups {
+        total = total.saturating_add(group.count);
+    }
+    total
+}
+
+/// `ERROR SUMMARY: E errors from C contexts`
+#[tactic(auto, unfolding(crate::specs::Lines::shown_summary), using(std::proofs::Common::append_assoc))]
+fn push_shown_summary(out: &mut Vec<u8>, groups: &[Group]) -> Result<(), AllocError>
+    ensures { OnOk result (out.new.items ≡ out.old.items ++ shown_summary groups.now) }
+{
+    push_text(out, b"ERROR SUMMARY: ")?;
+    push_number(out, error_total(groups))?;
+    push_text(out, b" errors from ")?;
+    push_number(out, groups.len() as u64)?;
+    push_text(out, b" contexts")?;
+    Ok(())
+}
+
+/// ` (suppressed: E2 from C2)`
+#[tactic(auto, unfolding(crate::specs::Lines::hidden_summary), using(std::proofs::Common::append_assoc))]
+fn push_hidden_summary(out: &mut Vec<u8>, groups: &[Group]) -> Result<(), AllocError>
+    ensures { OnOk result (out.new.items ≡ out.old.items ++ hidden_summary groups.now) }
+{
+    push_text(out, b" (suppressed: ")?;
+    push_number(out, error_total(groups))?;
+    push_text(out, b" from ")?;
+    push_number(out, groups.len() as u64)?;
+    push_text(out, b")")?;
+    push_text(out, b"\n")
+}
+
+/// Appends how many errors are shown and how many suppressed, each with the number of their groups.
+#[tactic(auto, using(std::proofs::Common::append_assoc))]
+pub fn push_summary(out: &mut Vec<u8>, shown: &[Group], hidden: &[Group]) -> Result<(), AllocError>
+    ensures { OnOk result (out.new.items ≡ out.old.items ++ summary_line shown.now hidden.now) }
+{
+    push_shown_summary(out, shown)?;
+    push_hidden_summary(out, hidden)
+}

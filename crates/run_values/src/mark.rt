@@ -1,0 +1,14 @@
+use shadow_memory::RangeKind;
+
+/// A range that is made inaccessible, undefined or defined just before a step.
+#[derive(Clone, Copy)]
+pub struct Mark {
+    /// The number of the step, from 0.
+    pub step: u32,
+    /// The first address.
+    pub addr: u32,
+    /// How many bytes there are; addresses are modulo 2^32.
+    pub len: u32,
+    /// What the bytes are made.
+    pub kind: RangeKind,
+}

@@ -1,0 +1,94 @@
+-- The places that a request means in a program with an input.
+use Rattle.std.specs.Prelude.{◌≡◌, ℕ, ◌+◌, ◌-◌, ◌*◌, ◌/◌, ◌≤◌, ◌&&◌, nat_lt, nat_le, Bool, true, false, if◌then◌else◌}
+use Rattle.std.specs.Prelude.{List, Option, Some, None, is_some}
+use Rattle.guest_elf.specs.declared.image.Image.{Image}
+use Rattle.command_line.specs.declared.order.SweepWords.{SweepWords}
+use Rattle.command_line.specs.Orders.{text_of}
+use Rattle.sweep_plans.specs.Plans.{any_word, count, place_count}
+use Rattle.sweep_plans.specs.declared.plan.Places.{Places}
+use Rattle.sweep_plans.specs.declared.plan.Plan.{Plan}
+use Rattle.sweep_plans.specs.Requests.{NamesByteValues, NamesNoByteValues, NamesNoWordValues, NamesWordValues}
+use Rattle.sweep_plans.specs.Requests.{NamesRange}
+use Rattle.sweep_plans.specs.Requests.{closed_range_of, part_of, range_of}
+use Rattle.ends.specs.declared.ends.End.{End}
+use Rattle.ends.specs.declared.ends.End.TheVariants.{BadText, NoMemory}
+use Rattle.ends.specs.declared.ends.SweepOption.{SweepOption}
+use Rattle.ends.specs.declared.ends.SweepOption.TheVariants.{Bytes, Values, Words, WordsValues, Part as ThePart}
+use Rattle.sweep_plans.specs.declared.request.Part.{Part}
+use Rattle.sweep_plans.specs.declared.request.Range.{Range}
+use Rattle.sweep_plans.specs.declared.request.Request.{Request}
+
+-- the request that the words of a sweep make
+pub record IsRequestOf (asked : SweepWords) (request : Request) : Type 0 where
+  pub bytes : NamesRange range_of (text_of asked.bytes) request.bytes
+  pub byte_values : NamesByteValues asked.byte_values.now request.byte_values
+  pub words : NamesRange closed_range_of (text_of asked.words) request.words
+  pub word_values : NamesWordValues asked.word_values.now request.word_values
+  pub part : part_of asked.part.now ≡ Some request.part
+
+-- an option was given a text that is no range, list or part
+abbrev pub IsBadText : SweepWords → SweepOption → List ℕ → Type 0
+IsBadText asked Bytes text = (text_of asked.bytes ≡ Some text) × (range_of text ≡ None)
+IsBadText asked Values text = (asked.byte_values.now ≡ text) × NamesNoByteValues text
+IsBadText asked Words text = (text_of asked.words ≡ Some text) × (closed_range_of text ≡ None)
+IsBadText asked WordsValues text = (asked.word_values.now ≡ text) × NamesNoWordValues text
+IsBadText asked ThePart text = (asked.part.now ≡ text) × (part_of text ≡ None)
+
+-- why the words of a sweep make no request: a text, or want of memory
+abbrev pub IsNoRequest : SweepWords → End → Type 0
+IsNoRequest asked (BadText option text) = IsBadText asked option text.now
+IsNoRequest asked end = end ≡ NoMemory
+
+abbrev pub nowhere : Places
+nowhere = record { first = 0; end = 0 }
+
+-- the end behind a last place, or behind all of them
+abbrev pub end_behind : Option ℕ → ℕ → ℕ
+end_behind (Some last) all = last + 1
+end_behind None all = all
+
+-- places inside of an input of so many bytes, if there is one and they are
+abbrev pub inside : ℕ → ℕ → ℕ → Option Places
+inside first end len = if nat_lt first end && nat_le end len then Some (record { first = first; end = end }) else None
+
+-- the bytes that are meant in an input of so many: those that are named, or all where no words are
+abbrev pub bytes_by : Option Range → Bool → ℕ → Option Places
+bytes_by (Some range) words len = inside range.first (end_behind range.last len) len
+bytes_by None true len = Some nowhere
+bytes_by None false len = inside 0 len len
+
+unfoldable pub bytes_meant : Request → ℕ → Option Places
+bytes_meant request len = bytes_by request.bytes (is_some request.words) len
+
+-- the words of a program that are meant, by a quarter of their addresses: those of the multiples of 4 from one address
+-- to another, if one of them is loaded whole
+abbrev pub loaded_places : Image → Places → Option Places
+loaded_places image words = if any_word image words.first (count words) then Some words else None
+
+abbrev pub words_by : Image → Option Range → Option Places
+words_by image (Some range) =
+    loaded_places image (record { first = (range.first + 3) / 4; end = (end_behind range.last 4294967296 + 3) / 4 })
+words_by image None = Some nowhere
+
+-- the plan of a request for a program and an input of so many bytes
+pub record IsPlanOf (request : Request) (image : Image) (len : ℕ) (plan : Plan) : Type 0 where
+  pub bytes : bytes_meant request len ≡ Some plan.bytes
+  pub byte_values : plan.byte_values ≡ request.byte_values
+  pub words : words_by image request.words ≡ Some plan.words
+  pub word_values : plan.word_values ≡ request.word_values
+
+-- the first place of a part, where there are so many places and parts, and so many parts come before
+abbrev pub first_place : ℕ → ℕ → ℕ → ℕ
+first_place places done parts = places * done / parts
+
+abbrev pub part_from : Plan → Part → ℕ
+part_from plan part = first_place (place_count plan) (part.index - 1) part.count
+
+abbrev pub part_to : Plan → Part → ℕ
+part_to plan part = first_place (place_count plan) part.index part.count
+
+-- a part is one of so many, from 1 on, and there aren't too many
+pub record IsPart (part : Part) : Type 0 where
+  pub some : 1 ≤ part.index
+  pub within : part.index ≤ part.count
+  pub few : part.count ≤ 1000000

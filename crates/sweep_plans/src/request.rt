@@ -1,0 +1,306 @@
+//! The words of a sweep, read.
+ghost use Rattle.std.specs.Prelude.{◌≡◌, ◌⊎◌, IfErr, IfOk, IfSome, IsSomeAnd, MatchOption, None, Some, option_map};
+ghost use Rattle.command_line.specs.Orders.{text_of};
+ghost use Rattle.sweep_plans.specs.Planned.{IsNoRequest, IsPart, IsRequestOf};
+ghost use Rattle.sweep_plans.specs.Requests.{NamesByteValues, NamesNoByteValues, NamesNoWordValues, NamesRange, NamesWordValues, closed_range_of, joined_by, list_of, listed_words, part_in, part_of, range_in, range_of, up_to};
+ghost use Rattle.ends.specs.declared.ends.End.TheVariants.{BadText, NoMemory};
+ghost use Rattle.ends.specs.declared.ends.SweepOption.TheVariants.{Bytes, Values, Words, WordsValues};
+ghost use Rattle.ends.specs.declared.ends.SweepOption.TheVariants as Named;
+
+use crate::plan::{ByteValues, WordValues};
+use command_line::SweepWords;
+use commands::number;
+use ends::{End, SweepOption};
+use std::alloc::{AllocError, Global};
+use text_parts::Parts;
+
+const ALL: &[u8] = b"all";
+
+const FLIPS: &[u8] = b"flips";
+
+const EDGES: &[u8] = b"edges";
+
+const SKIP: &[u8] = b"skip";
+
+/// The instruction that does nothing.
+const NO_OP: u32 = 0x13;
+/// The most parts of a sweep.
+const MOST_PARTS: u32 = 1_000_000;
+
+/// Places from a first one to a last one; or to the last that there is.
+#[derive(Clone, Copy)]
+pub struct Range {
+    /// The first place.
+    pub first: u32,
+    /// The last place, if it is named.
+    pub last: Option<u32>,
+}
+
+/// One of the parts into which places are cut.
+#[derive(Clone, Copy)]
+pub struct Part {
+    /// Which one, from 1.
+    pub index: u32,
+    /// How many there are.
+    pub count: u32,
+}
+
+/// What a sweep is asked for.
+#[derive(Drop)]
+pub struct Request {
+    /// The bytes of the input, if some are named.
+    pub bytes: Option<Range>,
+    /// What they get.
+    pub byte_values: ByteValues,
+    /// The addresses of words, if some are named.
+    pub words: Option<Range>,
+    /// What they get.
+    pub word_values: WordValues,
+    /// The part of the places.
+    pub part: Part,
+}
+
+/// A range from a place on, of what comes behind the dots.
+fn range_to(first: u32, end: &[u8]) -> Option<Range>
+    ensures { result ≡ up_to (Some first) end.now }
+{
+    if end.is_empty() {
+        return Some(Range { first, last: None });
+    }
+    let last = number(end)?;
+    if last < first {
+        return None;
+    }
+    Some(Range {
+        first,
+        last: Some(last),
+    })
+}
+
+/// A range, of its parts between dots.
+#[tactic(auto, unfolding(crate::specs::Requests::range_in))]
+fn range_in(mut parts: Parts<'_>) -> Option<Range>
+    ensures { result ≡ range_in parts.entry }
+{
+    let first = parts.next()?;
+    let Some(gap) = parts.next() else {
+        let only = number(first)?;
+        return Some(Range {
+            first: only,
+            last: Some(only),
+        });
+    };
+    let end = parts.next()?;
+    if parts.next().is_some() || !gap.is_empty() {
+        return None;
+    }
+    range_to(number(first)?, end)
+}
+
+/// A range that has an end.
+fn closed_range(text: &[u8]) -> Option<Range>
+    ensures { result ≡ closed_range_of text.now }
+{
+    let range = range_in(Parts::new(text, b'.'))?;
+    if range.last.is_some() {
+        Some(range)
+    } else {
+        None
+    }
+}
+
+/// One of the parts of a sweep, of its numbers.
+#[tactic(auto, unfolding(crate::specs::Requests::part_in))]
+fn part_in(mut parts: Parts<'_>) -> Option<Part>
+    ensures value { result ≡ part_in parts.entry }
+    ensures right { IfSome result IsPart }
+{
+    let index = parts.next()?;
+    let count = parts.next()?;
+    if parts.next().is_some() {
+        return None;
+    }
+    let index = number(index)?;
+    let count = number(count)?;
+    if 1 <= index && index <= count && count <= MOST_PARTS {
+        Some(Part { index, count })
+    } else {
+        None
+    }
+}
+
+/// A list with one more number, where that is small enough and not there yet.
+fn join(list: Vec<u32>, most: u32, next: Option<u32>) -> Result<Option<Vec<u32>>, AllocError>
+    ensures { IfOk result (λ longer. option_map (λ v. v.items) longer ≡ joined_by most list.items next) }
+{
+    let mut list = list;
+    let Some(n) = next else {
+        return Ok(None);
+    };
+    if n > most || list.contains(&n) {
+        return Ok(None);
+    }
+    list.push(n)?;
+    Ok(Some(list))
+}
+
+/// Numbers between commas, none twice, and none above another.
+#[tactic(auto, unfolding(crate::specs::Requests::listed_from))]
+fn list_of(alloc: Global, text: &[u8], most: u32) -> Result<Option<Vec<u32>>, AllocError>
+    ensures { IfOk result (λ list. option_map (λ v. v.items) list ≡ list_of most text.now) }
+{
+    let mut parts = Parts::new(text, b',');
+    let mut list = Vec::new(alloc);
+    while let Some(part) = parts.next() {
+        match join(list, most, number(part))? {
+            Some(longer) => list = longer,
+            None => return Ok(None),
+        }
+    }
+    Ok(Some(list))
+}
+
+/// The values that a text names for bytes.
+fn byte_values(alloc: Global, text: &[u8]) -> Result<Option<ByteValues>, AllocError>
+    ensures { IfOk result (λ values. MatchOption values (NamesNoByteValues text.now) (NamesByteValues text.now)) }
+{
+    if text == ALL {
+        return Ok(Some(ByteValues::All));
+    }
+    if text == FLIPS {
+        return Ok(Some(ByteValues::Flips));
+    }
+    if text == EDGES {
+        return Ok(Some(ByteValues::Edges));
+    }
+    match list_of(alloc, text, 255)? {
+        Some(list) => Ok(Some(ByteValues::Listed(list))),
+        None => Ok(None),
+    }
+}
+
+/// The words that a text lists.
+fn listed_words(alloc: Global, text: &[u8]) -> Result<Option<Vec<u32>>, AllocError>
+    ensures { IfOk result (λ list. option_map (λ v. v.items) list ≡ listed_words text.now) }
+{
+    if text == SKIP {
+        let mut list = Vec::new(alloc);
+        list.push(NO_OP)?;
+        return Ok(Some(list));
+    }
+    list_of(alloc, text, u32::MAX)
+}
+
+/// The values that a text names for words.
+fn word_values(alloc: Global, text: &[u8]) -> Result<Option<WordValues>, AllocError>
+    ensures { IfOk result (λ values. MatchOption values (NamesNoWordValues text.now) (NamesWordValues text.now)) }
+{
+    if text == FLIPS {
+        return Ok(Some(WordValues::Flips));
+    }
+    match listed_words(alloc, text)? {
+        Some(list) => Ok(Some(WordValues::Listed(list))),
+        None => Ok(None),
+    }
+}
+
+/// The range of bytes that is named, if one is.
+fn named_bytes<'a>(text: Option<&'a str>) -> Result<Option<Range>, End<'a>>
+    ensures ok { IfOk result (NamesRange range_of (text_of text.entry)) }
+    ensures err { IfErr result (λ end. IsSomeAnd text.entry (λ given. (end ≡ BadText Bytes given) × (range_of given.now ≡ None))) }
+{
+    let Some(text) = text else {
+        return Ok(None);
+    };
+    match range_in(Parts::new(text.as_bytes(), b'.')) {
+        Some(range) => Ok(Some(range)),
+        None => Err(End::BadText {
+            option: SweepOption::Bytes,
+            text,
+        }),
+    }
+}
+
+/// The range of words that is named, if one is.
+fn named_words<'a>(text: Option<&'a str>) -> Result<Option<Range>, End<'a>>
+    ensures ok { IfOk result (NamesRange closed_range_of (text_of text.entry)) }
+    ensures err { IfErr result (λ end. IsSomeAnd text.entry (λ given. (end ≡ BadText Words given) × (closed_range_of given.now ≡ None))) }
+{
+    let Some(text) = text else {
+        return Ok(None);
+    };
+    match closed_range(text.as_bytes()) {
+        Some(range) => Ok(Some(range)),
+        None => Err(End::BadText {
+            option: SweepOption::Words,
+            text,
+        }),
+    }
+}
+
+/// The values that are named for bytes.
+fn named_byte_values<'a>(alloc: Global, text: &'a str) -> Result<ByteValues, End<'a>>
+    ensures ok { IfOk result (NamesByteValues text.entry.now) }
+    ensures err { IfErr result (λ end. (end ≡ NoMemory) ⊎ ((end ≡ BadText Values text.entry) × NamesNoByteValues text.entry.now)) }
+{
+    match byte_values(alloc, text.as_bytes()) {
+        Ok(Some(values)) => Ok(values),
+        Ok(None) => Err(End::BadText {
+            option: SweepOption::Values,
+            text,
+        }),
+        Err(_) => Err(End::NoMemory),
+    }
+}
+
+/// The values that are named for words.
+fn named_word_values<'a>(alloc: Global, text: &'a str) -> Result<WordValues, End<'a>>
+    ensures ok { IfOk result (NamesWordValues text.entry.now) }
+    ensures err { IfErr result (λ end. (end ≡ NoMemory) ⊎ ((end ≡ BadText WordsValues text.entry) × NamesNoWordValues text.entry.now)) }
+{
+    match word_values(alloc, text.as_bytes()) {
+        Ok(Some(values)) => Ok(values),
+        Ok(None) => Err(End::BadText {
+            option: SweepOption::WordsValues,
+            text,
+        }),
+        Err(_) => Err(End::NoMemory),
+    }
+}
+
+/// The part that is named.
+fn named_part<'a>(text: &'a str) -> Result<Part, End<'a>>
+    ensures ok { IfOk result (λ part. part_of text.entry.now ≡ Some part) }
+    ensures right { IfOk result IsPart }
+    ensures err { IfErr result (λ end. (end ≡ BadText Named.Part text.entry) × (part_of text.entry.now ≡ None)) }
+{
+    match part_in(Parts::new(text.as_bytes(), b'/')) {
+        Some(part) => Ok(part),
+        None => Err(End::BadText {
+            option: SweepOption::Part,
+            text,
+        }),
+    }
+}
+
+impl Request {
+    /// What the words of a sweep ask for.
+    pub fn of<'a>(alloc: Global, words: &SweepWords<'a>) -> Result<Request, End<'a>>
+        ensures ok { IfOk result (λ request. IsRequestOf words.now request) }
+        ensures part { IfOk result (λ request. IsPart request.part) }
+        ensures err { IfErr result (λ end. IsNoRequest words.now end) }
+    {
+        let bytes = named_bytes(words.bytes)?;
+        let byte_values = named_byte_values(alloc, words.byte_values)?;
+        let named = named_words(words.words)?;
+        let word_values = named_word_values(alloc, words.word_values)?;
+        let part = named_part(words.part)?;
+        Ok(Request {
+            bytes,
+            byte_values,
+            words: named,
+            word_values,
+            part,
+        })
+    }
+}

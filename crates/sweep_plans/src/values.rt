@@ -1,0 +1,91 @@
+//! The values that a place gets.
+ghost use Rattle.std.specs.Prelude.{◌≡◌, ◌++◌, ◌∷◌, ◌&&◌, ◌==◌, [], OnOk, IfOk, if◌then◌else◌, not};
+ghost use Rattle.sweep_plans.specs.Plans.{byte_values, flips_below, is_edge, is_flip, is_wanted, word_values};
+
+use crate::plan::ByteValues;
+use std::alloc::{AllocError, Global};
+
+/// Whether two bytes differ in one bit.
+#[tactic(auto, unfolding(crate::specs::Plans::is_flip))]
+fn is_flip(old: u8, new: u8) -> bool
+    ensures { result ≡ is_flip old new }
+{
+    matches!(old ^ new, 1 | 2 | 4 | 8 | 16 | 32 | 64 | 128)
+}
+
+/// Whether a value is on the edge.
+#[tactic(auto, unfolding(crate::specs::Plans::is_edge))]
+fn is_edge(old: u8, new: u8) -> bool
+    ensures { result ≡ is_edge old new }
+{
+    matches!(new, 0 | 1 | 127 | 128 | 255)
+        || new == old.wrapping_add(1)
+        || new == old.wrapping_add(255)
+}
+
+impl ByteValues {
+    /// Whether a value is wanted where another stands.
+    #[tactic(auto, unfolding(crate::specs::Plans::is_wanted))]
+    fn wants(&self, old: u8, new: u8) -> bool
+        ensures { result ≡ is_wanted self.now old new }
+    {
+        match self {
+            ByteValues::All => true,
+            ByteValues::Flips => is_flip(old, new),
+            ByteValues::Edges => is_edge(old, new),
+            ByteValues::Listed(list) => list.contains(&u32::from(new)),
+        }
+    }
+
+    /// The same, and whether it is another.
+    fn wants_other(&self, old: u8, new: u8) -> bool
+        ensures { result ≡ (not (new == old) && is_wanted self.now old new) }
+    {
+        new != old && self.wants(old, new)
+    }
+}
+
+/// A value put at the end, if it is wanted.
+#[inline(always)]
+fn push_if(values: &mut Vec<u32>, is_wanted: bool, value: u32) -> Result<(), AllocError>
+    ensures { OnOk result (values.new.items ≡ values.old.items ++ (if is_wanted then value ∷ [] else [])) }
+{
+    if is_wanted {
+        values.push(value)?;
+    }
+    Ok(())
+}
+
+/// The values that a byte gets in the place of another.
+pub fn byte_values(alloc: Global, wanted: &ByteValues, old: u8) -> Result<Vec<u32>, AllocError>
+    ensures { IfOk result (λ values. values.items ≡ byte_values wanted.now old 256) }
+{
+    let mut values = Vec::new(alloc);
+    for new in 0..256u32 {
+        let is_wanted = wanted.wants_other(old, new as u8);
+        push_if(&mut values, is_wanted, new)?;
+    }
+    Ok(values)
+}
+
+/// A word with each of its bits flipped, from bit 0 on.
+pub fn flips(alloc: Global, old: u32) -> Result<Vec<u32>, AllocError>
+    ensures { IfOk result (λ words. words.items ≡ flips_below old 32) }
+{
+    let mut words = Vec::new(alloc);
+    for bit in 0..32u32 {
+        words.push(old ^ (1 << bit))?;
+    }
+    Ok(words)
+}
+
+/// The values of a list but one.
+pub fn others(alloc: Global, words: &[u32], old: u32) -> Result<Vec<u32>, AllocError>
+    ensures { IfOk result (λ values. values.items ≡ word_values old words.now) }
+{
+    let mut values = Vec::new(alloc);
+    for word in words {
+        push_if(&mut values, *word != old, *word)?;
+    }
+    Ok(values)
+}

@@ -1,0 +1,148 @@
+-- The table of a sweep as it is written: its head, how far it came, and what is swept.
+use Rattle.std.specs.Prelude.{◌≡◌, ℕ, ◌-◌, ◌≤◌, ◌⊎◌, Bool, if◌then◌else◌, nat_lt, List, [], ◌++◌, codes, length, map}
+use Rattle.std.specs.Prelude.{Option, Some, None, unwrap_or}
+use Rattle.std.specs.Fmt.{decimal}
+use Rattle.std.specs.Io.KnownBytes.{Appends}
+use Rattle.hex.specs.Hex.{encode_lower}
+use Rattle.sha2.specs.Sha256.{sha256}
+use Rattle.command_line.specs.declared.order.SweepWords.{SweepWords}
+use Rattle.guest_elf.specs.declared.image.Image.{Image as ProgramImage}
+use Rattle.report_lines.specs.Text.{address_text, newline}
+use Rattle.scenario.specs.Scenario.{Scenario, IsOutlineOf, at_step, begun}
+use Rattle.suppressions.specs.Rules.{Rule}
+use Rattle.sweeps.specs.Outcomes.{Met, AreMet}
+use Rattle.sweeps.specs.Standing.{changes_from}
+use Rattle.sweeps.specs.Sweeps.{HasMet, scenario_of, tells_output}
+use Rattle.sweeps.specs.Tables.{rows_text, table_text}
+use Rattle.sweep_plans.specs.declared.plan.Places.{Places}
+use Rattle.sweep_plans.specs.declared.plan.Plan.{Plan}
+use Rattle.sweeps.specs.declared.sweep.Sweep.{Sweep}
+use Rattle.ends.specs.declared.ends.End.{End}
+use Rattle.ends.specs.Ends.{AppendsFront}
+use Rattle.ends.specs.declared.ends.End.TheVariants.{BytesRefused, CannotWrite, Done, NoMemory, WordsRefused}
+use Rattle.sweep_plans.specs.declared.request.Part.{Part}
+use Rattle.sweep_plans.specs.declared.request.Range.{Range}
+use Rattle.sweep_plans.specs.declared.request.Request.{Request}
+use Rattle.sweep_plans.specs.Planned.{IsPlanOf, bytes_meant, part_from, part_to, words_by}
+
+-- ---- the head
+
+-- the line of a file: its length, and its SHA-256 (FIPS 180-4)
+unfoldable pub file_line : List ℕ → List ℕ → List ℕ
+file_line word bytes = word ++ decimal (length bytes) ++ codes " " ++ encode_lower (sha256 bytes) ++ newline
+
+unfoldable pub file_lines : List ℕ → List ℕ → List ℕ → List ℕ
+file_lines program input rules =
+    file_line (codes "program ") program ++ file_line (codes "input ") input ++ file_line (codes "supp ") rules
+
+-- the bytes that are edited, if some are, and the values that they get
+unfoldable pub bytes_line : Places → List ℕ → List ℕ
+bytes_line bytes values =
+    if nat_lt bytes.first bytes.end
+    then codes "bytes " ++ decimal bytes.first ++ codes ".." ++ decimal (bytes.end - 1) ++ codes " " ++ values
+    ++ newline
+    else []
+
+-- the addresses whose words are edited, if some are, and the values that they get
+unfoldable pub words_line : Option Range → List ℕ → List ℕ
+words_line None values = []
+words_line (Some range) values =
+    codes "words " ++ address_text range.first ++ codes ".." ++ address_text (unwrap_or range.last 4294967295)
+    ++ codes " " ++ values ++ newline
+
+-- the step, whether outcomes have the output's length, and the part
+abbrev pub output_line : Bool → List ℕ
+output_line with_output = if with_output then codes "\noutput yes\npart " else codes "\noutput no\npart "
+
+unfoldable pub step_lines : ℕ → Bool → Part → List ℕ
+step_lines step with_output part =
+    codes "step " ++ decimal step ++ output_line with_output ++ decimal part.index ++ codes "/" ++ decimal part.count
+    ++ newline
+
+-- the head of a table
+unfoldable pub head_text : List ℕ → List ℕ → List ℕ → SweepWords → Places → Option Range → Part → List ℕ
+head_text program input rules words bytes named part =
+    codes "sweep 1\n" ++ file_lines program input rules ++ bytes_line bytes words.byte_values.now
+    ++ words_line named words.word_values.now
+    ++ step_lines words.step words.with_output part
+
+-- ---- how far it came
+
+-- these are the edits of so many places from one on, each with its own outcome, and the outcome of the unedited run
+pub record AreOf (with_output : Bool) (sc : Scenario) (plan : Plan) (from n : ℕ) (first : List ℕ)
+    (met : List Met) : Type 0 where
+  pub unedited : IsOutlineOf with_output sc first
+  pub changes : map (λ (m : Met). m.change) met ≡ changes_from sc plan from n
+  pub right : AreMet with_output sc met
+
+-- what is swept: the head of the table, whether outcomes tell how much was written, the scenario, the places
+pub record Case : Type 0 where
+  pub head : List ℕ
+  pub with_output : Bool
+  pub sc : Scenario
+  pub plan : Plan
+  pub from : ℕ
+
+-- the rows of so many places were written, and nothing else
+abbrev pub WritesRows : Case → ℕ → Option (List ℕ) → Option (List ℕ) → Type 0
+WritesRows case n old new =
+    (first : List ℕ) × (met : List Met) × AreOf case.with_output case.sc case.plan case.from n first met
+    × Appends old new (case.head ++ rows_text first met)
+
+-- the whole table of so many places
+abbrev pub WritesTable : Case → ℕ → Option (List ℕ) → Option (List ℕ) → Type 0
+WritesTable case n old new =
+    (first : List ℕ) × (met : List Met) × AreOf case.with_output case.sc case.plan case.from n first met
+    × Appends old new (case.head ++ table_text first met)
+
+-- a front of the rows of so many places, or of the whole table of all
+abbrev pub WritesFront : Case → ℕ → ℕ → Option (List ℕ) → Option (List ℕ) → Type 0
+WritesFront case n all old new =
+    (first : List ℕ) × (met : List Met) × AreOf case.with_output case.sc case.plan case.from n first met
+    × (AppendsFront old new (case.head ++ rows_text first met)
+    ⊎ ((n ≡ all) × AppendsFront old new (case.head ++ table_text first met)))
+
+-- a sweep of so many places: its whole table was written; or a front of it, after which a write failed; or nothing, or
+-- the rows of whole places, for want of memory
+abbrev pub Writes : Case → ℕ → Option (List ℕ) → Option (List ℕ) → End → Type 0
+Writes case all old new Done = WritesTable case all old new
+Writes case all old new CannotWrite = (n : ℕ) × (n ≤ all) × WritesFront case n all old new
+Writes case all old new NoMemory = Appends old new [] ⊎ ((n : ℕ) × (n ≤ all) × WritesRows case n old new)
+Writes case all old new end = ⊥
+
+-- a sweep has met the edits of so many places, and their rows were written
+abbrev pub Reached : Case → ℕ → Option (List ℕ) → Option (List ℕ) → Sweep → Type 0
+Reached case n old now sweep =
+    (scenario_of sweep ≡ case.sc) × (tells_output sweep ≡ case.with_output) × (first : List ℕ) × (met : List Met)
+    × HasMet sweep first met
+    × (map (λ (m : Met). m.change) met ≡ changes_from case.sc case.plan case.from n)
+    × Appends old now (case.head ++ rows_text first met)
+
+-- ---- what is swept
+
+-- the sweep of a program with an input and suppressions, of which these bytes were read, by a plan: where words are
+-- named, those, and a part of the places
+abbrev pub case_with : List ℕ → List ℕ → ProgramImage → List ℕ → List Rule → SweepWords → Option Range → Part → Plan
+    → Case
+case_with file text image input list words named part plan = record {
+  head = head_text file input text words plan.bytes named part;
+  with_output = words.with_output;
+  sc = at_step (begun image input list) words.step;
+  plan = plan;
+  from = part_from plan part;
+}
+
+-- and by the plan of a request
+abbrev pub case_of : List ℕ → List ℕ → ProgramImage → List ℕ → List Rule → SweepWords → Request → Plan → Case
+case_of file text image input list words request plan =
+    case_with file text image input list words request.words request.part plan
+
+-- the places that are meant are refused, and nothing is written; or the table of those of the part is
+abbrev pub Sweeps : List ℕ → List ℕ → ProgramImage → List ℕ → List Rule → SweepWords → Request → Option (List ℕ)
+    → Option (List ℕ) → End → Type 0
+Sweeps file text image input list words request old new end =
+    ((end ≡ BytesRefused) × (bytes_meant request (length input) ≡ None) × Appends old new [])
+    ⊎ (((end ≡ WordsRefused) × (words_by image request.words ≡ None) × Appends old new [])
+    ⊎ ((plan : Plan) × IsPlanOf request image (length input) plan
+    × Writes (case_of file text image input list words request plan)
+    (part_to plan request.part - part_from plan request.part) old new end))

@@ -1,0 +1,135 @@
+//! The first lines of a table: its format, the files that were read, and what was asked for.
+ghost use Rattle.std.specs.Prelude.{◌≡◌, ◌++◌, OnOk, codes};
+ghost use Rattle.hex.specs.Hex.{encode_lower};
+ghost use Rattle.sha2.specs.Sha256.{sha256};
+ghost use Rattle.report_lines.specs.Text.{newline};
+ghost use Rattle.sweep_tables.specs.Swept.{bytes_line, file_line, file_lines, head_text, output_line, step_lines, words_line};
+
+use command_line::SweepWords;
+use report_lines::{push_address, push_number, push_text};
+use sha2::{Digest, Sha256};
+use std::alloc::{AllocError, Global};
+use sweep_plans::{Part, Places, Range};
+
+/// The files that were read, whole.
+#[derive(Clone, Copy)]
+pub(crate) struct Sources<'a> {
+    pub(crate) program: &'a [u8],
+    pub(crate) input: &'a [u8],
+    pub(crate) suppressions: &'a [u8],
+}
+
+/// The SHA-256 of bytes, in hexadecimal digits.
+fn push_digest(alloc: Global, out: &mut Vec<u8>, bytes: &[u8]) -> Result<(), AllocError>
+    ensures { OnOk result (out.new.items ≡ out.old.items ++ encode_lower (sha256 bytes.now)) }
+{
+    let digest = hex::encode(alloc, Sha256::digest(bytes))?;
+    push_text(out, digest.as_bytes())
+}
+
+/// A line of a file: how many bytes were read, and their digest.
+#[tactic(auto, unfolding(crate::specs::Swept::file_line), using(std::proofs::Common::append_assoc))]
+fn push_file(alloc: Global, out: &mut Vec<u8>, word: &[u8], bytes: &[u8]) -> Result<(), AllocError>
+    ensures { OnOk result (out.new.items ≡ out.old.items ++ file_line word.now bytes.now) }
+{
+    push_text(out, word)?;
+    push_number(out, bytes.len() as u64)?;
+    push_text(out, b" ")?;
+    push_digest(alloc, out, bytes)?;
+    push_text(out, b"\n")
+}
+
+/// The lines of the files.
+#[tactic(auto, unfolding(crate::specs::Swept::file_lines), using(std::proofs::Common::append_assoc))]
+fn push_files(alloc: Global, out: &mut Vec<u8>, sources: &Sources) -> Result<(), AllocError>
+    ensures { OnOk result (out.new.items ≡ out.old.items ++ file_lines sources.now.program.now sources.now.input.now sources.now.suppressions.now) }
+{
+    push_file(alloc, out, b"program ", sources.program)?;
+    push_file(alloc, out, b"input ", sources.input)?;
+    push_file(alloc, out, b"supp ", sources.suppressions)
+}
+
+/// What ends a line of what is edited: the values.
+fn push_values(out: &mut Vec<u8>, values: &str) -> Result<(), AllocError>
+    ensures { OnOk result (out.new.items ≡ out.old.items ++ (codes " " ++ values.now ++ newline)) }
+{
+    push_text(out, b" ")?;
+    push_text(out, values.as_bytes())?;
+    push_text(out, b"\n")
+}
+
+/// The line of the bytes that are edited, where some are.
+#[tactic(auto, unfolding(crate::specs::Swept::bytes_line), using(std::proofs::Common::append_assoc))]
+fn push_bytes(out: &mut Vec<u8>, bytes: Places, values: &str) -> Result<(), AllocError>
+    ensures { OnOk result (out.new.items ≡ out.old.items ++ bytes_line bytes values.now) }
+{
+    if bytes.end <= bytes.first {
+        return Ok(());
+    }
+    push_text(out, b"bytes ")?;
+    push_number(out, u64::from(bytes.first))?;
+    push_text(out, b"..")?;
+    push_number(out, u64::from(bytes.end - 1))?;
+    push_values(out, values)
+}
+
+/// The line of the words that are edited, where some are.
+#[tactic(auto, unfolding(crate::specs::Swept::words_line), using(std::proofs::Common::append_assoc))]
+fn push_words(out: &mut Vec<u8>, words: Option<Range>, values: &str) -> Result<(), AllocError>
+    ensures { OnOk result (out.new.items ≡ out.old.items ++ words_line words values.now) }
+{
+    let Some(Range { first, last }) = words else {
+        return Ok(());
+    };
+    push_text(out, b"words ")?;
+    push_address(out, first)?;
+    push_text(out, b"..")?;
+    push_address(out, last.unwrap_or(u32::MAX))?;
+    push_values(out, values)
+}
+
+/// The line of what an outcome has.
+fn output_line(with_output: bool) -> &'static [u8]
+    ensures { result.now ≡ output_line with_output }
+{
+    if with_output {
+        b"\noutput yes\npart "
+    } else {
+        b"\noutput no\npart "
+    }
+}
+
+/// The lines of the step, of what an outcome has, and of the part.
+#[tactic(auto, unfolding(crate::specs::Swept::step_lines), using(std::proofs::Common::append_assoc))]
+fn push_rest(out: &mut Vec<u8>, step: u32, with_output: bool, part: Part) -> Result<(), AllocError>
+    ensures { OnOk result (out.new.items ≡ out.old.items ++ step_lines step with_output part) }
+{
+    push_text(out, b"step ")?;
+    push_number(out, u64::from(step))?;
+    push_text(out, output_line(with_output))?;
+    push_number(out, u64::from(part.index))?;
+    push_text(out, b"/")?;
+    push_number(out, u64::from(part.count))?;
+    push_text(out, b"\n")
+}
+
+/// The head of a table.
+#[tactic(auto, unfolding(crate::specs::Swept::head_text), using(std::proofs::Common::append_assoc))]
+pub(crate) fn push_head(
+    alloc: Global,
+    out: &mut Vec<u8>,
+    sources: &Sources,
+    words: &SweepWords,
+    bytes: Places,
+    named: Option<Range>,
+    part: Part,
+) -> Result<(), AllocError>
+    ensures { OnOk result (out.new.items ≡ out.old.items
+        ++ head_text sources.now.program.now sources.now.input.now sources.now.suppressions.now words.now bytes named part) }
+{
+    push_text(out, b"sweep 1\n")?;
+    push_files(alloc, out, sources)?;
+    push_bytes(out, bytes, words.byte_values)?;
+    push_words(out, named, words.word_values)?;
+    push_rest(out, words.step, words.with_output, part)
+}

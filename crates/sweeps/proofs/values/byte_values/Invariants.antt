@@ -1,6 +1,0 @@
-use Rattle.std.proofs.Common.{◌≡◌}
-use Rattle.sweeps.specs.Plans.{byte_values}
-use Rattle.sweeps.proofs.values.byte_values.Given as goal
-
-abbrev pub invariant-loop-new : goal.invariant-loop-new
-invariant-loop-new l = l.values.items ≡ byte_values l.wanted l.old l.new
