@@ -6,6 +6,7 @@ ghost use Rattle.instructions.specs.Alu.{number_of, value_of, undef_of, computed
 
 use crate::instruction::{Comparison, Operation};
 use crate::width::Width;
+use definedness::known::defined_results;
 use definedness::signed::arithmetic_shift;
 use definedness::{
     Bits, Shift, undef_add, undef_and, undef_branch, undef_equal, undef_less, undef_mul, undef_or,
@@ -159,15 +160,41 @@ fn value_of(operation: Operation, x: u32, y: u32) -> u32
     }
 }
 
-/// The result of an operation, with its undefined bits.
-#[inline(always)]
+/// The result of an operation of two numbers of which some bits are undefined. Out of line, as most numbers have none.
+#[inline(never)]
 #[tactic(auto, unfolding(crate::specs::Alu::computed))]
-pub fn computed(operation: Operation, x: Bits, y: Bits) -> Bits
+fn computed_in_part(operation: Operation, x: Bits, y: Bits) -> Bits
     ensures { result ≡ computed operation x y }
 {
     Bits {
         value: value_of(operation, x.value, y.value),
         undef: undef_of(operation, x, y),
+    }
+}
+
+/// Where no bit of `x` and `y` is undefined, no bit of the result is.
+#[inline(always)]
+fn leaves_none(operation: Operation, x: Bits, y: Bits)
+    requires x_defined { x.undef ≡ 0 }
+    requires y_defined { y.undef ≡ 0 }
+    ensures { undef_of operation x y ≡ 0 }
+{
+    defined_results(x, y);
+}
+
+/// The result of an operation, with its undefined bits.
+#[inline(always)]
+#[tactic(auto, unfolding(crate::specs::Alu::computed), using(std::proofs::lemmas::Nat::le_or_l, std::proofs::lemmas::Nat::le_or_r))]
+pub fn computed(operation: Operation, x: Bits, y: Bits) -> Bits
+    ensures { result ≡ computed operation x y }
+{
+    if (x.undef | y.undef) != 0 {
+        return computed_in_part(operation, x, y);
+    }
+    leaves_none(operation, x, y);
+    Bits {
+        value: value_of(operation, x.value, y.value),
+        undef: 0,
     }
 }
 
