@@ -9,3 +9,6 @@ pub mod HookSteps
 pub mod TestSteps
 pub mod Halted
 pub mod Running
+pub mod DecodeSteps
+pub mod Altering
+pub mod AtOnce

@@ -1,7 +1,9 @@
 -- What the machine's private functions do to the parts that it shows.
-use Rattle.std.specs.Prelude.{◌≡◌, ℕ, ◌+◌, true, false, Bool, length, List, [], ◌∷◌, Option, None}
+use Rattle.std.specs.Prelude.{◌≡◌, ℕ, ◌+◌, true, false, Bool, length, List, [], ◌∷◌, Option, Some, None, if◌then◌else◌}
 use Rattle.guest_machine.specs.State.{Core}
-use Rattle.guest_machine.specs.Effects.{Effect}
+use Rattle.guest_machine.specs.Effects.{Effect, advanced, stored_core}
+use Rattle.guest_machine.specs.Spans.{span_at}
+use Rattle.run_values.specs.declared.span.Span.{Span}
 use Rattle.guest_machine.specs.Calls.{read_call, write_call}
 use Rattle.guest_machine.specs.HeapCalls.{Resizing, heap_work, heap_call}
 use Rattle.guest_machine.specs.NamedCalls.{returns, named_call}
@@ -9,8 +11,12 @@ use Rattle.guest_machine.specs.Exec.{Uses, Terms, Intake, no_intake, intake_of, 
 use Rattle.guest_machine.specs.Exec.{call_asks, counted, written_to, row_uses, row_effect, rounded, calls_heap}
 use Rattle.guest_machine.specs.Exec.{read_uses, write_uses, work_uses, heap_uses, named_uses, moved_from, moved_into}
 use Rattle.guest_machine.specs.Exec.{terms_of, given_at, taken_from, is_heap_deed, deed_at, uses_at, effect_at}
-use Rattle.guest_machine.specs.Exec.{touched_at}
+use Rattle.guest_machine.specs.Exec.{touched_at, fetches}
+use Rattle.guest_machine.specs.Errors.{fetch_undef}
+use Rattle.instructions.specs.Instructions.{row_of}
+use Rattle.shadow_memory.specs.Ranges.{byte_of, little_word, window}
 use Rattle.guest_machine.specs.Shows.{core_of, bytes_of}
+use Rattle.definedness.specs.declared.Bits.{Bits}
 use Rattle.error_events.specs.Adding.{add_event}
 use Rattle.error_events.specs.Shown.{groups_of}
 use Rattle.error_events.specs.declared.event.Event.{Event}
@@ -77,9 +83,35 @@ pub record Does (old new : Guest) (effect : Effect) (uses : Uses) (heap : Bool) 
   pub heap_calls : new.progress.heap_calls ≡ counted old.progress.heap_calls heap
   pub noted : Raises old new effect.raised
 
+-- the word at pc may be taken, is defined, and decodes to this
+pub record IsDecoded (core : Core) (bytes : ℕ → ℕ) (instruction : Instruction) : Type 0 where
+  pub taken : fetches core ≡ true
+  pub row : row_of (little_word (window bytes core.pc 4)) ≡ Some instruction
+  pub undef : fetch_undef core ≡ 0
+
+-- the effect of a store of a number at n bytes, with these errors; and where there is none
+abbrev pub storing : Core → ℕ → ℕ → Bits → List Event → Effect
+storing core start n bits raised = record {
+  core = advanced (stored_core core start n bits.undef);
+  raised = raised;
+  made = byte_of bits.value;
+  output = [];
+}
+
+abbrev pub stored_at : Core → ℕ → ℕ → Bits → Effect
+stored_at core start n bits = storing core start n bits []
+
 -- uses, as the code has them
 abbrev pub used_of : Uses → Used
 used_of uses = record { reads = uses.reads; writes = uses.writes }
+
+-- these, beside the word that was taken, if one was
+abbrev pub touched_in : Used → Option Span → Touched
+touched_in used fetch = record { fetch = fetch; reads = used.reads; writes = used.writes }
+
+-- the four bytes at pc, where they were taken
+abbrev pub fetch_of : Bool → ℕ → Option Span
+fetch_of taken pc = if taken then Some (span_at pc 4) else None
 
 -- those of a block that goes to a place for another size
 abbrev pub used_in_move : Resizing → ℕ → ℕ → Used

@@ -13,4 +13,5 @@ pub mod Loading
 pub mod Run
 pub mod Shows
 pub mod Doing
+pub mod DecodeCaches
 pub mod Laws

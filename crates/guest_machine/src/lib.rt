@@ -18,6 +18,7 @@
 //! | [`Machine::mark`] | the machine with a range made inaccessible, undefined or defined |
 //! | [`Machine::poke_word`] | the machine with the four bytes at an address changed |
 //! | [`Machine::share`] | a copy, which later changes of the other don't reach |
+//! | [`Machine::hand_on`] | likewise, for the copy that goes on with the run: what was decoded goes over to it |
 //! | [`Machine::status`], [`Machine::pc`], [`Machine::register`] | whether it runs, and its registers |
 //! | [`Machine::position`], [`Machine::end_seen`] | how much of the input was read so far, and whether its end was seen |
 //! | [`Machine::output_len`], [`Machine::heap_calls`] | what was written and called so far |
@@ -70,13 +71,15 @@
 //!   move of the stack pointer makes inaccessible or undefined.
 //! - `State`, `Registers`, `Spans`: what a state is, and how registers and ranges of addresses change.
 //! - `Laws`: the laws of one step.
-//! - `Shows`: that a machine shows a state. `Loading`, `Sieve` and `Doing` are for this crate's proofs.
+//! - `Shows`: that a machine shows a state. `Loading`, `Sieve`, `Doing` and `DecodeCaches` are for this crate's proofs.
 //!
 //! Sources: RISC-V Unprivileged ISA 20191213, chapters 1, 2 and 7; the Memcheck manual, chapter 4; Seward and Nethercote,
 //! "Using Valgrind to detect undefined value errors with bit-precision" (USENIX 2005). The undefined bits of a result are those
 //! of the crate `definedness`, the instruction table that of `rv_decode`, the image that of `guest_elf`.
 #![tactic(auto)]
 
+mod cached_memory;
+mod decode_cache;
 mod environment_call;
 mod hooks;
 mod input;

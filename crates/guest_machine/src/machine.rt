@@ -14,12 +14,12 @@ mod registers;
 mod stack;
 mod step;
 
+use crate::cached_memory::CachedMemory;
 use call_stacks::CallStack;
 use definedness::Bits;
 use error_events::{Event, Groups};
 use guest_heap::Heap;
 use run_values::Status;
-use shadow_memory::Memory;
 use std::alloc::{AllocError, Global};
 
 /// The bytes of output that there is room for.
@@ -103,7 +103,7 @@ pub struct Machine {
 #[derive(Drop)]
 pub(crate) struct Guest {
     alloc: Global,
-    memory: Memory,
+    memory: CachedMemory,
     registers: [Bits; 32],
     pc: u32,
     status: Status,

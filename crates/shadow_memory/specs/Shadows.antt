@@ -2,7 +2,7 @@
 -- addresses), and which of its bits are undefined (section 4.5.1, valid values).
 use Rattle.std.specs.Prelude.{ℕ, Bool, true, false, Option, Some, None, if◌then◌else◌, not, ◌&&◌, ◌||◌, ◌==◌, ◌+◌, ◌%◌}
 use Rattle.std.specs.Prelude.{◌<◌, ◌≤◌, ◌≡◌}
-use Rattle.shadow_memory.specs.Ranges.{above, changed_in, first_from, byte_of}
+use Rattle.shadow_memory.specs.Ranges.{above, changed_in, first_from, byte_of, little_word, window}
 use Rattle.shadow_memory.specs.declared.cells.Bad.{Bad}
 use Rattle.shadow_memory.specs.declared.cells.RangeKind.{RangeKind}
 use Rattle.shadow_memory.specs.declared.cells.RangeKind.TheVariants.{NoAccess, Undefined, Defined}
@@ -41,6 +41,12 @@ address_at start (Some i) = Some (above start i)
 -- the address of the first inaccessible one of n bytes
 unfoldable pub first_inaccessible : (ℕ → Shadow) → ℕ → ℕ → Option ℕ
 first_inaccessible shadows start n = address_at start (first_from (λ i. not (shadows (above start i)).accessible) 0 n)
+
+-- n bytes from an address on may be accessed, and are those of a number with no undefined bit
+pub record HasDefined (bytes : ℕ → ℕ) (shadows : ℕ → Shadow) (addr n number : ℕ) : Type 0 where
+  pub value : little_word (window bytes addr n) ≡ number
+  pub undef : little_word (window (λ a. loaded_undef (shadows a)) addr n) ≡ 0
+  pub bad : first_inaccessible shadows addr n ≡ None
 
 -- the shadows, with those of n bytes copied, each as it loads
 unfoldable pub copied_undef : (ℕ → Shadow) → ℕ → ℕ → ℕ → ℕ → Shadow

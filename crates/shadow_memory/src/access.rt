@@ -1,8 +1,8 @@
 //! Loads and stores of words, and changes of bytes from outside the program.
-ghost use Rattle.std.specs.Prelude.{◌≡◌, ℕ, ◌+◌, ◌*◌, ◌%◌, ◌^◌, ◌<◌, ◌≤◌, None, IfOk, IsTrue, IsFalse, OnOk, OnErr};
+ghost use Rattle.std.specs.Prelude.{◌≡◌, ℕ, ◌+◌, ◌*◌, ◌%◌, ◌^◌, ◌<◌, ◌≤◌, None, IfOk, IfSome, IsTrue, IsFalse, OnOk, OnErr};
 ghost use Rattle.shadow_memory.specs.Cells.{set_at};
 ghost use Rattle.shadow_memory.specs.Ranges.{above, byte_of, changed_in, little_word, window, written};
-ghost use Rattle.shadow_memory.specs.Shadows.{loaded_undef, stored_undef, first_inaccessible};
+ghost use Rattle.shadow_memory.specs.Shadows.{loaded_undef, stored_undef, first_inaccessible, HasDefined};
 ghost use Rattle.shadow_memory.specs.Changes.{stored, IsWidth, SomeFront};
 ghost use Rattle.shadow_memory.specs.Loads.{loaded_at};
 ghost use Rattle.shadow_memory.specs.Fronts.{HasStored};
@@ -31,6 +31,33 @@ impl Memory {
         ensures small_undef { result.undef < 2 ^ (8 * n) }
     {
         self.load_at(addr, n)
+    }
+
+    /// The number of n bytes at an address, as [`Memory::load`] takes it, if one look-up tells that they are all accessible and defined. It
+    /// doesn't tell it of bytes of two pages, nor of zeros that no one changed.
+    #[inline(always)]
+    #[tactic(auto, unfolding(crate::specs::Loads::loaded_at, crate::specs::Ranges::window, crate::specs::Shadows::first_inaccessible, crate::specs::Memories::bytes_in, crate::specs::Memories::shadows_in))]
+    pub fn defined(&self, addr: u32, n: u32) -> Option<u32>
+        requires { IsWidth n }
+        ensures has { IfSome result (λ value. HasDefined (bytes_in self.now) (shadows_in self.now) addr n value) }
+        ensures small { IfSome result (λ value. value < 2 ^ (8 * n)) }
+    {
+        self.defined_at(addr, n)
+    }
+
+    // The same, of cells.
+    #[inline(always)]
+    fn defined_at(&self, addr: u32, n: u32) -> Option<u32>
+        requires { IsWidth n }
+        ensures value { IfSome result (λ value. loaded_at (λ i. cells_of self.now (above addr i)) addr n ≡ record { value = value; undef = 0; bad = None }) }
+        ensures small { IfSome result (λ value. value < 2 ^ (8 * n)) }
+    {
+        let place = addr as usize % PAGE;
+        if place + n as usize <= PAGE {
+            self.view(addr).defined(place, n)
+        } else {
+            None
+        }
     }
 
     // The same, of cells: by one look-up, where they lie in one page.
@@ -85,13 +112,27 @@ impl Memory {
         ensures shadows { OnOk result (shadows_in self.new ≡ stored_undef (shadows_in self.old) addr n bits.undef) }
         ensures err { OnErr result (SomeFront n (λ k. HasStored self.old self.new addr k bits)) }
     {
-        if self.put_word(addr, n, bits) {
+        if self.store_at_once(addr, n, bits) {
             return Ok(None);
         }
         self.store_anywhere(addr, n, bits)
     }
 
-    // The same by one look-up, which takes no memory: of defined bits in one page, if no other memory has it, and what is there is
+    /// The same at once, by one look-up and without memory: of defined bits in one page, if no other memory has it, and what is there is
+    /// all accessible. Says whether it did.
+    #[inline(always)]
+    pub fn store_at_once(&mut self, addr: u32, n: u32, bits: Bits) -> bool
+        requires { IsWidth n }
+        ensures bad { IsTrue result → first_inaccessible (shadows_in self.old) addr n ≡ None }
+        ensures bytes { IsTrue result → bytes_in self.new ≡ written (bytes_in self.old) addr n (byte_of bits.value) }
+        ensures shadows { IsTrue result → shadows_in self.new ≡ stored_undef (shadows_in self.old) addr n bits.undef }
+        ensures bytes_kept { IsFalse result → bytes_in self.new ≡ bytes_in self.old }
+        ensures shadows_kept { IsFalse result → shadows_in self.new ≡ shadows_in self.old }
+    {
+        self.put_word(addr, n, bits)
+    }
+
+    // The same, of cells: by one look-up, which takes no memory: of defined bits in one page, if no other memory has it, and what is there is
     // all accessible. Says whether it did.
     #[inline(always)]
     fn put_word(&mut self, addr: u32, n: u32, bits: Bits) -> bool

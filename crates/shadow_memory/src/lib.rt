@@ -12,6 +12,8 @@
 //! | [`Memory::byte`] | what an address holds | no |
 //! | [`Memory::load`] | 1, 2 or 4 bytes as a number, their undefined bits, the first inaccessible address | no |
 //! | [`Memory::store`] | stores 1, 2 or 4 bytes with their undefined bits; answers the first inaccessible address | yes |
+//! | [`Memory::defined`] | such a number alone, if one look-up tells that the bytes are accessible and defined | no |
+//! | [`Memory::store_at_once`] | stores as `store` does, if one look-up tells that it can; says whether it did | no |
 //! | [`Memory::set_range`] | makes a range inaccessible, undefined or defined; its bytes stay | yes |
 //! | [`Memory::fill`] | makes a range defined, with these bytes and zeros after them | yes |
 //! | [`Memory::poke`], [`Memory::poke_word`] | change a byte or four; what else is known of them stays | yes |

@@ -1,5 +1,5 @@
 //! One page of 4,096 bytes.
-ghost use Rattle.std.specs.Prelude.{◌≡◌, ℕ, ◌+◌, ◌*◌, ◌%◌, ◌^◌, ◌<◌, ◌≤◌, true, OnOk, OnErr, IfOk, IfNone, IfSome, IsTrue, IsFalse, length, nat_lt, slice_index, vec_len};
+ghost use Rattle.std.specs.Prelude.{◌≡◌, ℕ, ◌+◌, ◌*◌, ◌%◌, ◌^◌, ◌<◌, ◌≤◌, true, None, OnOk, OnErr, IfOk, IfNone, IfSome, IsTrue, IsFalse, length, nat_lt, slice_index, vec_len};
 ghost use Rattle.shadow_memory.specs.Cells.{set_at, shadow_in, IsClean};
 ghost use Rattle.shadow_memory.specs.Marks.{blank};
 ghost use Rattle.shadow_memory.specs.Places.{changed_from, page_len, AgreeInPage};
@@ -72,6 +72,21 @@ impl Page {
         }
     }
 
+    /// The number of n bytes from a place on, where they are told to be all accessible and defined.
+    #[inline(always)]
+    pub(crate) fn defined(&self, at: usize, n: u32) -> Option<u32>
+        requires width { IsWidth n }
+        requires within { at + n ≤ page_len }
+        ensures value { IfSome result (λ value. (addr : ℕ)
+            → loaded_at (λ i. cells_in self.now (at + i)) addr n ≡ record { value = value; undef = 0; bad = None }) }
+        ensures small { IfSome result (λ value. value < 2 ^ (8 * n)) }
+    {
+        if self.marks.are_defined(at, at + n as usize) {
+            return Some(self.number(at, n));
+        }
+        None
+    }
+
     /// What a load takes of n bytes from a place on, which lie from an address on.
     #[inline(always)]
     pub(crate) fn load(&self, at: usize, addr: u32, n: u32) -> Loaded
@@ -81,14 +96,14 @@ impl Page {
         ensures small { result.value < 2 ^ (8 * n) }
         ensures small_undef { result.undef < 2 ^ (8 * n) }
     {
-        if self.marks.are_defined(at, at + n as usize) {
-            return Loaded {
-                value: self.number(at, n),
+        match self.defined(at, n) {
+            Some(value) => Loaded {
+                value,
                 undef: 0,
                 bad: None,
-            };
+            },
+            None => self.load_cells(at, addr, n),
         }
-        self.load_cells(at, addr, n)
     }
 
     // The same, cell by cell.

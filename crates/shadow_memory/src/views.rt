@@ -1,5 +1,5 @@
 //! One page of a memory, to read.
-ghost use Rattle.std.specs.Prelude.{◌≡◌, ℕ, ◌+◌, ◌*◌, ◌%◌, ◌^◌, ◌<◌, ◌≤◌, IfNone, IfSome};
+ghost use Rattle.std.specs.Prelude.{◌≡◌, ℕ, ◌+◌, ◌*◌, ◌%◌, ◌^◌, ◌<◌, ◌≤◌, None, IfNone, IfSome};
 ghost use Rattle.shadow_memory.specs.Cells.{shadow_in, IsClean};
 ghost use Rattle.shadow_memory.specs.Changes.{IsWidth};
 ghost use Rattle.shadow_memory.specs.Loads.{loaded_at};
@@ -46,6 +46,21 @@ impl View<'_> {
         match self {
             View::Blank(kind) => Some(kind),
             View::Held(page) => page.zeros(from, to),
+        }
+    }
+
+    /// The number of n bytes from a place on, where they are told to be all accessible and defined.
+    #[inline(always)]
+    pub(crate) fn defined(self, at: usize, n: u32) -> Option<u32>
+        requires width { IsWidth n }
+        requires within { at + n ≤ page_len }
+        ensures value { IfSome result (λ value. (addr : ℕ)
+            → loaded_at (λ i. cells_seen self.entry (at + i)) addr n ≡ record { value = value; undef = 0; bad = None }) }
+        ensures small { IfSome result (λ value. value < 2 ^ (8 * n)) }
+    {
+        match self {
+            View::Blank(_) => None,
+            View::Held(page) => page.defined(at, n),
         }
     }
 

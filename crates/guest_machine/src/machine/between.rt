@@ -4,8 +4,9 @@ ghost use Rattle.shadow_memory.specs.Memories.{bytes_in, shadows_in};
 ghost use Rattle.guest_machine.specs.Loading.{loaded_bytes, loaded_shadows};
 ghost use Rattle.guest_machine.specs.State.{State};
 ghost use Rattle.guest_machine.specs.Run.{start_state, marked, poked};
-ghost use Rattle.guest_machine.specs.Shows.{Holds, Shows};
+ghost use Rattle.guest_machine.specs.Shows.{bytes_of, core_of, Holds, Shows};
 
+use crate::cached_memory::CachedMemory;
 use crate::machine::registers::known;
 use crate::machine::{Guest, Machine, Noted, Progress};
 use call_stacks::CallStack;
@@ -28,11 +29,12 @@ impl Guest {
         let mut memory = Memory::new(alloc);
         load_segments(&mut memory, image.segments())?;
         memory.fill(FIRST_STACK_POINTER, FIRST_STACK_BYTES, &[])?;
+        let cached = CachedMemory::new(alloc, memory);
         let mut registers = [known(0); 32];
         registers[2] = known(FIRST_STACK_POINTER);
         Ok(Guest {
             alloc,
-            memory,
+            memory: cached,
             registers,
             pc: image.entry(),
             status: Status::Running,
@@ -68,9 +70,28 @@ impl Guest {
     fn share(&self) -> Result<Guest, AllocError>
         ensures { IfOk result (λ copy. (s : State) → Holds self.now s → Holds copy s) }
     {
+        let memory = self.memory.share(self.alloc)?;
+        self.share_over(memory)
+    }
+
+    /// As [`Guest::share`]. What was decoded goes over to the copy.
+    fn hand_on(&mut self) -> Result<Guest, AllocError>
+        ensures same { self.new ≡ self.old }
+        ensures copy { IfOk result (λ copy. (s : State) → Holds self.old s → Holds copy s) }
+    {
+        let memory = self.memory.hand_on(self.alloc)?;
+        self.share_over(memory)
+    }
+
+    /// A guest that shares all but its memory, of which it has a copy already.
+    fn share_over(&self, memory: CachedMemory) -> Result<Guest, AllocError>
+        requires bytes { bytes_in memory ≡ bytes_of self.now }
+        requires shadows { shadows_in memory ≡ (core_of self.now).shadow }
+        ensures { IfOk result (λ copy. (s : State) → Holds self.now s → Holds copy s) }
+    {
         Ok(Guest {
             alloc: self.alloc,
-            memory: self.memory.share()?,
+            memory,
             registers: self.registers,
             pc: self.pc,
             status: self.status,
@@ -122,6 +143,18 @@ impl Machine {
         ensures { IfOk result (λ copy. (s : State) → Shows self.now s → Shows copy s) }
     {
         let guest = self.guest.share()?;
+        Ok(Machine {
+            guest: Box::new(self.guest.alloc, guest)?,
+        })
+    }
+
+    /// As [`Machine::share`], for the copy that goes on with the run: instructions that were decoded go over to it. What this machine shows
+    /// stays, and its next steps are dearer.
+    pub fn hand_on(&mut self) -> Result<Machine, AllocError>
+        ensures same { self.new ≡ self.old }
+        ensures copy { IfOk result (λ copy. (s : State) → Shows self.old s → Shows copy s) }
+    {
+        let guest = self.guest.hand_on()?;
         Ok(Machine {
             guest: Box::new(self.guest.alloc, guest)?,
         })

@@ -1,27 +1,35 @@
 //! The instructions.
-ghost use Rattle.std.specs.Prelude.{◌≡◌, ◌<◌, false, Some, OnOk, IfOk};
+ghost use Rattle.std.specs.Prelude.{◌≡◌, ◌<◌, false, Some, None, OnOk, IfOk, IfSome, IsTrue, IsFalse};
 ghost use Rattle.shadow_memory.specs.Ranges.{byte_of, written};
-ghost use Rattle.shadow_memory.specs.Shadows.{first_inaccessible, stored_undef};
+ghost use Rattle.shadow_memory.specs.Shadows.{first_inaccessible, stored_undef, HasDefined};
 ghost use Rattle.shadow_memory.specs.Memories.{bytes_in, shadows_in};
 ghost use Rattle.error_events.specs.declared.kind.Kind.TheVariants.{Read as ReadError};
 ghost use Rattle.shadow_memory.specs.Ranges.{little_word, window};
 ghost use Rattle.guest_machine.specs.Errors.{access_errors, taken_undef};
+ghost use Rattle.guest_machine.specs.Spans.{span_at};
 ghost use Rattle.instructions.specs.Widths.{width_len, width_limit};
-ghost use Rattle.guest_machine.specs.Effects.{results_in, load, store, branch, jump, jump_register, branched};
+ghost use Rattle.guest_machine.specs.Effects.{stored_core, results_in, load, store, branch, jump, jump_register, branched};
 ghost use Rattle.guest_machine.specs.Exec.{no_intake, nothing, accessed, writing, taken_from};
 ghost use Rattle.guest_machine.specs.Shows.{core_of, bytes_of};
-ghost use Rattle.guest_machine.specs.Doing.{Notes, Does};
+ghost use Rattle.guest_machine.specs.Doing.{Notes, Changes, Does, stored_at};
 
+use crate::cached_memory::CachedMemory;
 use crate::machine::Guest;
+use crate::machine::registers::known;
 use definedness::Bits;
 use instructions::{Comparison, Register, StackHint, Width, extended, passes};
 use run_values::Span;
-use shadow_memory::{Loaded, Memory};
+use shadow_memory::Loaded;
 use std::alloc::AllocError;
 
 /// Stores the low bytes of a number, and answers the first inaccessible address: each width by itself, so that a word is stored as one.
 #[inline(always)]
-fn put(memory: &mut Memory, start: u32, width: Width, bits: Bits) -> Result<Option<u32>, AllocError>
+fn put(
+    memory: &mut CachedMemory,
+    start: u32,
+    width: Width,
+    bits: Bits,
+) -> Result<Option<u32>, AllocError>
     ensures fault { IfOk result (λ fault. fault ≡ first_inaccessible (shadows_in memory.old) start (width_len width)) }
     ensures shadows { OnOk result (shadows_in memory.new ≡ stored_undef (shadows_in memory.old) start (width_len width) bits.undef) }
     ensures bytes { OnOk result (bytes_in memory.new ≡ written (bytes_in memory.old) start (width_len width) (byte_of bits.value)) }
@@ -78,19 +86,19 @@ impl Guest {
         })
     }
 
-    #[inline(always)]
+    /// A load, with each test that it wants.
+    #[inline(never)]
     #[tactic(auto, unfolding(crate::specs::Doing::note_events), using(crate::proofs::Showing::note_events_append))]
-    pub(super) fn load(
+    fn load_testing(
         &mut self,
         width: Width,
         signed: bool,
         rd: Register,
         rs1: Register,
         imm: u32,
-    ) -> Result<Span, AllocError>
-        ensures does { IfOk result (λ span. Does self.old self.new
-            (load (core_of self.old) width signed rd rs1 imm (taken_from (bytes_of self.old) (Some span))) nothing false no_intake) }
-        ensures reads { IfOk result (λ span. span ≡ accessed (core_of self.old) rs1 imm width) }
+    ) -> Result<(), AllocError>
+        ensures { OnOk result (Does self.old self.new (load (core_of self.old) width signed rd rs1 imm
+            (taken_from (bytes_of self.old) (Some (accessed (core_of self.old) rs1 imm width)))) nothing false no_intake) }
     {
         let start = self.target(rs1, imm);
         self.test_value(rs1)?;
@@ -98,23 +106,87 @@ impl Guest {
         let value = extended(width, signed, loaded.value);
         let undef = extended(width, signed, loaded.undef);
         self.result_in(rd, Bits { value, undef });
-        Ok(Span {
-            start,
-            len: width.len(),
-        })
+        Ok(())
     }
 
+    /// The bytes that a load or a store accesses.
     #[inline(always)]
+    pub(super) fn accessed(&self, rs1: Register, imm: u32, width: Width) -> Span
+        ensures { result ≡ accessed (core_of self.now) rs1 imm width }
+    {
+        Span {
+            start: self.target(rs1, imm),
+            len: width.len(),
+        }
+    }
+
+    /// The number at an address, if one look-up tells that it is accessible and defined.
+    #[inline(always)]
+    fn defined(&self, start: u32, width: Width) -> Option<u32>
+        ensures has { IfSome result (λ value. HasDefined (bytes_of self.now) (core_of self.now).shadow start (width_len width) value) }
+        ensures small { IfSome result (λ value. value < width_limit width) }
+    {
+        match width {
+            Width::Byte => self.memory.defined(start, 1),
+            Width::Half => self.memory.defined(start, 2),
+            Width::Word => self.memory.defined(start, 4),
+        }
+    }
+
+    /// A load: at once, where its address and what it loads are defined.
+    #[inline(always)]
+    fn load_of(
+        &mut self,
+        width: Width,
+        signed: bool,
+        rd: Register,
+        rs1: Register,
+        imm: u32,
+    ) -> Result<(), AllocError>
+        ensures { OnOk result (Does self.old self.new (load (core_of self.old) width signed rd rs1 imm
+            (taken_from (bytes_of self.old) (Some (accessed (core_of self.old) rs1 imm width)))) nothing false no_intake) }
+    {
+        if self.read_register(rs1).undef == 0
+            && let Some(value) = self.defined(self.target(rs1, imm), width)
+        {
+            self.result_in(rd, known(extended(width, signed, value)));
+            return Ok(());
+        }
+        self.load_testing(width, signed, rd, rs1, imm)
+    }
+
+    /// A load, each width by itself.
+    #[inline(always)]
+    pub(super) fn load(
+        &mut self,
+        width: Width,
+        signed: bool,
+        rd: Register,
+        rs1: Register,
+        imm: u32,
+    ) -> Result<(), AllocError>
+        ensures { OnOk result (Does self.old self.new (load (core_of self.old) width signed rd rs1 imm
+            (taken_from (bytes_of self.old) (Some (accessed (core_of self.old) rs1 imm width)))) nothing false no_intake) }
+    {
+        match width {
+            Width::Byte => self.load_of(Width::Byte, signed, rd, rs1, imm),
+            Width::Half => self.load_of(Width::Half, signed, rd, rs1, imm),
+            Width::Word => self.load_of(Width::Word, signed, rd, rs1, imm),
+        }
+    }
+
+    /// A store, with each test that it wants.
+    #[inline(never)]
     #[tactic(auto, unfolding(crate::specs::Doing::note_events), using(crate::proofs::Showing::note_events_append))]
-    pub(super) fn store(
+    fn store_testing(
         &mut self,
         width: Width,
         rs1: Register,
         rs2: Register,
         imm: u32,
-    ) -> Result<Span, AllocError>
-        ensures does { IfOk result (λ span. Does self.old self.new (store (core_of self.old) width rs1 rs2 imm) (writing span) false no_intake) }
-        ensures writes { IfOk result (λ span. span ≡ accessed (core_of self.old) rs1 imm width) }
+    ) -> Result<(), AllocError>
+        ensures { OnOk result (Does self.old self.new (store (core_of self.old) width rs1 rs2 imm)
+            (writing (accessed (core_of self.old) rs1 imm width)) false no_intake) }
     {
         let to = self.target(rs1, imm);
         self.test_value(rs1)?;
@@ -122,10 +194,77 @@ impl Guest {
         let fault = put(&mut self.memory, to, width, stored)?;
         self.test_store(width.byte_len(), fault)?;
         self.advance();
-        Ok(Span {
-            start: to,
-            len: width.len(),
-        })
+        Ok(())
+    }
+
+    /// Stores the low bytes of a number at once, if it is defined and one look-up tells that they are accessible. Says whether it did.
+    #[inline(always)]
+    fn put_at_once(&mut self, start: u32, width: Width, bits: Bits) -> bool
+        ensures done { IsTrue result → Changes self.old self.new (stored_core (core_of self.old) start (width_len width) bits.undef)
+            (written (bytes_of self.old) start (width_len width) (byte_of bits.value)) }
+        ensures bad { IsTrue result → first_inaccessible (core_of self.old).shadow start (width_len width) ≡ None }
+        ensures kept { IsFalse result → Changes self.old self.new (core_of self.old) (bytes_of self.old) }
+    {
+        match width {
+            Width::Byte => self.memory.store_at_once(start, 1, bits),
+            Width::Half => self.memory.store_at_once(start, 2, bits),
+            Width::Word => self.memory.store_at_once(start, 4, bits),
+        }
+    }
+
+    /// The same, and goes on.
+    #[inline(always)]
+    #[tactic(auto, unfolding(crate::specs::Doing::note_events))]
+    fn store_at_once(&mut self, start: u32, width: Width, bits: Bits) -> bool
+        ensures done { IsTrue result → Does self.old self.new (stored_at (core_of self.old) start (width_len width) bits)
+            (writing (span_at start (width_len width))) false no_intake }
+        ensures bad { IsTrue result → first_inaccessible (core_of self.old).shadow start (width_len width) ≡ None }
+        ensures kept { IsFalse result → Changes self.old self.new (core_of self.old) (bytes_of self.old) }
+    {
+        let done = self.put_at_once(start, width, bits);
+        if done {
+            self.advance();
+        }
+        done
+    }
+
+    /// A store: at once, where its address and what it stores are defined.
+    #[inline(always)]
+    fn store_of(
+        &mut self,
+        width: Width,
+        rs1: Register,
+        rs2: Register,
+        imm: u32,
+    ) -> Result<(), AllocError>
+        ensures { OnOk result (Does self.old self.new (store (core_of self.old) width rs1 rs2 imm)
+            (writing (accessed (core_of self.old) rs1 imm width)) false no_intake) }
+    {
+        if self.read_register(rs1).undef == 0
+            && self.store_at_once(self.target(rs1, imm), width, self.read_register(rs2))
+        {
+            return Ok(());
+        }
+        self.store_testing(width, rs1, rs2, imm)
+    }
+
+    /// A store, each width by itself.
+    #[inline(always)]
+    pub(super) fn store(
+        &mut self,
+        width: Width,
+        rs1: Register,
+        rs2: Register,
+        imm: u32,
+    ) -> Result<(), AllocError>
+        ensures { OnOk result (Does self.old self.new (store (core_of self.old) width rs1 rs2 imm)
+            (writing (accessed (core_of self.old) rs1 imm width)) false no_intake) }
+    {
+        match width {
+            Width::Byte => self.store_of(Width::Byte, rs1, rs2, imm),
+            Width::Half => self.store_of(Width::Half, rs1, rs2, imm),
+            Width::Word => self.store_of(Width::Word, rs1, rs2, imm),
+        }
     }
 
     #[inline(always)]

@@ -80,7 +80,7 @@ impl Machine {
         ensures bytes { (s : State) → Shows self.now s → bytes_in result.now ≡ s.bytes }
         ensures shadows { (s : State) → Shows self.now s → shadows_in result.now ≡ s.core.shadow }
     {
-        &self.guest.memory
+        self.guest.memory.memory()
     }
 
     /// The heap: its live blocks, and those freed that are not forgotten yet.

@@ -1,13 +1,14 @@
 //! One step.
-ghost use Rattle.std.specs.Prelude.{◌≡◌, ◌+◌, ◌&&◌, ◌≤◌, [], min, length, nat_lt, false, Option, Some, None, IfOk, IfSome, IfNone, OnErr, OnOk};
+ghost use Rattle.std.specs.Prelude.{◌≡◌, ◌+◌, ◌&&◌, ◌≤◌, [], min, length, nat_lt, true, false, Option, Some, None, IfOk, IfSome, IfNone, OnErr, OnOk};
 ghost use Rattle.guest_machine.specs.State.{State};
 ghost use Rattle.guest_machine.specs.Errors.{fetch_undef};
 ghost use Rattle.instructions.specs.Instructions.{row_of};
+ghost use Rattle.shadow_memory.specs.Ranges.{little_word, window};
 ghost use Rattle.guest_machine.specs.Exec.{no_intake, nothing, is_running, is_aligned, called_here, fetches, unfetched, jump_fault};
 ghost use Rattle.guest_machine.specs.Exec.{exec, touched_of, IsFetched};
 ghost use Rattle.guest_machine.specs.Run.{pre};
 ghost use Rattle.guest_machine.specs.Shows.{core_of, bytes_of, Holds, Shows, has_raised};
-ghost use Rattle.guest_machine.specs.Doing.{used_of, uses_by, touched_by, Does, DoesRow, DoesRound, DoesStep};
+ghost use Rattle.guest_machine.specs.Doing.{IsDecoded, fetch_of, touched_in, used_of, uses_by, touched_by, Does, DoesRow, DoesRound, DoesStep};
 
 use crate::hooks::Hooks;
 use crate::machine::registers::known;
@@ -34,11 +35,23 @@ pub(super) const NOTHING: Used = Used {
     writes: None,
 };
 
+/// The four bytes at pc, where they were taken.
+#[inline(always)]
+fn fetch_of(taken: bool, pc: u32) -> Option<Span>
+    ensures { result ≡ fetch_of taken pc }
+{
+    if taken {
+        Some(Span { start: pc, len: 4 })
+    } else {
+        None
+    }
+}
+
 impl Used {
     /// These, beside the word that was taken.
     #[inline(always)]
     fn touched(self, fetch: Option<Span>) -> Touched
-        ensures { result ≡ record { fetch = fetch; reads = self.reads; writes = self.writes } }
+        ensures { result ≡ touched_in self fetch }
     {
         Touched {
             fetch,
@@ -49,21 +62,29 @@ impl Used {
 }
 
 impl Guest {
+    /// An environment call. Out of line, as it has no place in the code of a step.
+    #[inline(never)]
+    fn call_out(&mut self, setup: &Setup, used: &mut Used) -> Result<(), AllocError>
+        ensures { OnOk result (DoesRow self.old self.new (Some Instruction.CallEnvironment) setup.now
+            × (used.new ≡ used_of (uses_by self.old (Some Instruction.CallEnvironment) setup.now))) }
+    {
+        *used = self.call_environment(setup)?;
+        Ok(())
+    }
+
     /// Carries an instruction out, and notes which bytes it took and which it wrote.
+    #[inline(always)]
     #[tactic(auto, unfolding(crate::specs::Exec::row_effect, crate::specs::Exec::row_uses, crate::specs::Exec::calls_heap, crate::specs::Exec::row_asks, crate::specs::Exec::call_asks, crate::specs::Doing::note_events))]
     fn execute(
         &mut self,
         setup: &Setup,
-        row: Option<Instruction>,
+        instruction: Instruction,
         used: &mut Used,
     ) -> Result<(), AllocError>
         requires { used.old ≡ used_of nothing }
-        ensures { OnOk result (DoesRow self.old self.new row setup.now × (used.new ≡ used_of (uses_by self.old row setup.now))) }
+        ensures { OnOk result (DoesRow self.old self.new (Some instruction) setup.now
+            × (used.new ≡ used_of (uses_by self.old (Some instruction) setup.now))) }
     {
-        let Some(instruction) = row else {
-            self.stop(Stop::Illegal);
-            return Ok(());
-        };
         match instruction {
             Instruction::LoadUpper { rd, imm } => {
                 self.result_in(rd, known(imm));
@@ -93,7 +114,8 @@ impl Guest {
                 rs1,
                 imm,
             } => {
-                used.reads = Some(self.load(width, signed, rd, rs1, imm)?);
+                used.reads = Some(self.accessed(rs1, imm, width));
+                self.load(width, signed, rd, rs1, imm)?;
             }
             Instruction::Store {
                 width,
@@ -101,7 +123,8 @@ impl Guest {
                 rs2,
                 imm,
             } => {
-                used.writes = Some(self.store(width, rs1, rs2, imm)?);
+                used.writes = Some(self.accessed(rs1, imm, width));
+                self.store(width, rs1, rs2, imm)?;
             }
             Instruction::Immediate {
                 operation,
@@ -125,7 +148,7 @@ impl Guest {
                 self.advance();
             }
             Instruction::CallEnvironment => {
-                *used = self.call_environment(setup)?;
+                self.call_out(setup, used)?;
             }
             Instruction::Breakpoint => {
                 self.stop(Stop::Break);
@@ -214,42 +237,142 @@ impl Guest {
         Ok(())
     }
 
-    /// Carries a word out, between the test of the word and the stack pointer rule.
-    #[inline(never)]
+    /// The instruction at pc, where it runs and the word there was decoded lately.
+    #[inline(always)]
+    #[tactic(auto, unfolding(crate::specs::Exec::fetches))]
+    fn decoded(&self) -> Option<Instruction>
+        ensures { IfSome result (λ row. IsDecoded (core_of self.now) (bytes_of self.now) row) }
+    {
+        if !self.is_ready() {
+            return None;
+        }
+        self.memory.decoded(self.pc)
+    }
+
+    /// Keeps the instruction at pc, where no bit of its word is undefined.
+    #[inline(always)]
+    #[tactic(auto, unfolding(crate::specs::Exec::fetches))]
+    fn keep(&mut self, undef: u32, instruction: Instruction)
+        requires taken { fetches (core_of self.old) ≡ true }
+        requires undef { undef ≡ fetch_undef (core_of self.old) }
+        requires row { row_of (little_word (window (bytes_of self.old) (core_of self.old).pc 4)) ≡ Some instruction }
+        ensures { self.new ≡ self.old }
+    {
+        if undef == 0 {
+            self.memory.keep(self.pc, instruction);
+        }
+    }
+
+    /// The instruction of the word at pc, if it is one, which is kept.
+    #[inline(always)]
+    fn decode(&mut self, word: Bits) -> Option<Instruction>
+        requires { IsFetched (core_of self.old) (bytes_of self.old) word }
+        ensures same { self.new ≡ self.old }
+        ensures row { result ≡ row_of word.value }
+    {
+        let row = row_of(word.value);
+        if let Some(instruction) = &row {
+            self.keep(word.undef, *instruction);
+        }
+        row
+    }
+
+    /// Carries an instruction out, between the test of its word's undefined bits and the stack pointer rule.
+    #[inline(always)]
     #[tactic(auto, using(crate::proofs::Showing::note_events_append))]
-    fn round(&mut self, setup: &Setup, word: Bits, used: &mut Used) -> Result<(), AllocError>
-        requires undef { word.undef ≡ fetch_undef (core_of self.old) }
+    fn round(
+        &mut self,
+        setup: &Setup,
+        undef: u32,
+        instruction: Instruction,
+        used: &mut Used,
+    ) -> Result<(), AllocError>
+        requires undef { undef ≡ fetch_undef (core_of self.old) }
+        requires unused { used.old ≡ used_of nothing }
+        ensures does { OnOk result (DoesRound self.old self.new (Some instruction) setup.now) }
+        ensures uses { OnOk result (used.new ≡ used_of (uses_by self.old (Some instruction) setup.now)) }
+    {
+        let stack_pointer = self.read_register(Register::new(2));
+        self.test_word(undef)?;
+        self.execute(setup, instruction, used)?;
+        self.stack_rule(stack_pointer)
+    }
+
+    /// Stops at a word that is no instruction.
+    #[tactic(auto, unfolding(crate::specs::Exec::row_effect, crate::specs::Exec::row_uses, crate::specs::Exec::calls_heap, crate::specs::Exec::row_asks, crate::specs::Doing::note_events))]
+    fn stop_illegal(&mut self, setup: &Setup)
+        ensures does { DoesRow self.old self.new None setup.now }
+        ensures uses { uses_by self.old None setup.now ≡ nothing }
+    {
+        self.stop(Stop::Illegal);
+    }
+
+    /// The same as [`Guest::round`] at a word that is no instruction.
+    #[tactic(auto, using(crate::proofs::Showing::note_events_append))]
+    fn round_illegal(&mut self, setup: &Setup, undef: u32) -> Result<(), AllocError>
+        requires { undef ≡ fetch_undef (core_of self.old) }
+        ensures does { OnOk result (DoesRound self.old self.new None setup.now) }
+        ensures uses { OnOk result (uses_by self.old None setup.now ≡ nothing) }
+    {
+        let stack_pointer = self.read_register(Register::new(2));
+        self.test_word(undef)?;
+        self.stop_illegal(setup);
+        self.stack_rule(stack_pointer)
+    }
+
+    /// Decodes a word that may be taken, and carries it out.
+    fn round_anew(&mut self, setup: &Setup, word: Bits, used: &mut Used) -> Result<(), AllocError>
+        requires fetched { IsFetched (core_of self.old) (bytes_of self.old) word }
         requires unused { used.old ≡ used_of nothing }
         ensures does { OnOk result (DoesRound self.old self.new (row_of word.value) setup.now) }
         ensures uses { OnOk result (used.new ≡ used_of (uses_by self.old (row_of word.value) setup.now)) }
     {
-        let stack_pointer = self.read_register(Register::new(2));
-        self.test_word(word.undef)?;
-        self.execute(setup, row_of(word.value), used)?;
-        self.stack_rule(stack_pointer)
+        match self.decode(word) {
+            Some(instruction) => self.round(setup, word.undef, instruction, used),
+            None => self.round_illegal(setup, word.undef),
+        }
     }
 
-    /// Calls the function of the heap that begins at pc, carries out the word there, or halts; and says which bytes that took or wrote.
-    #[inline(always)]
+    /// The step where no function of the heap begins at pc, and the word there is to be decoded first, or can't be taken. Says whether
+    /// it was taken.
+    #[inline(never)]
     #[tactic(auto, unfolding(crate::specs::Exec::fetched, crate::specs::Exec::uses_at, crate::specs::Exec::intake_at, crate::specs::Exec::effect_at, crate::specs::Exec::touched_at))]
-    fn perform(&mut self, setup: &Setup) -> Result<Touched, AllocError>
+    fn perform_anew(&mut self, setup: &Setup, used: &mut Used) -> Result<bool, AllocError>
+        requires uncalled { called_here (core_of self.old) setup.now.hooks ≡ None }
+        requires unused { used.old ≡ used_of nothing }
         ensures does { OnOk result (DoesStep self.old self.new setup.now) }
-        ensures touched { IfOk result (λ t. t ≡ touched_by self.old setup.now) }
+        ensures touched { IfOk result (λ taken. touched_in used.new (fetch_of taken (core_of self.old).pc) ≡ touched_by self.old setup.now) }
     {
-        if let Some(function) = self.called_here(&setup.hooks) {
-            let used = self.call_by_name(function, setup)?;
-            return Ok(used.touched(None));
-        }
-        let pc = self.pc;
         match self.fetch() {
             None => {
                 self.halt()?;
-                Ok(NOTHING.touched(None))
+                Ok(false)
             }
             Some(word) => {
-                let mut used = NOTHING;
-                self.round(setup, word, &mut used)?;
-                Ok(used.touched(Some(Span { start: pc, len: 4 })))
+                self.round_anew(setup, word, used)?;
+                Ok(true)
+            }
+        }
+    }
+
+    /// Calls the function of the heap that begins at pc, carries out the word there, or halts; notes which bytes that took or wrote, and
+    /// says whether the word was taken.
+    #[inline(always)]
+    #[tactic(auto, unfolding(crate::specs::Exec::fetched, crate::specs::Exec::uses_at, crate::specs::Exec::intake_at, crate::specs::Exec::effect_at, crate::specs::Exec::touched_at))]
+    fn perform(&mut self, setup: &Setup, used: &mut Used) -> Result<bool, AllocError>
+        requires { used.old ≡ used_of nothing }
+        ensures does { OnOk result (DoesStep self.old self.new setup.now) }
+        ensures touched { IfOk result (λ taken. touched_in used.new (fetch_of taken (core_of self.old).pc) ≡ touched_by self.old setup.now) }
+    {
+        if let Some(function) = self.called_here(&setup.hooks) {
+            *used = self.call_by_name(function, setup)?;
+            return Ok(false);
+        }
+        match self.decoded() {
+            None => self.perform_anew(setup, used),
+            Some(instruction) => {
+                self.round(setup, 0, instruction, used)?;
+                Ok(true)
             }
         }
     }
@@ -273,7 +396,10 @@ impl Guest {
     {
         groups_grow();
         self.begin_step();
-        self.perform(setup)
+        let pc = self.pc;
+        let mut used = NOTHING;
+        let taken = self.perform(setup, &mut used)?;
+        Ok(used.touched(fetch_of(taken, pc)))
     }
 
     /// So many steps; once it is halted they leave it as it is.

@@ -1,45 +1,25 @@
-use Rattle.std.proofs.Common.{◌*◌, ◌/◌, arith}
-use Rattle.checkpoints.specs.Trails.{machines_of, last_held, table_of, loaded_of, first_use}
-use Rattle.checkpoints.proofs.HeldSteps.{held-at}
-use Rattle.checkpoints.proofs.TrailSteps.{held-count}
+use Rattle.std.proofs.Common.{subst, sym}
+use Rattle.std.proofs.lemmas.Result.{IfOk-weaker}
+use Rattle.checkpoints.specs.Trails.{IsRightFor}
+use Rattle.checkpoints.specs.declared.trail.Trail.{Trail}
 use Rattle.checkpoints.proofs.trail.Trail.before.Goals as goal
 
-pub returns-in_err-machine-clause-right : goal.returns-in_err-machine-clause-right
-unfolding machines_of last_held table_of loaded_of first_use
-returns-in_err-machine-clause-right c start h =
-    let r = c.in_ok-reach.ensures.right start h in
-    record {
-      nothing_read = r.nothing_read;
-      nothing_ended = r.nothing_ended;
-      nothing_called = r.nothing_called;
-      held = r.held;
-      uses = r.uses;
-    }
+pub returns-in_err-copy-clause-right : goal.returns-in_err-copy-clause-right
+returns-in_err-copy-clause-right c start right =
+    subst (λ (t : Trail). IsRightFor t start c.args.setup.now c.args.marks.now) (sym c.copy_of.ensures.same)
+    (c.in_ok-reach.ensures.right start right)
 
 pub returns-clause-right : goal.returns-clause-right
-unfolding machines_of last_held table_of loaded_of first_use
-returns-clause-right c start h =
-    let r = c.in_ok-reach.ensures.right start h in
-    record {
-      nothing_read = r.nothing_read;
-      nothing_ended = r.nothing_ended;
-      nothing_called = r.nothing_called;
-      held = r.held;
-      uses = r.uses;
-    }
+returns-clause-right c start right =
+    c.run_from.ensures.right start
+    (subst (λ (t : Trail). IsRightFor t start c.args.setup.now c.args.marks.now) (sym c.copy_of.ensures.same)
+    (c.in_ok-reach.ensures.right start right))
 
 pub returns-clause-shows : goal.returns-clause-shows
-unfolding machines_of
-returns-clause-shows c start h =
-    let r = c.in_ok-reach.ensures.right start h in
-    let here = held-at c.reach.new.self.held.items c.index.result.now (c.args.step / 1024) (c.args.step / 1024 * 1024)
-    start c.args.setup.now c.args.marks.now
-    r.held c.index.ensures (omega (arith, c.in_ok-reach.ensures.held, held-count c.reach.new.self)) (omega arith) in
-    c.in_ok-machine.ensures.shows start (c.in_ok-copy.ensures _ here)
-
-pub invariant_of-self : goal.invariant_of-self
-invariant_of-self c = record {
-  begun = c.reach.new.self.begun;
-  within = c.reach.new.self.within;
-  metered = c.run_on.ensures.metered;
-}
+returns-clause-shows c =
+    IfOk-weaker c.run_from.result _ _
+    (λ machine shows start right.
+    shows start
+    (subst (λ (t : Trail). IsRightFor t start c.args.setup.now c.args.marks.now) (sym c.copy_of.ensures.same)
+    (c.in_ok-reach.ensures.right start right)))
+    c.run_from.ensures.shows

@@ -1,0 +1,209 @@
+//! A memory, beside the instructions that were decoded from it lately.
+ghost use Rattle.std.specs.Prelude.{◌≡◌};
+ghost use Rattle.shadow_memory.specs.Memories.{bytes_in, shadows_in};
+ghost use Rattle.guest_machine.specs.DecodeCaches.{HasEach};
+
+use crate::decode_cache::{DecodeCache, Decoded};
+use definedness::Bits;
+use instructions::Instruction;
+use shadow_memory::{Bad, Loaded, Memory, RangeKind};
+use std::alloc::{AllocError, Global};
+use std::marker::Model;
+use std::mem;
+
+/// A memory with a decode cache. Each change of the memory takes out of the cache what it makes wrong. Contracts see the memory.
+#[derive(Drop)]
+pub(crate) struct CachedMemory {
+    memory: Memory,
+    cache: DecodeCache,
+    ghost kept: { HasEach (bytes_in memory) (shadows_in memory) cache.entries.items },
+}
+
+impl Model for CachedMemory {
+    ghost use Rattle.std.specs.Coded.{codes};
+    ghost use Rattle.shadow_memory.specs.contracts.memory.Memory as e;
+    ghost use Rattle.shadow_memory.specs.declared.memory.Memory.{Memory};
+
+    ghost Value = { Memory };
+
+    ghost coded = { Prim.hlevel (codes, e.the_row.coded) };
+
+    ghost view = { λ cached. cached.memory };
+}
+
+impl CachedMemory {
+    ghost use Rattle.std.specs.Prelude.{◌+◌, ◌*◌, ◌%◌, ◌^◌, ◌<◌, None, IfOk, IfSome, IsTrue, IsFalse, OnOk, length, slice_index};
+    ghost use Rattle.guest_machine.specs.DecodeCaches.{HasRow};
+    ghost use Rattle.shadow_memory.specs.Changes.{AreApart, IsWidth};
+    ghost use Rattle.shadow_memory.specs.Ranges.{byte_of, copied, little_word, window, written};
+    ghost use Rattle.shadow_memory.specs.Shadows.{copied_undef, first_bad, first_inaccessible, loaded_undef, made_so, stored_undef, HasDefined};
+
+    /// A memory with nothing decoded.
+    pub(crate) fn new(alloc: Global, memory: Memory) -> Self
+        ensures { result ≡ memory }
+    {
+        CachedMemory {
+            memory,
+            cache: DecodeCache::new(alloc),
+        }
+    }
+
+    /// The memory.
+    #[inline(always)]
+    pub(crate) fn memory(&self) -> &Memory
+        ensures { result.now ≡ self.now }
+    {
+        &self.memory
+    }
+
+    /// What the word at a multiple of 4 decodes to, where that is known; it may be accessed then, and is defined.
+    #[inline(always)]
+    pub(crate) fn decoded(&self, addr: u32) -> Option<Instruction>
+        requires { addr % 4 ≡ 0 }
+        ensures { IfSome result (λ row. HasRow (bytes_in self.now) (shadows_in self.now) addr row) }
+    {
+        self.cache.at(addr)
+    }
+
+    /// Keeps what the word at a multiple of 4 decodes to, all of which may be accessed and is defined.
+    pub(crate) fn keep(&mut self, addr: u32, row: Instruction)
+        requires aligned { addr % 4 ≡ 0 }
+        requires there { HasRow (bytes_in self.old) (shadows_in self.old) addr row }
+        ensures { self.new ≡ self.old }
+    {
+        self.cache.put(Decoded { addr, row });
+    }
+
+    /// As [`Memory::load`].
+    #[inline(always)]
+    pub(crate) fn load(&self, addr: u32, n: u32) -> Loaded
+        requires { IsWidth n }
+        ensures value { result.value ≡ little_word (window (bytes_in self.now) addr n) }
+        ensures undef { result.undef ≡ little_word (window (λ a. loaded_undef (shadows_in self.now a)) addr n) }
+        ensures bad { result.bad ≡ first_inaccessible (shadows_in self.now) addr n }
+        ensures small { result.value < 2 ^ (8 * n) }
+        ensures small_undef { result.undef < 2 ^ (8 * n) }
+    {
+        self.memory.load(addr, n)
+    }
+
+    /// As [`Memory::defined`].
+    #[inline(always)]
+    pub(crate) fn defined(&self, addr: u32, n: u32) -> Option<u32>
+        requires { IsWidth n }
+        ensures has { IfSome result (λ value. HasDefined (bytes_in self.now) (shadows_in self.now) addr n value) }
+        ensures small { IfSome result (λ value. value < 2 ^ (8 * n)) }
+    {
+        self.memory.defined(addr, n)
+    }
+
+    /// As [`Memory::first_bad`].
+    pub(crate) fn first_bad(&self, addr: u32, len: u32, need_defined: bool) -> Option<Bad>
+        ensures { result ≡ first_bad (shadows_in self.now) addr len need_defined }
+    {
+        self.memory.first_bad(addr, len, need_defined)
+    }
+
+    /// As [`Memory::store_at_once`].
+    #[inline(always)]
+    pub(crate) fn store_at_once(&mut self, addr: u32, n: u32, bits: Bits) -> bool
+        requires { IsWidth n }
+        ensures bad { IsTrue result → first_inaccessible (shadows_in self.old) addr n ≡ None }
+        ensures bytes { IsTrue result → bytes_in self.new ≡ written (bytes_in self.old) addr n (byte_of bits.value) }
+        ensures shadows { IsTrue result → shadows_in self.new ≡ stored_undef (shadows_in self.old) addr n bits.undef }
+        ensures bytes_kept { IsFalse result → bytes_in self.new ≡ bytes_in self.old }
+        ensures shadows_kept { IsFalse result → shadows_in self.new ≡ shadows_in self.old }
+    {
+        self.cache.forget(addr, n);
+        self.memory.store_at_once(addr, n, bits)
+    }
+
+    /// As [`Memory::store`].
+    #[inline(always)]
+    pub(crate) fn store(&mut self, addr: u32, n: u32, bits: Bits) -> Result<Option<u32>, AllocError>
+        requires { IsWidth n }
+        ensures bad { IfOk result (λ bad. bad ≡ first_inaccessible (shadows_in self.old) addr n) }
+        ensures bytes { OnOk result (bytes_in self.new ≡ written (bytes_in self.old) addr n (byte_of bits.value)) }
+        ensures shadows { OnOk result (shadows_in self.new ≡ stored_undef (shadows_in self.old) addr n bits.undef) }
+    {
+        self.cache.forget(addr, n);
+        self.memory.store(addr, n, bits)
+    }
+
+    /// As [`Memory::set_range`].
+    pub(crate) fn set_range(
+        &mut self,
+        addr: u32,
+        len: u32,
+        kind: RangeKind,
+    ) -> Result<(), AllocError>
+        ensures bytes { bytes_in self.new ≡ bytes_in self.old }
+        ensures shadows { OnOk result (shadows_in self.new ≡ made_so (shadows_in self.old) addr len kind) }
+    {
+        self.cache.forget_range(addr, len);
+        self.memory.set_range(addr, len, kind)
+    }
+
+    /// As [`Memory::fill`].
+    pub(crate) fn fill(&mut self, addr: u32, len: u32, bytes: &[u8]) -> Result<(), AllocError>
+        ensures bytes { OnOk result (bytes_in self.new ≡ written (bytes_in self.old) addr len (slice_index bytes.now)) }
+        ensures shadows { OnOk result (shadows_in self.new ≡ made_so (shadows_in self.old) addr len RangeKind.Defined) }
+    {
+        self.cache.forget_range(addr, len);
+        self.memory.fill(addr, len, bytes)
+    }
+
+    /// As [`Memory::store_bytes`].
+    pub(crate) fn store_bytes(&mut self, addr: u32, bytes: &[u8]) -> Result<(), AllocError>
+        requires { length bytes.now < 2 ^ 32 }
+        ensures bytes { OnOk result (bytes_in self.new ≡ written (bytes_in self.old) addr (length bytes.now) (slice_index bytes.now)) }
+        ensures shadows { OnOk result (shadows_in self.new ≡ stored_undef (shadows_in self.old) addr (length bytes.now) 0) }
+    {
+        self.cache.forget_range(addr, bytes.len() as u32);
+        self.memory.store_bytes(addr, bytes)
+    }
+
+    /// As [`Memory::copy_with_shadow`].
+    pub(crate) fn copy_with_shadow(
+        &mut self,
+        from: u32,
+        to: u32,
+        len: u32,
+    ) -> Result<(), AllocError>
+        requires { AreApart from to len }
+        ensures bytes { OnOk result (bytes_in self.new ≡ copied (bytes_in self.old) from to len) }
+        ensures shadows { OnOk result (shadows_in self.new ≡ copied_undef (shadows_in self.old) from to len) }
+    {
+        self.cache.forget_range(to, len);
+        self.memory.copy_with_shadow(from, to, len)
+    }
+
+    /// As [`Memory::poke_word`].
+    pub(crate) fn poke_word(&mut self, addr: u32, word: u32) -> Result<(), AllocError>
+        ensures bytes { OnOk result (bytes_in self.new ≡ written (bytes_in self.old) addr 4 (byte_of word)) }
+        ensures shadows { shadows_in self.new ≡ shadows_in self.old }
+    {
+        self.cache.forget(addr, 4);
+        self.memory.poke_word(addr, word)
+    }
+
+    /// As [`Memory::share`], with nothing decoded.
+    pub(crate) fn share(&self, alloc: Global) -> Result<CachedMemory, AllocError>
+        ensures bytes { IfOk result (λ copy. bytes_in copy ≡ bytes_in self.now) }
+        ensures shadows { IfOk result (λ copy. shadows_in copy ≡ shadows_in self.now) }
+    {
+        let memory = self.memory.share()?;
+        Ok(CachedMemory::new(alloc, memory))
+    }
+
+    /// As [`Memory::share`]. What was decoded goes over to the copy.
+    pub(crate) fn hand_on(&mut self, alloc: Global) -> Result<CachedMemory, AllocError>
+        ensures same { self.new ≡ self.old }
+        ensures bytes { IfOk result (λ copy. bytes_in copy ≡ bytes_in self.old) }
+        ensures shadows { IfOk result (λ copy. shadows_in copy ≡ shadows_in self.old) }
+    {
+        let memory = self.memory.share()?;
+        let cache = mem::replace(&mut self.cache, DecodeCache::new(alloc));
+        Ok(CachedMemory { memory, cache })
+    }
+}
