@@ -11,7 +11,7 @@ ghost use Rattle.guest_machine.specs.Spans.{span_at};
 ghost use Rattle.guest_machine.specs.Spans.{covers};
 ghost use Rattle.guest_elf.specs.declared.segment.Segment.{Segment as SegmentOf};
 ghost use Rattle.checkpoints.specs.Words.{meets, is_among, is_from, words_in, word_end, words_of, IsPlaced, IsPlace, never, kept_below, group_size, AreBelowBounds, DropsAt, IsEntered, is_in_group};
-ghost use Rattle.checkpoints.specs.Entries.{ranges_of, entry_of, below, EntersAt};
+ghost use Rattle.checkpoints.specs.Entries.{ranges_of, entry_of, below, EntersAt, IsClean};
 
 use crate::searches::later;
 use crate::uses::{FirstUses, GROUP, Place, REMEMBERED, Row};
@@ -146,6 +146,7 @@ impl FirstUses {
     #[tactic(auto, unfolding(crate::specs::Entries::ranges_of, crate::specs::Entries::entry_of))]
     fn enter(&mut self, word: u32, most: u32, step: u32) -> u32
         ensures ranges { ranges_of self.new ≡ ranges_of self.old }
+        ensures clean { IsClean self.old (step + 1) → IsClean self.new (step + 1) }
         ensures some { 0 < most → word < 2 ^ 30 → 0 < result }
         ensures within { 0 < most → result ≤ most }
         ensures inside { word < 2 ^ 30 → word + result ≤ 2 ^ 30 }
@@ -170,6 +171,7 @@ impl FirstUses {
     fn enter_at(&mut self, word: u32, place: usize, step: u32)
         requires place { IsPlace (ranges_of self.old) word (At place) }
         ensures ranges { ranges_of self.new ≡ ranges_of self.old }
+        ensures clean { IsClean self.old (step + 1) → IsClean self.new (step + 1) }
         ensures entries { (w : ℕ) → w < 2 ^ 30 → IsPlaced (ranges_of self.old) w
             → entry_of self.new w ≡ (if is_from word 1 w then min (entry_of self.old w) step else entry_of self.old w) }
     {
@@ -188,6 +190,7 @@ impl FirstUses {
     fn remember(&mut self, word: u32)
         requires { IsEntered (ranges_of self.old) self.old.steps.items word }
         ensures ranges { ranges_of self.new ≡ ranges_of self.old }
+        ensures clean { (n : ℕ) → IsClean self.old n → IsClean self.new n }
         ensures steps { self.new.steps.items ≡ self.old.steps.items }
     {
         self.remembered[word as usize % REMEMBERED] = word;
@@ -200,6 +203,7 @@ impl FirstUses {
         requires within { place < words_of (ranges_of self.old) }
         requires step { step < never }
         ensures ranges { ranges_of self.new ≡ ranges_of self.old }
+        ensures clean { IsClean self.old (step + 1) → IsClean self.new (step + 1) }
         ensures steps { self.new.steps.items ≡ slice_set self.old.steps.items place step }
     {
         let group = place / GROUP;
@@ -208,26 +212,26 @@ impl FirstUses {
         self.steps[place] = step;
     }
 
-    /// Whether a range lies in a word that is remembered, and no later step was entered than this one: then the step changes nothing.
+    /// Whether a range lies in a word that is remembered: then it changes nothing to enter a step for it that isn't below the others.
     #[inline(always)]
     #[tactic(auto, unfolding(crate::specs::Entries::ranges_of, crate::specs::Entries::entry_of))]
-    fn is_known(&self, span: Span, step: u32) -> bool
-        ensures { IsTrue result → EntersAt step (covers (Some span)) self.now self.now }
+    fn is_known(&self, span: Span) -> bool
+        ensures { IsTrue result → (step : ℕ) → IsClean self.now (step + 1) → EntersAt step (covers (Some span)) self.now self.now }
     {
         let word = span.start / 4;
-        self.remembered[word as usize % REMEMBERED] == word
-            && span.len <= 4 - span.start % 4
-            && self.entered.saturating_sub(1) <= step
+        self.remembered[word as usize % REMEMBERED] == word && span.len <= 4 - span.start % 4
     }
 
     /// Enters a step for each word that a range meets.
     #[inline(always)]
     fn enter_span(&mut self, span: Option<Span>, step: u32)
+        requires { IsClean self.old (step + 1) }
         ensures ranges { ranges_of self.new ≡ ranges_of self.old }
+        ensures clean { IsClean self.new (step + 1) }
         ensures entries { EntersAt step (covers span) self.old self.new }
     {
         if let Some(span) = span {
-            if !self.is_known(span, step) {
+            if !self.is_known(span) {
                 self.enter_words(span, step);
             }
         }
@@ -237,6 +241,7 @@ impl FirstUses {
     #[inline(never)]
     fn enter_words(&mut self, span: Span, step: u32)
         ensures ranges { ranges_of self.new ≡ ranges_of self.old }
+        ensures clean { IsClean self.old (step + 1) → IsClean self.new (step + 1) }
         ensures entries { EntersAt step (covers (Some span)) self.old self.new }
     {
         if span.len == 0 {
@@ -250,9 +255,12 @@ impl FirstUses {
         }
     }
 
-    /// Enters a step for each word that it touched.
+    /// Enters a step for each word that it touched. None after it was entered.
+    #[inline(always)]
     pub(crate) fn enter_touched(&mut self, touched: &Touched, step: u32)
+        requires { IsClean self.old (step + 1) }
         ensures ranges { ranges_of self.new ≡ ranges_of self.old }
+        ensures clean { IsClean self.new (step + 1) }
         ensures entries { EntersAt step (has_touched touched.now) self.old self.new }
     {
         self.enter_span(touched.fetch, step);
@@ -264,6 +272,7 @@ impl FirstUses {
     #[tactic(auto, unfolding(crate::specs::Entries::ranges_of, crate::specs::Entries::entry_of))]
     pub(crate) fn forget_from(&mut self, step: u32)
         ensures ranges { ranges_of self.new ≡ ranges_of self.old }
+        ensures clean { IsClean self.new step }
         ensures entries { (w : ℕ) → entry_of self.new w ≡ kept_below step (entry_of self.old w) }
     {
         if self.entered > step {

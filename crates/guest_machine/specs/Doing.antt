@@ -1,8 +1,7 @@
 -- What the machine's private functions do to the parts that it shows.
-use Rattle.std.specs.Prelude.{◌≡◌, ℕ, ◌+◌, true, false, Bool, length, List, [], ◌∷◌, Option, Some, None, if◌then◌else◌}
+use Rattle.std.specs.Prelude.{◌≡◌, ℕ, ◌+◌, true, false, Bool, length, List, [], ◌∷◌, Option, Some, None}
 use Rattle.guest_machine.specs.State.{Core}
 use Rattle.guest_machine.specs.Effects.{Effect, advanced, stored_core}
-use Rattle.guest_machine.specs.Spans.{span_at}
 use Rattle.run_values.specs.declared.span.Span.{Span}
 use Rattle.guest_machine.specs.Calls.{read_call, write_call}
 use Rattle.guest_machine.specs.HeapCalls.{Resizing, heap_work, heap_call}
@@ -108,10 +107,6 @@ used_of uses = record { reads = uses.reads; writes = uses.writes }
 -- these, beside the word that was taken, if one was
 abbrev pub touched_in : Used → Option Span → Touched
 touched_in used fetch = record { fetch = fetch; reads = used.reads; writes = used.writes }
-
--- the four bytes at pc, where they were taken
-abbrev pub fetch_of : Bool → ℕ → Option Span
-fetch_of taken pc = if taken then Some (span_at pc 4) else None
 
 -- those of a block that goes to a place for another size
 abbrev pub used_in_move : Resizing → ℕ → ℕ → Used

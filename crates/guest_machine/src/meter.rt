@@ -38,6 +38,14 @@ impl Meter {
         self.steps = self.steps.saturating_add(1);
     }
 
+    /// The steps of another meter too.
+    #[inline(always)]
+    pub fn add(&mut self, other: Meter)
+        ensures { self.new ≡ min (self.old + other) u64.MAX }
+    {
+        self.steps = self.steps.saturating_add(other.steps);
+    }
+
     pub(crate) fn rise_by(&mut self, steps: u32)
         requires { self.old ≤ u64.MAX }
         ensures { self.new ≡ min (self.old + steps) u64.MAX }

@@ -4,11 +4,12 @@ ghost use Rattle.guest_machine.specs.State.{State};
 ghost use Rattle.guest_machine.specs.Errors.{fetch_undef};
 ghost use Rattle.instructions.specs.Instructions.{row_of};
 ghost use Rattle.shadow_memory.specs.Ranges.{little_word, window};
-ghost use Rattle.guest_machine.specs.Exec.{no_intake, nothing, is_running, is_aligned, called_here, fetches, unfetched, jump_fault};
+ghost use Rattle.guest_machine.specs.Exec.{no_intake, nothing, reading, writing, is_running, is_aligned, called_here, fetches, unfetched, jump_fault};
 ghost use Rattle.guest_machine.specs.Exec.{exec, touched_of, IsFetched};
 ghost use Rattle.guest_machine.specs.Run.{pre};
 ghost use Rattle.guest_machine.specs.Shows.{core_of, bytes_of, Holds, Shows, has_raised};
-ghost use Rattle.guest_machine.specs.Doing.{IsDecoded, fetch_of, touched_in, used_of, uses_by, touched_by, Does, DoesRow, DoesRound, DoesStep};
+ghost use Rattle.guest_machine.specs.Spans.{span_at};
+ghost use Rattle.guest_machine.specs.Doing.{IsDecoded, touched_in, used_of, uses_by, touched_by, Does, DoesRow, DoesRound, DoesStep};
 
 use crate::hooks::Hooks;
 use crate::machine::registers::known;
@@ -35,19 +36,27 @@ pub(super) const NOTHING: Used = Used {
     writes: None,
 };
 
-/// The four bytes at pc, where they were taken.
-#[inline(always)]
-fn fetch_of(taken: bool, pc: u32) -> Option<Span>
-    ensures { result ≡ fetch_of taken pc }
-{
-    if taken {
-        Some(Span { start: pc, len: 4 })
-    } else {
-        None
-    }
-}
-
 impl Used {
+    #[inline(always)]
+    fn reading(range: Span) -> Used
+        ensures { result ≡ used_of (reading range) }
+    {
+        Used {
+            reads: Some(range),
+            writes: None,
+        }
+    }
+
+    #[inline(always)]
+    fn writing(range: Span) -> Used
+        ensures { result ≡ used_of (writing range) }
+    {
+        Used {
+            reads: None,
+            writes: Some(range),
+        }
+    }
+
     /// These, beside the word that was taken.
     #[inline(always)]
     fn touched(self, fetch: Option<Span>) -> Touched
@@ -59,45 +68,54 @@ impl Used {
             writes: self.writes,
         }
     }
+
+    /// These, beside the word at pc.
+    #[inline(always)]
+    fn touched_at(self, pc: u32) -> Touched
+        ensures { result ≡ touched_in self (Some (span_at pc 4)) }
+    {
+        self.touched(Some(Span { start: pc, len: 4 }))
+    }
 }
 
 impl Guest {
-    /// An environment call. Out of line, as it has no place in the code of a step.
-    #[inline(never)]
-    fn call_out(&mut self, setup: &Setup, used: &mut Used) -> Result<(), AllocError>
-        ensures { OnOk result (DoesRow self.old self.new (Some Instruction.CallEnvironment) setup.now
-            × (used.new ≡ used_of (uses_by self.old (Some Instruction.CallEnvironment) setup.now))) }
+    // What a function out of line answers in memory gets its place, filled with zeros, where the function that calls it begins, in line or
+    // not. So what a step seldom calls is called by a function of its own, here and below.
+
+    /// An environment call.
+    #[inline(always)]
+    fn call_out(&mut self, setup: &Setup) -> Result<Used, AllocError>
+        ensures does { OnOk result (DoesRow self.old self.new (Some Instruction.CallEnvironment) setup.now) }
+        ensures uses { IfOk result (λ used. used ≡ used_of (uses_by self.old (Some Instruction.CallEnvironment) setup.now)) }
     {
-        *used = self.call_environment(setup)?;
-        Ok(())
+        let used = self.call_environment(setup)?;
+        Ok(used)
     }
 
-    /// Carries an instruction out, and notes which bytes it took and which it wrote.
+    /// Carries an instruction out; says which bytes it took and which it wrote.
     #[inline(always)]
     #[tactic(auto, unfolding(crate::specs::Exec::row_effect, crate::specs::Exec::row_uses, crate::specs::Exec::calls_heap, crate::specs::Exec::row_asks, crate::specs::Exec::call_asks, crate::specs::Doing::note_events))]
-    fn execute(
-        &mut self,
-        setup: &Setup,
-        instruction: Instruction,
-        used: &mut Used,
-    ) -> Result<(), AllocError>
-        requires { used.old ≡ used_of nothing }
-        ensures { OnOk result (DoesRow self.old self.new (Some instruction) setup.now
-            × (used.new ≡ used_of (uses_by self.old (Some instruction) setup.now))) }
+    fn execute(&mut self, setup: &Setup, instruction: Instruction) -> Result<Used, AllocError>
+        ensures does { OnOk result (DoesRow self.old self.new (Some instruction) setup.now) }
+        ensures uses { IfOk result (λ used. used ≡ used_of (uses_by self.old (Some instruction) setup.now)) }
     {
         match instruction {
             Instruction::LoadUpper { rd, imm } => {
                 self.result_in(rd, known(imm));
+                Ok(NOTHING)
             }
             Instruction::AddUpper { rd, imm } => {
                 let value = self.pc.wrapping_add(imm);
                 self.result_in(rd, known(value));
+                Ok(NOTHING)
             }
             Instruction::Jump { rd, imm } => {
                 self.jump_and_link(rd, imm);
+                Ok(NOTHING)
             }
             Instruction::JumpRegister { rd, rs1, imm } => {
                 self.jump_register(rd, rs1, imm)?;
+                Ok(NOTHING)
             }
             Instruction::Branch {
                 comparison,
@@ -106,6 +124,7 @@ impl Guest {
                 imm,
             } => {
                 self.branch(comparison, rs1, rs2, imm)?;
+                Ok(NOTHING)
             }
             Instruction::Load {
                 width,
@@ -114,8 +133,9 @@ impl Guest {
                 rs1,
                 imm,
             } => {
-                used.reads = Some(self.accessed(rs1, imm, width));
+                let range = self.accessed(rs1, imm, width);
                 self.load(width, signed, rd, rs1, imm)?;
+                Ok(Used::reading(range))
             }
             Instruction::Store {
                 width,
@@ -123,8 +143,9 @@ impl Guest {
                 rs2,
                 imm,
             } => {
-                used.writes = Some(self.accessed(rs1, imm, width));
+                let range = self.accessed(rs1, imm, width);
                 self.store(width, rs1, rs2, imm)?;
+                Ok(Used::writing(range))
             }
             Instruction::Immediate {
                 operation,
@@ -134,6 +155,7 @@ impl Guest {
             } => {
                 let bits = computed(operation, self.read_register(rs1), known(imm));
                 self.result_in(rd, bits);
+                Ok(NOTHING)
             }
             Instruction::Registers {
                 operation,
@@ -143,18 +165,18 @@ impl Guest {
             } => {
                 let bits = computed(operation, self.read_register(rs1), self.read_register(rs2));
                 self.result_in(rd, bits);
+                Ok(NOTHING)
             }
             Instruction::Fence => {
                 self.advance();
+                Ok(NOTHING)
             }
-            Instruction::CallEnvironment => {
-                self.call_out(setup, used)?;
-            }
+            Instruction::CallEnvironment => self.call_out(setup),
             Instruction::Breakpoint => {
                 self.stop(Stop::Break);
+                Ok(NOTHING)
             }
         }
-        Ok(())
     }
 
     /// Whether it runs.
@@ -285,17 +307,16 @@ impl Guest {
         setup: &Setup,
         undef: u32,
         instruction: Instruction,
-        used: &mut Used,
-    ) -> Result<(), AllocError>
-        requires undef { undef ≡ fetch_undef (core_of self.old) }
-        requires unused { used.old ≡ used_of nothing }
+    ) -> Result<Used, AllocError>
+        requires { undef ≡ fetch_undef (core_of self.old) }
         ensures does { OnOk result (DoesRound self.old self.new (Some instruction) setup.now) }
-        ensures uses { OnOk result (used.new ≡ used_of (uses_by self.old (Some instruction) setup.now)) }
+        ensures uses { IfOk result (λ used. used ≡ used_of (uses_by self.old (Some instruction) setup.now)) }
     {
         let stack_pointer = self.read_register(Register::new(2));
         self.test_word(undef)?;
-        self.execute(setup, instruction, used)?;
-        self.stack_rule(stack_pointer)
+        let used = self.execute(setup, instruction)?;
+        self.stack_rule(stack_pointer)?;
+        Ok(used)
     }
 
     /// Stops at a word that is no instruction.
@@ -321,58 +342,80 @@ impl Guest {
     }
 
     /// Decodes a word that may be taken, and carries it out.
-    fn round_anew(&mut self, setup: &Setup, word: Bits, used: &mut Used) -> Result<(), AllocError>
-        requires fetched { IsFetched (core_of self.old) (bytes_of self.old) word }
-        requires unused { used.old ≡ used_of nothing }
+    fn round_anew(&mut self, setup: &Setup, word: Bits) -> Result<Used, AllocError>
+        requires { IsFetched (core_of self.old) (bytes_of self.old) word }
         ensures does { OnOk result (DoesRound self.old self.new (row_of word.value) setup.now) }
-        ensures uses { OnOk result (used.new ≡ used_of (uses_by self.old (row_of word.value) setup.now)) }
+        ensures uses { IfOk result (λ used. used ≡ used_of (uses_by self.old (row_of word.value) setup.now)) }
     {
         match self.decode(word) {
-            Some(instruction) => self.round(setup, word.undef, instruction, used),
-            None => self.round_illegal(setup, word.undef),
+            Some(instruction) => self.round(setup, word.undef, instruction),
+            None => {
+                self.round_illegal(setup, word.undef)?;
+                Ok(NOTHING)
+            }
         }
     }
 
-    /// The step where no function of the heap begins at pc, and the word there is to be decoded first, or can't be taken. Says whether
-    /// it was taken.
+    /// The step where no function of the heap begins at pc, and the word there is to be decoded first, or can't be taken.
     #[inline(never)]
     #[tactic(auto, unfolding(crate::specs::Exec::fetched, crate::specs::Exec::uses_at, crate::specs::Exec::intake_at, crate::specs::Exec::effect_at, crate::specs::Exec::touched_at))]
-    fn perform_anew(&mut self, setup: &Setup, used: &mut Used) -> Result<bool, AllocError>
-        requires uncalled { called_here (core_of self.old) setup.now.hooks ≡ None }
-        requires unused { used.old ≡ used_of nothing }
+    fn perform_anew(&mut self, setup: &Setup) -> Result<Touched, AllocError>
+        requires { called_here (core_of self.old) setup.now.hooks ≡ None }
         ensures does { OnOk result (DoesStep self.old self.new setup.now) }
-        ensures touched { IfOk result (λ taken. touched_in used.new (fetch_of taken (core_of self.old).pc) ≡ touched_by self.old setup.now) }
+        ensures touched { IfOk result (λ touched. touched ≡ touched_by self.old setup.now) }
     {
+        let pc = self.pc;
         match self.fetch() {
             None => {
                 self.halt()?;
-                Ok(false)
+                Ok(NOTHING.touched(None))
             }
             Some(word) => {
-                self.round_anew(setup, word, used)?;
-                Ok(true)
+                let used = self.round_anew(setup, word)?;
+                Ok(used.touched_at(pc))
             }
         }
     }
 
-    /// Calls the function of the heap that begins at pc, carries out the word there, or halts; notes which bytes that took or wrote, and
-    /// says whether the word was taken.
+    /// The same.
+    #[inline(always)]
+    fn begin_anew(&mut self, setup: &Setup) -> Result<Touched, AllocError>
+        requires { called_here (core_of self.old) setup.now.hooks ≡ None }
+        ensures does { OnOk result (DoesStep self.old self.new setup.now) }
+        ensures touched { IfOk result (λ touched. touched ≡ touched_by self.old setup.now) }
+    {
+        let touched = self.perform_anew(setup)?;
+        Ok(touched)
+    }
+
+    /// Calls the function of the heap that begins at pc.
     #[inline(always)]
     #[tactic(auto, unfolding(crate::specs::Exec::fetched, crate::specs::Exec::uses_at, crate::specs::Exec::intake_at, crate::specs::Exec::effect_at, crate::specs::Exec::touched_at))]
-    fn perform(&mut self, setup: &Setup, used: &mut Used) -> Result<bool, AllocError>
-        requires { used.old ≡ used_of nothing }
+    fn perform_by_name(&mut self, function: Hook, setup: &Setup) -> Result<Touched, AllocError>
+        requires { called_here (core_of self.old) setup.now.hooks ≡ Some function }
         ensures does { OnOk result (DoesStep self.old self.new setup.now) }
-        ensures touched { IfOk result (λ taken. touched_in used.new (fetch_of taken (core_of self.old).pc) ≡ touched_by self.old setup.now) }
+        ensures touched { IfOk result (λ touched. touched ≡ touched_by self.old setup.now) }
+    {
+        let used = self.call_by_name(function, setup)?;
+        Ok(used.touched(None))
+    }
+
+    /// Calls the function of the heap that begins at pc, carries out the word there, or halts; says which bytes that took or wrote.
+    #[inline(always)]
+    #[tactic(auto, unfolding(crate::specs::Exec::fetched, crate::specs::Exec::uses_at, crate::specs::Exec::intake_at, crate::specs::Exec::effect_at, crate::specs::Exec::touched_at))]
+    fn perform(&mut self, setup: &Setup) -> Result<Touched, AllocError>
+        ensures does { OnOk result (DoesStep self.old self.new setup.now) }
+        ensures touched { IfOk result (λ touched. touched ≡ touched_by self.old setup.now) }
     {
         if let Some(function) = self.called_here(&setup.hooks) {
-            *used = self.call_by_name(function, setup)?;
-            return Ok(false);
+            return self.perform_by_name(function, setup);
         }
+        let pc = self.pc;
         match self.decoded() {
-            None => self.perform_anew(setup, used),
+            None => self.begin_anew(setup),
             Some(instruction) => {
-                self.round(setup, 0, instruction, used)?;
-                Ok(true)
+                let used = self.round(setup, 0, instruction)?;
+                Ok(used.touched_at(pc))
             }
         }
     }
@@ -396,10 +439,8 @@ impl Guest {
     {
         groups_grow();
         self.begin_step();
-        let pc = self.pc;
-        let mut used = NOTHING;
-        let taken = self.perform(setup, &mut used)?;
-        Ok(used.touched(fetch_of(taken, pc)))
+        let touched = self.perform(setup)?;
+        Ok(touched)
     }
 
     /// So many steps; once it is halted they leave it as it is.

@@ -1,9 +1,8 @@
-use Rattle.std.proofs.Common.{◌≡◌, ℕ, ◌-◌, ◌<◌, ◌≤◌, ◌⊎◌, ◌∷◌, [], ◌*◌, ◌/◌, ◌+◌, ◌∙◌, length, arith, rules, sym, ap}
+use Rattle.std.proofs.Common.{◌≡◌, ℕ, ◌-◌, ◌<◌, ◌∷◌, [], ◌*◌, ◌/◌, ◌+◌, ◌∙◌, length, arith, rules, sym, ap}
 use Rattle.std.proofs.Common.{subst, refl, min, vec_len, slice_index_or}
 use Rattle.std.proofs.lemmas.List.{length-append}
 use Rattle.guest_machine.specs.Run.{pre}
 use Rattle.guest_machine.specs.Shows.{Shows}
-use Rattle.checkpoints.specs.Words.{never}
 use Rattle.checkpoints.specs.Entries.{entry_of, below, ranges_of, IsClean}
 use Rattle.checkpoints.specs.FirstUses.{uses_word}
 use Rattle.checkpoints.specs.Trails.{machines_of, meter_of, last_held, table_of, loaded_of, first_use}
@@ -40,7 +39,7 @@ returns-clause-right c start h =
 
 pub returns-clause-clean : goal.returns-clause-clean
 unfolding machines_of last_held table_of
-returns-clause-clean c w few placed =
+returns-clause-clean c =
     let old = c.args.self.now in
     let from = c.last_held-from.result in
     let some : 0 < length old.held.items = search rules in
@@ -48,8 +47,7 @@ returns-clause-clean c w few placed =
     let size : length c.push.new.self.items ≡ length old.held.items + 1 = ap length c.in_ok-push.ensures.items
     ∙ length-append old.held.items (c.in_ok-machine.machine ∷ []) in
     let next : from + 1024 ≡ 1024 * (length c.push.new.self.items - 1) = omega arith in
-    let P : ℕ → Type 0 = λ n. (entry_of c.run_entering.new.uses w < n) ⊎ (never ≤ entry_of c.run_entering.new.uses w) in
-    subst P next (c.in_ok-machine.ensures.clean w few placed)
+    subst (IsClean c.run_entering.new.uses) next c.in_ok-machine.ensures.clean
 
 pub overflow_add-from : goal.overflow_add-from
 unfolding last_held

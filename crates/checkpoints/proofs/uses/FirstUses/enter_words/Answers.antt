@@ -10,6 +10,7 @@ pub loop-done-init : goal.loop-done-init
 loop-done-init c = record {
   within = omega arith;
   ranges = refl;
+  clean = λ h. h;
   entries = λ w few placed. no-word (c.args.span.start / 4) w _ _;
 }
 
@@ -24,6 +25,7 @@ loop-done-preserved c =
     record {
       within = omega arith;
       ranges = c.enter-done.ensures.ranges ∙ c.loop-done.invariant.ranges;
+      clean = λ h. c.enter-done.ensures.clean (c.loop-done.invariant.clean h);
       entries = λ w few placed.
           let P : List Span → Type 0 = λ rs. IsPlaced rs w in
           next-words first done n ((first + done) % 2 ^ 30) w (entry_of c.args.self.now w) (entry_of c.loop-done.self w)
@@ -41,3 +43,6 @@ returns-clause-entries c w few placed =
     let end : c.loop-done.done ≡ words_in span = omega arith in
     c.loop-done.invariant.entries w few placed
     ∙ ap (λ b. cond b y x) (sym (span-words span w c.loop-done.done (omega arith) some few end))
+
+pub returns-clause-clean : goal.returns-clause-clean
+returns-clause-clean c = c.loop-done.invariant.clean

@@ -7,36 +7,30 @@ use Rattle.checkpoints.specs.Words.{IsEntered, never, place_in}
 use Rattle.checkpoints.specs.Entries.{entry_of, ranges_of}
 use Rattle.checkpoints.proofs.WordSteps.{meets-no-other}
 use Rattle.checkpoints.proofs.uses.FirstUses.is_known.Goals as goal
-use Rattle.checkpoints.proofs.uses.FirstUses.is_known.Goals.{then-self-word, else-self-word}
 
 -- a step that isn't below an entry leaves it
 left : (b : Bool) (x step : ℕ) → x ≤ step → x ≡ cond b (min x step) x
 left true x step low = omega arith
 left false x step low = omega arith
 
-pub returns-then-span : goal.returns-then-span
+pub returns-then-self-word : goal.returns-then-self-word
 unfolding entry_of ranges_of
-returns-then-span c last w few placed = elim c.if-self-word.branch [
-  | then-self-word b ↦ (
-      let self = c.args.self.now in
-      let span = c.args.span in
-      let ranges = self.ranges.items in
-      let x = get_or self.steps.items (place_in ranges w) never in
-      let slot = span.start / 4 % 64 in
-      let within : slot < length self.remembered = omega (arith, self.room) in
-      let short : span.len ≤ 4 - span.start % 4 = grind (arith, nat_tests, b.value-is, c.if-span.true) in
-      let is : get_or self.remembered slot never ≡ span.start / 4 =
-      get_or_default self.remembered slot never 0 within ∙ b.if-self-word.true in
-      elim (cases_eq w (span.start / 4)) [
-        | inl same ↦ (
-            let entered = subst (IsEntered ranges self.steps.items) (is ∙ sym same) (self.known slot) few placed in
-            let below = self.early (place_in ranges w) entered in
-            let low : x ≤ c.args.step = grind (arith, nat_tests, last, c.saturating_sub.ensures, below) in
-            left _ x c.args.step low
-            )
-        | inr other ↦
-            sym (ap (λ m. cond m (min x c.args.step) x) (meets-no-other span w (omega arith) few short other))
-      ]
-      )
-  | else-self-word b ↦ absurd (b.if-self-word.false (grind (arith, nat_tests, b.value-is, c.if-span.true)))
-]
+returns-then-self-word c last step clean w few placed =
+    let self = c.args.self.now in
+    let span = c.args.span in
+    let ranges = self.ranges.items in
+    let x = get_or self.steps.items (place_in ranges w) never in
+    let slot = span.start / 4 % 64 in
+    let within : slot < length self.remembered = omega (arith, self.room) in
+    let short : span.len ≤ 4 - span.start % 4 = grind (arith, nat_tests, last) in
+    let is : get_or self.remembered slot never ≡ span.start / 4 =
+    get_or_default self.remembered slot never 0 within ∙ c.if-self-word.true in
+    elim (cases_eq w (span.start / 4)) [
+      | inl same ↦ (
+          let entered = subst (IsEntered ranges self.steps.items) (is ∙ sym same) (self.known slot) few placed in
+          let below = self.early (place_in ranges w) entered in
+          let low : x ≤ step = omega (arith, clean, below) in
+          left _ x step low
+          )
+      | inr other ↦ sym (ap (λ m. cond m (min x step) x) (meets-no-other span w (omega arith) few short other))
+    ]

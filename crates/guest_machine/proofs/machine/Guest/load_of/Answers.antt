@@ -1,4 +1,4 @@
-use Rattle.std.proofs.Common.{◌≡◌, ◌∙◌, false, ap, subst, sym}
+use Rattle.std.proofs.Common.{◌∙◌, false, ap, subst, sym}
 use Rattle.shadow_memory.specs.Shadows.{HasDefined}
 use Rattle.definedness.specs.declared.Bits.{Bits}
 use Rattle.instructions.specs.Widths.{width_len}

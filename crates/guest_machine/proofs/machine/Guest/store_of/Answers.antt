@@ -1,4 +1,4 @@
-use Rattle.std.proofs.Common.{◌≡◌, ◌∙◌, None, false, ap, ap₂, subst, sym}
+use Rattle.std.proofs.Common.{◌≡◌, ◌∙◌, None, false, ap, subst, sym}
 use Rattle.shadow_memory.specs.Shadows.{first_inaccessible}
 use Rattle.definedness.specs.declared.Bits.{Bits}
 use Rattle.instructions.specs.Widths.{width_len}
