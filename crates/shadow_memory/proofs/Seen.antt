@@ -1,6 +1,6 @@
 -- A change of cells, as a change of bytes and as one of shadows.
 use Rattle.std.proofs.Common.{◌≡◌, ℕ, Bool, true, false, refl, ap, sym, ◌∙◌, ◌==◌, ◌≢◌, ◌⊎◌, inl, inr, eq-eqb, ne_eqb}
-use Rattle.std.proofs.Common.{Result, Ok, Err, OnOk, OnErr, List, slice_index, rules, if◌then◌else◌}
+use Rattle.std.proofs.Common.{Result, Ok, Err, IfOk, OnOk, OnErr, List, slice_index, rules, if◌then◌else◌}
 use Rattle.std.proofs.Math.Path.{fun_ext}
 use Rattle.std.proofs.lemmas.Bool.{cases_eq}
 use Rattle.shadow_memory.specs.Cells.{set_at, shadow_in}
@@ -147,6 +147,11 @@ either_way (Err e) h k = k
 pub at_refusal : {T E P : Type 0} (r : Result T E) → P → OnErr r P
 at_refusal (Ok x) p = tt
 at_refusal (Err e) p = p
+
+-- two clauses on a value, if there is one
+pub both-ok : {T E : Type 0} (r : Result T E) (P Q : T → Type 0) → IfOk r P → IfOk r Q → IfOk r (λ x. P x × Q x)
+both-ok (Ok x) P Q p q = (p, q)
+both-ok (Err e) P Q p q = tt
 
 -- a front, seen otherwise
 pub front-seen : (n : ℕ) (P Q : ℕ → Type 0) → ((k : ℕ) → P k → Q k) → SomeFront n P → SomeFront n Q

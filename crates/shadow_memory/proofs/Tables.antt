@@ -1,13 +1,17 @@
 -- A table of slots of so many places each, of which one slot changes.
 use Rattle.std.proofs.Common.{◌≡◌, ◌≢◌, ℕ, Bool, false, List, length, get_or, set, refl, ap, sym, ◌∙◌, ◌+◌, ◌-◌, ◌/◌}
-use Rattle.std.proofs.Common.{◌%◌, ◌<◌, ◌≤◌, inl, inr, cond, arith}
+use Rattle.std.proofs.Common.{map, ◌%◌, ◌<◌, ◌≤◌, inl, inr, cond, arith}
 use Rattle.std.proofs.Math.Path.{fun_ext}
 use Rattle.std.proofs.lemmas.Bool.{cases_eq}
 use Rattle.std.proofs.lemmas.Bool.Decides.{nat_tests}
 use Rattle.std.proofs.lemmas.Grind.{get_or-set_at}
-use Rattle.std.proofs.lemmas.List.{get_or_default, get_or-set_other}
+use Rattle.std.proofs.lemmas.List.{get_or_default, get_or-map, get_or-set_other, length-map, map-set}
 use Rattle.shadow_memory.specs.Places.{AgreeInDirectory, changed_from, is_between}
+use Rattle.shadow_memory.specs.Marks.{blank}
+use Rattle.shadow_memory.specs.Shelves.{cells_on, shelf_of}
 use Rattle.shadow_memory.specs.declared.cells.Cell.{Cell}
+use Rattle.shadow_memory.specs.declared.cells.RangeKind.TheVariants.{NoAccess}
+use Rattle.shadow_memory.specs.declared.shelves.Shelf.{Shelf}
 
 choose-same : (b c : Bool) (i j : ℕ) (x y : Cell) (change : ℕ → Cell → Cell) → b ≡ c → i ≡ j → x ≡ y
     → cond b (change i x) x ≡ cond c (change j y) y
@@ -82,3 +86,59 @@ directory-kept shown d xs old made at within there is =
     (λ k away. get_or-set_other xs i k made d away)
     (λ k low. ap (λ s. shown s k) (get_or-set_at xs i i made d refl within) ∙ is k low
     ∙ ap (λ s. shown s k) (there ∙ get_or_default xs i old d within))
+
+same-in-shelf : (at n a : ℕ) → at % 134217728 + n ≤ 134217728 → a / 134217728 ≡ at / 134217728
+    → is_between (at % 134217728) (at % 134217728 + n) (a % 134217728) ≡ is_between at (at + n) a
+same-in-shelf at n a fits here = grind (arith, nat_tests)
+
+away-from-shelf : (at n a : ℕ) → at % 134217728 + n ≤ 134217728 → a / 134217728 ≢ at / 134217728
+    → is_between at (at + n) a ≡ false
+away-from-shelf at n a fits away = grind (arith, nat_tests)
+
+other-shelf : (xs : List Shelf) (i k : ℕ) (made : Shelf) → k ≢ i → shelf_of (set xs i made) k ≡ shelf_of xs k
+other-shelf xs i k made away =
+    ap (λ (cells : List (ℕ → Cell)). get_or cells k (λ at. blank NoAccess)) (map-set cells_on xs i made)
+    ∙ get_or-set_other (map cells_on xs) i k (cells_on made) (λ at. blank NoAccess) away
+
+made-shelf : (xs : List Shelf) (i : ℕ) (made : Shelf) → i < length xs → shelf_of (set xs i made) i ≡ cells_on made
+made-shelf xs i made within =
+    let within : i < length (map cells_on xs) = rw (length-map xs cells_on) within in
+    ap (λ (cells : List (ℕ → Cell)). get_or cells i (λ at. blank NoAccess)) (map-set cells_on xs i made)
+    ∙ get_or-set_at (map cells_on xs) i i (cells_on made) (λ at. blank NoAccess) refl within
+
+-- the cells of a shelf that is kept
+shelf-is : (xs : List Shelf) (i : ℕ) (x : Shelf) → i < length xs → x ≡ get_or xs i x → shelf_of xs i ≡ cells_on x
+shelf-is xs i x within there =
+    get_or-map cells_on xs i x (λ at. blank NoAccess) within ∙ ap cells_on (sym there)
+
+pub seen-there : (xs : List Shelf) (x : Shelf) (at a : ℕ) → at / 134217728 < length xs
+    → x ≡ get_or xs (at / 134217728) x → a / 134217728 ≡ at / 134217728
+    → shelf_of xs (a / 134217728) (a % 134217728) ≡ cells_on x (a % 134217728)
+seen-there xs x at a within there here =
+    ap (λ k. shelf_of xs k (a % 134217728)) here
+    ∙ ap (λ (f : ℕ → Cell). f (a % 134217728)) (shelf-is xs (at / 134217728) x within there)
+
+pub shelf-changed : (xs : List Shelf) (old made : Shelf) (at n : ℕ) (change : ℕ → Cell → Cell)
+    → at / 134217728 < length xs → at % 134217728 + n ≤ 134217728 → old ≡ get_or xs (at / 134217728) old
+    → cells_on made ≡ changed_from (cells_on old) (at % 134217728) n change
+    → (λ a. shelf_of (set xs (at / 134217728) made) (a / 134217728) (a % 134217728))
+    ≡ changed_from (λ a. shelf_of xs (a / 134217728) (a % 134217728)) at n change
+shelf-changed xs old made at n change within fits there is =
+    let i = at / 134217728 in
+    slot-changed (λ (f : ℕ → Cell). f) (shelf_of xs) (shelf_of (set xs i made)) 134217728 at (λ a. omega arith)
+    (λ k away. other-shelf xs i k made away) n
+    change (λ a here. same-in-shelf at n a fits here) (λ a here. omega arith)
+    (λ a away. away-from-shelf at n a fits away)
+    (λ k low. ap (λ (f : ℕ → Cell). f k) (made-shelf xs i made within ∙ is)
+    ∙ ap (λ (f : ℕ → Cell). changed_from f (at % 134217728) n change k) (sym (shelf-is xs i old within there)))
+
+pub shelf-kept : (xs : List Shelf) (old made : Shelf) (at : ℕ)
+    → at / 134217728 < length xs → old ≡ get_or xs (at / 134217728) old → cells_on made ≡ cells_on old
+    → ◌≡◌ {A = ℕ → Cell} (λ a. shelf_of (set xs (at / 134217728) made) (a / 134217728) (a % 134217728))
+    (λ a. shelf_of xs (a / 134217728) (a % 134217728))
+shelf-kept xs old made at within there is =
+    let i = at / 134217728 in
+    slot-kept (λ (f : ℕ → Cell). f) (shelf_of xs) (shelf_of (set xs i made)) 134217728 at (λ a. omega arith)
+    (λ k away. other-shelf xs i k made away)
+    (λ k low. ap (λ (f : ℕ → Cell). f k)
+    (made-shelf xs i made within ∙ is ∙ sym (shelf-is xs i old within there)))

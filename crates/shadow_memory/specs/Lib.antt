@@ -9,6 +9,7 @@ pub mod Codes
 pub mod Pages
 pub mod Edits
 pub mod Directories
+pub mod Shelves
 pub mod Views
 pub mod Memories
 pub mod Changes

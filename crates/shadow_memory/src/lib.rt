@@ -51,21 +51,23 @@
 //!   `Cells`: `shadow_in`, `set_at`, `IsClean`.
 //!
 //! For this crate's own proofs: `Marks` (what a page keeps of a byte), `Edits` (one change of cells in a page), `Loads` (what a load
-//! takes of cells), `Directories`, `Pages`, `Views`, `Codes` and `Parts` (what each level of the table holds), `Places`, `Firsts`.
+//! takes of cells), `Shelves`, `Directories`, `Pages`, `Views`, `Codes` and `Parts` (what each level of the table holds), `Places`,
+//! `Firsts`.
 //!
 //! # How it is kept
 //!
-//! Up to 1,024 directories of 1,024 pages of 4,096 bytes, each directory and page behind an `Rc`. The table reaches as far as the
-//! last directory that was changed, and one that was not changed is blank; a directory keeps its pages from the first to the last
-//! that was changed, so that a copy of it is no longer than what a program uses there. A page of zeros of one kind is blank too:
-//! it has no bytes at all. The marks of a page are of one kind, or two bits a byte with an ordered map for the bytes that are
-//! defined in part (as in N. Nethercote and J. Seward, "How to shadow every byte of memory used by a program", VEE 2007); a range
-//! that makes them one kind again is found by a scan. Every change goes through `Memory::change`, which changes cells of one page,
-//! all of them or none, in a page of its own, or through `Memory::change_some`, which changes the bytes of a range alike: those of
-//! blank pages one after another at once. `Rc::make_mut` copies a directory or a page that others share first. Only where no
-//! other memory has the page, and its bytes there are accessible and defined, `Memory::put` stores at once. A load
-//! that lies in one page looks it up once, and so does a store that `Memory::put` makes; any other store of defined bits in one page
-//! looks it up twice more: to find what is inaccessible, and to write.
+//! Up to 32 shelves of 32 directories of 1,024 pages of 4,096 bytes, each directory and page behind an `Rc`. The table reaches as
+//! far as the last shelf that was changed, and a shelf as far as the last directory of it that was; what was not changed is blank.
+//! So to share a memory is to copy short lists, though a stack lies high: a shelf in which nothing was changed has an empty one. A
+//! directory keeps its pages from the first to the last that was changed, so that a copy of it is no longer than what a program
+//! uses there. A page of zeros of one kind is blank too: it has no bytes at all. The marks of a page are of one kind, or two bits a
+//! byte with an ordered map for the bytes that are defined in part (as in N. Nethercote and J. Seward, "How to shadow every byte of
+//! memory used by a program", VEE 2007); a range that makes them one kind again is found by a scan. Every change goes through
+//! `Memory::change`, which changes cells of one page, all of them or none, in a page of its own, or through `Memory::change_some`,
+//! which changes the bytes of a range alike: those of blank pages one after another at once. `Rc::make_mut` copies a directory or a
+//! page that others share first. Only where no other memory has the page, and its bytes there are accessible and defined,
+//! `Memory::put` stores at once. A load that lies in one page looks it up once, and so does a store that `Memory::put` makes; any
+//! other store of defined bits in one page looks it up twice more: to find what is inaccessible, and to write.
 //!
 //! A copy looks for zeros of one kind first, over as many pages as there are: they change the target as a range alike, so that
 //! blank pages stay blank, and a held page that becomes zeros of one kind becomes blank. Other bytes go from one page to one page,
@@ -79,6 +81,7 @@ mod cells;
 mod codes;
 mod copies;
 mod directories;
+mod directory_slots;
 mod edits;
 pub mod laws;
 mod marks;
@@ -86,6 +89,7 @@ mod memory;
 mod pages;
 mod ranges;
 mod searches;
+mod shelves;
 mod slices;
 mod slots;
 mod views;

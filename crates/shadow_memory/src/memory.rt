@@ -5,157 +5,27 @@ ghost use Rattle.shadow_memory.specs.Shadows.{is_bad, shadow_of};
 ghost use Rattle.shadow_memory.specs.Directories.{cells_at};
 ghost use Rattle.shadow_memory.specs.Edits.{change_of, count_of, each_of, Fits};
 ghost use Rattle.shadow_memory.specs.Cells.{shadow_in, IsClean};
-ghost use Rattle.shadow_memory.specs.Places.{changed_from, page_len, AgreeInDirectory};
+ghost use Rattle.shadow_memory.specs.Places.{changed_from, page_len};
 ghost use Rattle.shadow_memory.specs.Views.{cells_seen};
-ghost use Rattle.shadow_memory.specs.Memories.{bytes_in, shadows_in, cells_of, cells_below};
+ghost use Rattle.shadow_memory.specs.Memories.{bytes_in, shadows_in, cells_of};
 
 use crate::cells::{Cell, RangeKind};
-use crate::directories::Directory;
 use crate::edits::{Each, PageEdit};
 use crate::pages::PAGE;
+use crate::shelves::{DIRECTORIES, SHELF, Shelf};
 use crate::slots::PageSlot;
 use crate::views::View;
 use std::alloc::{AllocError, Global};
-use std::rc::Rc;
-
-// How many bytes a directory has.
-const DIRECTORY: usize = 4194304;
-
-/// 1,024 pages, which may be blank, or shared.
-#[derive(Drop)]
-pub(crate) enum DirectorySlot {
-    /// Inaccessible zeros.
-    Blank,
-    /// Pages, which other memories may hold too.
-    Held(Rc<Directory>),
-}
 
 /// A byte for each of 2^32 addresses, and what is known of it.
 #[derive(Drop)]
 pub struct Memory {
     // Those from its end on are blank.
-    directories: Vec<DirectorySlot>,
+    shelves: Vec<Shelf>,
     alloc: Global,
 }
 
-#[tactic(auto, unfolding(crate::specs::Memories::cells_below, crate::specs::Views::cells_seen, crate::specs::Directories::cells_at))]
-impl DirectorySlot {
-    // The page of a place, to read.
-    #[inline(always)]
-    fn view(&self, at: usize) -> View<'_>
-        requires { at < 4194304 }
-        ensures { (a : ℕ) → a / page_len ≡ at / page_len → a < 4194304 → cells_below self.now a ≡ cells_seen result (a % page_len) }
-    {
-        match self {
-            DirectorySlot::Blank => View::Blank(RangeKind::NoAccess),
-            DirectorySlot::Held(directory) => directory.view(at),
-        }
-    }
-
-    // The page of a place, which the one who asks holds too.
-    fn slot(&self, at: usize) -> Result<PageSlot, AllocError>
-        requires { at < 4194304 }
-        ensures { IfOk result (λ slot. (a : ℕ) → a / page_len ≡ at / page_len → a < 4194304 → cells_below self.now a ≡ cells_at slot (a % page_len)) }
-    {
-        match self {
-            DirectorySlot::Blank => Ok(PageSlot::Blank(RangeKind::NoAccess)),
-            DirectorySlot::Held(directory) => directory.slot(at),
-        }
-    }
-
-    // Is it blank?
-    fn has_no_word(&self) -> bool
-        ensures { IsTrue result → (k : ℕ) → is_bad true (shadow_in (cells_below self.now k)) ≡ true }
-    {
-        match self {
-            DirectorySlot::Blank => true,
-            DirectorySlot::Held(_) => false,
-        }
-    }
-
-    // Stores bytes in one page, if it and the directory are its own and what is there is all accessible.
-    #[inline(always)]
-    fn put(&mut self, at: usize, bytes: &[u8]) -> bool
-        requires within { at < 4194304 }
-        requires one_page { at % page_len + length bytes.now ≤ page_len }
-        ensures done { IsTrue result → AgreeInDirectory (cells_below self.new)
-            (changed_from (cells_below self.old) at (length bytes.now) (received (slice_index bytes.now))) }
-        ensures whole { IsTrue result → (k : ℕ) → at ≤ k → k < at + length bytes.now → (cells_below self.old k).accessible ≡ true }
-        ensures kept { IsFalse result → cells_below self.new ≡ cells_below self.old }
-    {
-        if let DirectorySlot::Held(shared) = self
-            && let Some(own) = Rc::get_mut(shared)
-        {
-            return own.put(at, bytes);
-        }
-        false
-    }
-
-    // Changes cells of one page, in a directory of its own.
-    fn change(&mut self, alloc: Global, at: usize, edit: &PageEdit<'_>) -> Result<(), AllocError>
-        requires within { at < 4194304 }
-        requires one_page { at % page_len + count_of edit.now ≤ page_len }
-        requires fits { Fits edit.now }
-        ensures ok { OnOk result (AgreeInDirectory (cells_below self.new) (changed_from (cells_below self.old) at (count_of edit.now) (change_of edit.now))) }
-        ensures err { OnErr result (AgreeInDirectory (cells_below self.new) (cells_below self.old)) }
-    {
-        match self {
-            DirectorySlot::Held(shared) => {
-                let own = Rc::make_mut(shared)?;
-                own.change(alloc, at, edit)
-            }
-            DirectorySlot::Blank => {
-                let mut directory = Directory::new(alloc);
-                directory.change(alloc, at, edit)?;
-                *self = DirectorySlot::Held(Rc::new(alloc, directory)?);
-                Ok(())
-            }
-        }
-    }
-
-    // Changes bytes alike from a place on, at most so many, in a directory of its own. Answers how many.
-    fn change_some(
-        &mut self,
-        alloc: Global,
-        at: usize,
-        most: usize,
-        each: Each,
-    ) -> Result<usize, AllocError>
-        requires some { 0 < most }
-        requires within { at + most ≤ 4194304 }
-        ensures some { IfOk result (λ n. 0 < n) }
-        ensures within { IfOk result (λ n. n ≤ most) }
-        ensures ok { IfOk result (λ n. AgreeInDirectory (cells_below self.new) (changed_from (cells_below self.old) at n (λ i cell. each_of each cell))) }
-        ensures err { OnErr result (AgreeInDirectory (cells_below self.new) (cells_below self.old)) }
-    {
-        match self {
-            DirectorySlot::Held(shared) => {
-                let own = Rc::make_mut(shared)?;
-                own.change_some(alloc, at, most, each)
-            }
-            DirectorySlot::Blank => {
-                let mut directory = Directory::new(alloc);
-                let count = directory.change_some(alloc, at, most, each)?;
-                *self = DirectorySlot::Held(Rc::new(alloc, directory)?);
-                Ok(count)
-            }
-        }
-    }
-}
-
-#[tactic(auto, unfolding(crate::specs::Memories::cells_below))]
-impl Clone for DirectorySlot {
-    ghost is_clone = { λ slot copy. cells_below copy ≡ cells_below slot };
-
-    fn clone(&self) -> Result<DirectorySlot, AllocError> {
-        match self {
-            DirectorySlot::Blank => Ok(DirectorySlot::Blank),
-            DirectorySlot::Held(directory) => Ok(DirectorySlot::Held(directory.clone()?)),
-        }
-    }
-}
-
-#[tactic(auto, unfolding(crate::specs::Memories::cells_of, crate::specs::Memories::cells_below, crate::specs::Views::cells_seen, crate::specs::Directories::cells_at, crate::specs::Memories::bytes_in, crate::specs::Memories::shadows_in))]
+#[tactic(auto, unfolding(crate::specs::Memories::cells_of, crate::specs::Views::cells_seen, crate::specs::Directories::cells_at, crate::specs::Memories::bytes_in, crate::specs::Memories::shadows_in))]
 impl Memory {
     /// Every byte is 0 and inaccessible.
     pub fn new(alloc: Global) -> Self
@@ -163,7 +33,7 @@ impl Memory {
         ensures shadows { shadows_in result ≡ (λ a. shadow_of RangeKind.NoAccess) }
     {
         Memory {
-            directories: Vec::new(alloc),
+            shelves: Vec::new(alloc),
             alloc,
         }
     }
@@ -190,8 +60,8 @@ impl Memory {
         ensures { (a : ℕ) → a / page_len ≡ addr / page_len → cells_of self.now a ≡ cells_seen result (a % page_len) }
     {
         let at = addr as usize;
-        if at / DIRECTORY < self.directories.len() {
-            self.directories[at / DIRECTORY].view(at % DIRECTORY)
+        if at / SHELF < self.shelves.len() {
+            self.shelves[at / SHELF].view(at % SHELF)
         } else {
             View::Blank(RangeKind::NoAccess)
         }
@@ -202,8 +72,8 @@ impl Memory {
         ensures { IfOk result (λ slot. (a : ℕ) → a / page_len ≡ addr / page_len → cells_of self.now a ≡ cells_at slot (a % page_len)) }
     {
         let at = addr as usize;
-        if at / DIRECTORY < self.directories.len() {
-            self.directories[at / DIRECTORY].slot(at % DIRECTORY)
+        if at / SHELF < self.shelves.len() {
+            self.shelves[at / SHELF].slot(at % SHELF)
         } else {
             Ok(PageSlot::Blank(RangeKind::NoAccess))
         }
@@ -214,21 +84,22 @@ impl Memory {
         ensures { IsTrue result → (a : ℕ) → a / 4194304 ≡ number → is_bad true (shadows_in self.now a) ≡ true }
     {
         let number = number as usize;
-        if number < self.directories.len() {
-            self.directories[number].has_no_word()
+        let shelf = number / DIRECTORIES;
+        if shelf < self.shelves.len() {
+            self.shelves[shelf].has_no_word(number % DIRECTORIES)
         } else {
             true
         }
     }
 
-    // Makes room for a directory, by its number.
+    // Makes room for a shelf, by its number.
     fn grow(&mut self, number: usize) -> Result<(), AllocError>
-        requires { number < 1024 }
+        requires { number < 32 }
         ensures same { cells_of self.new ≡ cells_of self.old }
-        ensures room { OnOk result (number < vec_len self.new.directories) }
+        ensures room { OnOk result (number < vec_len self.new.shelves) }
     {
-        for _i in self.directories.len()..number + 1 {
-            self.directories.push(DirectorySlot::Blank)?;
+        for _i in self.shelves.len()..number + 1 {
+            self.shelves.push(Shelf::new(self.alloc))?;
         }
         Ok(())
     }
@@ -243,8 +114,8 @@ impl Memory {
         ensures kept { IsFalse result → cells_of self.new ≡ cells_of self.old }
     {
         let at = addr as usize;
-        let number = at / DIRECTORY;
-        number < self.directories.len() && self.directories[number].put(at % DIRECTORY, bytes)
+        let number = at / SHELF;
+        number < self.shelves.len() && self.shelves[number].put(at % SHELF, bytes)
     }
 
     /// Changes cells of one page, all of them or none.
@@ -255,8 +126,8 @@ impl Memory {
         ensures err { OnErr result (cells_of self.new ≡ cells_of self.old) }
     {
         let at = addr as usize;
-        self.grow(at / DIRECTORY)?;
-        self.directories[at / DIRECTORY].change(self.alloc, at % DIRECTORY, edit)
+        self.grow(at / SHELF)?;
+        self.shelves[at / SHELF].change(self.alloc, at % SHELF, edit)
     }
 
     /// Changes bytes alike from an address on, at least one and at most so many, all of them or none. Answers how many.
@@ -273,11 +144,11 @@ impl Memory {
         ensures ok { IfOk result (λ n. cells_of self.new ≡ changed_from (cells_of self.old) addr n (λ i cell. each_of each cell)) }
         ensures err { OnErr result (cells_of self.new ≡ cells_of self.old) }
     {
-        let number = addr as usize / DIRECTORY;
-        let at = addr as usize % DIRECTORY;
-        let most = (most as usize).min(DIRECTORY - at);
+        let number = addr as usize / SHELF;
+        let at = addr as usize % SHELF;
+        let most = (most as usize).min(SHELF - at);
         self.grow(number)?;
-        let count = self.directories[number].change_some(self.alloc, at, most, each)?;
+        let count = self.shelves[number].change_some(self.alloc, at, most, each)?;
         Ok(count as u32)
     }
 
@@ -286,9 +157,9 @@ impl Memory {
         ensures bytes { IfOk result (λ copy. bytes_in copy ≡ bytes_in self.now) }
         ensures shadows { IfOk result (λ copy. shadows_in copy ≡ shadows_in self.now) }
     {
-        let directories = self.directories.clone()?;
+        let shelves = self.shelves.clone()?;
         Ok(Memory {
-            directories,
+            shelves,
             alloc: self.alloc,
         })
     }

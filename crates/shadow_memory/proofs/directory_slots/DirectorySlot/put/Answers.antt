@@ -1,7 +1,7 @@
 use Rattle.std.proofs.Common.{◌∙◌, ap, sym}
 use Rattle.shadow_memory.specs.Directories.{cells_under}
-use Rattle.shadow_memory.specs.Memories.{cells_below}
-use Rattle.shadow_memory.proofs.memory.DirectorySlot.put.Goals as goal
+use Rattle.shadow_memory.specs.Shelves.{cells_below}
+use Rattle.shadow_memory.proofs.directory_slots.DirectorySlot.put.Goals as goal
 
 pub returns-clause-whole : goal.returns-clause-whole
 unfolding cells_below

@@ -1,0 +1,152 @@
+//! A directory that may be blank, or shared.
+ghost use Rattle.std.specs.Prelude.{◌≡◌, ℕ, ◌+◌, ◌/◌, ◌%◌, ◌<◌, ◌≤◌, true, IfOk, IsTrue, IsFalse, OnOk, OnErr, length, slice_index};
+ghost use Rattle.shadow_memory.specs.Changes.{received};
+ghost use Rattle.shadow_memory.specs.Shadows.{is_bad};
+ghost use Rattle.shadow_memory.specs.Directories.{cells_at};
+ghost use Rattle.shadow_memory.specs.Edits.{change_of, count_of, each_of, Fits};
+ghost use Rattle.shadow_memory.specs.Cells.{shadow_in};
+ghost use Rattle.shadow_memory.specs.Places.{changed_from, page_len, AgreeInDirectory};
+ghost use Rattle.shadow_memory.specs.Views.{cells_seen};
+ghost use Rattle.shadow_memory.specs.Shelves.{cells_below};
+
+use crate::cells::RangeKind;
+use crate::directories::Directory;
+use crate::edits::{Each, PageEdit};
+use crate::slots::PageSlot;
+use crate::views::View;
+use std::alloc::{AllocError, Global};
+use std::rc::Rc;
+
+/// How many bytes a directory has.
+pub(crate) const DIRECTORY: usize = 4194304;
+
+/// 1,024 pages, which may be blank, or shared.
+#[derive(Drop)]
+pub(crate) enum DirectorySlot {
+    /// Inaccessible zeros.
+    Blank,
+    /// Pages, which other memories may hold too.
+    Held(Rc<Directory>),
+}
+
+#[tactic(auto, unfolding(crate::specs::Shelves::cells_below, crate::specs::Views::cells_seen, crate::specs::Directories::cells_at))]
+impl DirectorySlot {
+    /// The page of a place, to read.
+    #[inline(always)]
+    pub(crate) fn view(&self, at: usize) -> View<'_>
+        requires { at < 4194304 }
+        ensures { (a : ℕ) → a / page_len ≡ at / page_len → a < 4194304 → cells_below self.now a ≡ cells_seen result (a % page_len) }
+    {
+        match self {
+            DirectorySlot::Blank => View::Blank(RangeKind::NoAccess),
+            DirectorySlot::Held(directory) => directory.view(at),
+        }
+    }
+
+    /// The page of a place, which the one who asks holds too.
+    pub(crate) fn slot(&self, at: usize) -> Result<PageSlot, AllocError>
+        requires { at < 4194304 }
+        ensures { IfOk result (λ slot. (a : ℕ) → a / page_len ≡ at / page_len → a < 4194304 → cells_below self.now a ≡ cells_at slot (a % page_len)) }
+    {
+        match self {
+            DirectorySlot::Blank => Ok(PageSlot::Blank(RangeKind::NoAccess)),
+            DirectorySlot::Held(directory) => directory.slot(at),
+        }
+    }
+
+    /// Is it blank?
+    pub(crate) fn has_no_word(&self) -> bool
+        ensures { IsTrue result → (k : ℕ) → is_bad true (shadow_in (cells_below self.now k)) ≡ true }
+    {
+        match self {
+            DirectorySlot::Blank => true,
+            DirectorySlot::Held(_) => false,
+        }
+    }
+
+    /// Stores bytes in one page, if it and the directory are its own and what is there is all accessible.
+    #[inline(always)]
+    pub(crate) fn put(&mut self, at: usize, bytes: &[u8]) -> bool
+        requires within { at < 4194304 }
+        requires one_page { at % page_len + length bytes.now ≤ page_len }
+        ensures done { IsTrue result → AgreeInDirectory (cells_below self.new)
+            (changed_from (cells_below self.old) at (length bytes.now) (received (slice_index bytes.now))) }
+        ensures whole { IsTrue result → (k : ℕ) → at ≤ k → k < at + length bytes.now → (cells_below self.old k).accessible ≡ true }
+        ensures kept { IsFalse result → cells_below self.new ≡ cells_below self.old }
+    {
+        if let DirectorySlot::Held(shared) = self
+            && let Some(own) = Rc::get_mut(shared)
+        {
+            return own.put(at, bytes);
+        }
+        false
+    }
+
+    /// Changes cells of one page, in a directory of its own.
+    pub(crate) fn change(
+        &mut self,
+        alloc: Global,
+        at: usize,
+        edit: &PageEdit<'_>,
+    ) -> Result<(), AllocError>
+        requires within { at < 4194304 }
+        requires one_page { at % page_len + count_of edit.now ≤ page_len }
+        requires fits { Fits edit.now }
+        ensures ok { OnOk result (AgreeInDirectory (cells_below self.new) (changed_from (cells_below self.old) at (count_of edit.now) (change_of edit.now))) }
+        ensures err { OnErr result (AgreeInDirectory (cells_below self.new) (cells_below self.old)) }
+    {
+        match self {
+            DirectorySlot::Held(shared) => {
+                let own = Rc::make_mut(shared)?;
+                own.change(alloc, at, edit)
+            }
+            DirectorySlot::Blank => {
+                let mut directory = Directory::new(alloc);
+                directory.change(alloc, at, edit)?;
+                *self = DirectorySlot::Held(Rc::new(alloc, directory)?);
+                Ok(())
+            }
+        }
+    }
+
+    /// Changes bytes alike from a place on, at most so many, in a directory of its own. Answers how many.
+    pub(crate) fn change_some(
+        &mut self,
+        alloc: Global,
+        at: usize,
+        most: usize,
+        each: Each,
+    ) -> Result<usize, AllocError>
+        requires some { 0 < most }
+        requires within { at + most ≤ 4194304 }
+        ensures some { IfOk result (λ n. 0 < n) }
+        ensures within { IfOk result (λ n. n ≤ most) }
+        ensures ok { IfOk result (λ n. AgreeInDirectory (cells_below self.new) (changed_from (cells_below self.old) at n (λ i cell. each_of each cell))) }
+        ensures err { OnErr result (AgreeInDirectory (cells_below self.new) (cells_below self.old)) }
+    {
+        match self {
+            DirectorySlot::Held(shared) => {
+                let own = Rc::make_mut(shared)?;
+                own.change_some(alloc, at, most, each)
+            }
+            DirectorySlot::Blank => {
+                let mut directory = Directory::new(alloc);
+                let count = directory.change_some(alloc, at, most, each)?;
+                *self = DirectorySlot::Held(Rc::new(alloc, directory)?);
+                Ok(count)
+            }
+        }
+    }
+}
+
+#[tactic(auto, unfolding(crate::specs::Shelves::cells_below))]
+impl Clone for DirectorySlot {
+    ghost is_clone = { λ slot copy. cells_below copy ≡ cells_below slot };
+
+    fn clone(&self) -> Result<DirectorySlot, AllocError> {
+        match self {
+            DirectorySlot::Blank => Ok(DirectorySlot::Blank),
+            DirectorySlot::Held(directory) => Ok(DirectorySlot::Held(directory.clone()?)),
+        }
+    }
+}

@@ -1,0 +1,160 @@
+//! Directories in a row.
+ghost use Rattle.std.specs.Prelude.{◌≡◌, ℕ, ◌+◌, ◌/◌, ◌%◌, ◌<◌, ◌≤◌, true, IfOk, IsTrue, IsFalse, OnOk, OnErr, length, slice_index, vec_len};
+
+use crate::cells::RangeKind;
+use crate::directory_slots::{DIRECTORY, DirectorySlot};
+use crate::edits::{Each, PageEdit};
+use crate::slots::PageSlot;
+use crate::views::View;
+use std::alloc::{AllocError, Global};
+
+/// How many directories a shelf has.
+pub(crate) const DIRECTORIES: usize = 32;
+
+/// How many bytes a shelf has.
+pub(crate) const SHELF: usize = 134217728;
+
+/// 32 directories in a row.
+#[derive(Drop)]
+pub(crate) struct Shelf {
+    // Those from its end on are blank.
+    directories: Vec<DirectorySlot>,
+    ghost within: { vec_len directories ≤ 32 },
+}
+
+#[tactic(auto, unfolding(crate::specs::Shelves::cells_on, crate::specs::Shelves::cells_below, crate::specs::Views::cells_seen, crate::specs::Directories::cells_at))]
+impl Shelf {
+    ghost use Rattle.shadow_memory.specs.Shadows.{is_bad};
+    ghost use Rattle.shadow_memory.specs.Directories.{cells_at};
+    ghost use Rattle.shadow_memory.specs.Edits.{change_of, count_of, each_of, Fits};
+    ghost use Rattle.shadow_memory.specs.Cells.{shadow_in};
+    ghost use Rattle.shadow_memory.specs.Marks.{blank};
+    ghost use Rattle.shadow_memory.specs.Places.{changed_from, page_len};
+    ghost use Rattle.shadow_memory.specs.Views.{cells_seen};
+    ghost use Rattle.shadow_memory.specs.Shelves.{cells_on};
+    ghost use Rattle.shadow_memory.specs.Changes.{received};
+
+    /// Inaccessible zeros.
+    pub(crate) fn new(alloc: Global) -> Shelf
+        ensures { cells_on result ≡ (λ a. blank RangeKind.NoAccess) }
+    {
+        Shelf {
+            directories: Vec::new(alloc),
+        }
+    }
+
+    /// The page of a place, to read.
+    #[inline(always)]
+    pub(crate) fn view(&self, at: usize) -> View<'_>
+        requires { at < 134217728 }
+        ensures { (a : ℕ) → a / page_len ≡ at / page_len → cells_on self.now a ≡ cells_seen result (a % page_len) }
+    {
+        let number = at / DIRECTORY;
+        if number < self.directories.len() {
+            self.directories[number].view(at % DIRECTORY)
+        } else {
+            View::Blank(RangeKind::NoAccess)
+        }
+    }
+
+    /// The page of a place, which the one who asks holds too.
+    pub(crate) fn slot(&self, at: usize) -> Result<PageSlot, AllocError>
+        requires { at < 134217728 }
+        ensures { IfOk result (λ slot. (a : ℕ) → a / page_len ≡ at / page_len → cells_on self.now a ≡ cells_at slot (a % page_len)) }
+    {
+        let number = at / DIRECTORY;
+        if number < self.directories.len() {
+            self.directories[number].slot(at % DIRECTORY)
+        } else {
+            Ok(PageSlot::Blank(RangeKind::NoAccess))
+        }
+    }
+
+    /// Is a directory, by its number, blank?
+    pub(crate) fn has_no_word(&self, number: usize) -> bool
+        ensures { IsTrue result → (a : ℕ) → a / 4194304 ≡ number → is_bad true (shadow_in (cells_on self.now a)) ≡ true }
+    {
+        if number < self.directories.len() {
+            self.directories[number].has_no_word()
+        } else {
+            true
+        }
+    }
+
+    // Makes room for a directory, by its number.
+    fn grow(&mut self, number: usize) -> Result<(), AllocError>
+        requires { number < 32 }
+        ensures same { cells_on self.new ≡ cells_on self.old }
+        ensures room { OnOk result (number < vec_len self.new.directories) }
+    {
+        for _i in self.directories.len()..number + 1 {
+            self.directories.push(DirectorySlot::Blank)?;
+        }
+        Ok(())
+    }
+
+    /// Stores bytes in one page, if it and its directory are its own and what is there is all accessible. Says whether it did.
+    #[inline(always)]
+    pub(crate) fn put(&mut self, at: usize, bytes: &[u8]) -> bool
+        requires within { at < 134217728 }
+        requires one_page { at % page_len + length bytes.now ≤ page_len }
+        ensures done { IsTrue result → cells_on self.new ≡ changed_from (cells_on self.old) at (length bytes.now) (received (slice_index bytes.now)) }
+        ensures whole { IsTrue result → (k : ℕ) → at ≤ k → k < at + length bytes.now → (cells_on self.old k).accessible ≡ true }
+        ensures kept { IsFalse result → cells_on self.new ≡ cells_on self.old }
+    {
+        let number = at / DIRECTORY;
+        number < self.directories.len() && self.directories[number].put(at % DIRECTORY, bytes)
+    }
+
+    /// Changes cells of one page, all of them or none.
+    pub(crate) fn change(
+        &mut self,
+        alloc: Global,
+        at: usize,
+        edit: &PageEdit<'_>,
+    ) -> Result<(), AllocError>
+        requires within { at < 134217728 }
+        requires one_page { at % page_len + count_of edit.now ≤ page_len }
+        requires fits { Fits edit.now }
+        ensures ok { OnOk result (cells_on self.new ≡ changed_from (cells_on self.old) at (count_of edit.now) (change_of edit.now)) }
+        ensures err { OnErr result (cells_on self.new ≡ cells_on self.old) }
+    {
+        let number = at / DIRECTORY;
+        self.grow(number)?;
+        self.directories[number].change(alloc, at % DIRECTORY, edit)
+    }
+
+    /// Changes bytes of one directory alike from a place on, at least one and at most so many. Answers how many.
+    pub(crate) fn change_some(
+        &mut self,
+        alloc: Global,
+        at: usize,
+        most: usize,
+        each: Each,
+    ) -> Result<usize, AllocError>
+        requires some { 0 < most }
+        requires within { at + most ≤ 134217728 }
+        ensures some { IfOk result (λ n. 0 < n) }
+        ensures within { IfOk result (λ n. n ≤ most) }
+        ensures ok { IfOk result (λ n. cells_on self.new ≡ changed_from (cells_on self.old) at n (λ i cell. each_of each cell)) }
+        ensures err { OnErr result (cells_on self.new ≡ cells_on self.old) }
+    {
+        let number = at / DIRECTORY;
+        let place = at % DIRECTORY;
+        self.grow(number)?;
+        self.directories[number].change_some(alloc, place, most.min(DIRECTORY - place), each)
+    }
+}
+
+#[tactic(auto, unfolding(crate::specs::Shelves::cells_on))]
+impl Clone for Shelf {
+    ghost use Rattle.std.specs.Prelude.{◌≡◌};
+    ghost use Rattle.shadow_memory.specs.Shelves.{cells_on};
+
+    ghost is_clone = { λ shelf copy. cells_on copy ≡ cells_on shelf };
+
+    fn clone(&self) -> Result<Shelf, AllocError> {
+        let directories = self.directories.clone()?;
+        Ok(Shelf { directories })
+    }
+}
