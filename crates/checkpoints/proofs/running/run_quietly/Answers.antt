@@ -48,8 +48,8 @@ loop-k-preserved c =
       made = omega (arith, inv.made, c.in_ok-stepped.ensures.meter);
       ranges = c.enter_touched.ensures.ranges ∙ inv.ranges;
       kept = λ n w low few placed.
-          below-stays (meets (has_touched c.in_ok-stepped.touched) (4 * w)) n k (entry_of c.loop-k.uses w) _ (omega arith)
-          (c.enter_touched.ensures.entries w few (moved _ _ w inv.ranges placed))
+          below-stays (meets (has_touched c.in_ok-stepped.touched) (4 * w)) n k (entry_of c.loop-k.uses w) _
+          (omega arith) (c.enter_touched.ensures.entries w few (moved _ _ w inv.ranges placed))
           ∙ inv.kept n w low few placed;
       clean = c.enter_touched.ensures.clean;
       first = λ start marks none h addr word f.

@@ -12,9 +12,11 @@ use Rattle.checkpoints.proofs.running.run_quietly.Given as goal
 abbrev pub invariant-loop-k : goal.invariant-loop-k
 invariant-loop-k l = record {
   marked : (start : State) (marks : List Mark) → NoneBetween l.from l.end marks
-      → Shows l.fn.machine (post start l.setup marks l.from) → l.k < l.end → Shows l.machine (post start l.setup marks l.k);
+      → Shows l.fn.machine (post start l.setup marks l.from) → l.k < l.end
+      → Shows l.machine (post start l.setup marks l.k);
   shows : (start : State) (marks : List Mark) → NoneBetween l.from l.end marks
-      → Shows l.fn.machine (post start l.setup marks l.from) → l.from < l.k → Shows l.machine (pre start l.setup marks l.k);
+      → Shows l.fn.machine (post start l.setup marks l.from) → l.from < l.k
+      → Shows l.machine (pre start l.setup marks l.k);
   meter : l.meter ≡ l.fn.meter;
   made : l.made ≡ l.k - l.from;
   ranges : ranges_of l.uses ≡ ranges_of l.fn.uses;
