@@ -38,7 +38,7 @@
 //! # Costs
 //!
 //! Blocks are in two tables, live and freed, that are trees of fixed depth over the multiples of 16 of the heap region, and the queue is
-//! in runs of 64; copies share what neither has changed. So a search is a few steps, a change copies one leaf and one branch, and `share`
+//! in runs of 256; copies share what neither has changed. So a search is a few steps, a change copies one leaf and one branch, and `share`
 //! copies references. `allocate` keeps a bound for each class of sizes, below which they have no place, and one range further up (`bounds.rt`):
 //! it looks at kept blocks only from there on, and forgets no more of this than a block that leaves the queue makes room for.
 #![tactic(auto)]

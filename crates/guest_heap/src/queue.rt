@@ -10,7 +10,8 @@ use std::rc::Rc;
 
 pub(crate) mod runs;
 
-const RUN: usize = 64;
+/// How many freed blocks are one run. A share copies a reference for each run, and for each block of the last one.
+const RUN: usize = 256;
 
 #[derive(Drop)]
 pub(crate) struct Queue {
