@@ -210,7 +210,7 @@ def no_worker(bench):
 
 def memory_short(bench):
     """Where memory runs out that is told, and the page goes on."""
-    for few in (20000, 300000):
+    for few in (20000, 150000):
         with bench.page(f"?still&memory={few}") as page:
             page.run("replaycheck.opening.choose('station')")
             page.until("document.getElementById('notice').textContent")
