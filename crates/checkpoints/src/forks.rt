@@ -65,7 +65,7 @@ fn written_copy(machine: &Machine, effect: Effect) -> Result<Machine, AllocError
 {
     match effect {
         Effect::Word { addr, word } => poked_copy(machine, addr, word),
-        _ => machine.share(),
+        _ => machine.share_ready(),
     }
 }
 
@@ -130,7 +130,7 @@ impl Trail {
     {
         let kept = self.held_before(Effect::Input(offset));
         let place = lesser((kept - 1) as u32, last / SPACING);
-        let copy = self.held[place as usize].share()?;
+        let copy = self.copy_of(place as usize)?;
         unread_until(copy, setup, marks, offset, place * SPACING, last)
     }
 
@@ -152,7 +152,7 @@ impl Trail {
         ensures { IfOk result (λ fork. (effect : EffectOf) (last : ℕ) → WritesAligned effect → IsStepOf effect self.now setup.now marks.now last step
             → IsForkOf effect self.now setup.now marks.now last fork) }
     {
-        let copy = self.held[(step / SPACING) as usize].share()?;
+        let copy = self.copy_of((step / SPACING) as usize)?;
         let mut meter = Meter::new();
         let from = step / SPACING * SPACING;
         let machine = run_on(copy, setup, marks, from, step, &mut meter)?;

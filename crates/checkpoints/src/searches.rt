@@ -150,7 +150,7 @@ impl Trail {
     {
         let place = (end - 1) / SPACING;
         let first = later(from, place * SPACING);
-        let copy = self.held[place as usize].share()?;
+        let copy = self.copy_of(place as usize)?;
         let machine = run_on(copy, setup, marks, place * SPACING, first, meter)?;
         last_from(machine, sought, setup, marks, first, end, meter)
     }

@@ -1,10 +1,11 @@
 -- Instructions that were decoded lately, each beside the address of the word that it was decoded from.
-use Rattle.std.specs.Prelude.{◌≡◌, ℕ, ◌+◌, ◌/◌, ◌%◌, ◌<◌, ◌≤◌, false, Some, None, List, slice_index_or}
+use Rattle.std.specs.Prelude.{◌≡◌, ℕ, ◌+◌, ◌/◌, ◌%◌, ◌^◌, ◌<◌, ◌≤◌, false, Some, None, List, slice_index_or}
 use Rattle.shadow_memory.specs.Ranges.{is_in, little_word, window}
 use Rattle.shadow_memory.specs.Shadows.{Shadow, first_inaccessible, loaded_undef}
 use Rattle.instructions.specs.Instructions.{row_of}
 use Rattle.instructions.specs.declared.instruction.Instruction.{Instruction}
 use Rattle.instructions.specs.declared.instruction.Instruction.TheVariants.{Fence}
+use Rattle.run_values.specs.declared.span.Span.{Span}
 use Rattle.guest_machine.specs.declared.decode_cache.Decoded.{Decoded}
 
 -- the place of an address in a table of 4,096
@@ -29,6 +30,14 @@ pub record IsEntryAt (k low high : ℕ) (entry : Decoded) : Type 0 where
 
 abbrev pub AreEntries : List Decoded → ℕ → ℕ → Type 0
 AreEntries entries low high = (k : ℕ) → IsEntry (entry_at entries k) → IsEntryAt k low high (entry_at entries k)
+
+-- a range of whole words in which the word of each entry lies
+pub record CoversEntries (range : Span) (entries : List Decoded) : Type 0 where
+  pub aligned : range.start % 4 ≡ 0
+  pub whole : range.len % 4 ≡ 0
+  pub flat : range.start + range.len ≤ 2 ^ 32
+  pub above : (k : ℕ) → IsEntry (entry_at entries k) → range.start ≤ (entry_at entries k).addr
+  pub below : (k : ℕ) → IsEntry (entry_at entries k) → (entry_at entries k).addr + 4 ≤ range.start + range.len
 
 -- a memory has a word at an address that decodes to an instruction: its four bytes may be accessed, and are defined
 pub record HasRow (bytes : ℕ → ℕ) (shadows : ℕ → Shadow) (a : ℕ) (instruction : Instruction) : Type 0 where

@@ -196,6 +196,29 @@ impl CachedMemory {
         Ok(CachedMemory::new(alloc, memory))
     }
 
+    /// As [`Memory::share`]. The copy has decoded the same.
+    pub(crate) fn share_ready(&self, alloc: Global) -> Result<CachedMemory, AllocError>
+        ensures bytes { IfOk result (λ copy. bytes_in copy ≡ bytes_in self.now) }
+        ensures shadows { IfOk result (λ copy. shadows_in copy ≡ shadows_in self.now) }
+    {
+        let memory = self.memory.share()?;
+        let cache = self.cache.share(alloc);
+        Ok(CachedMemory { memory, cache })
+    }
+
+    /// Takes over what another memory has decoded, where this one has the same words.
+    pub(crate) fn learn(&mut self, alloc: Global, other: &CachedMemory)
+        ensures { self.new ≡ self.old }
+    {
+        if let Some(range) = other.cache.range()
+            && self
+                .memory
+                .has_words_of(&other.memory, range.start, range.len)
+        {
+            self.cache = other.cache.share(alloc);
+        }
+    }
+
     /// As [`Memory::share`]. What was decoded goes over to the copy.
     pub(crate) fn hand_on(&mut self, alloc: Global) -> Result<CachedMemory, AllocError>
         ensures same { self.new ≡ self.old }

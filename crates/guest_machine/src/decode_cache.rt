@@ -3,6 +3,7 @@ ghost use Rattle.std.specs.Prelude.{◌≡◌, ◌^◌, ◌%◌, ◌<◌, ◌≤
 ghost use Rattle.guest_machine.specs.DecodeCaches.{place_of, AreEntries};
 
 use instructions::Instruction;
+use run_values::Span;
 use std::alloc::Global;
 
 /// How many instructions there is room for.
@@ -11,6 +12,8 @@ const ROOM: usize = 4096;
 const AT_ONCE: usize = 256;
 /// The most bytes of a range whose words are taken out one by one.
 const FEW: u32 = 1024;
+/// The most bytes from the first word of a table to the last one that are looked at for another memory: as many as there are places for.
+const NEAR: u64 = 4 * ROOM as u64;
 
 /// An instruction, and the address of the word that it was decoded from.
 #[derive(Clone, Copy)]
@@ -48,7 +51,7 @@ fn place_of(addr: u32) -> usize
 
 impl DecodeCache {
     ghost use Rattle.std.specs.Prelude.{ℕ, ◌+◌, ◌⊎◌, IfSome, IsTrue, length};
-    ghost use Rattle.guest_machine.specs.DecodeCaches.{entry_at, AreLeft, AreLeftBut, IsEntry};
+    ghost use Rattle.guest_machine.specs.DecodeCaches.{entry_at, AreLeft, AreLeftBut, CoversEntries, IsEntry};
 
     /// An empty table.
     pub(crate) fn new(alloc: Global) -> Self
@@ -59,6 +62,37 @@ impl DecodeCache {
             low: u32::MAX,
             high: 0,
         }
+    }
+
+    /// A table of its own with the same entries. Without memory for them it has none.
+    pub(crate) fn share(&self, alloc: Global) -> Self
+        ensures { (k : ℕ) → IsEntry (entry_at result.entries.items k) → entry_at result.entries.items k ≡ entry_at self.now.entries.items k }
+    {
+        let mut entries = Vec::new(alloc);
+        if entries.extend_from_slice(&self.entries).is_err() {
+            return DecodeCache::new(alloc);
+        }
+        DecodeCache {
+            entries,
+            low: self.low,
+            high: self.high,
+        }
+    }
+
+    /// A range of whole words in which the words of all entries lie, if there are some and they lie near each other.
+    pub(crate) fn range(&self) -> Option<Span>
+        ensures { IfSome result (λ range. CoversEntries range self.now.entries.items) }
+    {
+        let start = self.low / 4 * 4;
+        let end = (self.high + 3) / 4 * 4;
+        let len = end.checked_sub(u64::from(start))?;
+        if len > NEAR {
+            return None;
+        }
+        Some(Span {
+            start,
+            len: len as u32,
+        })
     }
 
     /// The instruction of an address, if there is one.

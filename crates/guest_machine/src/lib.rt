@@ -19,6 +19,8 @@
 //! | [`Machine::poke_word`] | the machine with the four bytes at an address changed |
 //! | [`Machine::share`] | a copy, which later changes of the other don't reach |
 //! | [`Machine::hand_on`] | likewise, for the copy that goes on with the run: what was decoded goes over to it |
+//! | [`Machine::share_ready`] | likewise, for one of several such copies: it has decoded what this one has |
+//! | [`Machine::learn`] | nothing: the machine takes over what another has decoded, where it has the same words |
 //! | [`Machine::status`], [`Machine::pc`], [`Machine::register`] | whether it runs, and its registers |
 //! | [`Machine::position`], [`Machine::end_seen`] | how much of the input was read so far, and whether its end was seen |
 //! | [`Machine::output_len`], [`Machine::heap_calls`] | what was written and called so far |

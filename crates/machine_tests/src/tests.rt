@@ -289,6 +289,27 @@ fn a_copy_stays_as_it_was(rt: HostRuntime) -> Result<(), Fail> {
     Ok(())
 }
 
+/// `next: addi a0, a0, 1; j next`
+const COUNTING: [u32; 2] = [0x0015_0513, 0xFFDF_F06F];
+
+/// The value of a0 after a step of that program with another first word, where it takes over what a machine has decoded.
+fn counted(alloc: Global, decoded: &Machine, first: u32) -> Result<u32, Fail> {
+    let mut machine = started(alloc, &COUNTING)?.poke_word(0x10000, first)?;
+    machine.learn(decoded);
+    Ok(bits_of(&stepped(alloc, machine, 1)?, 10).value)
+}
+
+/// Instructions are taken over where a machine has the same words, and not where it has others: `addi a0, a0, 2`.
+#[test]
+fn what_is_decoded_is_taken_over(rt: HostRuntime) -> Result<(), Fail> {
+    let machine = run(rt.alloc(), &COUNTING, 3)?;
+    let copy = stepped(rt.alloc(), machine.share_ready()?, 2)?;
+    assert!(rt; bits_of(&copy, 10).value == 3);
+    assert!(rt; counted(rt.alloc(), &machine, 0x0015_0513)? == 1);
+    assert!(rt; counted(rt.alloc(), &machine, 0x0025_0513)? == 2);
+    Ok(())
+}
+
 #[test]
 fn the_laws_can_be_called() {
     keeps_words();

@@ -187,6 +187,27 @@ fn pages_split_and_fold(rt: HostRuntime) -> Result<(), Fail> {
     Ok(())
 }
 
+/// Whether the words of two pages are told to be those of a copy, also up to one that is another, and not where one is or has an undefined
+/// byte.
+fn tells_words(memory: &mut Memory) -> Result<bool, AllocError> {
+    memory.fill(0x5000, 0x2000, b"words of code")?;
+    memory.poke_word(0x6004, 7)?;
+    let mut copy = memory.share()?;
+    copy.poke_word(0x6FFC, 1)?;
+    copy.set_range(0x5005, 1, RangeKind::Undefined)?;
+    Ok(memory.has_words_of(&copy, 0x5004, 0x1FF8)
+        && !memory.has_words_of(&copy, 0x5004, 0x1FFC)
+        && !copy.has_words_of(memory, 0x5004, 0x1FF8)
+        && copy.has_words_of(memory, 0x5008, 0x1FF4))
+}
+
+#[test]
+fn words_are_compared(rt: HostRuntime) -> Result<(), Fail> {
+    let mut memory = Memory::new(rt.alloc());
+    assert!(rt; tells_words(&mut memory)?);
+    Ok(())
+}
+
 /// Whether bytes from outside are stored, the last of them to an inaccessible place.
 fn are_stored(memory: &mut Memory) -> Result<bool, AllocError> {
     memory.set_range(0x8FFE, 3, RangeKind::Undefined)?;

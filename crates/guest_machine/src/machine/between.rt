@@ -74,6 +74,21 @@ impl Guest {
         self.share_over(memory)
     }
 
+    /// As [`Guest::share`]. The copy has decoded the same.
+    fn share_ready(&self) -> Result<Guest, AllocError>
+        ensures { IfOk result (λ copy. (s : State) → Holds self.now s → Holds copy s) }
+    {
+        let memory = self.memory.share_ready(self.alloc)?;
+        self.share_over(memory)
+    }
+
+    /// Takes over what another guest has decoded, where this one's memory has the same words.
+    fn learn(&mut self, other: &Guest)
+        ensures { self.new ≡ self.old }
+    {
+        self.memory.learn(self.alloc, &other.memory);
+    }
+
     /// As [`Guest::share`]. What was decoded goes over to the copy.
     fn hand_on(&mut self) -> Result<Guest, AllocError>
         ensures same { self.new ≡ self.old }
@@ -146,6 +161,25 @@ impl Machine {
         Ok(Machine {
             guest: Box::new(self.guest.alloc, guest)?,
         })
+    }
+
+    /// As [`Machine::share`], for several copies that each go on with the run: they have decoded what this machine has, so that their first
+    /// steps are no dearer than later ones. Where memory fails for that alone, a copy has decoded nothing.
+    pub fn share_ready(&self) -> Result<Machine, AllocError>
+        ensures { IfOk result (λ copy. (s : State) → Shows self.now s → Shows copy s) }
+    {
+        let guest = self.guest.share_ready()?;
+        Ok(Machine {
+            guest: Box::new(self.guest.alloc, guest)?,
+        })
+    }
+
+    /// Takes over the instructions that another machine has decoded, where this one has the same words: all of them or none. What this machine
+    /// shows stays.
+    pub fn learn(&mut self, other: &Machine)
+        ensures { self.new ≡ self.old }
+    {
+        self.guest.learn(&other.guest);
     }
 
     /// As [`Machine::share`], for the copy that goes on with the run: instructions that were decoded go over to it. What this machine shows

@@ -1,6 +1,6 @@
 use Rattle.std.proofs.Common.{◌*◌, ◌/◌, ◌<◌, length, arith}
 use Rattle.checkpoints.specs.Trails.{machines_of, last_held}
-use Rattle.checkpoints.proofs.HeldSteps.{held-at}
+use Rattle.checkpoints.proofs.HeldSteps.{copy-at}
 use Rattle.checkpoints.proofs.trail.Trail.fork_at.Goals as goal
 
 pub returns : goal.returns
@@ -9,10 +9,11 @@ returns c effect last aligned is start h =
     let place = c.args.step / 1024 in
     let below-last = c.requires in
     let within : place < length c.args.self.now.held.items = omega arith in
-    let here = held-at c.args.self.now.held.items c.index.result.now place (place * 1024) start c.args.setup.now
-    c.args.marks.now h.held c.index.ensures within (omega arith) in
     record {
       aligned = aligned;
-      shows = c.in_ok-machine.ensures.shows start (c.in_ok-copy.ensures _ here);
+      shows =
+          c.in_ok-machine.ensures.shows start
+          (copy-at c.args.self.now.held.items c.in_ok-copy.copy place (place * 1024) start c.args.setup.now
+          c.args.marks.now h.held c.in_ok-copy.ensures within (omega arith));
       step = is start h;
     }

@@ -3,7 +3,7 @@ use Rattle.std.proofs.lemmas.Result.{IfOk-weaker, on_ok_weaker}
 use Rattle.checkpoints.specs.Searches.{Hits, IsLast}
 use Rattle.checkpoints.specs.Trails.{machines_of, last_held}
 use Rattle.checkpoints.specs.Work.{floor}
-use Rattle.checkpoints.proofs.HeldSteps.{held-at}
+use Rattle.checkpoints.proofs.HeldSteps.{copy-at}
 use Rattle.checkpoints.proofs.trail.Trail.last_in.Goals as goal
 
 -- where the machine is held
@@ -20,9 +20,9 @@ price : (old now new from end first : ℕ) → from < end → first ≡ max from
     → new ≤ now + (end - first) → new ≤ old + (end - floor (end - 1))
 price old now new from end first some e f g = omega arith
 
-pub index-requires : goal.index-requires
+pub copy_of-requires : goal.copy_of-requires
 unfolding machines_of last_held
-index-requires c =
+copy_of-requires c =
     place-held (c.args.end - 1) _ (omega arith) (omega (arith, c.requires.held))
 
 pub run_on-requires-clause-forward : goal.run_on-requires-clause-forward
@@ -37,9 +37,9 @@ returns-clause-last c =
     let place = (c.args.end - 1) / 1024 in
     let within : place < length ms = place-held (c.args.end - 1) (length ms) (omega arith) c.requires.held in
     IfOk-weaker c.last_from.result _ _ (λ found told start h.
-    let here = held-at ms c.index.result.now place (place * 1024) start setup marks h.held c.index.ensures within
+    let here = copy-at ms c.in_ok-copy.copy place (place * 1024) start setup marks h.held c.in_ok-copy.ensures within
     (omega arith) in
-    let shown = c.in_ok-machine.ensures.shows start (c.in_ok-copy.ensures _ here) in
+    let shown = c.in_ok-machine.ensures.shows start here in
     subst (λ n. IsLast (Hits c.args.sought start setup marks) n c.args.end found) (first-of c.args.from
     (c.args.end - 1) c.later-first.result c.later-first.ensures) (told start shown)) c.last_from.ensures.last
 

@@ -2,7 +2,7 @@ use Rattle.std.proofs.Common.{◌-◌, ◌*◌, ◌<◌, ◌≤◌, arith}
 use Rattle.std.proofs.lemmas.Result.{IfOk-weaker}
 use Rattle.checkpoints.specs.FirstEffects.{InputShows}
 use Rattle.checkpoints.specs.Trails.{machines_of}
-use Rattle.checkpoints.proofs.HeldSteps.{held-at}
+use Rattle.checkpoints.proofs.HeldSteps.{copy-at}
 use Rattle.checkpoints.proofs.TrailSteps.{held-count, hidden-lower}
 use Rattle.checkpoints.proofs.trail.Trail.last_unread.Goals as goal
 
@@ -19,9 +19,8 @@ returns-clause-step c =
     let within : place < kept = omega arith in
     IfOk-weaker c.unread_until.result _ _
     (λ step last start h. last start
-    (c.in_ok-copy.ensures _ (held-at trail.held.items c.index.result.now place (place * 1024) start setup marks h.held
-    c.index.ensures
-    (omega (arith, within, c.held_before-kept.ensures.within, held-count trail)) (omega arith)))
+    (copy-at trail.held.items c.in_ok-copy.copy place (place * 1024) start setup marks h.held c.in_ok-copy.ensures
+    (omega (arith, within, c.held_before-kept.ensures.within, held-count trail)) (omega arith))
     (hidden-lower (InputShows c.args.offset start setup marks) (place * 1024) (1024 * (kept - 1)) (omega arith)
     (c.held_before-kept.ensures.last start setup marks h)))
     c.unread_until.ensures.last
