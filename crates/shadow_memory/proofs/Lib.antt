@@ -12,3 +12,4 @@ pub mod Blanks
 pub mod Loading
 pub mod Storing
 pub mod Ranging
+pub mod Comparing

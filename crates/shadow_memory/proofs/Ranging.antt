@@ -10,7 +10,7 @@ use Rattle.shadow_memory.specs.Values.{value_at, holds_in_range, HoldNoneInRange
 use Rattle.shadow_memory.specs.declared.cells.Cell.{Cell}
 use Rattle.shadow_memory.proofs.Searching.{word-seen}
 
-same-number : (f g : ℕ → ℕ) → ((i : ℕ) → i < 4 → f i ≡ g i) → little_word f ≡ little_word g
+pub same-number : (f g : ℕ → ℕ) → ((i : ℕ) → i < 4 → f i ≡ g i) → little_word f ≡ little_word g
 unfolding little_word
 same-number f g same =
     let first = same 0 (omega arith) in
@@ -19,7 +19,7 @@ same-number f g same =
     let fourth = same 3 (omega arith) in
     λ i. first i + 256 * second i + 65536 * third i + 16777216 * fourth i
 
-zero-number : little_word (λ i. 0) ≡ 0
+pub zero-number : little_word (λ i. 0) ≡ 0
 unfolding little_word
 zero-number = refl
 

@@ -16,3 +16,4 @@ pub mod Changes
 pub mod Loads
 pub mod Fronts
 pub mod Values
+pub mod Comparisons

@@ -22,6 +22,7 @@
 //! | [`Memory::first_bad`] | the first byte of a range that is inaccessible or, where asked, not defined | no |
 //! | [`Memory::next_word`] | the next multiple of 4 whose four bytes are accessible and defined | no |
 //! | [`Memory::next_in_range`] | the next of these whose value lies in a range of numbers above 0 | no |
+//! | [`Memory::has_words_of`] | whether the words of a range are those of another memory, all accessible and defined | no |
 //! | [`Memory::share`] | a memory that holds the same; a later change of one of the two doesn't reach the other | yes |
 //! | [`laws::first_not`], [`laws::all_are`] | scans of bytes, sixteen at a time | no |
 //!
@@ -52,7 +53,7 @@
 //!
 //! For this crate's own proofs: `Marks` (what a page keeps of a byte), `Edits` (one change of cells in a page), `Loads` (what a load
 //! takes of cells), `Shelves`, `Directories`, `Pages`, `Views`, `Codes` and `Parts` (what each level of the table holds), `Places`,
-//! `Firsts`.
+//! `Firsts`, `Comparisons` (words that are those of others).
 //!
 //! # How it is kept
 //!
@@ -79,6 +80,7 @@
 mod access;
 mod cells;
 mod codes;
+mod comparisons;
 mod copies;
 mod directories;
 mod directory_slots;

@@ -9,6 +9,7 @@ ghost use Rattle.shadow_memory.specs.Ranges.{little_word};
 ghost use Rattle.shadow_memory.specs.Firsts.{IsFirst, NonePass};
 ghost use Rattle.shadow_memory.specs.Shadows.{is_bad, HoldNoWord, IsNextWord};
 ghost use Rattle.shadow_memory.specs.Values.{holds_in_range, HoldNoneInRange, IsNextInRange};
+ghost use Rattle.shadow_memory.specs.Comparisons.{HaveWordsOf};
 
 use crate::cells::{ByteShadow, Cell, Loaded, RangeKind, marked_cell};
 use crate::edits::{Each, PageEdit};
@@ -176,6 +177,26 @@ impl Page {
         ensures some { IfSome result (IsFirst (λ k. is_bad need_defined (shadow_in (cells_in self.now k))) from to) }
     {
         self.marks.first_bad(from, to, need_defined)
+    }
+
+    /// Whether the words from one place up to, not with, another are those of another page there, and all their bytes are accessible
+    /// and defined. Both places are multiples of 4.
+    pub(crate) fn has_words_of(&self, other: &Page, from: usize, to: usize) -> bool
+        requires order { from < to }
+        requires within { to ≤ page_len }
+        requires aligned { from % 4 ≡ 0 }
+        requires whole { to % 4 ≡ 0 }
+        ensures { IsTrue result → HaveWordsOf (cells_in self.now) (cells_in other.now) from to }
+    {
+        if self.first_bad(from, to, true).is_some() {
+            return false;
+        }
+        for word in from / 4..to / 4 {
+            if self.number(4 * word, 4) != other.number(4 * word, 4) {
+                return false;
+            }
+        }
+        true
     }
 
     fn set(&mut self, alloc: Global, at: usize, cell: Cell) -> Result<(), AllocError>

@@ -22,6 +22,7 @@ pub(crate) fn count_in_page(at: u32, most: u32) -> u32
     ensures some { 0 < result }
     ensures within { result ≤ most }
     ensures one_page { at % page_len + result ≤ page_len }
+    ensures aligned { at % 4 ≡ 0 → most % 4 ≡ 0 → result % 4 ≡ 0 }
 {
     (PAGE_LEN - at % PAGE_LEN).min(most)
 }

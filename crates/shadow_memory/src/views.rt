@@ -1,5 +1,5 @@
 //! One page of a memory, to read.
-ghost use Rattle.std.specs.Prelude.{◌≡◌, ℕ, ◌+◌, ◌*◌, ◌%◌, ◌^◌, ◌<◌, ◌≤◌, None, IfNone, IfSome};
+ghost use Rattle.std.specs.Prelude.{◌≡◌, ℕ, ◌+◌, ◌*◌, ◌%◌, ◌^◌, ◌<◌, ◌≤◌, None, IfNone, IfSome, IsTrue};
 ghost use Rattle.shadow_memory.specs.Cells.{shadow_in, IsClean};
 ghost use Rattle.shadow_memory.specs.Changes.{IsWidth};
 ghost use Rattle.shadow_memory.specs.Loads.{loaded_at};
@@ -8,6 +8,7 @@ ghost use Rattle.shadow_memory.specs.Firsts.{IsFirst, NonePass};
 ghost use Rattle.shadow_memory.specs.Shadows.{is_bad, HoldNoWord, IsNextWord};
 ghost use Rattle.shadow_memory.specs.Values.{holds_in_range, HoldNoneInRange, IsNextInRange};
 ghost use Rattle.shadow_memory.specs.Views.{cells_seen};
+ghost use Rattle.shadow_memory.specs.Comparisons.{HaveWordsOf};
 ghost use Rattle.shadow_memory.specs.Places.{page_len};
 
 use crate::cells::{Cell, Loaded, RangeKind, blank_cell};
@@ -125,6 +126,21 @@ impl View<'_> {
         match self {
             View::Blank(kind) => first_bad_of(kind, from, to, need_defined),
             View::Held(page) => page.first_bad(from, to, need_defined),
+        }
+    }
+
+    /// Whether both pages are held, and the words from one place up to, not with, another are those of the other page there, with all
+    /// their bytes accessible and defined. Both places are multiples of 4.
+    pub(crate) fn has_words_of(self, other: View<'_>, from: usize, to: usize) -> bool
+        requires order { from < to }
+        requires within { to ≤ page_len }
+        requires aligned { from % 4 ≡ 0 }
+        requires whole { to % 4 ≡ 0 }
+        ensures { IsTrue result → HaveWordsOf (cells_seen self.entry) (cells_seen other.entry) from to }
+    {
+        match (self, other) {
+            (View::Held(page), View::Held(others)) => page.has_words_of(others, from, to),
+            _ => false,
         }
     }
 }

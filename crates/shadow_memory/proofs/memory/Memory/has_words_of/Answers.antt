@@ -1,0 +1,32 @@
+use Rattle.std.proofs.Common.{◌≡◌, ◌+◌, ◌-◌, ◌%◌, ℕ, arith, subst}
+use Rattle.shadow_memory.specs.Comparisons.{HaveWordsOf}
+use Rattle.shadow_memory.specs.Memories.{bytes_in, cells_of, shadows_in}
+use Rattle.shadow_memory.specs.Views.{cells_seen}
+use Rattle.shadow_memory.proofs.Comparing.{page-more, word-is}
+use Rattle.shadow_memory.proofs.memory.Memory.has_words_of.Goals as goal
+
+pub loop-done-preserved : goal.loop-done-preserved
+loop-done-preserved c =
+    let n = c.count_in_page-count.result in
+    let at = c.args.from + c.loop-done.done in
+    let four : at % 4 ≡ 0 = omega arith in
+    let rest : (c.args.len - c.loop-done.done) % 4 ≡ 0 = omega arith in
+    let whole : n % 4 ≡ 0 = c.count_in_page-count.ensures.aligned four rest in
+    let next : at + n ≡ c.args.from + (c.loop-done.done + n) = omega arith in
+    let to-here = λ (to : ℕ). HaveWordsOf (cells_of c.args.self.now) (cells_of c.args.other.now) c.args.from to in
+    record {
+      within = omega arith;
+      aligned = omega arith;
+      words =
+          subst to-here next
+          (page-more (cells_of c.args.self.now) (cells_seen c.view.result) (cells_of c.args.other.now)
+          (cells_seen c.view-in-loop-done.result) at n four c.count_in_page-count.ensures.one_page c.view.ensures
+          c.view-in-loop-done.ensures c.args.from (c.has_words_of.ensures c.if-not-has_words_of.false)
+          c.loop-done.invariant.words);
+    }
+
+pub returns : goal.returns
+unfolding bytes_in shadows_in
+returns c yes-all a start below aligned =
+    word-is (cells_of c.args.self.now) (cells_of c.args.other.now) c.args.from (c.args.from + c.loop-done.done) a
+    (omega arith) c.loop-done.invariant.words start (omega arith) aligned

@@ -1,0 +1,34 @@
+//! Comparisons of two memories, page by page.
+ghost use Rattle.std.specs.Prelude.{◌≡◌, ℕ, ◌+◌, ◌%◌, ◌^◌, ◌≤◌, IsTrue};
+ghost use Rattle.shadow_memory.specs.Memories.{bytes_in, shadows_in};
+ghost use Rattle.shadow_memory.specs.Ranges.{little_word, window};
+ghost use Rattle.shadow_memory.specs.Shadows.{HasDefined};
+
+use crate::memory::Memory;
+use crate::pages::PAGE;
+use crate::ranges::count_in_page;
+
+impl Memory {
+    /// Whether the words of a range are those of another memory there, and all its bytes are accessible and defined here. `false` may be
+    /// told of such ranges too: it is, of a page that is blank in either. The range begins and ends at a multiple of 4.
+    pub fn has_words_of(&self, other: &Memory, from: u32, len: u32) -> bool
+        requires aligned { from % 4 ≡ 0 }
+        requires whole { len % 4 ≡ 0 }
+        requires flat { from + len ≤ 2 ^ 32 }
+        ensures { IsTrue result → (a : ℕ) → from ≤ a → a + 4 ≤ from + len → a % 4 ≡ 0
+            → HasDefined (bytes_in self.now) (shadows_in self.now) a 4 (little_word (window (bytes_in other.now) a 4)) }
+    {
+        let mut done = 0;
+        while done < len {
+            let at = from + done;
+            let count = count_in_page(at, len - done);
+            let place = at as usize % PAGE;
+            let end = place + count as usize;
+            if !self.view(at).has_words_of(other.view(at), place, end) {
+                return false;
+            }
+            done += count;
+        }
+        true
+    }
+}
