@@ -195,10 +195,12 @@ fn tells_words(memory: &mut Memory) -> Result<bool, AllocError> {
     let mut copy = memory.share()?;
     copy.poke_word(0x6FFC, 1)?;
     copy.set_range(0x5005, 1, RangeKind::Undefined)?;
-    Ok(memory.has_words_of(&copy, 0x5004, 0x1FF8)
-        && !memory.has_words_of(&copy, 0x5004, 0x1FFC)
-        && !copy.has_words_of(memory, 0x5004, 0x1FF8)
-        && copy.has_words_of(memory, 0x5008, 0x1FF4))
+    Ok(
+        memory.has_words_of(&copy, 0x5004, 0x1FF8)
+            && !memory.has_words_of(&copy, 0x5004, 0x1FFC)
+            && !copy.has_words_of(memory, 0x5004, 0x1FF8)
+            && copy.has_words_of(memory, 0x5008, 0x1FF4),
+    )
 }
 
 #[test]
