@@ -1,6 +1,6 @@
 -- Words of one memory that are those of another, from page to page.
-use Rattle.std.proofs.Common.{◌≡◌, ℕ, true, false, not, ◌&&◌, ◌||◌, ◌==◌, refl, ap, sym, ◌∙◌, ◌+◌, ◌-◌, ◌*◌, ◌/◌, ◌%◌}
-use Rattle.std.proofs.Common.{◌^◌, ◌<◌, ◌≤◌, inl, inr, arith}
+use Rattle.std.proofs.Common.{◌≡◌, ℕ, true, false, not, ◌&&◌, ◌||◌, ◌==◌, refl, ap, sym, ◌∙◌, ◌+◌, ◌-◌, ◌/◌, ◌%◌}
+use Rattle.std.proofs.Common.{◌^◌, ◌<◌, ◌≤◌, inl, inr, arith, List, take, drop, slice_index}
 use Rattle.std.proofs.lemmas.Bool.{cases_lt}
 use Rattle.std.proofs.lemmas.Bool.Decides.{nat_tests}
 use Rattle.shadow_memory.specs.Cells.{shadow_in}
@@ -9,19 +9,9 @@ use Rattle.shadow_memory.specs.Ranges.{above, little_word, window}
 use Rattle.shadow_memory.specs.Shadows.{Shadow, address_at, first_inaccessible, is_bad, loaded_undef, HasDefined}
 use Rattle.shadow_memory.specs.Values.{value_at}
 use Rattle.shadow_memory.specs.declared.cells.Cell.{Cell}
+use Rattle.shadow_memory.proofs.Parts.{between-read}
 use Rattle.shadow_memory.proofs.Ranging.{same-number, zero-number}
 use Rattle.shadow_memory.proofs.Searching.{first_from-none}
-
--- one more word is compared
-pub words-more : (cells others : ℕ → Cell) (from word : ℕ) → AreWordsOf cells others from (4 * word)
-    → value_at (λ k. (cells k).byte) (4 * word) ≡ value_at (λ k. (others k).byte) (4 * word)
-    → AreWordsOf cells others from (4 * (word + 1))
-words-more cells others from word before here a start below aligned = elim (cases_lt a (4 * word)) [
-  | inl early ↦ before a start (omega arith) aligned
-  | inr late ↦
-      let e : a ≡ 4 * word = omega arith in
-      ap (value_at (λ k. (cells k).byte)) e ∙ here ∙ sym (ap (value_at (λ k. (others k).byte)) e)
-]
 
 module _ (cells seen others seen-there : ℕ → Cell) (at n : ℕ) (aligned : at % 4 ≡ 0) (page : at % 4096 + n ≤ 4096)
     (same : (a : ℕ) → a / 4096 ≡ at / 4096 → cells a ≡ seen (a % 4096))
@@ -94,3 +84,14 @@ word-is cells others from to a flat have start below aligned =
           let here : above a (0 + i) ≡ a + i = omega arith in
           ap (λ b. not (cells b).accessible) here ∙ fine-accessible (shadow_in (cells (a + i))) (fine i few)));
     }
+
+-- bytes that are those of others have their words
+pub words-of-bytes : (cells others : ℕ → Cell) (xs ys : List ℕ) (from to : ℕ)
+    → ((k : ℕ) → (cells k).byte ≡ slice_index xs k) → ((k : ℕ) → (others k).byte ≡ slice_index ys k)
+    → take (to - from) (drop from xs) ≡ take (to - from) (drop from ys) → AreWordsOf cells others from to
+words-of-bytes cells others xs ys from to of-xs of-ys same a start below aligned = same-number _ _ (λ i few.
+    let low : from ≤ a + i = omega arith in
+    let high : a + i < to = omega arith in
+    of-xs (a + i) ∙ sym (between-read xs from to (a + i) low high)
+    ∙ ap (λ (l : List ℕ). slice_index l (a + i - from)) same ∙ between-read ys from to (a + i) low high
+    ∙ sym (of-ys (a + i)))

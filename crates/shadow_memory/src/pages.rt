@@ -191,12 +191,7 @@ impl Page {
         if self.first_bad(from, to, true).is_some() {
             return false;
         }
-        for word in from / 4..to / 4 {
-            if self.number(4 * word, 4) != other.number(4 * word, 4) {
-                return false;
-            }
-        }
-        true
+        self.bytes[from..to] == other.bytes[from..to]
     }
 
     fn set(&mut self, alloc: Global, at: usize, cell: Cell) -> Result<(), AllocError>

@@ -6,5 +6,5 @@ returns-clause-right c start right = c.run_from.ensures.right start (c.in_ok-rea
 
 pub returns-clause-shows : goal.returns-clause-shows
 returns-clause-shows c =
-    IfOk-weaker c.run_from.result _ _ (λ machine shows start right. shows start (c.in_ok-reach.ensures.right start right))
-    c.run_from.ensures.shows
+    IfOk-weaker c.run_from.result _ _
+    (λ machine shows start right. shows start (c.in_ok-reach.ensures.right start right)) c.run_from.ensures.shows

@@ -1,18 +1,17 @@
-use Rattle.std.proofs.Common.{◌∙◌, arith, rules, sym}
+use Rattle.std.proofs.Common.{ℕ, List, slice_index, ap, sym, rules}
+use Rattle.std.proofs.lemmas.Bool.Decides.{Decides-eqb}
+use Rattle.std.proofs.lemmas.Slice.Eq.{slice_eq-Decides}
 use Rattle.shadow_memory.specs.Pages.{cells_in}
-use Rattle.shadow_memory.specs.Ranges.{little_word}
-use Rattle.shadow_memory.proofs.Comparing.{words-more}
+use Rattle.shadow_memory.proofs.Comparing.{words-of-bytes}
 use Rattle.shadow_memory.proofs.pages.Page.has_words_of.Goals as goal
 
-pub loop-word-preserved : goal.loop-word-preserved
-unfolding cells_in little_word
-loop-word-preserved c =
-    words-more (cells_in c.args.self.now) (cells_in c.args.other.now) c.args.from c.loop-word.word
-    c.loop-word.invariant
-    (sym c.number.ensures.value ∙ c.if-number.false ∙ c.number-in-loop-word.ensures.value)
-
 pub returns : goal.returns
+unfolding cells_in
 returns c equal = record {
   fine = search rules;
-  words = λ a start below aligned. c.loop-word.invariant a start (omega arith) aligned;
+  words =
+      words-of-bytes (cells_in c.args.self.now) (cells_in c.args.other.now) c.deref.result.now c.deref-2.result.now
+      c.args.from c.args.to (λ k. ap (λ (l : List ℕ). slice_index l k) (sym c.deref.ensures.value))
+      (λ k. ap (λ (l : List ℕ). slice_index l k) (sym c.deref-2.ensures.value))
+      ((slice_eq-Decides Decides-eqb _ _ _ c.eq.ensures).0 equal);
 }
