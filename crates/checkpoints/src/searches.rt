@@ -69,7 +69,8 @@ impl Trail {
         ensures loaded { loaded_of self.new ≡ loaded_of self.old }
     {
         let _turns = meter.read();
-        let machine = self.before(from, setup, marks)?;
+        let mut machine = self.before(from, setup, marks)?;
+        self.make_ready(&mut machine);
         let found = next_from(machine, sought, setup, marks, from, end, meter)?;
         Ok(found)
     }

@@ -8,11 +8,10 @@ use Rattle.std.proofs.Math.Path.{fun_ext}
 use Rattle.std.proofs.lemmas.Bool.{cases_eq}
 use Rattle.std.proofs.lemmas.Bool.Decides.{nat_tests}
 use Rattle.shadow_memory.specs.Ranges.{above, offset, is_in, changed_in, first_from, little_word, window}
-use Rattle.shadow_memory.specs.Shadows.{Shadow, address_at, first_inaccessible, loaded_undef, HasDefined}
+use Rattle.shadow_memory.specs.Shadows.{Shadow, address_at, first_inaccessible, loaded_undef}
 use Rattle.instructions.specs.Instructions.{row_of}
 use Rattle.guest_machine.specs.DecodeCaches.{place_of, no_entry, entry_at, IsEntry, IsEntryAt, AreEntries, HasRow}
-use Rattle.guest_machine.specs.DecodeCaches.{CoversEntries, HasEach, IsClear, AreLeft}
-use Rattle.run_values.specs.declared.span.Span.{Span}
+use Rattle.guest_machine.specs.DecodeCaches.{HasEach, IsClear, AreLeft}
 use Rattle.instructions.specs.declared.instruction.Instruction.{Instruction}
 use Rattle.guest_machine.specs.declared.decode_cache.Decoded.{Decoded}
 
@@ -82,23 +81,6 @@ each-kept bytes after shadows later old new start n low high right ends left sam
     subst (λ (e : Decoded). HasRow after later e.addr e.row) (sym here.same)
     (row-kept bytes after shadows later (entry_at old k).addr (entry_at old k).row (omega (arith, entry.below, ends))
     (λ i less. same _ (clear i less)) (λ i less. same_shadows _ (clear i less)) (has k was))
-
--- a memory has the words of another in a range, in which all entries of that one's table lie: so it has each
-pub each-learned : (bytes others : ℕ → ℕ) (shadows known : ℕ → Shadow) (entries made : List Decoded) (range : Span)
-    → CoversEntries range entries
-    → ((a : ℕ) → range.start ≤ a → a + 4 ≤ range.start + range.len → a % 4 ≡ 0
-    → HasDefined bytes shadows a 4 (little_word (window others a 4)))
-    → ((k : ℕ) → IsEntry (entry_at made k) → entry_at made k ≡ entry_at entries k) → HasEach others known entries
-    → HasEach bytes shadows made
-each-learned bytes others shadows known entries made range covers words same each k is =
-    let was : IsEntry (entry_at entries k) = subst IsEntry (same k is) is in
-    let has = each k was in
-    let word = words (entry_at entries k).addr (covers.above k was) (covers.below k was) was in
-    subst (λ (e : Decoded). HasRow bytes shadows e.addr e.row) (sym (same k is)) (record {
-      row = ap row_of word.value ∙ has.row;
-      undef = word.undef;
-      bad = word.bad;
-    })
 
 none-at : (k : ℕ) → entry_at [] k ≡ no_entry
 none-at zero = refl

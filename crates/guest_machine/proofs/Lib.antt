@@ -12,3 +12,4 @@ pub mod Running
 pub mod DecodeSteps
 pub mod Altering
 pub mod AtOnce
+pub mod SameWords

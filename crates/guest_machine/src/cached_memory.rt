@@ -206,16 +206,25 @@ impl CachedMemory {
         Ok(CachedMemory { memory, cache })
     }
 
-    /// Takes over what another memory has decoded, where this one has the same words.
+    /// Has decoded what another memory has, of the words that it has the same.
+    #[tactic(auto, using(crate::proofs::SameWords::each_left))]
     pub(crate) fn learn(&mut self, alloc: Global, other: &CachedMemory)
         ensures { self.new ≡ self.old }
     {
-        if let Some(range) = other.cache.range()
-            && self
-                .memory
-                .has_words_of(&other.memory, range.start, range.len)
-        {
-            self.cache = other.cache.share(alloc);
+        let mut cache = other.cache.share(alloc);
+        cache.fit(&self.memory, &other.memory);
+        self.cache = cache;
+    }
+
+    /// Takes over what another memory has decoded, of the words that it has the same, where it has decoded nothing itself.
+    pub(crate) fn take_over(&mut self, alloc: Global, other: &mut CachedMemory)
+        ensures same { self.new ≡ self.old }
+        ensures other { other.new ≡ other.old }
+    {
+        if self.cache.is_unused() {
+            let mut cache = mem::replace(&mut other.cache, DecodeCache::new(alloc));
+            cache.fit(&self.memory, &other.memory);
+            self.cache = cache;
         }
     }
 

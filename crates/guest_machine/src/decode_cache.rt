@@ -12,8 +12,8 @@ const ROOM: usize = 4096;
 const AT_ONCE: usize = 256;
 /// The most bytes of a range whose words are taken out one by one.
 const FEW: u32 = 1024;
-/// The most bytes from the first word of a table to the last one that are looked at for another memory: as many as there are places for.
-const NEAR: u64 = 4 * ROOM as u64;
+/// The most bytes from the first word of a table to the last one that are compared at once with those of another memory.
+const NEAR: u64 = 16 * ROOM as u64;
 
 /// An instruction, and the address of the word that it was decoded from.
 #[derive(Clone, Copy)]
@@ -50,8 +50,8 @@ fn place_of(addr: u32) -> usize
 }
 
 impl DecodeCache {
-    ghost use Rattle.std.specs.Prelude.{ℕ, ◌+◌, ◌⊎◌, IfSome, IsTrue, length};
-    ghost use Rattle.guest_machine.specs.DecodeCaches.{entry_at, AreLeft, AreLeftBut, CoversEntries, IsEntry};
+    ghost use Rattle.std.specs.Prelude.{ℕ, ◌+◌, ◌⊎◌, IfSome, IsTrue, length, nat_eq, slice_set, vec_len};
+    ghost use Rattle.guest_machine.specs.DecodeCaches.{entry_at, no_entry, AreLeft, AreLeftBut, CoversEntries, IsEntry};
 
     /// An empty table.
     pub(crate) fn new(alloc: Global) -> Self
@@ -77,6 +77,13 @@ impl DecodeCache {
             low: self.low,
             high: self.high,
         }
+    }
+
+    /// Is there no place for an entry?
+    pub(crate) fn is_unused(&self) -> bool
+        ensures { result ≡ nat_eq (vec_len self.now.entries) 0 }
+    {
+        self.entries.is_empty()
     }
 
     /// A range of whole words in which the words of all entries lie, if there are some and they lie near each other.
@@ -155,6 +162,14 @@ impl DecodeCache {
         }
     }
 
+    /// Takes out the entry of a place.
+    pub(crate) fn drop_at(&mut self, place: usize)
+        requires { place < length self.old.entries.items }
+        ensures { self.new.entries.items ≡ slice_set self.old.entries.items place no_entry }
+    {
+        self.entries[place] = NO_ENTRY;
+    }
+
     /// Takes out the entry of a word, by a quarter of its address.
     fn drop_word(&mut self, word: u32)
         requires { word < 2 ^ 30 }
@@ -162,7 +177,7 @@ impl DecodeCache {
     {
         let place = word as usize % ROOM;
         if place < self.entries.len() && self.entries[place].addr / 4 == word {
-            self.entries[place] = NO_ENTRY;
+            self.drop_at(place);
         }
     }
 

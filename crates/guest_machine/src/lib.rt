@@ -20,7 +20,7 @@
 //! | [`Machine::share`] | a copy, which later changes of the other don't reach |
 //! | [`Machine::hand_on`] | likewise, for the copy that goes on with the run: what was decoded goes over to it |
 //! | [`Machine::share_ready`] | likewise, for one of several such copies: it has decoded what this one has |
-//! | [`Machine::learn`] | nothing: the machine takes over what another has decoded, where it has the same words |
+//! | [`Machine::learn`], [`Machine::take_over`] | nothing: the machine has decoded what another has, of the words that it has the same; by `take_over` the other has it no more |
 //! | [`Machine::status`], [`Machine::pc`], [`Machine::register`] | whether it runs, and its registers |
 //! | [`Machine::position`], [`Machine::end_seen`] | how much of the input was read so far, and whether its end was seen |
 //! | [`Machine::output_len`], [`Machine::heap_calls`] | what was written and called so far |
@@ -83,6 +83,7 @@
 mod cached_memory;
 mod decode_cache;
 mod environment_call;
+mod fitting;
 mod hooks;
 mod input;
 pub mod laws;

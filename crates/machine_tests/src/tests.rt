@@ -302,11 +302,14 @@ fn counted(alloc: Global, decoded: &Machine, first: u32) -> Result<u32, Fail> {
 /// Instructions are taken over where a machine has the same words, and not where it has others: `addi a0, a0, 2`.
 #[test]
 fn what_is_decoded_is_taken_over(rt: HostRuntime) -> Result<(), Fail> {
-    let machine = run(rt.alloc(), &COUNTING, 3)?;
+    let mut machine = run(rt.alloc(), &COUNTING, 3)?;
     let copy = stepped(rt.alloc(), machine.share_ready()?, 2)?;
     assert!(rt; bits_of(&copy, 10).value == 3);
     assert!(rt; counted(rt.alloc(), &machine, 0x0015_0513)? == 1);
     assert!(rt; counted(rt.alloc(), &machine, 0x0025_0513)? == 2);
+    let mut other = started(rt.alloc(), &COUNTING)?.poke_word(0x10000, 0x0025_0513)?;
+    other.take_over(&mut machine);
+    assert!(rt; bits_of(&stepped(rt.alloc(), other, 3)?, 10).value == 4);
     Ok(())
 }
 

@@ -82,11 +82,19 @@ impl Guest {
         self.share_over(memory)
     }
 
-    /// Takes over what another guest has decoded, where this one's memory has the same words.
+    /// Has decoded what another guest has, of the words that its memory has the same.
     fn learn(&mut self, other: &Guest)
         ensures { self.new ≡ self.old }
     {
         self.memory.learn(self.alloc, &other.memory);
+    }
+
+    /// Takes over what another guest has decoded, of the words that its memory has the same, where it has decoded nothing itself.
+    fn take_over(&mut self, other: &mut Guest)
+        ensures same { self.new ≡ self.old }
+        ensures other { other.new ≡ other.old }
+    {
+        self.memory.take_over(self.alloc, &mut other.memory);
     }
 
     /// As [`Guest::share`]. What was decoded goes over to the copy.
@@ -174,12 +182,20 @@ impl Machine {
         })
     }
 
-    /// Takes over the instructions that another machine has decoded, where this one has the same words: all of them or none. What this machine
-    /// shows stays.
+    /// Has decoded the instructions that another machine has, of the words that it has the same. What this machine shows stays.
     pub fn learn(&mut self, other: &Machine)
         ensures { self.new ≡ self.old }
     {
         self.guest.learn(&other.guest);
+    }
+
+    /// Takes over the instructions that another machine has decoded, of the words that it has the same, where it has decoded none itself. The other
+    /// one's next steps are dearer then. What the two show stays.
+    pub fn take_over(&mut self, other: &mut Machine)
+        ensures same { self.new ≡ self.old }
+        ensures other { other.new ≡ other.old }
+    {
+        self.guest.take_over(&mut other.guest);
     }
 
     /// As [`Machine::share`], for the copy that goes on with the run: instructions that were decoded go over to it. What this machine shows

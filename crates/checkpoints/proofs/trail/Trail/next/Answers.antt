@@ -1,8 +1,14 @@
+use Rattle.std.proofs.Common.{subst, sym}
+use Rattle.guest_machine.specs.Run.{pre}
+use Rattle.guest_machine.specs.Shows.{Shows}
+use Rattle.guest_machine.specs.declared.machine.Machine.{Machine}
 use Rattle.checkpoints.proofs.trail.Trail.next.Goals as goal
 
 pub returns : goal.returns
 returns c = record {
-  next = λ start h. c.in_ok-found.ensures.next start (c.in_ok-machine.ensures.shows start h);
+  next = λ start h. c.in_ok-found.ensures.next start
+      (subst (λ (m : Machine). Shows m (pre start c.args.setup.now c.args.marks.now c.args.from)) (sym c.make_ready.ensures)
+      (c.in_ok-machine.ensures.shows start h));
   price = c.in_ok-found.ensures.price;
   right = c.in_ok-machine.ensures.right;
   held = c.in_ok-machine.ensures.held;
