@@ -27,20 +27,21 @@ no-entry entry e is =
     omega (arith, one)
 
 -- a place is emptied
-pub dropped_same : (entries : List Decoded) (place : ℕ) → place < length entries → (k : ℕ)
-    → IsEntry (entry_at (slice_set entries place no_entry) k)
-    → entry_at (slice_set entries place no_entry) k ≡ entry_at entries k
-dropped_same entries place within k is = elim (cases_eq k place) [
-  | inl same ↦ absurd (no-entry (entry_at (slice_set entries place no_entry) k)
-      (ap (entry_at (slice_set entries place no_entry)) same ∙ get_or-set_same entries place no_entry no_entry within) is)
-  | inr other ↦ get_or-set_other entries place k no_entry no_entry other
-]
-
 pub dropped_none : (entries : List Decoded) (place : ℕ) → place < length entries
     → IsEntry (entry_at (slice_set entries place no_entry) place) → ⊥
 dropped_none entries place within is =
     no-entry (entry_at (slice_set entries place no_entry) place)
     (get_or-set_same entries place no_entry no_entry within) is
+
+pub dropped_same : (entries : List Decoded) (place : ℕ) → place < length entries → (k : ℕ)
+    → IsEntry (entry_at (slice_set entries place no_entry) k)
+    → entry_at (slice_set entries place no_entry) k ≡ entry_at entries k
+dropped_same entries place within k is = elim (cases_eq k place) [
+  | inl same ↦
+      absurd (dropped_none entries place within
+      (subst (λ n. IsEntry (entry_at (slice_set entries place no_entry) n)) same is))
+  | inr other ↦ get_or-set_other entries place k no_entry no_entry other
+]
 
 pub fit_begun : (bytes others : ℕ → ℕ) (shadows : ℕ → Shadow) (entries : List Decoded)
     → AreFit bytes others shadows entries entries 0
