@@ -16,7 +16,7 @@ from replaycheck.packaging.pages import manual, man_pages
 HOME = "lib/replaycheck"
 EXAMPLES = "share/replaycheck/examples"
 DOC = "share/doc/replaycheck"
-LEFT_OUT = r"README|build-times|replaycheck/(paging|packaging)/|replaycheck-page$"
+LEFT_OUT = r"README|build-times|prove$|replaycheck/(paging|packaging)/|replaycheck-page$"
 SHIPPED = re.compile(rf"replaycheck$|tools/(bin|lib)/(?!{LEFT_OUT})|tools/bin/README\.md$")
 EXAMPLE = re.compile(r"examples/(?!README|guests/|sessions/|firmware/(expected/|check\.sh|\.gitignore))")
 
