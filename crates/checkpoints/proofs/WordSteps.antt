@@ -229,6 +229,16 @@ none-in (suc n) (suc k) = none-in n k
 pub none-remembered : (ranges : List Span) (steps : List ℕ) (n : ℕ) → AreEntered ranges steps (replicate n never)
 none-remembered ranges steps n k few = let none = none-in n k in absurd (omega arith)
 
+-- a range inside of a word meets that one
+pub meets-one : (span : Span) (w : ℕ) → span.start < 2 ^ 32 → w < 2 ^ 30 → 0 < span.len
+    → span.len ≤ 4 - span.start % 4
+    → meets (is_in span.start span.len) (4 * w) ≡ is_from (span.start / 4) 1 w
+unfolding word_in distance
+meets-one span w small few some short = span-words span w 1 small some few (omega (arith, some, short)) ∙ alone
+  where
+    alone : word_in (span.start / 4) 1 w ≡ is_from (span.start / 4) 1 w
+    alone = grind (arith, nat_tests)
+
 -- a range inside of a word meets no other one
 pub meets-no-other : (span : Span) (w : ℕ) → span.start < 2 ^ 32 → w < 2 ^ 30 → span.len ≤ 4 - span.start % 4
     → (w ≡ span.start / 4 → ⊥) → meets (is_in span.start span.len) (4 * w) ≡ false

@@ -21,6 +21,8 @@ use std::alloc::{AllocError, Global};
 
 /// In place of a step where there is none.
 const NEVER: u32 = u32::MAX;
+/// So many rows are looked at one by one.
+const FEW: usize = 8;
 /// How many words there are at all.
 const ALL_WORDS: u32 = 1 << 30;
 
@@ -30,6 +32,15 @@ fn words_in(range: Span) -> usize
     ensures few { result < 2 ^ 31 }
 {
     ((u64::from(range.start % 4) + u64::from(range.len) + 3) / 4) as usize
+}
+
+/// Whether a range has a byte, and all of them in one word.
+#[inline(always)]
+fn is_in_a_word(range: Span) -> bool
+    ensures some { IsTrue result → 0 < range.len }
+    ensures short { IsTrue result → range.len ≤ 4 - range.start % 4 }
+{
+    range.len != 0 && range.len <= 4 - range.start % 4
 }
 
 /// One past the last word of a range, by a quarter of its address.
@@ -46,14 +57,45 @@ fn greater(x: u64, y: u64) -> u64
     if x < y { y } else { x }
 }
 
-/// How many rows end before a word.
-fn ended_by(rows: &[Row], word: u32) -> usize
+/// How many rows end before a word, where there are many: found by halves.
+#[inline(never)]
+fn many_ended_by(rows: &[Row], word: u32) -> usize
     requires { IsNonDecreasingBy (λ (row : RowOf). row.end) rows.now }
     ensures within { result ≤ length rows.now }
     ensures before { (k : ℕ) (d : RowOf) → k < result → (slice_index_or rows.now k d).end ≤ word }
     ensures next { (d : RowOf) → result < length rows.now → word < (slice_index_or rows.now result d).end }
 {
     rows.partition_point(|row| row.end <= u64::from(word))
+}
+
+/// How many rows end before a word, where there are few: found one by one.
+#[inline(always)]
+fn few_ended_by(rows: &[Row], word: u32) -> usize
+    ensures within { result ≤ length rows.now }
+    ensures before { (k : ℕ) (d : RowOf) → k < result → (slice_index_or rows.now k d).end ≤ word }
+    ensures next { (d : RowOf) → result < length rows.now → word < (slice_index_or rows.now result d).end }
+{
+    for index in 0..rows.len() {
+        if u64::from(word) < rows[index].end {
+            return index;
+        }
+    }
+    rows.len()
+}
+
+/// How many rows end before a word.
+#[inline(always)]
+fn ended_by(rows: &[Row], word: u32) -> usize
+    requires { IsNonDecreasingBy (λ (row : RowOf). row.end) rows.now }
+    ensures within { result ≤ length rows.now }
+    ensures before { (k : ℕ) (d : RowOf) → k < result → (slice_index_or rows.now k d).end ≤ word }
+    ensures next { (d : RowOf) → result < length rows.now → word < (slice_index_or rows.now result d).end }
+{
+    if rows.len() <= FEW {
+        few_ended_by(rows, word)
+    } else {
+        many_ended_by(rows, word)
+    }
 }
 
 /// The ranges of the segments of a program, in their order.
@@ -113,6 +155,7 @@ impl FirstUses {
     }
 
     /// Where a word stands in the table.
+    #[inline(always)]
     #[tactic(auto, unfolding(crate::specs::Entries::ranges_of))]
     fn place_of(&self, word: u32) -> Place
         ensures { IsPlace (ranges_of self.now) word result }
@@ -165,6 +208,21 @@ impl FirstUses {
         }
     }
 
+    /// Enters a step for a word.
+    #[inline(always)]
+    #[tactic(auto, unfolding(crate::specs::Entries::ranges_of, crate::specs::Entries::entry_of))]
+    fn enter_word(&mut self, word: u32, step: u32)
+        ensures ranges { ranges_of self.new ≡ ranges_of self.old }
+        ensures clean { IsClean self.old (step + 1) → IsClean self.new (step + 1) }
+        ensures entries { (w : ℕ) → w < 2 ^ 30 → IsPlaced (ranges_of self.old) w
+            → entry_of self.new w ≡ (if is_from word 1 w then min (entry_of self.old w) step else entry_of self.old w) }
+    {
+        match self.place_of(word) {
+            Place::At(place) => self.enter_at(word, place, step),
+            Place::NoneBelow(_) => self.remember(word),
+        }
+    }
+
     /// Enters a step at the place of a word.
     #[inline(always)]
     #[tactic(auto, unfolding(crate::specs::Entries::ranges_of, crate::specs::Entries::entry_of))]
@@ -196,8 +254,8 @@ impl FirstUses {
         self.remembered[word as usize % REMEMBERED] = word;
     }
 
-    /// Puts a step at a place. Out of line, since most steps touch words that were touched before.
-    #[inline(never)]
+    /// Puts a step at a place.
+    #[inline(always)]
     #[tactic(auto, unfolding(crate::specs::Entries::ranges_of))]
     fn put(&mut self, place: usize, step: u32)
         requires within { place < words_of (ranges_of self.old) }
@@ -232,8 +290,23 @@ impl FirstUses {
     {
         if let Some(span) = span {
             if !self.is_known(span) {
-                self.enter_words(span, step);
+                self.enter_unknown(span, step);
             }
+        }
+    }
+
+    /// The same. Out of line, since most steps touch words that were touched before. Of a range in one word it calls nothing where there
+    /// are few rows, so that no register is saved.
+    #[inline(never)]
+    fn enter_unknown(&mut self, span: Span, step: u32)
+        ensures ranges { ranges_of self.new ≡ ranges_of self.old }
+        ensures clean { IsClean self.old (step + 1) → IsClean self.new (step + 1) }
+        ensures entries { EntersAt step (covers (Some span)) self.old self.new }
+    {
+        if self.rows.len() <= FEW && is_in_a_word(span) {
+            self.enter_word(span.start / 4, step);
+        } else {
+            self.enter_words(span, step);
         }
     }
 

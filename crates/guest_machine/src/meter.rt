@@ -46,8 +46,9 @@ impl Meter {
         self.steps = self.steps.saturating_add(other.steps);
     }
 
-    pub(crate) fn rise_by(&mut self, steps: u32)
-        requires { self.old ≤ u64.MAX }
+    /// So many steps more.
+    #[inline(always)]
+    pub fn rise_by(&mut self, steps: u32)
         ensures { self.new ≡ min (self.old + steps) u64.MAX }
     {
         self.steps = self.steps.saturating_add(u64::from(steps));

@@ -2,7 +2,7 @@ use Rattle.std.proofs.Common.{◌≡◌, ℕ, ◌<◌, ◌≤◌, arith, rules, 
 use Rattle.std.proofs.lemmas.Bool.Decides.{nat_tests}
 use Rattle.std.proofs.lemmas.List.Sorted.{IsPartitionPoint-from_clause, IsPartitionedBy-leb}
 use Rattle.checkpoints.specs.declared.uses.Row.{Row}
-use Rattle.checkpoints.proofs.entering.ended_by.Goals as goal
+use Rattle.checkpoints.proofs.entering.many_ended_by.Goals as goal
 
 passes : (m n : ℕ) → leb m n ≡ true → m ≤ n
 passes m n h = grind (arith, nat_tests)
