@@ -53,12 +53,12 @@ pub same_under : (a b : Branch) → ((i : ℕ)
     → entries_at (slice_index_or b.leaves.items i None) ≡ entries_at (slice_index_or a.leaves.items i None))
     → entries_under b ≡ entries_under a
 unfolding entries_under
-same_under a b h = fun_ext (λ n. ap (λ f. f (n % 256)) (h (n / 256)))
+same_under a b h = fun_ext (λ n. ap (λ f. f (n % 64)) (h (n / 64)))
 
 pub same_of : (a b : Table) → ((i : ℕ) → entries_below (slice_index_or b.branches.items i None)
     ≡ entries_below (slice_index_or a.branches.items i None)) → entries_of b ≡ entries_of a
 unfolding entries_of
-same_of a b h = fun_ext (λ n. ap (λ f. f (n % 65536)) (h (n / 65536)))
+same_of a b h = fun_ext (λ n. ap (λ f. f (n % 16384)) (h (n / 16384)))
 
 pub entry_by_value : (p q : Rc Entry Global) → q.value ≡ p.value → entry_of (Some q) ≡ entry_of (Some p)
 entry_by_value p q e = rw e refl
@@ -90,8 +90,8 @@ none_used slots n e k _ = ap (λ xs. is_some (slice_index_or xs k None)) e ∙ a
 pub none_under : (branch : Branch) (n : ℕ) → branch.leaves.items ≡ replicate n None → entries_under branch ≡ (λ _. None)
 unfolding entries_under entries_at
 none_under branch n e =
-    fun_ext (λ k. ap (λ xs. entries_at (slice_index_or xs (k / 256) None) (k % 256)) e
-    ∙ ap (λ leaf. entries_at leaf (k % 256)) (none_replicated n (k / 256)))
+    fun_ext (λ k. ap (λ xs. entries_at (slice_index_or xs (k / 64) None) (k % 64)) e
+    ∙ ap (λ leaf. entries_at leaf (k % 64)) (none_replicated n (k / 64)))
 
 -- a leaf of nothing
 pub none_in : (leaf : Leaf) (n : ℕ) → leaf.slots.items ≡ replicate n None → entries_in leaf ≡ (λ _. None)
@@ -123,20 +123,20 @@ same_uses (u ∷ us) (v ∷ vs) c zero = same-use u v c.0
 same_uses (u ∷ us) (v ∷ vs) c (suc i) = same_uses us vs c.1 i
 
 -- a table's rest, which has no branches
-pub none_in_table : (table : Table) (at i : ℕ) → AreNone (entries_of table) at (i * 65536)
+pub none_in_table : (table : Table) (at i : ℕ) → AreNone (entries_of table) at (i * 16384)
     → length table.branches.items ≤ i → AreNone (entries_of table) at 33554432
 unfolding entries_of entries_below
-none_in_table table at i before done k low high = elim (cases_lt k (i * 65536)) [
+none_in_table table at i before done k low high = elim (cases_lt k (i * 16384)) [
   | inl l ↦ before k low l
   | inr g ↦
-      (let past : length table.branches.items ≤ k / 65536 = omega arith in
-      ap (λ branch. entries_below branch (k % 65536)) (get_or_past table.branches.items (k / 65536) None past))
+      (let past : length table.branches.items ≤ k / 16384 = omega arith in
+      ap (λ branch. entries_below branch (k % 16384)) (get_or_past table.branches.items (k / 16384) None past))
 ]
 
 -- a table of nothing
 pub none_of : (table : Table) → table.branches.items ≡ [] → entries_of table ≡ (λ _. None)
 unfolding entries_of entries_below
-none_of table e = fun_ext (λ k. ap (λ branches. entries_below (slice_index_or branches (k / 65536) None) (k % 65536)) e)
+none_of table e = fun_ext (λ k. ap (λ branches. entries_below (slice_index_or branches (k / 16384) None) (k % 16384)) e)
 
 -- a table with one more slot, which is empty, and one whose slots are the same
 one-more : {T : Type 0} (xs : List (Option T)) (i : ℕ)

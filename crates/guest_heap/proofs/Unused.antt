@@ -7,13 +7,13 @@ use Rattle.guest_heap.specs.Entries.{Entries, AreNone, IsLast}
 use Rattle.guest_heap.specs.Tables.{entries_below, entries_of}
 use Rattle.guest_heap.specs.declared.table.Table.{Table}
 
-pub none_past : (table : Table) (at : ℕ) → AreNone (entries_of table) (vec_len table.branches * 65536) at
+pub none_past : (table : Table) (at : ℕ) → AreNone (entries_of table) (vec_len table.branches * 16384) at
 unfolding entries_of entries_below
 none_past table at k low high =
     let xs = table.branches.items in
     let long : vec_len table.branches ≡ length xs = search rules in
-    let past : length xs ≤ k / 65536 = omega arith in
-    ap (λ branch. entries_below branch (k % 65536)) (get_or_past xs (k / 65536) None past)
+    let past : length xs ≤ k / 16384 = omega arith in
+    ap (λ branch. entries_below branch (k % 16384)) (get_or_past xs (k / 16384) None past)
 
 pub last_wide : (entries : Entries) (m used at : ℕ) (result : Option ℕ) → m ≤ at → ((k : ℕ) → m ≤ k → k < at → used ≤ k)
     → AreNone entries used at → IsLast entries m result → IsLast entries at result

@@ -13,4 +13,4 @@ entries_at None = λ _. None
 entries_at (Some leaf) = entries_in leaf.value
 
 unfoldable pub entries_under : Branch → Entries
-entries_under branch = λ k. entries_at (slice_index_or branch.leaves.items (k / 256) None) (k % 256)
+entries_under branch = λ k. entries_at (slice_index_or branch.leaves.items (k / 64) None) (k % 64)

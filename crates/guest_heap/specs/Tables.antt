@@ -13,4 +13,4 @@ entries_below None = λ _. None
 entries_below (Some branch) = entries_under branch.value
 
 unfoldable pub entries_of : Table → Entries
-entries_of table = λ k. entries_below (slice_index_or table.branches.items (k / 65536) None) (k % 65536)
+entries_of table = λ k. entries_below (slice_index_or table.branches.items (k / 16384) None) (k % 16384)

@@ -15,7 +15,7 @@ pub(crate) mod slots;
 pub(crate) struct Table {
     // From its end on there is no branch.
     branches: Vec<Option<Rc<Branch>>>,
-    ghost within: { vec_len branches ≤ 512 },
+    ghost within: { vec_len branches ≤ 2048 },
 }
 
 #[tactic(auto, unfolding(crate::specs::Tables::entries_of, crate::specs::Tables::entries_below))]
@@ -45,7 +45,7 @@ impl Table {
 
     /// Makes room for a branch, by its number.
     fn grow(&mut self, number: usize) -> Result<(), AllocError>
-        requires { number < 512 }
+        requires { number < 2048 }
         ensures same { entries_of self.new ≡ entries_of self.old }
         ensures room { OnOk result (number < vec_len self.new.branches) }
     {
@@ -75,7 +75,7 @@ impl Table {
         at: usize,
         entry: Option<Rc<Entry>>,
     ) -> Result<(), AllocError>
-        requires { at / 65536 < vec_len self.old.branches }
+        requires { at / 16384 < vec_len self.old.branches }
         ensures ok { OnOk result (entries_of self.new ≡ with_entry (entries_of self.old) at (entry_of entry)) }
         ensures err { OnErr result (entries_of self.new ≡ entries_of self.old) }
     {
@@ -104,7 +104,7 @@ impl Table {
     }
 
     fn last_among(&self, at: usize) -> Option<usize>
-        requires { at ≤ vec_len self.now.branches * 65536 }
+        requires { at ≤ vec_len self.now.branches * 16384 }
         ensures { IsLast (entries_of self.now) at result }
     {
         for i in (0..at.div_ceil(BRANCH)).rev() {

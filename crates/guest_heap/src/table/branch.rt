@@ -8,7 +8,9 @@ use crate::table::slots::{last_in, next_in, set_in};
 use std::alloc::{AllocError, Global};
 use std::rc::Rc;
 
-pub(crate) const BRANCH: usize = 65536;
+const LEAVES: usize = 256;
+
+pub(crate) const BRANCH: usize = 16384;
 
 #[derive(Drop)]
 pub(crate) struct Branch {
@@ -29,12 +31,12 @@ impl Branch {
     pub(crate) fn new(alloc: Global) -> Result<Branch, AllocError>
         ensures { IfOk result (λ branch. entries_under branch ≡ (λ _. None)) }
     {
-        let leaves = vec![in alloc; None; LEAF]?;
+        let leaves = vec![in alloc; None; LEAVES]?;
         Ok(Branch { leaves, used: 0 })
     }
 
     pub(crate) fn get(&self, at: usize) -> Option<&Entry>
-        requires { at < 65536 }
+        requires { at < 16384 }
         ensures { option_copied result ≡ entries_under self.now at }
     {
         match &self.leaves[at / LEAF] {
@@ -59,7 +61,7 @@ impl Branch {
         at: usize,
         entry: Option<Rc<Entry>>,
     ) -> Result<(), AllocError>
-        requires { at < 65536 }
+        requires { at < 16384 }
         ensures ok { OnOk result (entries_under self.new ≡ with_entry (entries_under self.old) at (entry_of entry)) }
         ensures err { OnErr result (entries_under self.new ≡ entries_under self.old) }
     {
@@ -84,8 +86,8 @@ impl Branch {
         at: usize,
         entry: Option<Rc<Entry>>,
     ) -> Result<(), AllocError>
-        requires within { at < 65536 }
-        requires used { at / 256 < self.old.used }
+        requires within { at < 16384 }
+        requires used { at / 64 < self.old.used }
         ensures ok { OnOk result (entries_under self.new ≡ with_entry (entries_under self.old) at (entry_of entry)) }
         ensures err { OnErr result (entries_under self.new ≡ entries_under self.old) }
     {
@@ -94,8 +96,8 @@ impl Branch {
 
     /// The first slot from this one on that has a block.
     pub(crate) fn next_from(&self, at: usize) -> Option<usize>
-        requires { at ≤ 65536 }
-        ensures { IsNext (entries_under self.now) at 65536 result }
+        requires { at ≤ 16384 }
+        ensures { IsNext (entries_under self.now) at 16384 result }
     {
         for i in at / LEAF..self.used {
             if let Some(found) = next_in(&self.leaves[i], at.saturating_sub(i * LEAF)) {
@@ -107,7 +109,7 @@ impl Branch {
 
     /// The last slot below this one that has a block.
     pub(crate) fn last_below(&self, at: usize) -> Option<usize>
-        requires { at ≤ 65536 }
+        requires { at ≤ 16384 }
         ensures { IsLast (entries_under self.now) at result }
     {
         for i in (0..at.div_ceil(LEAF).min(self.used)).rev() {

@@ -17,7 +17,7 @@ pub(crate) fn set_in(
     at: usize,
     entry: Option<Rc<Entry>>,
 ) -> Result<(), AllocError>
-    requires { at < 256 }
+    requires { at < 64 }
     ensures ok { OnOk result (entries_at slot.new ≡ with_entry (entries_at slot.old) at (entry_of entry)) }
     ensures err { OnErr result (entries_at slot.new ≡ entries_at slot.old) }
 {
@@ -46,7 +46,7 @@ pub(crate) fn set_below(
     at: usize,
     entry: Option<Rc<Entry>>,
 ) -> Result<(), AllocError>
-    requires { at < 65536 }
+    requires { at < 16384 }
     ensures ok { OnOk result (entries_below slot.new ≡ with_entry (entries_below slot.old) at (entry_of entry)) }
     ensures err { OnErr result (entries_below slot.new ≡ entries_below slot.old) }
 {
@@ -67,8 +67,8 @@ pub(crate) fn set_below(
 /// The first slot from this one on that has a block.
 #[tactic(auto, unfolding(crate::specs::Branches::entries_at))]
 pub(crate) fn next_in(slot: &Option<Rc<Leaf>>, at: usize) -> Option<usize>
-    requires { at ≤ 256 }
-    ensures { IsNext (entries_at slot.now) at 256 result }
+    requires { at ≤ 64 }
+    ensures { IsNext (entries_at slot.now) at 64 result }
 {
     match slot {
         Some(leaf) => leaf.next_from(at),
@@ -79,7 +79,7 @@ pub(crate) fn next_in(slot: &Option<Rc<Leaf>>, at: usize) -> Option<usize>
 /// The last slot below this one that has a block.
 #[tactic(auto, unfolding(crate::specs::Branches::entries_at))]
 pub(crate) fn last_in(slot: &Option<Rc<Leaf>>, at: usize) -> Option<usize>
-    requires { at ≤ 256 }
+    requires { at ≤ 64 }
     ensures { IsLast (entries_at slot.now) at result }
 {
     match slot {
@@ -91,8 +91,8 @@ pub(crate) fn last_in(slot: &Option<Rc<Leaf>>, at: usize) -> Option<usize>
 /// The first slot from this one on that has a block.
 #[tactic(auto, unfolding(crate::specs::Tables::entries_below))]
 pub(crate) fn next_below(slot: &Option<Rc<Branch>>, at: usize) -> Option<usize>
-    requires { at ≤ 65536 }
-    ensures { IsNext (entries_below slot.now) at 65536 result }
+    requires { at ≤ 16384 }
+    ensures { IsNext (entries_below slot.now) at 16384 result }
 {
     match slot {
         Some(branch) => branch.next_from(at),
@@ -103,7 +103,7 @@ pub(crate) fn next_below(slot: &Option<Rc<Branch>>, at: usize) -> Option<usize>
 /// The last slot below this one that has a block.
 #[tactic(auto, unfolding(crate::specs::Tables::entries_below))]
 pub(crate) fn last_below(slot: &Option<Rc<Branch>>, at: usize) -> Option<usize>
-    requires { at ≤ 65536 }
+    requires { at ≤ 16384 }
     ensures { IsLast (entries_below slot.now) at result }
 {
     match slot {

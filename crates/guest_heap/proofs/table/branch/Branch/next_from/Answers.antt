@@ -2,7 +2,7 @@ use Rattle.std.proofs.Common.{slice_index_or, None, refl, ap, ◌+◌, ◌*◌, 
 use Rattle.guest_heap.specs.Entries.{Entries}
 use Rattle.std.proofs.lemmas.List.{get_or_read_under}
 use Rattle.guest_heap.specs.Branches.{entries_at, entries_under}
-use Rattle.guest_heap.proofs.Places.{row256, at256, first_more, none_more, first_along, none_along}
+use Rattle.guest_heap.proofs.Places.{row64, at64, first_more, none_more, first_along, none_along}
 use Rattle.guest_heap.proofs.table.branch.Branch.next_from.Goals as goal
 
 pub returns-in-Some : goal.returns-in-Some
@@ -10,7 +10,7 @@ unfolding entries_under
 returns-in-Some c =
     let i = c.loop-i.i in
     let parts : ℕ → Entries = λ j. entries_at (slice_index_or c.args.self.now.leaves.items j None) in
-    first_more (row256 parts) (parts i) (i * 256) 256 ((i + 1) * 256) (omega arith) (at256 parts i) _ _ _
+    first_more (row64 parts) (parts i) (i * 64) 64 ((i + 1) * 64) (omega arith) (at64 parts i) _ _ _
     c.loop-i.invariant
     (first_along _ _ _ _ _ _ (ap entries_at
     (get_or_read_under _ c.loop-i.i (vec_len c.args.self.now.leaves) _ None c.index.ensures
@@ -23,7 +23,7 @@ unfolding entries_under
 loop-i-preserved c =
     let i = c.loop-i.i in
     let parts : ℕ → Entries = λ j. entries_at (slice_index_or c.args.self.now.leaves.items j None) in
-    none_more (row256 parts) (parts i) (i * 256) 256 ((i + 1) * 256) (omega arith) (at256 parts i) _ c.loop-i.invariant
+    none_more (row64 parts) (parts i) (i * 64) 64 ((i + 1) * 64) (omega arith) (at64 parts i) _ c.loop-i.invariant
     (none_along _ _ _ _ _ _ (ap entries_at
     (get_or_read_under _ c.loop-i.i (vec_len c.args.self.now.leaves) _ None c.index.ensures
     (omega (arith, c.args.self.now.full)) (search rules)))

@@ -6,8 +6,8 @@ pub invariant_of-result : goal.invariant_of-result
 invariant_of-result c = record {
   full = c.in_ok-slots.ensures.len;
   within = omega arith;
-  unused = none_used _ 256 (c.in_ok-slots.ensures.items_if_clones_equal cloned_none);
+  unused = none_used _ 64 (c.in_ok-slots.ensures.items_if_clones_equal cloned_none);
 }
 
 pub returns : goal.returns
-returns c = none_in _ 256 (c.in_ok-slots.ensures.items_if_clones_equal cloned_none)
+returns c = none_in _ 64 (c.in_ok-slots.ensures.items_if_clones_equal cloned_none)
