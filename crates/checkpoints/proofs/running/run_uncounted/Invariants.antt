@@ -1,4 +1,4 @@
-use Rattle.std.proofs.Common.{◌≡◌, ℕ, ◌-◌, ◌/◌, ◌^◌, ◌<◌, ◌≤◌, List}
+use Rattle.std.proofs.Common.{◌≡◌, ℕ, ◌/◌, ◌^◌, ◌<◌, ◌≤◌, List}
 use Rattle.guest_machine.specs.State.{State}
 use Rattle.guest_machine.specs.Run.{pre, post}
 use Rattle.guest_machine.specs.Shows.{Shows}
@@ -7,7 +7,7 @@ use Rattle.checkpoints.specs.Marks.{NoneBetween}
 use Rattle.checkpoints.specs.Words.{IsWordIn, IsPlaced}
 use Rattle.checkpoints.specs.Entries.{ranges_of, entry_of, below, IsClean}
 use Rattle.checkpoints.specs.FirstUses.{uses_word, IsFirstBelow}
-use Rattle.checkpoints.proofs.running.run_quietly.Given as goal
+use Rattle.checkpoints.proofs.running.run_uncounted.Given as goal
 
 abbrev pub invariant-loop-k : goal.invariant-loop-k
 invariant-loop-k l = record {
@@ -17,8 +17,6 @@ invariant-loop-k l = record {
   shows : (start : State) (marks : List Mark) → NoneBetween l.from l.end marks
       → Shows l.fn.machine (post start l.setup marks l.from) → l.from < l.k
       → Shows l.machine (pre start l.setup marks l.k);
-  meter : l.meter ≡ l.fn.meter;
-  made : l.made ≡ l.k - l.from;
   ranges : ranges_of l.uses ≡ ranges_of l.fn.uses;
   kept : (n w : ℕ) → n ≤ l.from → w < 2 ^ 30 → IsPlaced (ranges_of l.fn.uses) w
       → below n (entry_of l.uses w) ≡ below n (entry_of l.fn.uses w);

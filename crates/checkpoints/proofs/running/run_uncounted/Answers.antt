@@ -12,7 +12,7 @@ use Rattle.checkpoints.specs.FirstUses.{uses_word, IsFirstBelow}
 use Rattle.checkpoints.proofs.WordSteps.{placed-word}
 use Rattle.checkpoints.proofs.FirstSteps.{clean-entry, below-stays}
 use Rattle.checkpoints.proofs.QuietSteps.{steps-on, unmarked, enters-on}
-use Rattle.checkpoints.proofs.running.run_quietly.Goals as goal
+use Rattle.checkpoints.proofs.running.run_uncounted.Goals as goal
 
 moved : (rs ss : List Span) (w : ℕ) → ss ≡ rs → IsPlaced rs w → IsPlaced ss w
 moved rs ss w e h = let P : List Span → Type 0 = λ xs. IsPlaced xs w in subst P (sym e) h
@@ -21,8 +21,6 @@ pub loop-k-init : goal.loop-k-init
 loop-k-init c = record {
   marked = λ start marks none h within. h;
   shows = λ start marks none h later. absurd (omega arith);
-  meter = refl;
-  made = omega (arith, c.new-made.ensures);
   ranges = refl;
   kept = λ n w low few placed. refl;
   clean = c.requires.clean;
@@ -44,8 +42,6 @@ loop-k-preserved c =
       marked = λ start marks none h low. unmarked start setup marks (k + 1) c.in_ok-stepped.stepped
           (none (k + 1) (omega arith) low) (next start marks none h);
       shows = λ start marks none h later. next start marks none h;
-      meter = inv.meter;
-      made = omega (arith, inv.made, c.in_ok-stepped.ensures.meter);
       ranges = c.enter_touched.ensures.ranges ∙ inv.ranges;
       kept = λ n w low few placed.
           below-stays (meets (has_touched c.in_ok-stepped.touched) (4 * w)) n k (entry_of c.loop-k.uses w) _
@@ -87,8 +83,6 @@ returns c =
       within = omega arith;
       shows = λ start marks none h. subst (λ n. Shows c.loop-k.machine (pre start setup marks n)) all
           (inv.shows start marks none h (omega arith));
-      meter = omega (arith, c.add-2.ensures, inv.meter, inv.made);
-      metered = λ h. omega (arith, c.add-2.ensures);
       ranges = inv.ranges;
       kept = inv.kept;
       clean = subst (IsClean c.loop-k.uses) all inv.clean;
