@@ -1,6 +1,9 @@
 -- What is known of places, by sizes.
-use Rattle.std.specs.Prelude.{ℕ, ◌≡◌, ◌≤◌, ◌<◌, ◌⊎◌, nat_lt, nat_le, min, max, List, Some, slice_get, ◌&&◌}
-use Rattle.std.specs.Prelude.{if◌then◌else◌}
+use Rattle.std.specs.Prelude.{ℕ, ◌≡◌, ◌≤◌, ◌<◌, ◌⊎◌, nat_lt, nat_le, min, max, List, [], Option, Some, None, map, slice_get}
+use Rattle.std.specs.Prelude.{◌&&◌, if◌then◌else◌}
+use Rattle.std.specs.declared.alloc.Global.{Global}
+use Rattle.std.specs.declared.rc.Rc.{Rc}
+use Rattle.std.specs.declared.vec.Vec.{Vec}
 use Rattle.guest_heap.specs.Blocks.{Blocks}
 use Rattle.guest_heap.specs.States.{AreNoPlaces}
 use Rattle.guest_heap.specs.declared.bounds.Bound.{Bound}
@@ -46,3 +49,12 @@ lowered o b =
     else if nat_lt o.end b.until
     then record { size = b.size; from = min b.from o.first; next = max b.next o.end; until = b.until }
     else record { size = b.size; from = min b.from o.first; next = b.next; until = min b.until o.first }
+
+-- a range came free, or there are no bounds any more
+abbrev pub IsLowered : Opened → List Bound → List Bound → Type 0
+IsLowered o old new = (new ≡ map (lowered o) old) ⊎ (new ≡ [])
+
+-- the bounds of a list that may be absent
+abbrev pub listed : Option (Rc (Vec Bound Global) Global) → List Bound
+listed None = []
+listed (Some list) = list.value.items

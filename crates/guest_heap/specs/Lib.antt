@@ -10,4 +10,5 @@ pub mod Steps
 pub mod Laws
 pub mod States
 pub mod Bounds
+pub mod BoundLists
 pub mod Heaps

@@ -1,11 +1,12 @@
 //! What is known of places, by sizes, so that most allocations pass no kept block. For each class of sizes there is a bound below which its
 //! least size has no place, and a range further up with none either: after a low block leaves the queue, the range above its place stays known.
-ghost use Rattle.std.specs.Prelude.{◌≡◌, ◌<◌, ◌≤◌, ◌+◌, ◌%◌, ℕ, max, vec_len};
+ghost use Rattle.std.specs.Prelude.{◌≡◌, ◌<◌, ◌≤◌, ◌+◌, ◌%◌, ℕ, max, map, slice_set, OnOk, OnErr};
 ghost use Rattle.guest_heap.specs.Blocks.{greatest_size};
-ghost use Rattle.guest_heap.specs.Bounds.{lowered, IsSkipped};
+ghost use Rattle.guest_heap.specs.Bounds.{listed, lowered, IsKnown, IsSkipped, IsTaken};
 
 use crate::region::aligned;
 use std::alloc::{AllocError, Global};
+use std::rc::Rc;
 
 /// Sizes up to 4,096 are in classes of 16 in a row, since blocks begin at multiples of 16: with one redzone for all, the sizes of a
 /// class have the same places. Each further class has twice the sizes of the one before.
@@ -70,10 +71,10 @@ const NOTHING_KNOWN: Bound = Bound {
     until: 0,
 };
 
-/// A bound for each class, once there are any.
+/// A bound for each class, once there are any. Copies share the list until one of them changes it.
 #[derive(Drop)]
 pub(crate) struct Bounds {
-    list: Vec<Bound>,
+    list: Option<Rc<Vec<Bound>>>,
 }
 
 /// A range that came free, for blocks with a redzone: its first place, where it ends, and the greatest size that has a place in it.
@@ -131,90 +132,159 @@ pub(crate) fn past(at: u64, bound: &Bound) -> u64
     at
 }
 
-impl Bounds {
-    ghost use Rattle.std.specs.Prelude.{IfOk, Some, map, nat_eq, slice_get, slice_set};
-    ghost use Rattle.guest_heap.specs.Bounds.{AreFresh, IsKnown, IsTaken};
+/// The bounds of a list that may be absent.
+fn listed(list: &Option<Rc<Vec<Bound>>>) -> &[Bound]
+    ensures { result.now ≡ listed list.now }
+{
+    match list {
+        Some(shared) => shared.as_slice(),
+        None => &[],
+    }
+}
 
-    pub(crate) fn new(alloc: Global) -> Bounds
-        ensures { AreFresh result.list.items }
-    {
-        Bounds {
-            list: Vec::new(alloc),
+/// The greatest bound known of a class: where a lesser size has no place, it has none.
+fn known_in(list: &[Bound], class: &SizeClass) -> u32
+    requires { class.now.index < 268 }
+    ensures { IsKnown list.now class.now.least result }
+{
+    let mut known = 0;
+    for index in 0..(class.index + 1).min(list.len()) {
+        let bound = list[index];
+        if bound.size <= class.least && bound.from > known {
+            known = bound.from;
         }
+    }
+    known
+}
+
+/// What is known between places of a class, with the least size of it.
+fn taken_from(list: &[Bound], class: &SizeClass) -> Bound
+    ensures size { result.size ≡ class.now.least }
+    ensures known { IsTaken list.now result }
+{
+    if let Some(bound) = list.get(class.index)
+        && bound.size <= class.least
+    {
+        return Bound {
+            size: class.least,
+            from: bound.from,
+            next: bound.next,
+            until: bound.until,
+        };
+    }
+    Bound {
+        size: class.least,
+        from: 0,
+        next: 0,
+        until: 0,
+    }
+}
+
+/// Writes one of the bounds.
+fn put_at(list: &mut Vec<Bound>, index: usize, bound: Bound)
+    ensures { list.new.items ≡ slice_set list.old.items index bound }
+{
+    if index < list.len() {
+        list[index] = bound;
+    }
+}
+
+/// Writes one of the bounds, in a list of its own.
+fn put_in(shared: &mut Rc<Vec<Bound>>, index: usize, bound: Bound) -> Result<(), AllocError>
+    ensures ok { OnOk result (shared.new.value.items ≡ slice_set shared.old.value.items index bound) }
+    ensures err { OnErr result (shared.new.value.items ≡ shared.old.value.items) }
+{
+    let own = Rc::make_mut(shared)?;
+    put_at(own, index, bound);
+    Ok(())
+}
+
+fn lower_all(list: &mut Vec<Bound>, opened: &Opened)
+    ensures { list.new.items ≡ map (lowered opened.now) list.old.items }
+{
+    for bound in list.iter_mut() {
+        *bound = lowered(*bound, opened);
+    }
+}
+
+/// Lowers the bounds, in a list of its own.
+fn lower_in(shared: &mut Rc<Vec<Bound>>, opened: &Opened) -> Result<(), AllocError>
+    ensures { OnOk result (shared.new.value.items ≡ map (lowered opened.now) shared.old.value.items) }
+{
+    let own = Rc::make_mut(shared)?;
+    lower_all(own, opened);
+    Ok(())
+}
+
+impl Bounds {
+    ghost use Rattle.std.specs.Prelude.{◌≡◌, ◌<◌, IfOk, OnOk, OnErr, length, nat_eq, slice_set};
+    ghost use Rattle.guest_heap.specs.Bounds.{AreFresh, IsKnown, IsTaken, IsLowered};
+    ghost use Rattle.guest_heap.specs.BoundLists.{bounds_in};
+
+    /// No bounds, which take no memory.
+    pub(crate) fn new() -> Bounds
+        ensures { AreFresh (bounds_in result) }
+    {
+        Bounds { list: None }
     }
 
     /// Are there no bounds yet?
     pub(crate) fn are_absent(&self) -> bool
-        ensures { result ≡ nat_eq (vec_len self.now.list) 0 }
+        ensures { result ≡ nat_eq (length (bounds_in self.now)) 0 }
     {
-        self.list.is_empty()
+        listed(&self.list).is_empty()
     }
 
     /// The greatest bound known of a class: where a lesser size has no place, it has none.
     pub(crate) fn known(&self, class: &SizeClass) -> u32
         requires { class.now.index < 268 }
-        ensures { IsKnown self.now.list.items class.now.least result }
+        ensures { IsKnown (bounds_in self.now) class.now.least result }
     {
-        let mut known = 0;
-        for index in 0..(class.index + 1).min(self.list.len()) {
-            let bound = self.list[index];
-            if bound.size <= class.least && bound.from > known {
-                known = bound.from;
-            }
-        }
-        known
+        known_in(listed(&self.list), class)
     }
 
     /// What is known between places of a class, with the least size of it.
     pub(crate) fn get(&self, class: &SizeClass) -> Bound
         ensures size { result.size ≡ class.now.least }
-        ensures known { IsTaken self.now.list.items result }
+        ensures known { IsTaken (bounds_in self.now) result }
     {
-        if let Some(bound) = self.list.get(class.index)
-            && bound.size <= class.least
-        {
-            return Bound {
-                size: class.least,
-                from: bound.from,
-                next: bound.next,
-                until: bound.until,
-            };
-        }
-        Bound {
-            size: class.least,
-            from: 0,
-            next: 0,
-            until: 0,
-        }
+        taken_from(listed(&self.list), class)
     }
 
-    pub(crate) fn put(&mut self, index: usize, bound: Bound)
-        ensures { self.new.list.items ≡ slice_set self.old.list.items index bound }
+    /// Writes a bound, if there are any. Where memory for a list of its own fails they are as before.
+    pub(crate) fn put(&mut self, index: usize, bound: Bound) -> Result<(), AllocError>
+        ensures ok { OnOk result (bounds_in self.new ≡ slice_set (bounds_in self.old) index bound) }
+        ensures err { OnErr result (bounds_in self.new ≡ bounds_in self.old) }
     {
-        if index < self.list.len() {
-            self.list[index] = bound;
+        match &mut self.list {
+            Some(shared) => put_in(shared, index, bound),
+            None => Ok(()),
         }
     }
 
     /// A bound for each class, and nothing is known any more; where memory fails there are none.
-    pub(crate) fn forget(&mut self) -> Result<(), AllocError>
-        ensures { AreFresh self.new.list.items }
+    pub(crate) fn forget(&mut self, alloc: Global) -> Result<(), AllocError>
+        ensures { AreFresh (bounds_in self.new) }
     {
-        self.list.clear();
-        self.list.resize(CLASSES, NOTHING_KNOWN)
+        self.list = None;
+        let list = vec![in alloc; NOTHING_KNOWN; CLASSES]?;
+        self.list = Some(Rc::new(alloc, list)?);
+        Ok(())
     }
 
-    /// A range came free.
+    /// A range came free. Where memory for a list of its own fails there are no bounds any more.
     pub(crate) fn lower(&mut self, opened: &Opened)
-        ensures { self.new.list.items ≡ map (lowered opened.now) self.old.list.items }
+        ensures { IsLowered opened.now (bounds_in self.old) (bounds_in self.new) }
     {
-        for bound in self.list.iter_mut() {
-            *bound = lowered(*bound, opened);
+        if let Some(shared) = &mut self.list
+            && lower_in(shared, opened).is_err()
+        {
+            self.list = None;
         }
     }
 
     pub(crate) fn share(&self) -> Result<Bounds, AllocError>
-        ensures { IfOk result (λ copy. copy.list.items ≡ self.now.list.items) }
+        ensures { IfOk result (λ copy. bounds_in copy ≡ bounds_in self.now) }
     {
         let list = self.list.clone()?;
         Ok(Bounds { list })

@@ -4,6 +4,7 @@ ghost use Rattle.guest_heap.specs.Tables.{entries_of};
 ghost use Rattle.guest_heap.specs.Queues.{queued};
 ghost use Rattle.guest_heap.specs.States.{AreSound, volume_in, shown};
 ghost use Rattle.guest_heap.specs.Bounds.{AreBounds};
+ghost use Rattle.guest_heap.specs.BoundLists.{bounds_in};
 
 use crate::bounds::Bounds;
 use crate::queue::Queue;
@@ -32,7 +33,7 @@ pub struct Heap {
     ghost sound: { AreSound (entries_of live) (entries_of freed) (queued queue) first },
     ghost numbered: { next ≡ first + length (queued queue) },
     ghost volume: { held ≡ volume_in (queued queue) },
-    ghost bounded: { AreBounds (shown (entries_of live) (queued queue)) redzone bounds.list.items },
+    ghost bounded: { AreBounds (shown (entries_of live) (queued queue)) redzone (bounds_in bounds) },
 }
 
 #[tactic(auto, unfolding(crate::specs::Heaps::blocks_of))]
@@ -49,7 +50,7 @@ impl Heap {
         let live = Table::new(alloc);
         let freed = Table::new(alloc);
         let queue = Queue::new(alloc);
-        let bounds = Bounds::new(alloc);
+        let bounds = Bounds::new();
         Heap {
             live,
             freed,

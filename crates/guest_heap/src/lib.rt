@@ -33,7 +33,7 @@
 //! - `specs/Blocks.antt`: blocks, intervals, places, the queue, what is near an address, as relations.
 //! - `specs/Steps.antt`: the calls as functions. `specs/Laws.antt`: what these mean, at all blocks.
 //! - The others are for this crate's proofs: `Heaps` (`blocks_of`), `States` and `Bounds` (what a heap keeps true), and `Entries`, `Leaves`,
-//!   `Branches`, `Tables`, `Runs`, `Queues`, `Unused` (how it stores blocks).
+//!   `Branches`, `Tables`, `Runs`, `Queues`, `BoundLists`, `Unused` (how it stores these).
 //!
 //! # Costs
 //!

@@ -48,12 +48,12 @@ impl Heap {
 
     /// The bounds are those of a redzone.
     #[tactic(auto, unfolding(crate::specs::Heaps::blocks_of, crate::specs::Heaps::redzone_in))]
-    fn use_redzone(&mut self, redzone: u32) -> Result<(), AllocError>
+    fn use_redzone(&mut self, alloc: Global, redzone: u32) -> Result<(), AllocError>
         ensures same { blocks_of self.new ≡ blocks_of self.old }
         ensures redzone { OnOk result (redzone_in self.new ≡ redzone) }
     {
         if self.redzone != redzone || self.bounds.are_absent() {
-            self.bounds.forget()?;
+            self.bounds.forget(alloc)?;
             self.redzone = redzone;
         }
         Ok(())
@@ -61,13 +61,13 @@ impl Heap {
 
     /// Raises the bound of a class to the least place of its least block, and answers it.
     #[tactic(auto, unfolding(crate::specs::Heaps::blocks_of, crate::specs::Heaps::redzone_in))]
-    fn raise_bound(&mut self, class: &SizeClass) -> Bound
+    fn raise_bound(&mut self, class: &SizeClass) -> Result<Bound, AllocError>
         requires index { class.now.index < 268 }
         requires small { class.now.least ≤ greatest_size }
         ensures same { blocks_of self.new ≡ blocks_of self.old }
         ensures redzone { redzone_in self.new ≡ redzone_in self.old }
-        ensures size { result.size ≡ class.now.least }
-        ensures holds { Holds (blocks_of self.new) (redzone_in self.new) result }
+        ensures size { IfOk result (λ bound. bound.size ≡ class.now.least) }
+        ensures holds { IfOk result (λ bound. Holds (blocks_of self.new) (redzone_in self.new) bound) }
     {
         let known = u64::from(self.bounds.known(class));
         let own = self.bounds.get(class);
@@ -82,20 +82,20 @@ impl Heap {
             next: own.next,
             until: own.until,
         };
-        self.bounds.put(class.index, raised);
-        raised
+        self.bounds.put(class.index, raised)?;
+        Ok(raised)
     }
 
     /// The least place for a block.
-    fn place(&mut self, size: u32, redzone: u32) -> Result<Option<u32>, AllocError>
+    fn place(&mut self, alloc: Global, size: u32, redzone: u32) -> Result<Option<u32>, AllocError>
         ensures same { blocks_of self.new ≡ blocks_of self.old }
         ensures place { IfOk result (λ start. Places (blocks_of self.new) size redzone start) }
     {
         if size > GREATEST_SIZE {
             return Ok(None);
         }
-        self.use_redzone(redzone)?;
-        let bound = self.raise_bound(&class_of(size));
+        self.use_redzone(alloc, redzone)?;
+        let bound = self.raise_bound(&class_of(size))?;
         let from = aligned(u64::from(bound.from).max(HEAP_BEGIN + u64::from(redzone)));
         Ok(self.place_from(from, size, redzone, &bound))
     }
@@ -127,7 +127,7 @@ impl Heap {
         ensures ok { IfOk result (λ start. blocks_of self.new ≡ allocated (blocks_of self.old) start size trace redzone) }
         ensures err { OnErr result (blocks_of self.new ≡ blocks_of self.old) }
     {
-        match self.place(size, redzone)? {
+        match self.place(alloc, size, redzone)? {
             Some(start) => {
                 let block = Block {
                     start,

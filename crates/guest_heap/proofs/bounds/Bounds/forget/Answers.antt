@@ -1,6 +1,9 @@
-use Rattle.std.proofs.Common.{◌-◌, vec_len}
-use Rattle.guest_heap.proofs.Bounding.{fresh_resized}
+use Rattle.std.proofs.Common.{◌≡◌, ◌∙◌, ap, sym, subst}
+use Rattle.guest_heap.specs.Bounds.{AreFresh}
+use Rattle.guest_heap.proofs.Bounding.{fresh_replicate}
 use Rattle.guest_heap.proofs.bounds.Bounds.forget.Goals as goal
 
 pub returns : goal.returns
-returns c = fresh_resized _ _ _ 268 (268 - vec_len c.clear.new.self) c.clear.ensures.items c.resize.ensures.items
+returns c =
+    subst AreFresh (sym (ap (λ list. list.items) c.in_ok-new.ensures.ok
+    ∙ c.in_ok-list.ensures.items_if_clones_equal (λ copy same. same))) (fresh_replicate 268)

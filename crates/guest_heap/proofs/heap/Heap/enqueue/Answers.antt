@@ -1,4 +1,5 @@
 use Rattle.std.proofs.Common.{ℕ, ◌+◌, length, refl, ap, ap₂, sym, subst, ◌∙◌, arith}
+use Rattle.guest_heap.specs.BoundLists.{bounds_in}
 use Rattle.guest_heap.specs.Heaps.{blocks_of}
 use Rattle.guest_heap.specs.Blocks.{Blocks, freed_by}
 use Rattle.guest_heap.specs.States.{shown, volume_in}
@@ -40,14 +41,14 @@ invariant_of-self-2 c =
           c.in_ok-prepare.ensures.same c.slot_of-slot.ensures refl (c.in_ok-entry.ensures ∙ ap P heap.numbered);
       numbered = omega (arith, heap.numbered, lengths, c.in-Some.ensures);
       volume = omega (arith, heap.volume, sizes, c.in-Some-checked_add.ensures, c.from.ensures);
-      bounded = (let Q : Blocks → Type 0 = λ bs. AreBounds bs heap.redzone heap.bounds.list.items in
+      bounded = (let Q : Blocks → Type 0 = λ bs. AreBounds bs heap.redzone (bounds_in heap.bounds) in
           subst Q (sym (enqueued_shown (entries_of heap.live) (entries_of heap.freed) (queued heap.queue) heap.first
           heap.sound c.args.block.now c.args.trace c.requires
           _ _ _ _ _ _ _ c.in_ok-move_to_freed.ensures.live c.in_ok-move_to_freed.ensures.freed c.push.ensures
           c.in_ok-prepare.ensures.same c.slot_of-slot.ensures refl
           (c.in_ok-entry.ensures ∙ ap P heap.numbered)))
           (no_more_freed (shown (entries_of heap.live) (queued heap.queue)) c.args.block.now c.args.trace heap.redzone
-          heap.bounds.list.items c.requires
+          (bounds_in heap.bounds) c.requires
           heap.bounded));
     }
 
@@ -76,7 +77,7 @@ invariant_of-self-in-Break-branch-3 c =
       bounded =
           same_bounds (entries_of heap.live) (entries_of c.move_to_freed.new.live) (queued heap.queue)
           (queued c.prepare.new.self) heap.redzone
-          heap.bounds.list.items c.in_err-move_to_freed.ensures.live_err c.prepare.ensures.same heap.bounded;
+          (bounds_in heap.bounds) c.in_err-move_to_freed.ensures.live_err c.prepare.ensures.same heap.bounded;
     }
 
 pub invariant_of-self : goal.invariant_of-self
@@ -90,7 +91,7 @@ invariant_of-self c =
       volume = heap.volume ∙ ap volume_in (sym same);
       bounded =
           same_bounds (entries_of heap.live) (entries_of heap.live) (queued heap.queue) (queued c.prepare.new.self)
-          heap.redzone heap.bounds.list.items refl same heap.bounded;
+          heap.redzone (bounds_in heap.bounds) refl same heap.bounded;
     }
 
 pub returns-in_err-prepare-clause-err : goal.returns-in_err-prepare-clause-err

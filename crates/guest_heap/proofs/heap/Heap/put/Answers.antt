@@ -1,4 +1,5 @@
 use Rattle.std.proofs.Common.{inl, inr, Some, ap, sym, subst, ◌∙◌}
+use Rattle.guest_heap.specs.BoundLists.{bounds_in}
 use Rattle.guest_heap.specs.Heaps.{blocks_of}
 use Rattle.guest_heap.specs.Entries.{Entries}
 use Rattle.guest_heap.specs.States.{AreSound, shown}
@@ -25,14 +26,14 @@ invariant_of-self c =
       ];
       numbered = old.numbered;
       volume = old.volume;
-      bounded = (let Q : Blocks → Type 0 = λ bs. AreBounds bs old.redzone old.bounds.list.items in
+      bounded = (let Q : Blocks → Type 0 = λ bs. AreBounds bs old.redzone (bounds_in old.bounds) in
           elim (either_way c.set.result c.set.ensures.ok c.set.ensures.err) [
             | inl h ↦ subst Q
                 (sym (ap (λ f. shown f (queued old.queue))
                 (written _ _ _ _ e h c.slot_of-slot.ensures (ap Some c.in_ok-entry.ensures.ok))
                 ∙ put_shown _ _ _ _ old.sound e c.requires.live c.requires.place))
                 (no_more_put (shown (entries_of old.live) (queued old.queue)) c.args.block old.redzone
-                old.bounds.list.items c.requires.place old.bounded)
+                (bounds_in old.bounds) c.requires.place old.bounded)
             | inr h ↦ subst Q (sym (ap (λ f. shown f (queued old.queue)) h)) old.bounded
           ]);
     }

@@ -1,4 +1,5 @@
 use Rattle.std.proofs.Common.{◌+◌, length, List, ap, ap₂, sym, subst, ◌∙◌}
+use Rattle.guest_heap.specs.BoundLists.{bounds_in}
 use Rattle.guest_heap.specs.Heaps.{blocks_of}
 use Rattle.guest_heap.specs.Tables.{entries_of}
 use Rattle.guest_heap.specs.Queues.{queued}
@@ -22,7 +23,7 @@ invariant_of-result c =
       volume = heap.volume ∙ ap volume_in (sym queue);
       bounded =
           subst P (sym c.in_ok-bounds.ensures) (same_bounds (entries_of heap.live) (entries_of c.in_ok-live.live)
-          (queued heap.queue) (queued c.in_ok-queue.queue) heap.redzone heap.bounds.list.items live queue
+          (queued heap.queue) (queued c.in_ok-queue.queue) heap.redzone (bounds_in heap.bounds) live queue
           heap.bounded);
     }
 

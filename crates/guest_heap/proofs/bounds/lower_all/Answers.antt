@@ -2,7 +2,7 @@ use Rattle.std.proofs.Common.{◌<◌, ◌∙◌, ap, length, set, arith}
 use Rattle.std.proofs.lemmas.List.{get_or_default}
 use Rattle.std.proofs.lemmas.List.Edits.{map_over_more}
 use Rattle.guest_heap.specs.Bounds.{lowered}
-use Rattle.guest_heap.proofs.bounds.Bounds.lower.Goals as goal
+use Rattle.guest_heap.proofs.bounds.lower_all.Goals as goal
 
 pub loop-bound-preserved : goal.loop-bound-preserved
 loop-bound-preserved c =

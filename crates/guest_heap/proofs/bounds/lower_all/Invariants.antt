@@ -1,6 +1,6 @@
 use Rattle.std.proofs.Common.{◌≡◌, ◌++◌, map, take, drop}
 use Rattle.guest_heap.specs.Bounds.{lowered}
-use Rattle.guest_heap.proofs.bounds.Bounds.lower.Given as goal
+use Rattle.guest_heap.proofs.bounds.lower_all.Given as goal
 
 abbrev pub invariant-loop-bound : goal.invariant-loop-bound
 invariant-loop-bound l =

@@ -1,0 +1,8 @@
+-- The bounds that a heap has.
+use Rattle.std.specs.Prelude.{List}
+use Rattle.guest_heap.specs.Bounds.{listed}
+use Rattle.guest_heap.specs.declared.bounds.Bound.{Bound}
+use Rattle.guest_heap.specs.declared.bounds.Bounds.{Bounds}
+
+abbrev pub bounds_in : Bounds → List Bound
+bounds_in bounds = listed bounds.list
