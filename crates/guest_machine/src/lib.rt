@@ -32,7 +32,7 @@
 //! | [`Input::new`], [`Input::len`], [`Input::into_vec`] | the bytes that can be read, from a vector; how many; the vector again |
 //! | [`Input::push`], [`Input::pop`] | nothing: the input has one byte more, or one less, at its end |
 //! | [`Register::new`] | the register of a number below 32 |
-//! | [`Meter::new`], [`Meter::read`], [`Meter::add`], [`Meter::rise_by`] | a count of steps, raised by `step`, by `run`, by what another counted and by what its caller made |
+//! | [`Meter::new`], [`Meter::read`], [`Meter::rise_by`] | a count of steps, raised by `step`, by `run` and by the steps that a caller counted |
 //! | [`laws::keeps_words`], [`laws::keeps_input`], [`laws::keeps_heap`], [`laws::keeps_pokes`] | nothing: their contracts are laws of one step |
 //! | [`laws::reads_on`], [`laws::keeps_end`], [`laws::end_stays`], [`laws::stays_halted`] | likewise |
 //!

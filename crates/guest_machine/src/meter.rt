@@ -38,14 +38,6 @@ impl Meter {
         self.steps = self.steps.saturating_add(1);
     }
 
-    /// The steps of another meter too.
-    #[inline(always)]
-    pub fn add(&mut self, other: Meter)
-        ensures { self.new ≡ min (self.old + other) u64.MAX }
-    {
-        self.steps = self.steps.saturating_add(other.steps);
-    }
-
     /// So many steps more.
     #[inline(always)]
     pub fn rise_by(&mut self, steps: u32)
