@@ -1,8 +1,7 @@
 -- Regrouping groups is grouping the errors that are kept.
 use Rattle.std.proofs.Common.{◌≡◌, ℕ, List, [], ◌∷◌, Bool, true, false, cond, if◌then◌else◌, ◌&&◌, ◌||◌, length, map}
 use Rattle.std.proofs.Common.{filter, take, refl, ap, ap₂, sym, subst, ◌∙◌, arith}
-use Rattle.std.specs.Prelude.{Result, Ok, Err, IfOk, slice_get}
-use Rattle.std.specs.List.{list_any, filter_map, range_with_len}
+use Rattle.std.specs.List.{list_any}
 use Rattle.error_events.specs.Groups.{grouped, firsts_after, same_kind, same_trace}
 use Rattle.error_events.specs.Adding.{add_group, add_event, add_events, alone, is_like, raised}
 use Rattle.error_events.specs.Regrouping.{cut, is_kept, kept, regrouped, KeptByTest}
@@ -12,7 +11,6 @@ use Rattle.error_events.specs.declared.event.Event.{Event}
 use Rattle.error_events.specs.declared.event.Group.{Group}
 use Rattle.error_events.proofs.SameKeys.{same-parts, same-from, same-symm, or-false-left, or-false-right}
 use Rattle.error_events.proofs.GroupSteps.{Apart, grouped-apart, grouped-append}
-use Rattle.error_events.proofs.LoopSteps.{read-whole}
 use Rattle.error_events.proofs.AddSteps.{add-like, add-unlike, add-swap, add-raised, known-stays, known-added}
 
 module _ (callers : ℕ) (p : Kind → List ℕ → Bool) where
@@ -231,13 +229,3 @@ unfolding kept AllKnown
 kept-by-test test es =
     let P : List Group → Type 0 = AllKnown es in
     kept-all test (grouped es) es (subst P (sym (grouped-events es)) (all-known es []))
-
--- what was merged and then read is the regrouping
-pub regrouped-result : {A E : Type 0} (callers : ℕ) (keeps : List Bool) (gs all : List Group) (items : A
-    → List Group) (r : Result A E) → length keeps ≡ length gs
-    → all ≡ merged callers [] keeps gs → IfOk r
-    (λ x. items x ≡ filter_map (slice_get all) (range_with_len 0 (length all)))
-    → IfOk r (λ x. (es : List Event) → gs ≡ grouped es → items x ≡ regrouped callers keeps es)
-regrouped-result callers keeps gs all items (Ok x) l m h =
-    λ es g. h ∙ read-whole all ∙ m ∙ merged-regrouped callers keeps gs es l g
-regrouped-result callers keeps gs all items (Err x) l m h = tt

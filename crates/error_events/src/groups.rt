@@ -128,7 +128,16 @@ impl Groups {
         requires some { 0 < callers }
         ensures { IfOk result (λ groups. (es : List Event) → groups_of self.now ≡ grouped es → groups.items ≡ regrouped callers keep.now es) }
     {
-        self.merged(callers, keep)?.collected()
+        self.regrouped(callers, keep)?.collected()
+    }
+
+    /// The groups that `regroup` lists.
+    pub fn regrouped(&self, callers: u32, keep: &[bool]) -> Result<Groups, AllocError>
+        requires each { length keep.now ≡ length (groups_of self.now) }
+        requires some { 0 < callers }
+        ensures { IfOk result (λ groups. (es : List Event) → groups_of self.now ≡ grouped es → groups_of groups ≡ regrouped callers keep.now es) }
+    {
+        self.merged(callers, keep)
     }
 
     /// The groups of the errors that are kept, by fewer addresses.

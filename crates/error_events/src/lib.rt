@@ -15,12 +15,13 @@
 //! | [`Groups::add`] | one more error; where memory fails, the groups stay |
 //! | [`Groups::len`], [`Groups::get`] | how many groups there are, and the group at a place |
 //! | [`Groups::regroup`] | the errors of the groups that are kept, grouped by fewer addresses |
+//! | [`Groups::regrouped`] | the same, as groups and not as a list |
 //! | [`Groups::share`] | a copy, which later errors of the other don't reach |
 //! | [`Parameter::text`] | the text by which reports and suppressions name a parameter of a call |
 //! | [`laws::groups_grow`], [`laws::kept_by_test`] | nothing: their contracts are laws of the definitions |
 //!
-//! [`Kind`], [`ParameterFault`], [`Parameter`], [`Note`], [`Event`] and [`Group`] are plain values. Only `add`, `regroup`
-//! and `share` take memory, and nothing else fails.
+//! [`Kind`], [`ParameterFault`], [`Parameter`], [`Note`], [`Event`] and [`Group`] are plain values. Only `add`, `regroup`,
+//! `regrouped` and `share` take memory, and nothing else fails.
 //!
 //! # What a caller relies on
 //!
@@ -29,7 +30,7 @@
 //!
 //! - `new` shows no groups, which is `grouped` of no errors;
 //! - `add` shows `add_event` of the groups and the error, which by [`laws::groups_grow`] is `grouped` of the longer list;
-//! - `regroup` answers `regrouped` of every list of errors whose `grouped` the groups show: the groups, by kind and the first
+//! - `regroup` and `regrouped` answer `regrouped` of every list of errors whose `grouped` the groups show: the groups, by kind and the first
 //!   `callers` addresses, of the errors whose own group is kept; if groups are kept by a test of kind and trace, then by
 //!   [`laws::kept_by_test`] these are the errors that pass the test.
 //!

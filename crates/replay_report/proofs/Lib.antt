@@ -1,3 +1,4 @@
 pub mod Filters
 pub mod LeakSteps
 pub mod OneReport
+pub mod ReportSteps

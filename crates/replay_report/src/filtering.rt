@@ -7,12 +7,14 @@ ghost use Rattle.error_events.specs.declared.event.Group.{Group};
 ghost use Rattle.error_events.specs.Shown.{groups_of};
 ghost use Rattle.guest_machine.specs.State.{State};
 ghost use Rattle.guest_machine.specs.Shows.{Shows};
+ghost use Rattle.report_lines.specs.Lines.{error_sum};
 ghost use Rattle.replay_report.specs.Filtering.{names_of, hides, shown_groups, hidden_groups};
 
 use error_events::laws::kept_by_test;
 use error_events::{Group, Groups};
 use guest_elf::Image;
 use guest_machine::Machine;
+use report_lines::{ErrorSum, error_sum};
 use std::alloc::{AllocError, Global};
 use suppressions::{Suppression, Target, is_suppressed};
 
@@ -79,13 +81,13 @@ fn shown_groups(
     all: &Groups,
     callers: u32,
     hidden: &[bool],
-) -> Result<Vec<Group>, AllocError>
+) -> Result<Groups, AllocError>
     requires each { length hidden.now ≡ length (groups_of all.now) }
     requires some { 0 < callers }
-    ensures { IfOk result (λ shown. (es : List Event) → groups_of all.now ≡ grouped es → shown.items ≡ regrouped callers (map not hidden.now) es) }
+    ensures { IfOk result (λ shown. (es : List Event) → groups_of all.now ≡ grouped es → groups_of shown ≡ regrouped callers (map not hidden.now) es) }
 {
     let shown = turned(alloc, hidden)?;
-    all.regroup(callers, &shown)
+    all.regrouped(callers, &shown)
 }
 
 /// The groups of the errors that are shown.
@@ -95,9 +97,9 @@ pub(crate) fn told_groups(
     image: &Image,
     suppressions: &[Suppression],
     callers: u32,
-) -> Result<Vec<Group>, AllocError>
+) -> Result<Groups, AllocError>
     requires { 0 < callers }
-    ensures { IfOk result (λ shown. (s : State) → Shows machine.now s → shown.items ≡ shown_groups suppressions.now image.now callers s.events) }
+    ensures { IfOk result (λ shown. (s : State) → Shows machine.now s → groups_of shown ≡ shown_groups suppressions.now image.now callers s.events) }
 {
     let groups = machine.groups();
     let suppressed = hidden_of(alloc, groups, suppressions, image)?;
@@ -105,21 +107,31 @@ pub(crate) fn told_groups(
     shown_groups(alloc, groups, callers, &suppressed)
 }
 
-/// The groups of the errors that are shown, and of those that are only counted.
+/// The sum of the errors that are only counted, by which groups are hidden.
+fn hidden_sum(all: &Groups, callers: u32, hidden: &[bool]) -> Result<ErrorSum, AllocError>
+    requires each { length hidden.now ≡ length (groups_of all.now) }
+    requires some { 0 < callers }
+    ensures { IfOk result (λ sum. (es : List Event) → groups_of all.now ≡ grouped es → sum ≡ error_sum (regrouped callers hidden.now es)) }
+{
+    let groups = all.regrouped(callers, hidden)?;
+    Ok(error_sum(&groups))
+}
+
+/// The groups of the errors that are shown, and the sum of those that are only counted.
 pub(crate) fn split_groups(
     alloc: Global,
     machine: &Machine,
     image: &Image,
     suppressions: &[Suppression],
     callers: u32,
-) -> Result<(Vec<Group>, Vec<Group>), AllocError>
+) -> Result<(Groups, ErrorSum), AllocError>
     requires { 0 < callers }
-    ensures shown { IfOk result (λ r. (s : State) → Shows machine.now s → r.0.items ≡ shown_groups suppressions.now image.now callers s.events) }
-    ensures hidden { IfOk result (λ r. (s : State) → Shows machine.now s → r.1.items ≡ hidden_groups suppressions.now image.now callers s.events) }
+    ensures shown { IfOk result (λ r. (s : State) → Shows machine.now s → groups_of r.0 ≡ shown_groups suppressions.now image.now callers s.events) }
+    ensures hidden { IfOk result (λ r. (s : State) → Shows machine.now s → r.1 ≡ error_sum (hidden_groups suppressions.now image.now callers s.events)) }
 {
     let groups = machine.groups();
     let hidden = hidden_of(alloc, groups, suppressions, image)?;
     kept_by_test();
-    let shown = shown_groups(alloc, groups, callers, &hidden)?;
-    Ok((shown, groups.regroup(callers, &hidden)?))
+    let sum = hidden_sum(groups, callers, &hidden)?;
+    Ok((shown_groups(alloc, groups, callers, &hidden)?, sum))
 }

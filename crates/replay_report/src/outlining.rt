@@ -1,7 +1,9 @@
 //! The outline of a machine: what runs that came to the same have in common.
-ghost use Rattle.std.specs.Prelude.{◌≡◌, ◌++◌, ◌<◌, ◌≤◌, IfOk, OnOk, map};
+ghost use Rattle.std.specs.Prelude.{◌≡◌, ◌++◌, ◌<◌, ◌≤◌, IfOk, OnOk, Some, map};
 ghost use Rattle.std.specs.List.{flat_map};
 ghost use Rattle.call_stacks.specs.Frames.{longest_trace};
+ghost use Rattle.error_events.specs.Shown.{groups_of};
+ghost use Rattle.error_events.specs.declared.event.Group.{Group};
 ghost use Rattle.guest_machine.specs.State.{State};
 ghost use Rattle.guest_machine.specs.Shows.{Shows};
 ghost use Rattle.replay_report.specs.Outlines.{stop_place, end_line, told_trace, error_outline, leak_outline, outline_head, leak_outlines, outline_text, IsOutline};
@@ -10,7 +12,7 @@ use crate::filtering::told_groups;
 use crate::leak_lines::leak_text;
 use crate::leaks::{BlockSum, LeakKey, is_shown, leak_groups, split_records};
 use crate::options::{Options, View};
-use error_events::{Group, Kind};
+use error_events::{Group, Groups, Kind};
 use guest_elf::Image;
 use guest_machine::{Machine, Status, Stop};
 use indexmap::IndexMap;
@@ -82,17 +84,32 @@ fn push_error(
     push_trace(out, image, told_trace(group.kind, trace))
 }
 
+/// What an error is called, and its trace, if it is there.
+fn push_error_at(
+    out: &mut Vec<u8>,
+    image: &Image,
+    callers: u32,
+    group: Option<Group>,
+) -> Result<(), AllocError>
+    ensures { OnOk result ((g : Group) → group ≡ Some g → out.new.items ≡ out.old.items ++ error_outline image.now callers g) }
+{
+    match group {
+        Some(group) => push_error(out, image, callers, &group),
+        None => Ok(()),
+    }
+}
+
 /// The errors, in their order.
 fn push_errors(
     out: &mut Vec<u8>,
     image: &Image,
     callers: u32,
-    groups: &[Group],
+    groups: &Groups,
 ) -> Result<(), AllocError>
-    ensures { OnOk result (out.new.items ≡ out.old.items ++ flat_map (error_outline image.now callers) groups.now) }
+    ensures { OnOk result (out.new.items ≡ out.old.items ++ flat_map (error_outline image.now callers) (groups_of groups.now)) }
 {
-    for group in groups {
-        push_error(out, image, callers, group)?;
+    for index in 0..groups.len() {
+        push_error_at(out, image, callers, groups.get(index))?;
     }
     Ok(())
 }

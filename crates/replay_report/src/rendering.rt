@@ -1,21 +1,25 @@
 //! The report of a machine.
-ghost use Rattle.std.specs.Prelude.{◌≡◌, ◌++◌, ◌<◌, ◌≤◌, IfOk, OnOk, OnErr, length};
+ghost use Rattle.std.specs.Prelude.{◌≡◌, ◌++◌, ◌<◌, ◌≤◌, IfOk, List, OnOk, OnErr, length};
 ghost use Rattle.call_stacks.specs.Frames.{longest_trace};
+ghost use Rattle.error_events.specs.Shown.{groups_of};
+ghost use Rattle.error_events.specs.declared.event.Group.{Group};
 ghost use Rattle.guest_machine.specs.State.{State};
 ghost use Rattle.guest_machine.specs.Shows.{Shows};
 ghost use Rattle.std.specs.List.{flat_map};
-ghost use Rattle.report_lines.specs.Lines.{group_lines, summary_line};
+ghost use Rattle.report_lines.specs.Lines.{error_sum, group_lines, summary_line};
 ghost use Rattle.replay_report.specs.LeakLines.{leak_section};
 ghost use Rattle.replay_report.specs.Report.{head_lines, report_text, IsReport, AppendsReport};
 
 use crate::filtering::split_groups;
 use crate::leak_lines::push_leaks;
 use crate::options::{Options, View};
-use error_events::Group;
+use error_events::Groups;
 use guest_elf::Image;
 use guest_machine::Machine;
 use leak_search::{LeakRecord, search};
-use report_lines::{push_groups, push_input, push_output, push_state, push_step, push_summary};
+use report_lines::{
+    ErrorSum, error_sum, push_groups, push_input, push_output, push_state, push_step, push_summary,
+};
 use std::alloc::{AllocError, Global};
 use suppressions::Suppression;
 
@@ -41,26 +45,25 @@ fn push_head(out: &mut Vec<u8>, moment: &Moment) -> Result<(), AllocError>
 }
 
 /// The lines of a report after its first, with these groups of errors and these records of the live blocks.
-#[tactic(auto, using(std::proofs::Common::append_assoc))]
 fn push_findings(
     alloc: Global,
     out: &mut Vec<u8>,
     view: &View,
-    shown: &[Group],
-    hidden: &[Group],
+    shown: &Groups,
+    hidden: ErrorSum,
     records: &[LeakRecord],
 ) -> Result<(), AllocError>
     requires { 0 < view.now.options.now.callers }
-    ensures { OnOk result (out.new.items ≡ out.old.items ++ (flat_map (group_lines view.now.image.now view.now.options.now.callers) shown.now
-        ++ leak_section view.now.image.now view.now.suppressions.now view.now.options.now records.now ++ summary_line shown.now hidden.now)) }
+    ensures { OnOk result ((hs : List Group) → hidden ≡ error_sum hs
+        → out.new.items ≡ out.old.items ++ (flat_map (group_lines view.now.image.now view.now.options.now.callers) (groups_of shown.now)
+        ++ leak_section view.now.image.now view.now.suppressions.now view.now.options.now records.now ++ summary_line (groups_of shown.now) hs)) }
 {
     push_groups(out, view.image, view.options.callers, shown)?;
     push_leaks(alloc, out, view, records)?;
-    push_summary(out, shown, hidden)
+    push_summary(out, error_sum(shown), hidden)
 }
 
 /// The lines of a report, with these records of the live blocks.
-#[tactic(auto, unfolding(crate::specs::Report::report_text), using(std::proofs::Common::append_assoc))]
 fn push_report(
     alloc: Global,
     out: &mut Vec<u8>,
@@ -80,7 +83,7 @@ fn push_report(
         view.suppressions,
         view.options.callers,
     )?;
-    push_findings(alloc, out, view, &shown, &hidden, records)
+    push_findings(alloc, out, view, &shown, hidden, records)
 }
 
 /// The report.

@@ -23,6 +23,7 @@ use Rattle.error_events.specs.declared.event.Note.{Note}
 use Rattle.error_events.specs.declared.event.Note.TheVariants.{Absent, Near, Stack, Elsewhere}
 use Rattle.error_events.specs.declared.event.Group.{Group}
 use Rattle.report_lines.specs.Text.{address_text, shown_name, newline}
+use Rattle.report_lines.specs.declared.lines.ErrorSum.{ErrorSum}
 
 -- `step N`
 unfoldable pub step_line : ℕ → List ℕ
@@ -124,6 +125,10 @@ group_lines image callers group =
 -- how many errors there are; the sum stands still at the greatest 64-bit number
 abbrev pub error_total : List Group → ℕ
 error_total groups = min (sum_by (λ g. g.count) groups) most
+
+-- what the summary says of groups
+abbrev pub error_sum : List Group → ErrorSum
+error_sum groups = record { errors = error_total groups; groups = length groups }
 
 -- `ERROR SUMMARY: E errors from C contexts (suppressed: E2 from C2)`
 unfoldable pub shown_summary : List Group → List ℕ

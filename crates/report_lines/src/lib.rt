@@ -6,7 +6,7 @@
 //! | [`push_step`], [`push_state`], [`push_input`], [`push_output`] | a line: the step, whether the machine runs, how much was read, how much written |
 //! | [`push_kind`], [`push_trace`], [`push_groups`] | what an error is called; a line for each address of a trace; those of each group of errors |
 //! | [`push_summary`] | the line of the sums of errors |
-//! | [`stop_word`], [`front`] | nothing: why a machine stopped, in one word; so many addresses of a trace, or all |
+//! | [`stop_word`], [`front`], [`error_sum`] | nothing: why a machine stopped, in one word; so many addresses of a trace, or all; what the summary says of groups |
 //!
 //! In `specs/`: `Lines`, each line; `Text`, an address, a byte, a byte of a name, and the end of a line. Decimal numbers are std's `decimal`.
 //!
@@ -17,7 +17,7 @@ mod lines;
 mod text;
 
 pub use lines::{
-    front, push_groups, push_input, push_kind, push_output, push_state, push_step, push_summary,
-    push_trace, stop_word,
+    ErrorSum, error_sum, front, push_groups, push_input, push_kind, push_output, push_state,
+    push_step, push_summary, push_trace, stop_word,
 };
 pub use text::{push_address, push_byte, push_name, push_number, push_text};

@@ -1,13 +1,16 @@
 //! The lines of a report.
-ghost use Rattle.std.specs.Prelude.{◌≡◌, ◌++◌, ◌≤◌, ◌<◌, OnOk, codes, take};
+ghost use Rattle.std.specs.Prelude.{◌≡◌, ◌++◌, ◌+◌, ◌≤◌, ◌<◌, List, OnOk, Some, codes, min, take};
 ghost use Rattle.std.specs.Fmt.{decimal};
 ghost use Rattle.std.specs.List.{flat_map};
-ghost use Rattle.report_lines.specs.Lines.{step_line, state_line, stop_word, input_line, output_line, fault_text, param_text, kind_text, error_line, frame_line, trace_lines, place_text, state_text, last_trace, near_front, near_back, near_line, note_lines, group_lines, error_total, shown_summary, hidden_summary, summary_line};
+ghost use Rattle.report_lines.specs.Lines.{step_line, state_line, stop_word, input_line, output_line, fault_text, param_text, kind_text, error_line, frame_line, trace_lines, place_text, state_text, last_trace, near_front, near_back, near_line, note_lines, group_lines, error_total, error_sum, shown_summary, hidden_summary, summary_line};
 ghost use Rattle.report_lines.specs.Text.{address_text, newline};
+ghost use Rattle.error_events.specs.Groups.{most};
+ghost use Rattle.error_events.specs.Shown.{groups_of};
+ghost use Rattle.error_events.specs.declared.event.Group.{Group};
 
 use crate::text::{push_address, push_name, push_number, push_text};
 use call_stacks::Trace;
-use error_events::{Group, Kind, Note, Parameter, ParameterFault};
+use error_events::{Group, Groups, Kind, Note, Parameter, ParameterFault};
 use guest_elf::Image;
 use heap_blocks::{Block, Near, Place};
 use run_values::{Status, Stop};
@@ -327,62 +330,103 @@ fn push_group(
     push_note(out, image, callers, &group.note)
 }
 
+/// A group of errors, if it is there.
+fn push_group_at(
+    out: &mut Vec<u8>,
+    image: &Image,
+    callers: u32,
+    group: Option<Group>,
+) -> Result<(), AllocError>
+    ensures { OnOk result ((g : Group) → group ≡ Some g → out.new.items ≡ out.old.items ++ group_lines image.now callers g) }
+{
+    match group {
+        Some(group) => push_group(out, image, callers, &group),
+        None => Ok(()),
+    }
+}
+
 /// Appends the groups of errors, in their order.
 pub fn push_groups(
     out: &mut Vec<u8>,
     image: &Image,
     callers: u32,
-    groups: &[Group],
+    groups: &Groups,
 ) -> Result<(), AllocError>
-    ensures { OnOk result (out.new.items ≡ out.old.items ++ flat_map (group_lines image.now callers) groups.now) }
+    ensures { OnOk result (out.new.items ≡ out.old.items ++ flat_map (group_lines image.now callers) (groups_of groups.now)) }
 {
-    for group in groups {
-        push_group(out, image, callers, group)?;
+    for index in 0..groups.len() {
+        push_group_at(out, image, callers, groups.get(index))?;
     }
     Ok(())
 }
 
+/// So many errors and those of a group, if it is there, or the greatest `u64`.
+fn with_errors_of(total: u64, group: Option<Group>) -> u64
+    ensures { (g : Group) → group ≡ Some g → result ≡ min (total + g.count) most }
+{
+    match group {
+        Some(group) => total.saturating_add(group.count),
+        None => total,
+    }
+}
+
 /// How many errors there are, or the greatest `u64`.
-fn error_total(groups: &[Group]) -> u64
-    ensures { result ≡ error_total groups.now }
+fn error_total(groups: &Groups) -> u64
+    ensures { result ≡ error_total (groups_of groups.now) }
 {
     let mut total: u64 = 0;
-    for group in groups {
-        total = total.saturating_add(group.count);
+    for index in 0..groups.len() {
+        total = with_errors_of(total, groups.get(index));
     }
     total
 }
 
+/// What the summary says of groups: how many errors they have, or the greatest `u64`, and how many groups there are.
+#[derive(Clone, Copy)]
+pub struct ErrorSum {
+    pub errors: u64,
+    pub groups: usize,
+}
+
+/// The sum of groups.
+pub fn error_sum(groups: &Groups) -> ErrorSum
+    ensures { result ≡ error_sum (groups_of groups.now) }
+{
+    ErrorSum {
+        errors: error_total(groups),
+        groups: groups.len(),
+    }
+}
+
 /// `ERROR SUMMARY: E errors from C contexts`
-#[tactic(auto, unfolding(crate::specs::Lines::shown_summary), using(std::proofs::Common::append_assoc))]
-fn push_shown_summary(out: &mut Vec<u8>, groups: &[Group]) -> Result<(), AllocError>
-    ensures { OnOk result (out.new.items ≡ out.old.items ++ shown_summary groups.now) }
+fn push_shown_summary(out: &mut Vec<u8>, sum: ErrorSum) -> Result<(), AllocError>
+    ensures { OnOk result ((gs : List Group) → sum ≡ error_sum gs → out.new.items ≡ out.old.items ++ shown_summary gs) }
 {
     push_text(out, b"ERROR SUMMARY: ")?;
-    push_number(out, error_total(groups))?;
+    push_number(out, sum.errors)?;
     push_text(out, b" errors from ")?;
-    push_number(out, groups.len() as u64)?;
+    push_number(out, sum.groups as u64)?;
     push_text(out, b" contexts")?;
     Ok(())
 }
 
 /// ` (suppressed: E2 from C2)`
-#[tactic(auto, unfolding(crate::specs::Lines::hidden_summary), using(std::proofs::Common::append_assoc))]
-fn push_hidden_summary(out: &mut Vec<u8>, groups: &[Group]) -> Result<(), AllocError>
-    ensures { OnOk result (out.new.items ≡ out.old.items ++ hidden_summary groups.now) }
+fn push_hidden_summary(out: &mut Vec<u8>, sum: ErrorSum) -> Result<(), AllocError>
+    ensures { OnOk result ((gs : List Group) → sum ≡ error_sum gs → out.new.items ≡ out.old.items ++ hidden_summary gs) }
 {
     push_text(out, b" (suppressed: ")?;
-    push_number(out, error_total(groups))?;
+    push_number(out, sum.errors)?;
     push_text(out, b" from ")?;
-    push_number(out, groups.len() as u64)?;
+    push_number(out, sum.groups as u64)?;
     push_text(out, b")")?;
-    push_text(out, b"\n")
+    push_text(out, b"\n")?;
+    Ok(())
 }
 
 /// Appends how many errors are shown and how many suppressed, each with the number of their groups.
-#[tactic(auto, using(std::proofs::Common::append_assoc))]
-pub fn push_summary(out: &mut Vec<u8>, shown: &[Group], hidden: &[Group]) -> Result<(), AllocError>
-    ensures { OnOk result (out.new.items ≡ out.old.items ++ summary_line shown.now hidden.now) }
+pub fn push_summary(out: &mut Vec<u8>, shown: ErrorSum, hidden: ErrorSum) -> Result<(), AllocError>
+    ensures { OnOk result ((gs hs : List Group) → shown ≡ error_sum gs → hidden ≡ error_sum hs
+        → out.new.items ≡ out.old.items ++ summary_line gs hs) }
 {
     push_shown_summary(out, shown)?;
     push_hidden_summary(out, hidden)

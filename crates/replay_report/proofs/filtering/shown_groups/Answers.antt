@@ -8,6 +8,6 @@ use Rattle.replay_report.proofs.filtering.shown_groups.Goals as goal
 
 pub returns : goal.returns
 returns c =
-    let P : List Bool → Type 0 = λ keep. IfOk c.regroup.result (λ shown. (es : List Event)
-    → groups_of c.args.all.now ≡ grouped es → shown.items ≡ regrouped c.args.callers keep es) in
-    subst P (c.deref.ensures.value ∙ c.in_ok-shown.ensures) c.regroup.ensures
+    let P : List Bool → Type 0 = λ keep. IfOk c.regrouped.result (λ shown. (es : List Event)
+    → groups_of c.args.all.now ≡ grouped es → groups_of shown ≡ regrouped c.args.callers keep es) in
+    subst P (c.deref.ensures.value ∙ c.in_ok-shown.ensures) c.regrouped.ensures

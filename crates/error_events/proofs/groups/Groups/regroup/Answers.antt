@@ -1,9 +1,9 @@
-use Rattle.error_events.specs.Shown.{groups_of}
-use Rattle.error_events.proofs.MergeSteps.{regrouped-result}
+use Rattle.std.proofs.Common.{◌∙◌}
+use Rattle.std.proofs.lemmas.Result.{IfOk-weaker}
+use Rattle.error_events.proofs.LoopSteps.{read-whole}
 use Rattle.error_events.proofs.groups.Groups.regroup.Goals as goal
 
 pub returns : goal.returns
 returns c =
-    regrouped-result c.args.callers c.args.keep.now (groups_of c.args.self.now) (groups_of c.in_ok-merged.field-0)
-    (λ groups. groups.items) c.collected.result
-    c.requires.each c.in_ok-merged.ensures c.collected.ensures
+    IfOk-weaker c.collected.result _ _
+    (λ list made es same. made ∙ read-whole _ ∙ c.in_ok-regrouped.ensures es same) c.collected.ensures

@@ -1,0 +1,8 @@
+use Rattle.report_lines.proofs.Joins.{hidden_joined}
+use Rattle.report_lines.proofs.lines.push_hidden_summary.Goals as goal
+
+pub returns : goal.returns
+returns c groups is =
+    hidden_joined _ _ _ _ _ _ _ c.args.sum groups is c.in_ok-push_text.ensures c.in_ok-push_number.ensures
+    c.in_ok-push_text-2.ensures c.in_ok-push_number-2.ensures c.in_ok-push_text-3.ensures
+    c.in_ok-push_text-4.ensures
