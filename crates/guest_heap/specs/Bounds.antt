@@ -1,5 +1,6 @@
 -- What is known of places, by sizes.
-use Rattle.std.specs.Prelude.{ℕ, ◌≡◌, ◌≤◌, ◌<◌, ◌⊎◌, nat_lt, nat_le, min, max, List, [], Option, Some, None, map, slice_get}
+use Rattle.std.specs.Prelude.{ℕ, ◌≡◌, ◌≤◌, ◌<◌, ◌⊎◌, nat_lt, nat_le, min}
+use Rattle.std.specs.Prelude.{max, List, [], Option, Some, None, map, slice_get}
 use Rattle.std.specs.Prelude.{◌&&◌, if◌then◌else◌}
 use Rattle.std.specs.declared.alloc.Global.{Global}
 use Rattle.std.specs.declared.rc.Rc.{Rc}

@@ -14,7 +14,8 @@ use Rattle.error_events.specs.Parameters.{parameter_text}
 use Rattle.error_events.specs.declared.parameter.Parameter.{Parameter}
 use Rattle.error_events.specs.declared.kind.ParameterFault.{ParameterFault}
 use Rattle.error_events.specs.declared.event.Group.{Group}
-use Rattle.report_lines.specs.Lines.{fault_text, param_text, state_text, near_back, error_sum, shown_summary, hidden_summary}
+use Rattle.report_lines.specs.Lines.{fault_text, param_text, state_text}
+use Rattle.report_lines.specs.Lines.{near_back, error_sum, shown_summary, hidden_summary}
 use Rattle.report_lines.specs.declared.lines.ErrorSum.{ErrorSum}
 use Rattle.error_events.specs.Groups.{most}
 

@@ -381,10 +381,12 @@ fn error_total(groups: &Groups) -> u64
     total
 }
 
-/// What the summary says of groups: how many errors they have, or the greatest `u64`, and how many groups there are.
+/// What the summary says of groups.
 #[derive(Clone, Copy)]
 pub struct ErrorSum {
+    /// How many errors they have, or the greatest `u64`.
     pub errors: u64,
+    /// How many groups there are.
     pub groups: usize,
 }
 
