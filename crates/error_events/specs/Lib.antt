@@ -2,6 +2,7 @@ pub mod Parameters
 pub mod Groups
 pub mod Adding
 pub mod Regrouping
+pub mod KeptNotes
 pub mod Entries
 pub mod Layers
 pub mod Merging

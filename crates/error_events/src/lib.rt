@@ -44,7 +44,7 @@
 //! - `Adding`: one more error (`add_event`), and the law that ties it to `grouped`.
 //! - `Regrouping`: which errors are kept (`kept`), and their groups by fewer addresses (`regrouped`).
 //! - `Parameters`: the texts of parameters. `Shown`: what `Groups` show (`groups_of`).
-//! - `Counts`, `CountLists`, `Entries`, `Layers` and `Merging` are for this crate's proofs.
+//! - `Counts`, `CountLists`, `Entries`, `KeptNotes`, `Layers` and `Merging` are for this crate's proofs.
 //!
 //! Sources: Valgrind user manual, section 2.4 (how errors are compared and counted) and option `--num-callers`; Memcheck manual,
 //! section 4.2 (the kinds).
@@ -53,6 +53,7 @@
 mod counts;
 mod event;
 mod groups;
+mod kept_note;
 mod kind;
 pub mod laws;
 mod layered_map;

@@ -4,6 +4,7 @@ ghost use Rattle.indexmap.specs.IndexMap.{insert_entry};
 ghost use Rattle.std.specs.Prelude.{◌≡◌, [], ◌∷◌, ◌++◌, None, length, map, position, slice_get, OnOk, OnErr, IfOk};
 
 use crate::event::{Key, Note};
+use crate::kept_note::KeptNote;
 use indexmap::IndexMap;
 use std::alloc::{AllocError, Global};
 use std::hash::Hash;
@@ -13,7 +14,7 @@ use std::rc::Rc;
 /// The map. Contracts see it as the list of its entries.
 #[derive(Drop)]
 pub(crate) struct SharedMap {
-    map: Option<Rc<IndexMap<Key, Note>>>,
+    map: Option<Rc<IndexMap<Key, KeptNote>>>,
 }
 
 impl Model for SharedMap {
@@ -29,14 +30,17 @@ impl Model for SharedMap {
 }
 
 /// A copy of its own.
-fn copy(map: &IndexMap<Key, Note>) -> Result<IndexMap<Key, Note>, AllocError>
+fn copy(map: &IndexMap<Key, KeptNote>) -> Result<IndexMap<Key, KeptNote>, AllocError>
     ensures { IfOk result (λ copy. copy.entries ≡ map.now.entries) }
 {
     map.clone()
 }
 
 /// Puts copies of a map's entries behind those of another.
-fn append(whole: &mut IndexMap<Key, Note>, second: &IndexMap<Key, Note>) -> Result<(), AllocError>
+fn append(
+    whole: &mut IndexMap<Key, KeptNote>,
+    second: &IndexMap<Key, KeptNote>,
+) -> Result<(), AllocError>
     requires { AreNew ⟦<Key as PartialEq>⟧.eq whole.old.entries second.now.entries }
     ensures { OnOk result (whole.new.entries ≡ whole.old.entries ++ second.now.entries) }
 {
@@ -47,9 +51,9 @@ fn append(whole: &mut IndexMap<Key, Note>, second: &IndexMap<Key, Note>) -> Resu
 
 /// A map of the entries of two.
 fn join(
-    first: &IndexMap<Key, Note>,
-    second: &IndexMap<Key, Note>,
-) -> Result<IndexMap<Key, Note>, AllocError>
+    first: &IndexMap<Key, KeptNote>,
+    second: &IndexMap<Key, KeptNote>,
+) -> Result<IndexMap<Key, KeptNote>, AllocError>
     requires { AreNew ⟦<Key as PartialEq>⟧.eq first.now.entries second.now.entries }
     ensures { IfOk result (λ whole. whole.entries ≡ first.now.entries ++ second.now.entries) }
 {
@@ -58,23 +62,27 @@ fn join(
     Ok(whole)
 }
 
-/// Inserts copies of a pair. What stood at the key is dropped.
-fn put<K: Eq + Hash + Copy + Drop, V: Copy + Drop>(
+/// Inserts a value at a copy of a key. What stood at the key is dropped.
+fn put<K: Eq + Hash + Copy + Drop, V: Drop>(
     map: &mut IndexMap<K, V>,
     key: &K,
-    value: &V,
+    value: V,
 ) -> Result<(), AllocError>
-    ensures ok { OnOk result (map.new.entries ≡ insert_entry K.eq map.old.entries key.now value.now) }
+    ensures ok { OnOk result (map.new.entries ≡ insert_entry K.eq map.old.entries key.now value) }
     ensures err { OnErr result (map.new.entries ≡ map.old.entries) }
 {
-    map.insert(*key, *value)?;
+    map.insert(*key, value)?;
     Ok(())
 }
 
-/// Inserts copies of a pair. The other owners keep the map as it was.
-fn insert(shared: &mut Rc<IndexMap<Key, Note>>, key: &Key, note: &Note) -> Result<(), AllocError>
+/// Inserts a note at a copy of a key. The other owners keep the map as it was.
+fn insert(
+    shared: &mut Rc<IndexMap<Key, KeptNote>>,
+    key: &Key,
+    note: KeptNote,
+) -> Result<(), AllocError>
     requires { position (⟦<Key as PartialEq>⟧.eq key.now) (map (λ e. e.0) shared.old.value.entries) ≡ None }
-    ensures ok { OnOk result (shared.new.value.entries ≡ shared.old.value.entries ++ (key.now, note.now) ∷ []) }
+    ensures ok { OnOk result (shared.new.value.entries ≡ shared.old.value.entries ++ (key.now, note) ∷ []) }
     ensures err { OnErr result (shared.new.value.entries ≡ shared.old.value.entries) }
 {
     let own = Rc::make_mut(shared)?;
@@ -104,7 +112,7 @@ impl SharedMap {
         ensures { result ≡ slice_get self.now index }
     {
         match &self.map {
-            Some(map) => map.get_index(index).map(|(key, note)| (*key, *note)),
+            Some(map) => map.get_index(index).map(|(key, note)| (*key, note.note())),
             None => None,
         }
     }
@@ -115,6 +123,7 @@ impl SharedMap {
         ensures ok { OnOk result (self.new ≡ self.old ++ (key.now, note.now) ∷ []) }
         ensures err { OnErr result (self.new ≡ self.old) }
     {
+        let note = KeptNote::of(alloc, note)?;
         match &mut self.map {
             Some(shared) => insert(shared, key, note),
             None => {
@@ -125,8 +134,8 @@ impl SharedMap {
     }
 
     /// A map of one entry.
-    fn with_one(alloc: Global, key: &Key, note: &Note) -> Result<Self, AllocError>
-        ensures { IfOk result (λ one. one ≡ (key.now, note.now) ∷ []) }
+    fn with_one(alloc: Global, key: &Key, note: KeptNote) -> Result<Self, AllocError>
+        ensures { IfOk result (λ one. one ≡ (key.now, note) ∷ []) }
     {
         let mut map = IndexMap::new(alloc);
         put(&mut map, key, note)?;
@@ -134,7 +143,7 @@ impl SharedMap {
     }
 
     /// A map that nothing shares yet.
-    fn unshared(alloc: Global, map: IndexMap<Key, Note>) -> Result<Self, AllocError>
+    fn unshared(alloc: Global, map: IndexMap<Key, KeptNote>) -> Result<Self, AllocError>
         ensures { IfOk result (λ unshared. unshared ≡ map.entries) }
     {
         Ok(SharedMap {

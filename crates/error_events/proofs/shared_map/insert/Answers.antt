@@ -11,9 +11,9 @@ returns-clause-ok c =
     let own = c.in_ok-own.own.now in
     let kept = c.make_mut.follows.holds c.put.new.map (is-ok _ _ c.in_ok-own.was) in
     let same = own-entries _ _ (λ x y h. h) (λ x y h. h) map own c.in_ok-own.ensures.value in
-    let added = insert-absent ghosts.eq c.args.key.now c.args.note.now map.entries c.requires in
+    let added = insert-absent ghosts.eq c.args.key.now c.args.note map.entries c.requires in
     on_ok_weaker c.put.result (λ put. ap (λ m. m.entries) kept ∙ put
-    ∙ ap (λ es. insert_entry ghosts.eq es c.args.key.now c.args.note.now) same ∙ added)
+    ∙ ap (λ es. insert_entry ghosts.eq es c.args.key.now c.args.note) same ∙ added)
     c.put.ensures.ok
 
 pub returns-clause-err : goal.returns-clause-err
