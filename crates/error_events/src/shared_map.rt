@@ -36,6 +36,19 @@ fn copy(map: &IndexMap<Key, KeptNote>) -> Result<IndexMap<Key, KeptNote>, AllocE
     map.clone()
 }
 
+/// Inserts a value at a copy of a key. What stood at the key is dropped.
+fn put<K: Eq + Hash + Copy + Drop, V: Drop>(
+    map: &mut IndexMap<K, V>,
+    key: &K,
+    value: V,
+) -> Result<(), AllocError>
+    ensures ok { OnOk result (map.new.entries ≡ insert_entry K.eq map.old.entries key.now value) }
+    ensures err { OnErr result (map.new.entries ≡ map.old.entries) }
+{
+    map.insert(*key, value)?;
+    Ok(())
+}
+
 /// Puts copies of a map's entries behind those of another.
 fn append(
     whole: &mut IndexMap<Key, KeptNote>,
@@ -45,8 +58,10 @@ fn append(
     ensures { OnOk result (whole.new.entries ≡ whole.old.entries ++ second.now.entries) }
 {
     whole.reserve(second.len())?;
-    let mut rest = copy(second)?;
-    whole.append(&mut rest)
+    for (key, note) in second {
+        put(whole, key, note.clone()?)?;
+    }
+    Ok(())
 }
 
 /// A map of the entries of two.
@@ -60,19 +75,6 @@ fn join(
     let mut whole = copy(first)?;
     append(&mut whole, second)?;
     Ok(whole)
-}
-
-/// Inserts a value at a copy of a key. What stood at the key is dropped.
-fn put<K: Eq + Hash + Copy + Drop, V: Drop>(
-    map: &mut IndexMap<K, V>,
-    key: &K,
-    value: V,
-) -> Result<(), AllocError>
-    ensures ok { OnOk result (map.new.entries ≡ insert_entry K.eq map.old.entries key.now value) }
-    ensures err { OnErr result (map.new.entries ≡ map.old.entries) }
-{
-    map.insert(*key, value)?;
-    Ok(())
 }
 
 /// Inserts a note at a copy of a key. The other owners keep the map as it was.
