@@ -1,21 +1,15 @@
--- A clone of a table, and a new one.
-use Rattle.std.proofs.Common.{◌≡◌, ℕ, zero, suc, List, [], ◌∷◌, ◌++◌, Option, None, Some, slice_index_or, length}
-use Rattle.std.proofs.Common.{replicate, is_some, true, false, ◌≤◌, ◌*◌, inl, inr, arith, refl, ap, ◌∙◌, ◌/◌, ◌%◌}
+-- A clone of a leaf, and a new one.
+use Rattle.std.proofs.Common.{◌≡◌, ℕ, zero, suc, List, [], ◌∷◌, Option, None, Some, slice_index_or}
+use Rattle.std.proofs.Common.{replicate, is_some, true, false, refl, ap, ◌∙◌}
 use Rattle.std.proofs.Math.Path.{fun_ext}
 use Rattle.std.specs.List.{AllZip}
-use Rattle.std.proofs.lemmas.Bool.{cases_lt}
-use Rattle.std.proofs.lemmas.List.{get_or_past}
 use Rattle.std.specs.declared.alloc.Global.{Global}
 use Rattle.std.specs.declared.rc.Rc.{Rc}
-use Rattle.guest_heap.specs.Entries.{AreNone, entry_of}
+use Rattle.guest_heap.specs.Entries.{entry_of}
 use Rattle.guest_heap.specs.Leaves.{entries_in}
-use Rattle.guest_heap.specs.Branches.{entries_at, entries_under}
-use Rattle.guest_heap.specs.Tables.{entries_below, entries_of}
 use Rattle.guest_heap.specs.Unused.{AreUnused}
 use Rattle.guest_heap.specs.declared.entry.Entry.{Entry}
 use Rattle.guest_heap.specs.declared.table.leaf.Leaf.{Leaf}
-use Rattle.guest_heap.specs.declared.table.branch.Branch.{Branch}
-use Rattle.guest_heap.specs.declared.table.Table.{Table}
 
 -- what `clone` ensures of an optional pointer
 abbrev pub slot_clone : {T : Type 0} → Option (Rc T Global) → Option (Rc T Global) → Type 0
@@ -49,27 +43,8 @@ pub same_in : (a b : Leaf) → ((i : ℕ) → entry_of (slice_index_or b.slots.i
 unfolding entries_in
 same_in a b h = fun_ext h
 
-pub same_under : (a b : Branch) → ((i : ℕ)
-    → entries_at (slice_index_or b.leaves.items i None) ≡ entries_at (slice_index_or a.leaves.items i None))
-    → entries_under b ≡ entries_under a
-unfolding entries_under
-same_under a b h = fun_ext (λ n. ap (λ f. f (n % 64)) (h (n / 64)))
-
-pub same_of : (a b : Table) → ((i : ℕ) → entries_below (slice_index_or b.branches.items i None)
-    ≡ entries_below (slice_index_or a.branches.items i None)) → entries_of b ≡ entries_of a
-unfolding entries_of
-same_of a b h = fun_ext (λ n. ap (λ f. f (n % 16384)) (h (n / 16384)))
-
 pub entry_by_value : (p q : Rc Entry Global) → q.value ≡ p.value → entry_of (Some q) ≡ entry_of (Some p)
 entry_by_value p q e = rw e refl
-
-pub leaf_by_value : (p q : Rc Leaf Global) → q.value ≡ p.value → entries_at (Some q) ≡ entries_at (Some p)
-unfolding entries_at
-leaf_by_value p q e = rw e refl
-
-pub branch_by_value : (p q : Rc Branch Global) → q.value ≡ p.value → entries_below (Some q) ≡ entries_below (Some p)
-unfolding entries_below
-branch_by_value p q e = rw e refl
 
 -- a clone of no pointer is none
 pub cloned_none : {T : Type 0} (clone : Option (Rc T Global)) → slot_clone None clone → clone ≡ None
@@ -85,13 +60,6 @@ none_replicated (suc n) (suc k) = none_replicated n k
 
 pub none_used : {T : Type 0} (slots : List (Option T)) (n : ℕ) → slots ≡ replicate n None → AreUnused slots 0
 none_used slots n e k _ = ap (λ xs. is_some (slice_index_or xs k None)) e ∙ ap is_some (none_replicated n k)
-
--- a branch of nothing
-pub none_under : (branch : Branch) (n : ℕ) → branch.leaves.items ≡ replicate n None → entries_under branch ≡ (λ _. None)
-unfolding entries_under entries_at
-none_under branch n e =
-    fun_ext (λ k. ap (λ xs. entries_at (slice_index_or xs (k / 64) None) (k % 64)) e
-    ∙ ap (λ leaf. entries_at leaf (k % 64)) (none_replicated n (k / 64)))
 
 -- a leaf of nothing
 pub none_in : (leaf : Leaf) (n : ℕ) → leaf.slots.items ≡ replicate n None → entries_in leaf ≡ (λ _. None)
@@ -121,35 +89,3 @@ same_uses [] (v ∷ vs) c i = absurd c
 same_uses (u ∷ us) [] c i = absurd c
 same_uses (u ∷ us) (v ∷ vs) c zero = same-use u v c.0
 same_uses (u ∷ us) (v ∷ vs) c (suc i) = same_uses us vs c.1 i
-
--- a table's rest, which has no branches
-pub none_in_table : (table : Table) (at i : ℕ) → AreNone (entries_of table) at (i * 16384)
-    → length table.branches.items ≤ i → AreNone (entries_of table) at 33554432
-unfolding entries_of entries_below
-none_in_table table at i before done k low high = elim (cases_lt k (i * 16384)) [
-  | inl l ↦ before k low l
-  | inr g ↦
-      (let past : length table.branches.items ≤ k / 16384 = omega arith in
-      ap (λ branch. entries_below branch (k % 16384)) (get_or_past table.branches.items (k / 16384) None past))
-]
-
--- a table of nothing
-pub none_of : (table : Table) → table.branches.items ≡ [] → entries_of table ≡ (λ _. None)
-unfolding entries_of entries_below
-none_of table e = fun_ext (λ k. ap (λ branches. entries_below (slice_index_or branches (k / 16384) None) (k % 16384)) e)
-
--- a table with one more slot, which is empty, and one whose slots are the same
-one-more : {T : Type 0} (xs : List (Option T)) (i : ℕ)
-    → slice_index_or (xs ++ (None ∷ [])) i None ≡ slice_index_or xs i None
-one-more [] zero = refl
-one-more [] (suc i) = refl
-one-more (x ∷ xs) zero = refl
-one-more (x ∷ xs) (suc i) = one-more xs i
-
-pub grown_same : (a b : Table) → b.branches.items ≡ a.branches.items ++ (None ∷ []) → entries_of b ≡ entries_of a
-grown_same a b e =
-    same_of a b (λ i. ap (λ branches. entries_below (slice_index_or branches i None)) e
-    ∙ ap entries_below (one-more a.branches.items i))
-
-pub kept_same : (a b : Table) → b.branches.items ≡ a.branches.items → entries_of b ≡ entries_of a
-kept_same a b e = same_of a b (λ i. ap (λ branches. entries_below (slice_index_or branches i None)) e)

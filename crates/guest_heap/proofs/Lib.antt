@@ -1,5 +1,7 @@
 pub mod Clones
-pub mod Places
+pub mod Rows
+pub mod GridSteps
+pub mod Numbering
 pub mod RunSteps
 pub mod KeptSteps
 pub mod PlaceSteps
@@ -12,4 +14,3 @@ pub mod Firsts
 pub mod StepLaws
 pub mod LawSteps
 pub mod ApartLaws
-pub mod Unused

@@ -1,16 +1,68 @@
--- The entries of 256 leaves in a row.
-use Rattle.std.specs.Prelude.{◌/◌, ◌%◌, Option, Some, None, slice_index_or}
-use Rattle.std.specs.declared.alloc.Global.{Global}
-use Rattle.std.specs.declared.rc.Rc.{Rc}
-use Rattle.guest_heap.specs.Entries.{Entries}
+-- The entries of parts in a row, by the number of a part and the place in it, and by places numbered through.
+use Rattle.std.specs.Prelude.{ℕ, ◌+◌, ◌<◌, ◌≤◌, ◌==◌, ◌/◌, ◌%◌, Option, Some, None, if◌then◌else◌, slice_index_or}
+use Rattle.guest_heap.specs.Entries.{Entries, entries_at, with_entry, AreNone, FirstAt, LastAt}
 use Rattle.guest_heap.specs.Leaves.{entries_in}
-use Rattle.guest_heap.specs.declared.table.leaf.Leaf.{Leaf}
+use Rattle.guest_heap.specs.declared.entry.Entry.{Entry}
+use Rattle.guest_heap.specs.declared.table.row.Row.{Row}
 use Rattle.guest_heap.specs.declared.table.branch.Branch.{Branch}
+use Rattle.guest_heap.specs.declared.table.limb.Limb.{Limb}
+use Rattle.guest_heap.specs.declared.table.root.Root.{Root}
 
--- the entries of a leaf that may be absent
-unfoldable pub entries_at : Option (Rc Leaf Global) → Entries
-entries_at None = λ _. None
-entries_at (Some leaf) = entries_in leaf.value
+abbrev pub Grid : Type 0
+Grid = ℕ → Entries
 
+unfoldable pub grid_of : {P : Type 0} → (P → Entries) → Row P → Grid
+grid_of entries row = λ i. entries_at entries (slice_index_or row.parts.items i None)
+
+-- the grid with one entry changed
+abbrev pub with_cell : Grid → ℕ → ℕ → Option Entry → Grid
+with_cell grid part at entry = λ i. if i == part then with_entry (grid i) at entry else grid i
+
+-- the place in a part at which a search upwards begins: the given one in the first part, 0 in the others
+abbrev pub begin_in : ℕ → ℕ → ℕ → ℕ
+begin_in part at i = if i == part then at else 0
+
+-- from a place of one part on there is none, in the parts up to, not with, another; each has so many places
+abbrev pub AreNoneUpTo : Grid → ℕ → ℕ → ℕ → ℕ → Type 0
+AreNoneUpTo grid places part at end =
+    (i : ℕ) → part ≤ i → i < end → AreNone (grid i) (begin_in part at i) places
+
+-- the first place that has an entry
+pub record FirstIn (grid : Grid) (places part at end i n : ℕ) : Type 0 where
+  pub above : part ≤ i
+  pub below : i < end
+  pub first : FirstAt (grid i) (begin_in part at i) places n
+  pub none : AreNoneUpTo grid places part at i
+
+abbrev pub IsNextIn : Grid → ℕ → ℕ → ℕ → ℕ → Option (ℕ × ℕ) → Type 0
+IsNextIn grid places part at end None = AreNoneUpTo grid places part at end
+IsNextIn grid places part at end (Some (i, n)) = FirstIn grid places part at end i n
+
+-- the place in a part at which a search downwards begins: the given one in the last part, its end in the others
+abbrev pub end_in : ℕ → ℕ → ℕ → ℕ → ℕ
+end_in places part at i = if i == part then at else places
+
+-- below a place of one part there is none, in the parts from another on
+abbrev pub AreNoneDownTo : Grid → ℕ → ℕ → ℕ → ℕ → Type 0
+AreNoneDownTo grid places part at begin =
+    (i : ℕ) → begin ≤ i → i ≤ part → AreNone (grid i) 0 (end_in places part at i)
+
+-- the last place that has an entry
+pub record LastIn (grid : Grid) (places part at i n : ℕ) : Type 0 where
+  pub below : i ≤ part
+  pub last : LastAt (grid i) (end_in places part at i) n
+  pub none : AreNoneDownTo grid places part at (i + 1)
+
+abbrev pub IsLastIn : Grid → ℕ → ℕ → ℕ → Option (ℕ × ℕ) → Type 0
+IsLastIn grid places part at None = AreNoneDownTo grid places part at 0
+IsLastIn grid places part at (Some (i, n)) = LastIn grid places part at i n
+
+-- the entries of 64 leaves, of 64 branches and of 128 limbs
 unfoldable pub entries_under : Branch → Entries
-entries_under branch = λ k. entries_at (slice_index_or branch.leaves.items (k / 64) None) (k % 64)
+entries_under branch = λ k. grid_of entries_in branch.leaves (k / 64) (k % 64)
+
+unfoldable pub entries_along : Limb → Entries
+entries_along limb = λ k. grid_of entries_under limb.branches (k / 4096) (k % 4096)
+
+unfoldable pub entries_above : Root → Entries
+entries_above root = λ k. grid_of entries_along root.limbs (k / 262144) (k % 262144)

@@ -47,8 +47,8 @@ impl Heap {
     pub fn new(alloc: Global) -> Heap
         ensures { blocks_of result ≡ no_blocks }
     {
-        let live = Table::new(alloc);
-        let freed = Table::new(alloc);
+        let live = Table::new();
+        let freed = Table::new();
         let queue = Queue::new(alloc);
         let bounds = Bounds::new();
         Heap {

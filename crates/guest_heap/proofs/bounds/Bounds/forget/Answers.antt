@@ -1,4 +1,4 @@
-use Rattle.std.proofs.Common.{◌≡◌, ◌∙◌, ap, sym, subst}
+use Rattle.std.proofs.Common.{◌∙◌, ap, sym, subst}
 use Rattle.guest_heap.specs.Bounds.{AreFresh}
 use Rattle.guest_heap.proofs.Bounding.{fresh_replicate}
 use Rattle.guest_heap.proofs.bounds.Bounds.forget.Goals as goal
