@@ -59,7 +59,30 @@ impl Heap {
         Ok(())
     }
 
-    /// Raises the bound of a class to the least place of its least block, and answers it.
+    /// The bound of a class, raised to the least place of its least block.
+    #[tactic(auto, unfolding(crate::specs::Heaps::blocks_of, crate::specs::Heaps::redzone_in))]
+    fn raised(&self, class: &SizeClass) -> Bound
+        requires index { class.now.index < 268 }
+        requires small { class.now.least ≤ greatest_size }
+        ensures size { result.size ≡ class.now.least }
+        ensures holds { Holds (blocks_of self.now) (redzone_in self.now) result }
+    {
+        let known = u64::from(self.bounds.known(class));
+        let own = self.bounds.get(class);
+        let from = aligned(known.max(HEAP_BEGIN + u64::from(self.redzone)));
+        let least = match self.place_from(from, class.least, self.redzone, &own) {
+            Some(place) => place,
+            None => HEAP_END as u32,
+        };
+        Bound {
+            size: own.size,
+            from: least,
+            next: own.next,
+            until: own.until,
+        }
+    }
+
+    /// Raises the bound of a class, and answers it. The list of bounds is left to copies to share where that is the bound already.
     #[tactic(auto, unfolding(crate::specs::Heaps::blocks_of, crate::specs::Heaps::redzone_in))]
     fn raise_bound(&mut self, class: &SizeClass) -> Result<Bound, AllocError>
         requires index { class.now.index < 268 }
@@ -69,19 +92,10 @@ impl Heap {
         ensures size { IfOk result (λ bound. bound.size ≡ class.now.least) }
         ensures holds { IfOk result (λ bound. Holds (blocks_of self.new) (redzone_in self.new) bound) }
     {
-        let known = u64::from(self.bounds.known(class));
-        let own = self.bounds.get(class);
-        let from = aligned(known.max(HEAP_BEGIN + u64::from(self.redzone)));
-        let least = match self.place_from(from, class.least, self.redzone, &own) {
-            Some(place) => place,
-            None => HEAP_END as u32,
-        };
-        let raised = Bound {
-            size: own.size,
-            from: least,
-            next: own.next,
-            until: own.until,
-        };
+        let raised = self.raised(class);
+        if raised.from == self.bounds.get(class).from {
+            return Ok(raised);
+        }
         self.bounds.put(class.index, raised)?;
         Ok(raised)
     }
