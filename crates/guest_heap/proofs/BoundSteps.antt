@@ -10,7 +10,7 @@ use Rattle.std.proofs.lemmas.Bool.Decides.{nat_tests}
 use Rattle.heap_blocks.specs.declared.block.Block.{Block}
 use Rattle.guest_heap.specs.Blocks.{Blocks, IsKept, IsPlace, Places, with_block, queue_with, freed_by, low_end}
 use Rattle.guest_heap.specs.Blocks.{high_end, Meets}
-use Rattle.guest_heap.specs.Entries.{Entries}
+use Rattle.guest_heap.specs.Entries.{Entries, block_of}
 use Rattle.guest_heap.specs.Runs.{first_of}
 use Rattle.guest_heap.specs.States.{AreNoPlaces, AreSound, EndsBelow, BeginsAbove, shown}
 use Rattle.guest_heap.specs.Bounds.{Holds, AreBounds, IsKnown, IsTaken, lowered}
@@ -354,19 +354,19 @@ same_bounds live live' queue queue' redzone bounds l q hold =
 pub forgotten_bounds : (live : Entries) (freed : Entries) (queue rest : List Entry) (number : ℕ)
     (sound : AreSound live freed queue number) (e : Entry)
     → Some e ≡ first_of queue → rest ≡ drop 1 queue → (redzone end : ℕ) (o : Opened)
-    → EndsBelow (shown live queue) e.block.start end
-    → BeginsAbove (shown live queue) e.block.start o.end → o.first % 16 ≡ 0 → o.first < end + redzone + 16
+    → EndsBelow (shown live queue) e.start end
+    → BeginsAbove (shown live queue) e.start o.end → o.first % 16 ≡ 0 → o.first < end + redzone + 16
     → o.room ≡ o.end - (o.first + redzone)
     → (old new : List Bound) → AreBounds (shown live queue) redzone old → new ≡ map (lowered o) old
     → AreBounds (shown live rest) redzone new
 forgotten_bounds live freed [] rest number sound e h d redzone end o low high even near fits old new hold made = cc
 forgotten_bounds live freed (x ∷ xs) rest number sound e h d redzone end o low high even near fits old new hold made =
     let same : e ≡ x = some-same h in
-    let P : Entry → Type 0 = λ y. EndsBelow (shown live (x ∷ xs)) y.block.start end in
-    let Q : Entry → Type 0 = λ y. BeginsAbove (shown live (x ∷ xs)) y.block.start o.end in
+    let P : Entry → Type 0 = λ y. EndsBelow (shown live (x ∷ xs)) y.start end in
+    let Q : Entry → Type 0 = λ y. BeginsAbove (shown live (x ∷ xs)) y.start o.end in
     let R : List Entry → Type 0 = λ es. AreBounds (shown live es) redzone new in
     let S : List Bound → Type 0 = λ bs. AreBounds (shown live xs) redzone bs in
-    let holds = bounds_hold (shown live (x ∷ xs)).live (map (λ y. y.block) (x ∷ xs)) (map (λ y. y.block) xs) x.block
+    let holds = bounds_hold (shown live (x ∷ xs)).live (map block_of (x ∷ xs)) (map block_of xs) (block_of x)
     refl sound.apart redzone end o
     (subst P same low) (subst Q same high) even near fits old hold in
     subst R (sym d) (subst S (sym made) holds)

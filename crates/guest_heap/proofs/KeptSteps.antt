@@ -7,7 +7,7 @@ use Rattle.std.proofs.lemmas.Bool.{cases_lt}
 use Rattle.std.proofs.lemmas.Bool.Decides.{nat_tests}
 use Rattle.heap_blocks.specs.declared.block.Block.{Block}
 use Rattle.guest_heap.specs.Blocks.{Blocks, IsKept, low_end, high_end, Meets}
-use Rattle.guest_heap.specs.Entries.{Entries, FirstAt, LastAt}
+use Rattle.guest_heap.specs.Entries.{Entries, FirstAt, LastAt, block_of}
 use Rattle.guest_heap.specs.States.{slot_of, beginning, shown, kept_at, either, IsPlaced, AreSound, FirstKept, LastKept}
 use Rattle.guest_heap.specs.States.{IsNextKept, IsLastKept, MeetsBelow, MeetsFrom}
 use Rattle.guest_heap.specs.States.{PastBelow, BeforeFrom, EndsBelow, BeginsAbove}
@@ -21,15 +21,15 @@ some-none h = cc
 
 -- the block that begins at an address --
 
-pub begins : (a : ℕ) (e : Entry) → e.block.start ≡ a → beginning a (Some e) ≡ Some e.block
-begins a e h = ap (λ b. cond b (Some e.block) None) (eq-eqb e.block.start a h)
+pub begins : (a : ℕ) (e : Entry) → e.start ≡ a → beginning a (Some e) ≡ Some (block_of e)
+begins a e h = ap (λ b. cond b (Some (block_of e)) None) (eq-eqb e.start a h)
 
 pub begun : (a : ℕ) (entry : Option Entry) (b : Block) → beginning a entry ≡ Some b
-    → (e : Entry) × (entry ≡ Some e) × (e.block ≡ b)
+    → (e : Entry) × (entry ≡ Some e) × (block_of e ≡ b)
 begun a None b h = cc
-begun a (Some e) b h = go (e.block.start == a) h
+begun a (Some e) b h = go (e.start == a) h
   where
-    go : (t : Bool) → cond t (Some e.block) None ≡ Some b → (f : Entry) × (Some e ≡ Some f) × (f.block ≡ b)
+    go : (t : Bool) → cond t (Some (block_of e)) None ≡ Some b → (f : Entry) × (Some e ≡ Some f) × (block_of f ≡ b)
     go true k = (e, refl, some-same k)
     go false k = cc
 
@@ -39,22 +39,22 @@ placed-slot a k h = omega arith
 -- entries of the queue --
 
 pub contains-block : (entries : List Entry) (i : ℕ) (e : Entry) → slice_get entries i ≡ Some e
-    → Contains (map (λ x. x.block) entries) e.block
+    → Contains (map block_of entries) (block_of e)
 contains-block [] i e h = cc
 contains-block (x ∷ xs) zero e h =
-    (0, (let p : 0 < suc (length (map (λ x. x.block) xs)) = omega arith in p), ap (λ y. y.block) (some-same h))
+    (0, (let p : 0 < suc (length (map block_of xs)) = omega arith in p), ap block_of (some-same h))
 contains-block (x ∷ xs) (suc i) e h =
     let (k, p, q) = contains-block xs i e h in
-    (suc k, (let r : suc k < suc (length (map (λ x. x.block) xs)) = omega arith in r), q)
+    (suc k, (let r : suc k < suc (length (map block_of xs)) = omega arith in r), q)
 
-pub block-contained : (entries : List Entry) (b : Block) → Contains (map (λ x. x.block) entries) b
-    → (i : ℕ) × (e : Entry) × (slice_get entries i ≡ Some e) × (e.block ≡ b)
+pub block-contained : (entries : List Entry) (b : Block) → Contains (map block_of entries) b
+    → (i : ℕ) × (e : Entry) × (slice_get entries i ≡ Some e) × (block_of e ≡ b)
 block-contained [] b (k, p, q) = absurd (let r : k < 0 = p in omega arith)
 block-contained (x ∷ xs) b (zero, p, q) = (0, x, refl, q)
 block-contained (x ∷ xs) b (suc k, p, q) =
     let (i, e, there, same) = block-contained xs b (
       k,
-      (let r : suc k < suc (length (map (λ x. x.block) xs)) = p in
+      (let r : suc k < suc (length (map block_of xs)) = p in
           omega arith),
       q,
     ) in
@@ -71,19 +71,19 @@ none_kept live freed first k h = go (live k) (freed k) h refl refl
     go (Some f) y h e d = cc (ap (λ u. either (λ _. u) freed k) e)
 
 module _ (live freed : Entries) (queue : List Entry) (first : ℕ) (sound : AreSound live freed queue first) where
-  kept-live : (k : ℕ) (e : Entry) → live k ≡ Some e → kept_at live freed first k ≡ Some e.block
+  kept-live : (k : ℕ) (e : Entry) → live k ≡ Some e → kept_at live freed first k ≡ Some (block_of e)
   kept-live k e h = ap (λ u. kept_at (λ _. u) freed first k) h
 
   kept-freed : (k : ℕ) (e : Entry) → live k ≡ None → freed k ≡ Some e → first ≤ e.number
-      → kept_at live freed first k ≡ Some e.block
+      → kept_at live freed first k ≡ Some (block_of e)
   kept-freed k e h g n =
       let t : nat_le first e.number ≡ true = grind (arith, nat_tests) in
-      ap₂ (λ u v. kept_at (λ _. u) (λ _. v) first k) h g ∙ ap (λ b. cond b (Some e.block) None) t
+      ap₂ (λ u v. kept_at (λ _. u) (λ _. v) first k) h g ∙ ap (λ b. cond b (Some (block_of e)) None) t
 
-  pub shown-live : (k : ℕ) (e : Entry) → live k ≡ Some e → (shown live queue).live e.block.start ≡ Some e.block
+  pub shown-live : (k : ℕ) (e : Entry) → live k ≡ Some e → (shown live queue).live e.start ≡ Some (block_of e)
   shown-live k e h =
-      ap (λ n. beginning e.block.start (live n)) (placed-slot e.block.start k (sound.lives k e h).placed.start)
-      ∙ ap (beginning e.block.start) h ∙ begins e.block.start e refl
+      ap (λ n. beginning e.start (live n)) (placed-slot e.start k (sound.lives k e h).placed.start)
+      ∙ ap (beginning e.start) h ∙ begins e.start e refl
 
   -- the block at a place is kept, and stands there
   pub record StandsAt (b : Block) (k : ℕ) : Type 0 where
@@ -93,21 +93,21 @@ module _ (live freed : Entries) (queue : List Entry) (first : ℕ) (sound : AreS
   pub stands : (k : ℕ) (b : Block) → kept_at live freed first k ≡ Some b → StandsAt b k
   stands k b h = go (live k) (freed k) refl refl
     where
-      as-block : (e : Entry) → e.block ≡ b → StandsAt e.block k → StandsAt b k
+      as-block : (e : Entry) → block_of e ≡ b → StandsAt (block_of e) k → StandsAt b k
       as-block e d s = let P : Block → Type 0 = λ x. StandsAt x k in subst P d s
 
-      from-queue : (e : Entry) → live k ≡ None → freed k ≡ Some e → first ≤ e.number → StandsAt e.block k
+      from-queue : (e : Entry) → live k ≡ None → freed k ≡ Some e → first ≤ e.number → StandsAt (block_of e) k
       from-queue e l f n =
           let found = sound.finds k e f n l in
           let queued = sound.queues (e.number - first) e found.queued in
-          let P : ℕ → Type 0 = λ m. IsPlaced e.block m in
+          let P : ℕ → Type 0 = λ m. IsPlaced (block_of e) m in
           record {
             kept = inr (contains-block queue (e.number - first) e found.queued);
-            placed = subst P (placed-slot e.block.start k found.start) queued.placed;
+            placed = subst P (placed-slot e.start k found.start) queued.placed;
           }
 
       aged : (e : Entry) (t : Bool) → nat_le first e.number ≡ t → live k ≡ None → freed k ≡ Some e
-          → cond t (Some e.block) None ≡ Some b → StandsAt b k
+          → cond t (Some (block_of e)) None ≡ Some b → StandsAt b k
       aged e true t l f c = as-block e (some-same c) (from-queue e l f (grind (arith, nat_tests)))
       aged e false t l f c = cc
 
@@ -138,7 +138,7 @@ module _ (live freed : Entries) (queue : List Entry) (first : ℕ) (sound : AreS
       let recent : first ≤ e.number = omega (arith, queued.number) in
       let P : Block → Type 0 = FoundAt in
       subst P d (record {
-        there = kept-freed (slot_of e.block.start) e queued.gone queued.found recent;
+        there = kept-freed (slot_of e.start) e queued.gone queued.found recent;
         placed = queued.placed;
       })
 

@@ -5,7 +5,7 @@ use Rattle.std.specs.Prelude.{is_some, option_map, true, slice_get, if◌then◌
 use Rattle.heap_blocks.specs.declared.block.Block.{Block}
 use Rattle.guest_heap.specs.Blocks.{Blocks, IsKept, IsPlace, low_end, high_end, volume_of}
 use Rattle.memory_map.specs.Regions.{heap_begin, heap_end}
-use Rattle.guest_heap.specs.Entries.{Entries}
+use Rattle.guest_heap.specs.Entries.{Entries, block_of}
 use Rattle.guest_heap.specs.declared.entry.Entry.{Entry}
 
 abbrev pub slot_of : ℕ → ℕ
@@ -14,10 +14,10 @@ slot_of a = (a - heap_begin) / 16
 -- the block of an entry, if it begins at an address
 abbrev pub beginning : ℕ → Option Entry → Option Block
 beginning a None = None
-beginning a (Some e) = if e.block.start == a then Some e.block else None
+beginning a (Some e) = if e.start == a then Some (block_of e) else None
 
 abbrev pub shown : Entries → List Entry → Blocks
-shown live queue = record { live = λ a. beginning a (live (slot_of a)); queue = map (λ e. e.block) queue }
+shown live queue = record { live = λ a. beginning a (live (slot_of a)); queue = map block_of queue }
 
 -- the kept block at a place
 abbrev pub kept_at : Entries → Entries → ℕ → ℕ → Option Block
@@ -25,11 +25,11 @@ kept_at live freed first k = live_or (live k) (freed k)
   where
     if_kept : Option Entry → Option Block
     if_kept None = None
-    if_kept (Some e) = if nat_le first e.number then Some e.block else None
+    if_kept (Some e) = if nat_le first e.number then Some (block_of e) else None
 
     live_or : Option Entry → Option Entry → Option Block
     live_or None entry = if_kept entry
-    live_or (Some e) entry = Some e.block
+    live_or (Some e) entry = Some (block_of e)
 
 -- the entry at a place of one of two tables
 abbrev pub either : Entries → Entries → Entries
@@ -41,7 +41,7 @@ either live freed k = or_else (live k) (freed k)
 
 -- the live block at a place
 abbrev pub live_block : Entries → ℕ → Option Block
-live_block live k = option_map (λ e. e.block) (live k)
+live_block live k = option_map block_of (live k)
 
 -- the first kept block from a place on
 pub record FirstKept (kept : ℕ → Option Block) (from : ℕ) (b : Block) : Type 0 where
@@ -103,7 +103,7 @@ BeginsAbove blocks start begin =
 
 -- the sizes of entries
 abbrev pub volume_in : List Entry → ℕ
-volume_in entries = volume_of (map (λ e. e.block) entries)
+volume_in entries = volume_of (map block_of entries)
 
 -- a block's place and interval
 pub record IsPlaced (b : Block) (k : ℕ) : Type 0 where
@@ -112,20 +112,20 @@ pub record IsPlaced (b : Block) (k : ℕ) : Type 0 where
   pub high : high_end b ≤ heap_end
 
 pub record IsLiveAt (e : Entry) (k : ℕ) : Type 0 where
-  pub placed : IsPlaced e.block k
-  pub live : e.block.freed ≡ None
+  pub placed : IsPlaced (block_of e) k
+  pub live : e.freed ≡ None
 
 pub record IsQueuedAt (live freed : Entries) (first i : ℕ) (e : Entry) : Type 0 where
   pub number : e.number ≡ first + i
-  pub placed : IsPlaced e.block (slot_of e.block.start)
-  pub marked : is_some e.block.freed ≡ true
-  pub found : freed (slot_of e.block.start) ≡ Some e
-  pub gone : live (slot_of e.block.start) ≡ None
+  pub placed : IsPlaced (block_of e) (slot_of e.start)
+  pub marked : is_some e.freed ≡ true
+  pub found : freed (slot_of e.start) ≡ Some e
+  pub gone : live (slot_of e.start) ≡ None
 
 -- a freed entry that isn't too old, where no live block stands, is in the queue
 pub record IsFoundAt (queue : List Entry) (first k : ℕ) (e : Entry) : Type 0 where
   pub queued : slice_get queue (e.number - first) ≡ Some e
-  pub start : e.block.start ≡ heap_begin + 16 * k
+  pub start : e.start ≡ heap_begin + 16 * k
 
 pub record AreSound (live freed : Entries) (queue : List Entry) (first : ℕ) : Type 0 where
   pub lives : (k : ℕ) (e : Entry) → live k ≡ Some e → IsLiveAt e k

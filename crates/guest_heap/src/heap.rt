@@ -9,6 +9,8 @@ ghost use Rattle.guest_heap.specs.BoundLists.{bounds_in};
 use crate::bounds::Bounds;
 use crate::queue::Queue;
 use crate::table::Table;
+use crate::traces::{RecentTraces, SharedTrace};
+use call_stacks::Trace;
 use std::alloc::{AllocError, Global};
 
 pub(crate) mod placing;
@@ -30,6 +32,7 @@ pub struct Heap {
     // Bounds of places with this redzone.
     redzone: u32,
     bounds: Bounds,
+    traces: RecentTraces,
     ghost sound: { AreSound (entries_of live) (entries_of freed) (queued queue) first },
     ghost numbered: { next ≡ first + length (queued queue) },
     ghost volume: { held ≡ volume_in (queued queue) },
@@ -51,6 +54,7 @@ impl Heap {
         let freed = Table::new();
         let queue = Queue::new(alloc);
         let bounds = Bounds::new();
+        let traces = RecentTraces::new();
         Heap {
             live,
             freed,
@@ -60,6 +64,7 @@ impl Heap {
             held: 0,
             redzone: 0,
             bounds,
+            traces,
         }
     }
 
@@ -71,6 +76,7 @@ impl Heap {
         let freed = self.freed.share()?;
         let queue = self.queue.share()?;
         let bounds = self.bounds.share()?;
+        let traces = self.traces.clone()?;
         Ok(Heap {
             live,
             freed,
@@ -80,7 +86,16 @@ impl Heap {
             held: self.held,
             redzone: self.redzone,
             bounds,
+            traces,
         })
+    }
+
+    /// A trace for the entries of blocks, which those that have the same one share.
+    fn share_trace(&mut self, alloc: Global, trace: &Trace) -> Result<SharedTrace, AllocError>
+        ensures same { blocks_of self.new ≡ blocks_of self.old }
+        ensures trace { IfOk result (λ shared. shared ≡ trace.now) }
+    {
+        self.traces.share(alloc, trace)
     }
 
     /// Nothing: its contract says that the live blocks of a heap are in the heap region, which the laws of the heap calls ask for.

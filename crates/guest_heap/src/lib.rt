@@ -40,7 +40,8 @@
 //! Blocks are in two tables, live and freed, that are trees over the multiples of 16 of the heap region: a root of up to 128 limbs, a limb of
 //! up to 64 branches, a branch of up to 64 leaves, and a leaf of 64 places. The queue is in runs of 256; copies share what neither has
 //! changed. So a search is a few steps, a change after a copy copies one node of each kind, and `share` copies a reference for each table, and
-//! one for each run. `allocate` keeps a bound for each class of sizes, below which they have no place, and one range further up (`bounds.rt`):
+//! one for each run. What is kept of a block has references to its traces, which blocks of the same calls share while the heap remembers
+//! them (`traces.rt`). `allocate` keeps a bound for each class of sizes, below which they have no place, and one range further up (`bounds.rt`):
 //! it looks at kept blocks only from there on, and forgets no more of this than a block that leaves the queue makes room for.
 #![tactic(auto)]
 
@@ -53,6 +54,7 @@ mod queue;
 mod region;
 mod released;
 mod table;
+mod traces;
 
 pub use heap::Heap;
 pub use heap_blocks::{Block, Near, Place};

@@ -7,7 +7,6 @@ use crate::heap::Heap;
 use crate::interval::high_end;
 use crate::region::{GREATEST_SIZE, HEAP_BEGIN, HEAP_END, aligned, slot_of};
 use call_stacks::Trace;
-use heap_blocks::Block;
 use std::alloc::{AllocError, Global};
 use std::rc::Rc;
 
@@ -16,6 +15,7 @@ impl Heap {
     ghost use Rattle.std.specs.Prelude.{IfOk, OnOk, OnErr};
     ghost use Rattle.guest_heap.specs.Blocks.{IsPlace, Places, allocated, greatest_size, with_block};
     ghost use Rattle.memory_map.specs.Regions.{heap_begin};
+    ghost use Rattle.guest_heap.specs.Entries.{block_of};
     ghost use Rattle.guest_heap.specs.Steps.{place};
     ghost use Rattle.guest_heap.specs.Heaps.{blocks_of, redzone_in};
     ghost use Rattle.guest_heap.specs.States.{AreNoPlaces};
@@ -37,8 +37,8 @@ impl Heap {
         while at + after <= HEAP_END {
             match self.meeting(at - before, at + after) {
                 None => return Some(at as u32),
-                Some(block) => {
-                    let behind = aligned(high_end(block) + before);
+                Some(entry) => {
+                    let behind = aligned(high_end(entry) + before);
                     at = past(behind, known);
                 }
             }
@@ -115,15 +115,15 @@ impl Heap {
     }
 
     /// A new live block at a place.
-    fn put(&mut self, alloc: Global, block: Block) -> Result<(), AllocError>
-        requires place { IsPlace (blocks_of self.old) block.size block.redzone block.start }
-        requires live { block.freed ≡ None }
-        ensures ok { OnOk result (blocks_of self.new ≡ with_block (blocks_of self.old) block) }
+    fn put(&mut self, alloc: Global, entry: Entry) -> Result<(), AllocError>
+        requires place { IsPlace (blocks_of self.old) entry.size entry.redzone entry.start }
+        requires live { entry.freed ≡ None }
+        ensures ok { OnOk result (blocks_of self.new ≡ with_block (blocks_of self.old) (block_of entry)) }
         ensures err { OnErr result (blocks_of self.new ≡ blocks_of self.old) }
     {
-        let slot = slot_of(block.start);
-        let entry = Rc::new(alloc, Entry { block, number: 0 })?;
-        self.live.set(alloc, slot, Some(entry))?;
+        let slot = slot_of(entry.start);
+        let shared = Rc::new(alloc, entry)?;
+        self.live.set(alloc, slot, Some(shared))?;
         Ok(())
     }
 
@@ -143,14 +143,15 @@ impl Heap {
     {
         match self.place(alloc, size, redzone)? {
             Some(start) => {
-                let block = Block {
+                let entry = Entry {
                     start,
                     size,
                     redzone,
-                    trace,
+                    number: 0,
+                    trace: self.share_trace(alloc, &trace)?,
                     freed: None,
                 };
-                self.put(alloc, block)?;
+                self.put(alloc, entry)?;
                 Ok(Some(start))
             }
             None => Ok(None),

@@ -1,19 +1,21 @@
 //! What a heap answers of its blocks.
 ghost use Rattle.std.specs.Prelude.{◌≡◌, ◌≤◌, ℕ, None};
 ghost use Rattle.guest_heap.specs.Blocks.{near_of, high_end};
+ghost use Rattle.guest_heap.specs.Entries.{block_of};
 ghost use Rattle.memory_map.specs.Regions.{heap_end};
 
+use crate::entry::Entry;
 use crate::heap::Heap;
 use crate::region::{HEAP_BEGIN, HEAP_END, SLOTS};
 use heap_blocks::{Block, Near, Place};
 
-fn near_of(block: &Block, address: u32) -> Near
-    requires { high_end block.now ≤ heap_end }
-    ensures { result ≡ near_of block.now address }
+fn near_of(entry: &Entry, address: u32) -> Near
+    requires { high_end (block_of entry.now) ≤ heap_end }
+    ensures { result ≡ near_of (block_of entry.now) address }
 {
-    let found = *block;
-    let start = block.start;
-    let size = block.size;
+    let found = entry.block();
+    let start = entry.start;
+    let size = entry.size;
     if address < start {
         return Near {
             block: found,
@@ -38,22 +40,19 @@ fn near_of(block: &Block, address: u32) -> Near
 #[tactic(auto, unfolding(crate::specs::Heaps::blocks_of, crate::specs::Heaps::live_in))]
 impl Heap {
     ghost use Rattle.std.specs.Prelude.{IfSome, IfNone, IsSomeAnd};
-    ghost use Rattle.std.specs.Option.{option_copied};
+    ghost use Rattle.std.specs.Option.{option_copied, option_map};
     ghost use Rattle.guest_heap.specs.Blocks.{IsKept, Holds, IsFirstLive};
     ghost use Rattle.guest_heap.specs.States.{IsNextKept, live_block};
     ghost use Rattle.guest_heap.specs.Steps.{near, live_from};
     ghost use Rattle.guest_heap.specs.Heaps.{blocks_of, live_in};
 
     /// The first live block from a slot on.
-    fn first_live(&self, slot: usize) -> Option<&Block>
+    fn first_live(&self, slot: usize) -> Option<&Entry>
         requires { slot ≤ 33554432 }
-        ensures { IsNextKept (live_block (live_in self.now)) slot (option_copied result) }
+        ensures { IsNextKept (live_block (live_in self.now)) slot (option_map block_of (option_copied result)) }
     {
         match self.live.next_from(slot) {
-            Some(at) => match self.live.get(at) {
-                Some(entry) => Some(&entry.block),
-                None => None,
-            },
+            Some(at) => self.live.get(at),
             None => None,
         }
     }
@@ -66,7 +65,7 @@ impl Heap {
         let above = u64::from(from).max(HEAP_BEGIN) - HEAP_BEGIN;
         let slot = ((above + 15) / 16) as usize;
         match self.first_live(slot.min(SLOTS)) {
-            Some(block) => Some(*block),
+            Some(entry) => Some(entry.block()),
             None => None,
         }
     }
@@ -95,7 +94,7 @@ impl Heap {
             return None;
         }
         match self.meeting(low, low + 1) {
-            Some(block) => Some(near_of(block, address)),
+            Some(entry) => Some(near_of(entry, address)),
             None => None,
         }
     }

@@ -1,7 +1,7 @@
 //! Blocks that are freed, and blocks that are forgotten.
 ghost use Rattle.std.specs.Prelude.{◌≡◌, ◌<◌, ◌≤◌, ◌∷◌, ◌++◌, ◌⊎◌, [], None, Some, IfOk, OnErr, OnOk};
 ghost use Rattle.guest_heap.specs.Blocks.{freed_by};
-ghost use Rattle.guest_heap.specs.Entries.{with_entry};
+ghost use Rattle.guest_heap.specs.Entries.{block_of, entry_for, with_entry};
 ghost use Rattle.guest_heap.specs.Tables.{entries_of};
 
 use crate::bounds::Opened;
@@ -10,6 +10,7 @@ use crate::heap::Heap;
 use crate::region::{HEAP_BEGIN, SLOTS, aligned, slot_of};
 use crate::released::Released;
 use crate::table::Table;
+use crate::traces::SharedTrace;
 use call_stacks::Trace;
 use heap_blocks::Block;
 use std::alloc::{AllocError, Global};
@@ -30,15 +31,19 @@ fn freed_by(block: &Block, trace: Trace) -> Block
 /// What is kept of a block that is freed, with how many were freed before it.
 fn freed_entry(
     alloc: Global,
-    block: &Block,
-    trace: Trace,
+    entry: &Entry,
+    trace: SharedTrace,
     number: u64,
 ) -> Result<Rc<Entry>, AllocError>
-    ensures { IfOk result (λ entry. entry.value ≡ record { block = freed_by trace block.now; number = number }) }
+    ensures { IfOk result (λ freed. freed.value ≡ entry_for (freed_by trace (block_of entry.now)) number) }
 {
     let made = Entry {
-        block: freed_by(block, trace),
+        start: entry.start,
+        size: entry.size,
+        redzone: entry.redzone,
         number,
+        trace: entry.trace.clone()?,
+        freed: Some(trace),
     };
     Ok(Rc::new(alloc, made)?)
 }
@@ -64,14 +69,14 @@ fn move_to_freed(
 #[tactic(auto, using(crate::proofs::FreeSteps::spare_sound, crate::proofs::BoundSteps::same_bounds), unfolding(crate::specs::Heaps::blocks_of))]
 impl Heap {
     ghost use Rattle.std.specs.Prelude.{IfOk, OnOk, OnErr, drop};
-    ghost use Rattle.std.specs.Option.{option_copied};
+    ghost use Rattle.std.specs.Option.{option_copied, option_map};
     ghost use Rattle.guest_heap.specs.Blocks.{released_at, Releases, Frees, IsLongestFitting, queue_with};
     ghost use Rattle.guest_heap.specs.Steps.{released_blocks};
     ghost use Rattle.guest_heap.specs.Heaps.{blocks_of};
 
     /// The live block that begins at an address.
-    fn live_at(&self, address: u32) -> Option<&Block>
-        ensures { option_copied result ≡ (blocks_of self.now).live address }
+    fn live_at(&self, address: u32) -> Option<&Entry>
+        ensures { option_map block_of (option_copied result) ≡ (blocks_of self.now).live address }
     {
         if u64::from(address) < HEAP_BEGIN {
             return None;
@@ -81,8 +86,8 @@ impl Heap {
         }
         match self.live.get(slot_of(address)) {
             Some(entry) => {
-                if entry.block.start == address {
-                    return Some(&entry.block);
+                if entry.start == address {
+                    return Some(entry);
                 }
                 None
             }
@@ -91,23 +96,28 @@ impl Heap {
     }
 
     /// A live block goes to the end of the queue.
-    fn enqueue(&mut self, alloc: Global, block: &Block, trace: Trace) -> Result<(), AllocError>
-        requires { (blocks_of self.old).live block.now.start ≡ Some block.now }
-        ensures ok { OnOk result (blocks_of self.new ≡ queue_with (blocks_of self.old) (freed_by trace block.now)) }
+    fn enqueue(
+        &mut self,
+        alloc: Global,
+        entry: &Entry,
+        trace: SharedTrace,
+    ) -> Result<(), AllocError>
+        requires { (blocks_of self.old).live entry.now.start ≡ Some (block_of entry.now) }
+        ensures ok { OnOk result (blocks_of self.new ≡ queue_with (blocks_of self.old) (freed_by trace (block_of entry.now))) }
         ensures err { OnErr result (blocks_of self.new ≡ blocks_of self.old) }
     {
         // No run comes to 2^64 releases or bytes; there it would be want of memory.
         let Some(next) = self.next.checked_add(1) else {
             return Err(AllocError);
         };
-        let Some(held) = self.held.checked_add(u64::from(block.size)) else {
+        let Some(held) = self.held.checked_add(u64::from(entry.size)) else {
             return Err(AllocError);
         };
-        let entry = freed_entry(alloc, block, trace, self.next)?;
-        let slot = slot_of(block.start);
+        let freed = freed_entry(alloc, entry, trace, self.next)?;
+        let slot = slot_of(entry.start);
         self.queue.prepare(alloc)?;
-        move_to_freed(alloc, &mut self.live, &mut self.freed, slot, &entry)?;
-        self.queue.push(entry);
+        move_to_freed(alloc, &mut self.live, &mut self.freed, slot, &freed)?;
+        self.queue.push(freed);
         self.next = next;
         self.held = held;
         Ok(())
@@ -119,7 +129,7 @@ impl Heap {
         ensures queue { (blocks_of self.new).queue ≡ drop 1 (blocks_of self.old).queue }
     {
         let (start, size) = match self.queue.front() {
-            Some(entry) => (entry.block.start, entry.block.size),
+            Some(entry) => (entry.start, entry.size),
             None => return,
         };
         let redzone = u64::from(self.redzone);
@@ -161,13 +171,13 @@ impl Heap {
         if ptr == 0 {
             return Ok(Released::Nothing);
         }
-        match self.live_at(ptr).copied() {
-            Some(block) => {
-                self.enqueue(alloc, &block, trace)?;
-                self.forget(alloc, volume);
-                Ok(Released::Done(freed_by(&block, trace)))
-            }
-            None => Ok(Released::Invalid),
-        }
+        let entry = match self.live_at(ptr) {
+            Some(entry) => entry.share()?,
+            None => return Ok(Released::Invalid),
+        };
+        let shared = self.share_trace(alloc, &trace)?;
+        self.enqueue(alloc, &entry, shared)?;
+        self.forget(alloc, volume);
+        Ok(Released::Done(freed_by(&entry.block(), trace)))
     }
 }

@@ -1,33 +1,34 @@
 //! Blocks found by their places.
 ghost use Rattle.std.specs.Prelude.{◌≡◌, ◌<◌, ◌≤◌, ◌+◌, ◌*◌, ◌==◌, ℕ, IsNone};
 
+use crate::entry::Entry;
 use crate::heap::Heap;
 use crate::interval::{high_end, low_end};
 use crate::region::{HEAP_BEGIN, HEAP_END, slot_of};
-use heap_blocks::Block;
 
 #[tactic(auto, unfolding(crate::specs::Heaps::live_in, crate::specs::Heaps::freed_in, crate::specs::Heaps::first_in))]
 impl Heap {
     ghost use Rattle.std.specs.Prelude.{IfSome, IfNone};
-    ghost use Rattle.std.specs.Option.{option_copied};
-    ghost use Rattle.guest_heap.specs.Entries.{IsNext, IsLast};
+    ghost use Rattle.std.specs.Option.{option_copied, option_map};
+    ghost use Rattle.heap_blocks.specs.declared.block.Block.{Block};
+    ghost use Rattle.guest_heap.specs.Entries.{block_of, IsNext, IsLast};
     ghost use Rattle.guest_heap.specs.States.{kept_at, either, IsNextKept, IsLastKept, MeetsBelow, MeetsFrom, EndsBelow, BeginsAbove};
     ghost use Rattle.guest_heap.specs.Heaps.{blocks_of, live_in, freed_in, first_in};
     ghost use Rattle.guest_heap.specs.Blocks.{IsKept, Meets, high_end};
     ghost use Rattle.memory_map.specs.Regions.{heap_begin, heap_end};
 
     /// The kept block of a slot.
-    fn kept_in(&self, slot: usize) -> Option<&Block>
+    fn kept_in(&self, slot: usize) -> Option<&Entry>
         requires { slot < 33554432 }
-        ensures { option_copied result ≡ kept_at (live_in self.now) (freed_in self.now) (first_in self.now) slot }
+        ensures { option_map block_of (option_copied result) ≡ kept_at (live_in self.now) (freed_in self.now) (first_in self.now) slot }
     {
         if let Some(entry) = self.live.get(slot) {
-            return Some(&entry.block);
+            return Some(entry);
         }
         match self.freed.get(slot) {
             Some(entry) => {
                 if entry.number >= self.first {
-                    return Some(&entry.block);
+                    return Some(entry);
                 }
                 None
             }
@@ -65,14 +66,14 @@ impl Heap {
 
     /// The first kept block from a slot on.
     #[tactic(auto, using(crate::proofs::KeptSteps::none_kept), unfolding(crate::specs::Heaps::live_in, crate::specs::Heaps::freed_in, crate::specs::Heaps::first_in))]
-    fn kept_from(&self, from: usize) -> Option<&Block>
+    fn kept_from(&self, from: usize) -> Option<&Entry>
         requires { from ≤ 33554432 }
-        ensures { IsNextKept (kept_at (live_in self.now) (freed_in self.now) (first_in self.now)) from (option_copied result) }
+        ensures { IsNextKept (kept_at (live_in self.now) (freed_in self.now) (first_in self.now)) from (option_map block_of (option_copied result)) }
     {
         let mut at = from;
         while let Some(slot) = self.used_from(at) {
-            if let Some(block) = self.kept_in(slot) {
-                return Some(block);
+            if let Some(entry) = self.kept_in(slot) {
+                return Some(entry);
             }
             at = slot + 1;
         }
@@ -81,14 +82,14 @@ impl Heap {
 
     /// The last kept block below a slot.
     #[tactic(auto, using(crate::proofs::KeptSteps::none_kept), unfolding(crate::specs::Heaps::live_in, crate::specs::Heaps::freed_in, crate::specs::Heaps::first_in))]
-    fn kept_below(&self, to: usize) -> Option<&Block>
+    fn kept_below(&self, to: usize) -> Option<&Entry>
         requires { to ≤ 33554432 }
-        ensures { IsLastKept (kept_at (live_in self.now) (freed_in self.now) (first_in self.now)) to (option_copied result) }
+        ensures { IsLastKept (kept_at (live_in self.now) (freed_in self.now) (first_in self.now)) to (option_map block_of (option_copied result)) }
     {
         let mut at = to;
         while let Some(slot) = self.used_below(at) {
-            if let Some(block) = self.kept_in(slot) {
-                return Some(block);
+            if let Some(entry) = self.kept_in(slot) {
+                return Some(entry);
             }
             at = slot;
         }
@@ -96,14 +97,14 @@ impl Heap {
     }
 
     /// A kept block that begins below a slot and whose interval goes past an address.
-    fn meeting_below(&self, to: usize, low: u64) -> Option<&Block>
+    fn meeting_below(&self, to: usize, low: u64) -> Option<&Entry>
         requires { to ≤ 33554432 }
-        ensures { MeetsBelow (blocks_of self.now) to low (option_copied result) }
+        ensures { MeetsBelow (blocks_of self.now) to low (option_map block_of (option_copied result)) }
     {
         match self.kept_below(to) {
-            Some(block) => {
-                if low < high_end(block) {
-                    return Some(block);
+            Some(entry) => {
+                if low < high_end(entry) {
+                    return Some(entry);
                 }
                 None
             }
@@ -112,14 +113,14 @@ impl Heap {
     }
 
     /// A kept block that begins at a slot or above it, and whose interval begins below an address.
-    fn meeting_from(&self, from: usize, high: u64) -> Option<&Block>
+    fn meeting_from(&self, from: usize, high: u64) -> Option<&Entry>
         requires { from ≤ 33554432 }
-        ensures { MeetsFrom (blocks_of self.now) from high (option_copied result) }
+        ensures { MeetsFrom (blocks_of self.now) from high (option_map block_of (option_copied result)) }
     {
         match self.kept_from(from) {
-            Some(block) => {
-                if low_end(block) < high {
-                    return Some(block);
+            Some(entry) => {
+                if low_end(entry) < high {
+                    return Some(entry);
                 }
                 None
             }
@@ -135,7 +136,7 @@ impl Heap {
         ensures within { result ≤ heap_end }
     {
         match self.kept_below(slot_of(start)) {
-            Some(block) => high_end(block),
+            Some(entry) => high_end(entry),
             None => HEAP_BEGIN,
         }
     }
@@ -147,25 +148,25 @@ impl Heap {
         ensures begin { BeginsAbove (blocks_of self.now) start result }
     {
         match self.kept_from(slot_of(start) + 1) {
-            Some(block) => low_end(block),
+            Some(entry) => low_end(entry),
             None => HEAP_END,
         }
     }
 
     /// A kept block whose interval meets a range.
-    pub(crate) fn meeting(&self, low: u64, high: u64) -> Option<&Block>
+    pub(crate) fn meeting(&self, low: u64, high: u64) -> Option<&Entry>
         requires above { heap_begin ≤ low }
         requires below { low ≤ heap_end }
         requires order { low < high }
-        ensures some { IfSome result (λ b. IsKept (blocks_of self.now) b.now) }
-        ensures meets { IfSome result (λ b. Meets low high b.now) }
-        ensures within { IfSome result (λ b. high_end b.now ≤ heap_end) }
+        ensures some { IfSome result (λ e. IsKept (blocks_of self.now) (block_of e.now)) }
+        ensures meets { IfSome result (λ e. Meets low high (block_of e.now)) }
+        ensures within { IfSome result (λ e. high_end (block_of e.now) ≤ heap_end) }
         ensures none { IfNone result ((b : Block) → IsKept (blocks_of self.now) b → ¬ (Meets low high b)) }
     {
         // The one behind first: a walk from block to block then has each in front of it, and seldom looks back.
         let from = ((low - HEAP_BEGIN + 15) / 16) as usize;
         match self.meeting_from(from, high) {
-            Some(block) => Some(block),
+            Some(entry) => Some(entry),
             None => self.meeting_below(from, low),
         }
     }

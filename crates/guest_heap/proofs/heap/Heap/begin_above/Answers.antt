@@ -3,6 +3,7 @@ use Rattle.guest_heap.specs.Heaps.{blocks_of, live_in, freed_in, first_in}
 use Rattle.guest_heap.specs.Tables.{entries_of}
 use Rattle.guest_heap.specs.Queues.{queued}
 use Rattle.guest_heap.specs.States.{BeginsAbove, shown}
+use Rattle.guest_heap.specs.Entries.{block_of}
 use Rattle.guest_heap.proofs.KeptSteps.{begins_above}
 use Rattle.guest_heap.proofs.heap.Heap.begin_above.Goals as goal
 
@@ -15,5 +16,6 @@ returns-in-Some c =
       begin =
           subst P (sym c.low_end.ensures) (begins_above (entries_of heap.live) (entries_of heap.freed)
           (queued heap.queue) heap.first heap.sound
-          (c.slot_of.result + 1) c.args.start c.in-Some.block.now c.in-Some.ensures (omega (arith, c.slot_of.ensures)));
+          (c.slot_of.result + 1) c.args.start (block_of c.in-Some.entry.now) c.in-Some.ensures
+          (omega (arith, c.slot_of.ensures)));
     }

@@ -1,6 +1,7 @@
 use Rattle.std.proofs.lemmas.Bool.{cases_lt}
 use Rattle.std.proofs.Common.{inl, inr, arith, ◌+◌, ◌-◌, ◌<◌, max}
 use Rattle.guest_heap.specs.Blocks.{high_end, low_end}
+use Rattle.guest_heap.specs.Entries.{block_of}
 use Rattle.guest_heap.proofs.PlaceSteps.{passed}
 use Rattle.guest_heap.proofs.heap.Heap.place_from.Goals as goal
 
@@ -19,12 +20,13 @@ loop-at-preserved c =
     let length = c.from.ensures in
     let past = c.in-Some.ensures.meets.0 in
     let under = c.in-Some.ensures.meets.1 in
-    let low : c.loop-at.at - c.args.redzone < high_end c.in-Some.block.now = omega arith in
-    let high : low_end c.in-Some.block.now < c.loop-at.at + (max c.args.size 1 + c.args.redzone) = omega arith in
+    let low : c.loop-at.at - c.args.redzone < high_end (block_of c.in-Some.entry.now) = omega arith in
+    let high : low_end (block_of c.in-Some.entry.now) < c.loop-at.at + (max c.args.size 1 + c.args.redzone)
+    = omega arith in
     let near = c.aligned-behind.ensures.near in
     let over = c.aligned-behind.ensures.above in
     let inv = c.loop-at.invariant in
-    let behind = passed _ _ _ _ _ c.in-Some.block.now inv.above inv.none c.in-Some.ensures.some (low, high)
+    let behind = passed _ _ _ _ _ (block_of c.in-Some.entry.now) inv.above inv.none c.in-Some.ensures.some (low, high)
     c.aligned-behind.ensures.multiple (omega arith) in
     record {
       multiple = c.past-at.ensures.multiple;

@@ -1,7 +1,7 @@
 use Rattle.std.proofs.Common.{inl, inr, Some, ap, sym, subst, ◌∙◌}
 use Rattle.guest_heap.specs.BoundLists.{bounds_in}
 use Rattle.guest_heap.specs.Heaps.{blocks_of}
-use Rattle.guest_heap.specs.Entries.{Entries}
+use Rattle.guest_heap.specs.Entries.{Entries, block_of}
 use Rattle.guest_heap.specs.States.{AreSound, shown}
 use Rattle.guest_heap.specs.Bounds.{AreBounds}
 use Rattle.guest_heap.specs.Blocks.{Blocks}
@@ -15,12 +15,12 @@ use Rattle.guest_heap.proofs.heap.Heap.put.Goals as goal
 pub invariant_of-self : goal.invariant_of-self
 unfolding blocks_of
 invariant_of-self c =
-    let e : Entry = record { block = c.args.block; number = 0 } in
+    let e : Entry = c.args.entry in
     let old = c.args.self.now in
     let P : Entries → Type 0 = λ f. AreSound f (entries_of old.freed) (queued old.queue) old.first in
     record {
       sound = elim (either_way c.set.result c.set.ensures.ok c.set.ensures.err) [
-        | inl h ↦ subst P (sym (written _ _ _ _ e h c.slot_of-slot.ensures (ap Some c.in_ok-entry.ensures.ok)))
+        | inl h ↦ subst P (sym (written _ _ _ _ e h c.slot_of-slot.ensures (ap Some c.in_ok-shared.ensures.ok)))
             (put_sound _ _ _ _ old.sound e c.requires.live c.requires.place)
         | inr h ↦ subst P (sym h) old.sound
       ];
@@ -30,9 +30,9 @@ invariant_of-self c =
           elim (either_way c.set.result c.set.ensures.ok c.set.ensures.err) [
             | inl h ↦ subst Q
                 (sym (ap (λ f. shown f (queued old.queue))
-                (written _ _ _ _ e h c.slot_of-slot.ensures (ap Some c.in_ok-entry.ensures.ok))
+                (written _ _ _ _ e h c.slot_of-slot.ensures (ap Some c.in_ok-shared.ensures.ok))
                 ∙ put_shown _ _ _ _ old.sound e c.requires.live c.requires.place))
-                (no_more_put (shown (entries_of old.live) (queued old.queue)) c.args.block old.redzone
+                (no_more_put (shown (entries_of old.live) (queued old.queue)) (block_of c.args.entry) old.redzone
                 (bounds_in old.bounds) c.requires.place old.bounded)
             | inr h ↦ subst Q (sym (ap (λ f. shown f (queued old.queue)) h)) old.bounded
           ]);
@@ -41,8 +41,8 @@ invariant_of-self c =
 pub returns-clause-ok : goal.returns-clause-ok
 unfolding blocks_of
 returns-clause-ok c =
-    let e : Entry = record { block = c.args.block; number = 0 } in
+    let e : Entry = c.args.entry in
     let old = c.args.self.now in
     ap (λ f. shown f (queued old.queue)) (written _ _ _ _ e c.in_ok-set.ensures.ok c.slot_of-slot.ensures
-    (ap Some c.in_ok-entry.ensures.ok))
+    (ap Some c.in_ok-shared.ensures.ok))
     ∙ put_shown _ _ _ _ old.sound e c.requires.live c.requires.place
