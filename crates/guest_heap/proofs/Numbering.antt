@@ -1,10 +1,13 @@
 -- Places in a row of parts, numbered through: a number tells the part and the place in it.
 use Rattle.std.proofs.Common.{◌≡◌, ℕ, ◌+◌, ◌*◌, ◌/◌, ◌%◌, ◌<◌, ◌≤◌, ◌==◌, inl, inr, is_some, false}
-use Rattle.std.proofs.Common.{cond, ap, ap₂, sym, ◌∙◌, subst, arith, eq-eqb}
+use Rattle.std.proofs.Common.{cond, mul_comm, ap, ap₂, sym, ◌∙◌, subst, arith, eq-eqb}
+use Rattle.std.proofs.Math.Nat.{mod-lt, div-mul-le_self, div-add-mod, div-lt_iff_lt-mul}
+use Rattle.std.proofs.lemmas.Nat.{le-div, div-mul-add, mod-mul-add, mul-add-lt}
 use Rattle.std.proofs.lemmas.Bool.{cases_lt}
 use Rattle.std.proofs.lemmas.Bool.Decides.{nat_tests}
 use Rattle.guest_heap.specs.Entries.{AreNone, FirstAt, LastAt}
-use Rattle.guest_heap.specs.Branches.{Grid, begin_in, end_in, AreNoneUpTo, AreNoneDownTo, FirstIn, LastIn}
+use Rattle.guest_heap.specs.Branches.{AreParts, Grid, begin_in, end_in, AreNoneUpTo, AreNoneDownTo}
+use Rattle.guest_heap.specs.Branches.{FirstIn, LastIn}
 use Rattle.guest_heap.proofs.PutSteps.{same_or}
 
 begin-same : (part at i : ℕ) → i ≡ part → begin_in part at i ≡ at
@@ -159,39 +162,56 @@ module _ (w count total : ℕ) (part place : ℕ → ℕ) (number : ℕ → ℕ 
               ];
         }
 
--- the three numberings
-pub by_64 : IsNumbering 64 64 4096 (λ k. k / 64) (λ k. k % 64) (λ i n. i * 64 + n)
-by_64 = record {
-  in_part = λ k. omega arith;
-  grows = λ a b le. omega arith;
-  within = λ a b le same. omega arith;
-  one = λ a b p q. omega arith;
-  part_of = λ i n less. omega arith;
-  place_of = λ i n less. omega arith;
-  low = λ k less. omega arith;
-  high = λ i n low less. omega arith;
-}
+-- by division
+less-rest : (p q x y a b : ℕ) → p + x ≡ a → q + y ≡ b → p ≡ q → a ≤ b → x ≤ y
+less-rest p q x y a b h g same le = omega arith
 
-pub by_4096 : IsNumbering 4096 64 262144 (λ k. k / 4096) (λ k. k % 4096) (λ i n. i * 4096 + n)
-by_4096 = record {
-  in_part = λ k. omega arith;
-  grows = λ a b le. omega arith;
-  within = λ a b le same. omega arith;
-  one = λ a b p q. omega arith;
-  part_of = λ i n less. omega arith;
-  place_of = λ i n less. omega arith;
-  low = λ k less. omega arith;
-  high = λ i n low less. omega arith;
-}
+same-sum : (p q x y a b : ℕ) → p + x ≡ a → q + y ≡ b → p ≡ q → x ≡ y → a ≡ b
+same-sum p q x y a b h g same rest = omega arith
 
-pub by_262144 : IsNumbering 262144 128 33554432 (λ k. k / 262144) (λ k. k % 262144) (λ i n. i * 262144 + n)
-by_262144 = record {
-  in_part = λ k. omega arith;
-  grows = λ a b le. omega arith;
-  within = λ a b le same. omega arith;
-  one = λ a b p q. omega arith;
-  part_of = λ i n less. omega arith;
-  place_of = λ i n less. omega arith;
-  low = λ k less. omega arith;
-  high = λ i n low less. omega arith;
-}
+pub divided : (count w total : ℕ) → AreParts count w total
+    → IsNumbering w count total (λ k. k / w) (λ k. k % w) (λ i n. i * w + n)
+divided count w total are =
+    let some = are.some in
+    record {
+      in_part = λ k. mod-lt k some;
+      grows = λ a b le. le-div (a / w) b w some (omega (arith, div-mul-le_self a w, le));
+      within = λ a b le same. less-rest (w * (a / w)) (w * (b / w)) (a % w) (b % w) a b (div-add-mod a w)
+          (div-add-mod b w) (ap (λ q. w * q) same) le;
+      one = λ a b p q. same-sum (w * (a / w)) (w * (b / w)) (a % w) (b % w) a b (div-add-mod a w)
+          (div-add-mod b w) (ap (λ x. w * x) p) q;
+      part_of = λ i n less. div-mul-add i w n less;
+      place_of = λ i n less. mod-mul-add i w n less;
+      low = λ k less. (let P : ℕ → Type 0 = λ t. k < t in (div-lt_iff_lt-mul some).1 (subst P are.whole less));
+      high = λ i n low less. (let P : ℕ → Type 0 = λ t. i * w + n < t in
+          subst P (mul_comm w count ∙ sym are.whole) (mul-add-lt i w n count low less));
+    }
+
+-- the same, where the numbers go by other names
+module _ (grid : Grid) (w count total : ℕ) (are : AreParts count w total) (at v p : ℕ) (each : v ≡ w) where
+  pub next_some_by : (i n : ℕ) → p ≡ count → FirstIn grid w (at / v) (at % v) p i n
+      → FirstAt (λ k. grid (k / w) (k % w)) at total (i * v + n)
+  next_some_by i n all h =
+      let P : ℕ → Type 0 = λ x. FirstIn grid w (at / x) (at % x) p i n in
+      let Q : ℕ → Type 0 = λ x. FirstIn grid w (at / w) (at % w) x i n in
+      let R : ℕ → Type 0 = λ x. FirstAt (λ k. grid (k / w) (k % w)) at total (i * x + n) in
+      subst R (sym each) (next_some _ _ _ _ _ _ (divided count w total are) grid at i n (subst Q all (subst P each h)))
+
+  pub next_none_by : p ≡ count → AreNoneUpTo grid w (at / v) (at % v) p
+      → AreNone (λ k. grid (k / w) (k % w)) at total
+  next_none_by all h =
+      let P : ℕ → Type 0 = λ x. AreNoneUpTo grid w (at / x) (at % x) p in
+      let Q : ℕ → Type 0 = λ x. AreNoneUpTo grid w (at / w) (at % w) x in
+      next_none _ _ _ _ _ _ (divided count w total are) grid at (subst Q all (subst P each h))
+
+  pub last_some_by : (i n : ℕ) → LastIn grid w (at / v) (at % v) i n
+      → LastAt (λ k. grid (k / w) (k % w)) at (i * v + n)
+  last_some_by i n h =
+      let P : ℕ → Type 0 = λ x. LastIn grid w (at / x) (at % x) i n in
+      let R : ℕ → Type 0 = λ x. LastAt (λ k. grid (k / w) (k % w)) at (i * x + n) in
+      subst R (sym each) (last_some _ _ _ _ _ _ (divided count w total are) grid at i n (subst P each h))
+
+  pub last_none_by : AreNoneDownTo grid w (at / v) (at % v) 0 → AreNone (λ k. grid (k / w) (k % w)) 0 at
+  last_none_by h =
+      let P : ℕ → Type 0 = λ x. AreNoneDownTo grid w (at / x) (at % x) 0 in
+      last_none _ _ _ _ _ _ (divided count w total are) grid at (subst P each h)

@@ -1,6 +1,6 @@
 -- Parts in a row, as some come, go or are copied.
-use Rattle.std.proofs.Common.{◌≡◌, ℕ, zero, suc, ◌-◌, ◌<◌, ◌≤◌, List, [], ◌∷◌, ◌++◌, Option, None, Some, slice_index_or}
-use Rattle.std.proofs.Common.{slice_get, vec_len, subst, length, refl, ap, sym, ◌∙◌, arith, rules}
+use Rattle.std.proofs.Common.{◌/◌, ◌%◌, ◌≡◌, ℕ, zero, suc, ◌-◌, ◌<◌, ◌≤◌, List, [], ◌∷◌, ◌++◌, Option, None, Some}
+use Rattle.std.proofs.Common.{slice_index_or, slice_get, vec_len, subst, length, refl, ap, sym, ◌∙◌, arith, rules}
 use Rattle.std.proofs.Math.Path.{fun_ext}
 use Rattle.std.specs.Option.{option_to_list}
 use Rattle.std.proofs.lemmas.List.{get_or_past}
@@ -8,7 +8,7 @@ use Rattle.std.specs.declared.alloc.Global.{Global}
 use Rattle.std.specs.declared.rc.Rc.{Rc}
 use Rattle.std.specs.declared.vec.Vec.{Vec}
 use Rattle.guest_heap.specs.Entries.{Entries, entries_at}
-use Rattle.guest_heap.specs.Branches.{grid_of}
+use Rattle.guest_heap.specs.Branches.{Grid, grid_of, entries_along}
 use Rattle.guest_heap.specs.declared.table.row.Row.{Row}
 
 -- one more part, which is absent
@@ -80,3 +80,11 @@ module _ {P : Type 0} (entries : P → Entries) where
   empty_grid row none =
       let long : vec_len row.parts ≡ length row.parts.items = search rules in
       fun_ext (λ i. past_grid row i (omega arith))
+
+  pub none_along : (w : ℕ) (row : Row P) → row.parts.items ≡ [] → entries_along w entries row ≡ (λ _. None)
+  unfolding entries_along
+  none_along w row e = let F : Grid → Entries = λ grid k. grid (k / w) (k % w) in ap F (none_grid row e)
+
+  pub empty_along : (w : ℕ) (row : Row P) → vec_len row.parts ≡ 0 → entries_along w entries row ≡ (λ _. None)
+  unfolding entries_along
+  empty_along w row none = let F : Grid → Entries = λ grid k. grid (k / w) (k % w) in ap F (empty_grid row none)

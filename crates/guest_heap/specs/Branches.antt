@@ -1,5 +1,6 @@
 -- The entries of parts in a row, by the number of a part and the place in it, and by places numbered through.
-use Rattle.std.specs.Prelude.{ℕ, ◌+◌, ◌<◌, ◌≤◌, ◌==◌, ◌/◌, ◌%◌, Option, Some, None, if◌then◌else◌, slice_index_or}
+use Rattle.std.specs.Prelude.{ℕ, ◌+◌, ◌*◌, ◌<◌, ◌≤◌, ◌≡◌, ◌==◌, ◌/◌, ◌%◌, Option, Some, None}
+use Rattle.std.specs.Prelude.{if◌then◌else◌, slice_index_or}
 use Rattle.guest_heap.specs.Entries.{Entries, entries_at, with_entry, AreNone, FirstAt, LastAt}
 use Rattle.guest_heap.specs.Leaves.{entries_in}
 use Rattle.guest_heap.specs.declared.entry.Entry.{Entry}
@@ -57,12 +58,22 @@ abbrev pub IsLastIn : Grid → ℕ → ℕ → ℕ → Option (ℕ × ℕ) → T
 IsLastIn grid places part at None = AreNoneDownTo grid places part at 0
 IsLastIn grid places part at (Some (i, n)) = LastIn grid places part at i n
 
+-- the entries of parts with w places each, by places numbered through
+unfoldable pub entries_along : {P : Type 0} → ℕ → (P → Entries) → Row P → Entries
+entries_along w entries row = λ k. grid_of entries row (k / w) (k % w)
+
 -- the entries of 64 leaves, of 64 branches and of 128 limbs
-unfoldable pub entries_under : Branch → Entries
-entries_under branch = λ k. grid_of entries_in branch.leaves (k / 64) (k % 64)
+unfoldable pub entries_in_branch : Branch → Entries
+entries_in_branch branch = entries_along 64 entries_in branch.leaves
 
-unfoldable pub entries_along : Limb → Entries
-entries_along limb = λ k. grid_of entries_under limb.branches (k / 4096) (k % 4096)
+unfoldable pub entries_in_limb : Limb → Entries
+entries_in_limb limb = entries_along 4096 entries_in_branch limb.branches
 
-unfoldable pub entries_above : Root → Entries
-entries_above root = λ k. grid_of entries_along root.limbs (k / 262144) (k % 262144)
+unfoldable pub entries_in_root : Root → Entries
+entries_in_root root = entries_along 262144 entries_in_limb root.limbs
+
+-- so many parts with w places each have so many places in all, of which there are no more than the heap region has
+pub record AreParts (parts w all : ℕ) : Type 0 where
+  pub some : 0 < w
+  pub whole : all ≡ parts * w
+  pub few : all ≤ 33554432

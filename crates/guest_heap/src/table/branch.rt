@@ -1,31 +1,42 @@
 //! 64 leaves in a row.
 
 use crate::entry::Entry;
-use crate::table::leaf::{LEAF, Leaf};
-use crate::table::part::Part;
+use crate::table::leaf::Leaf;
+use crate::table::part::{InRow, Part};
 use crate::table::row::Row;
 use std::alloc::{AllocError, Global};
 use std::rc::Rc;
 
-pub(crate) const BRANCH: usize = 4096;
+const PLACES: usize = 4096;
 
-/// How many leaves there are at most.
-const LEAVES: usize = 64;
+impl InRow for Leaf {
+    ghost use Rattle.std.proofs.Common.{refl, arith};
+
+    ghost PARTS = { 64 };
+
+    const PARTS: usize = 64;
+
+    ghost ALL = { 4096 };
+
+    const ALL: usize = PLACES;
+
+    ghost parts = { record { some = Prim.omega arith; whole = refl; few = Prim.omega arith } };
+}
 
 #[derive(Drop)]
 pub(crate) struct Branch {
     leaves: Row<Leaf>,
 }
 
-#[tactic(auto, unfolding(crate::specs::Branches::entries_under))]
+#[tactic(auto, unfolding(crate::specs::Branches::entries_in_branch))]
 impl Part for Branch {
-    ghost use Rattle.guest_heap.specs.Branches.{entries_under};
+    ghost use Rattle.guest_heap.specs.Branches.{entries_in_branch};
 
     ghost PLACES = { 4096 };
 
-    const PLACES: usize = BRANCH;
+    const PLACES: usize = PLACES;
 
-    ghost entries = { entries_under };
+    ghost entries = { entries_in_branch };
 
     fn empty(alloc: Global) -> Result<Branch, AllocError> {
         Ok(Branch {
@@ -38,7 +49,7 @@ impl Part for Branch {
     }
 
     fn get(&self, at: usize) -> Option<&Entry> {
-        self.leaves.get(at / LEAF, at % LEAF)
+        self.leaves.get(at)
     }
 
     fn set(
@@ -47,32 +58,26 @@ impl Part for Branch {
         at: usize,
         entry: Option<Rc<Entry>>,
     ) -> Result<(), AllocError> {
-        self.leaves.set(alloc, at / LEAF, at % LEAF, entry)
+        self.leaves.set(alloc, at, entry)
     }
 
     fn next_from(&self, at: usize) -> Option<usize> {
-        match self.leaves.next_from(at / LEAF, at % LEAF, LEAVES) {
-            Some((part, found)) => Some(part * LEAF + found),
-            None => None,
-        }
+        self.leaves.next_from(at)
     }
 
     fn last_below(&self, at: usize) -> Option<usize> {
-        match self.leaves.last_below(at / LEAF, at % LEAF) {
-            Some((part, found)) => Some(part * LEAF + found),
-            None => None,
-        }
+        self.leaves.last_below(at)
     }
 
     ghost clones_same = { λ part copy same. same };
 }
 
-#[tactic(auto, unfolding(crate::specs::Branches::entries_under))]
+#[tactic(auto, unfolding(crate::specs::Branches::entries_in_branch, crate::specs::Branches::entries_along))]
 impl Clone for Branch {
     ghost use Rattle.std.specs.Prelude.{◌≡◌};
-    ghost use Rattle.guest_heap.specs.Branches.{entries_under};
+    ghost use Rattle.guest_heap.specs.Branches.{entries_in_branch};
 
-    ghost is_clone = { λ part copy. entries_under copy ≡ entries_under part };
+    ghost is_clone = { λ part copy. entries_in_branch copy ≡ entries_in_branch part };
 
     fn clone(&self) -> Result<Branch, AllocError> {
         let leaves = self.leaves.clone()?;

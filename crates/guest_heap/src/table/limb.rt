@@ -1,31 +1,42 @@
 //! 64 branches in a row.
 
 use crate::entry::Entry;
-use crate::table::branch::{BRANCH, Branch};
-use crate::table::part::Part;
+use crate::table::branch::Branch;
+use crate::table::part::{InRow, Part};
 use crate::table::row::Row;
 use std::alloc::{AllocError, Global};
 use std::rc::Rc;
 
-pub(crate) const LIMB: usize = 262144;
+const PLACES: usize = 262144;
 
-/// How many branches there are at most.
-const BRANCHES: usize = 64;
+impl InRow for Branch {
+    ghost use Rattle.std.proofs.Common.{refl, arith};
+
+    ghost PARTS = { 64 };
+
+    const PARTS: usize = 64;
+
+    ghost ALL = { 262144 };
+
+    const ALL: usize = PLACES;
+
+    ghost parts = { record { some = Prim.omega arith; whole = refl; few = Prim.omega arith } };
+}
 
 #[derive(Drop)]
 pub(crate) struct Limb {
     branches: Row<Branch>,
 }
 
-#[tactic(auto, unfolding(crate::specs::Branches::entries_along))]
+#[tactic(auto, unfolding(crate::specs::Branches::entries_in_limb))]
 impl Part for Limb {
-    ghost use Rattle.guest_heap.specs.Branches.{entries_along};
+    ghost use Rattle.guest_heap.specs.Branches.{entries_in_limb};
 
     ghost PLACES = { 262144 };
 
-    const PLACES: usize = LIMB;
+    const PLACES: usize = PLACES;
 
-    ghost entries = { entries_along };
+    ghost entries = { entries_in_limb };
 
     fn empty(alloc: Global) -> Result<Limb, AllocError> {
         Ok(Limb {
@@ -38,7 +49,7 @@ impl Part for Limb {
     }
 
     fn get(&self, at: usize) -> Option<&Entry> {
-        self.branches.get(at / BRANCH, at % BRANCH)
+        self.branches.get(at)
     }
 
     fn set(
@@ -47,32 +58,26 @@ impl Part for Limb {
         at: usize,
         entry: Option<Rc<Entry>>,
     ) -> Result<(), AllocError> {
-        self.branches.set(alloc, at / BRANCH, at % BRANCH, entry)
+        self.branches.set(alloc, at, entry)
     }
 
     fn next_from(&self, at: usize) -> Option<usize> {
-        match self.branches.next_from(at / BRANCH, at % BRANCH, BRANCHES) {
-            Some((part, found)) => Some(part * BRANCH + found),
-            None => None,
-        }
+        self.branches.next_from(at)
     }
 
     fn last_below(&self, at: usize) -> Option<usize> {
-        match self.branches.last_below(at / BRANCH, at % BRANCH) {
-            Some((part, found)) => Some(part * BRANCH + found),
-            None => None,
-        }
+        self.branches.last_below(at)
     }
 
     ghost clones_same = { λ part copy same. same };
 }
 
-#[tactic(auto, unfolding(crate::specs::Branches::entries_along))]
+#[tactic(auto, unfolding(crate::specs::Branches::entries_in_limb, crate::specs::Branches::entries_along))]
 impl Clone for Limb {
     ghost use Rattle.std.specs.Prelude.{◌≡◌};
-    ghost use Rattle.guest_heap.specs.Branches.{entries_along};
+    ghost use Rattle.guest_heap.specs.Branches.{entries_in_limb};
 
-    ghost is_clone = { λ part copy. entries_along copy ≡ entries_along part };
+    ghost is_clone = { λ part copy. entries_in_limb copy ≡ entries_in_limb part };
 
     fn clone(&self) -> Result<Limb, AllocError> {
         let branches = self.branches.clone()?;

@@ -50,6 +50,22 @@ pub(crate) trait Part: Clone + Drop {
     ghost clones_same: { (part copy : Self) → Self.is_clone part copy → entries copy ≡ entries part };
 }
 
+/// A part of which rows are made: how many a row has at most, and how many places that are.
+pub(crate) trait InRow: Part {
+    ghost use Rattle.std.specs.Prelude.{ℕ};
+    ghost use Rattle.guest_heap.specs.Branches.{AreParts};
+
+    ghost PARTS: { ℕ };
+
+    const PARTS: usize;
+
+    ghost ALL: { ℕ };
+
+    const ALL: usize;
+
+    ghost parts: { AreParts PARTS Self.PLACES ALL };
+}
+
 #[tactic(auto, unfolding(crate::specs::Entries::entries_at))]
 pub(crate) fn get_in<P: Part>(slot: &Option<Rc<P>>, at: usize) -> Option<&Entry>
     requires { at < P.PLACES }

@@ -5,7 +5,7 @@ ghost use Rattle.guest_heap.specs.Entries.{entry_of};
 ghost use Rattle.guest_heap.specs.Branches.{grid_of, with_cell, begin_in, end_in, IsNextIn, IsLastIn};
 
 use crate::entry::Entry;
-use crate::table::part::{Part, get_in, last_in, next_in, set_in};
+use crate::table::part::{InRow, Part, get_in, last_in, next_in, set_in};
 use std::alloc::{AllocError, Global};
 use std::rc::Rc;
 
@@ -31,22 +31,8 @@ pub(crate) struct Row<P> {
 
 #[tactic(auto, unfolding(crate::specs::Branches::grid_of))]
 impl<P: Part> Row<P> {
-    pub(crate) fn new(alloc: Global) -> Row<P>
-        ensures { grid_of P.entries result ≡ (λ _ _. None) }
-    {
-        Row {
-            parts: Vec::new(alloc),
-        }
-    }
-
-    pub(crate) fn is_empty(&self) -> bool
-        ensures { IsTrue result → grid_of P.entries self.now ≡ (λ _ _. None) }
-    {
-        self.parts.is_empty()
-    }
-
     /// What is at a place of a part.
-    pub(crate) fn get(&self, part: usize, at: usize) -> Option<&Entry>
+    fn get_at(&self, part: usize, at: usize) -> Option<&Entry>
         requires { at < P.PLACES }
         ensures { option_copied result ≡ grid_of P.entries self.now part at }
     {
@@ -58,7 +44,7 @@ impl<P: Part> Row<P> {
 
     /// Makes room for a part, by its number.
     fn grow(&mut self, part: usize) -> Result<(), AllocError>
-        requires { part < 128 }
+        requires { part < 33554432 }
         ensures same { grid_of P.entries self.new ≡ grid_of P.entries self.old }
         ensures room { OnOk result (part < vec_len self.new.parts) }
     {
@@ -92,14 +78,14 @@ impl<P: Part> Row<P> {
         }
     }
 
-    pub(crate) fn set(
+    fn set_at(
         &mut self,
         alloc: Global,
         part: usize,
         at: usize,
         entry: Option<Rc<Entry>>,
     ) -> Result<(), AllocError>
-        requires part { part < 128 }
+        requires part { part < 33554432 }
         requires within { at < P.PLACES }
         ensures ok { OnOk result (grid_of P.entries self.new ≡ with_cell (grid_of P.entries self.old) part at (entry_of entry)) }
         ensures err { OnErr result (grid_of P.entries self.new ≡ grid_of P.entries self.old) }
@@ -111,7 +97,7 @@ impl<P: Part> Row<P> {
     }
 
     /// The first place that has a block, from a place of one part on, in the parts up to, not with, another.
-    pub(crate) fn next_from(&self, part: usize, at: usize, end: usize) -> Option<(usize, usize)>
+    fn next_at(&self, part: usize, at: usize, end: usize) -> Option<(usize, usize)>
         requires { at < P.PLACES }
         ensures { IsNextIn (grid_of P.entries self.now) P.PLACES part at end result }
     {
@@ -124,8 +110,8 @@ impl<P: Part> Row<P> {
     }
 
     /// The last place that has a block, below a place of a part.
-    pub(crate) fn last_below(&self, part: usize, at: usize) -> Option<(usize, usize)>
-        requires part { part < 1000 }
+    fn last_at(&self, part: usize, at: usize) -> Option<(usize, usize)>
+        requires part { part ≤ 33554432 }
         requires within { at < P.PLACES }
         ensures { IsLastIn (grid_of P.entries self.now) P.PLACES part at result }
     {
@@ -135,6 +121,68 @@ impl<P: Part> Row<P> {
             }
         }
         None
+    }
+}
+
+#[tactic(auto, unfolding(crate::specs::Branches::entries_along))]
+impl<P: InRow> Row<P> {
+    ghost use Rattle.guest_heap.specs.Entries.{with_entry, IsNext, IsLast};
+    ghost use Rattle.guest_heap.specs.Branches.{entries_along};
+
+    pub(crate) fn new(alloc: Global) -> Row<P>
+        ensures { entries_along P.PLACES P.entries result ≡ (λ _. None) }
+    {
+        Row {
+            parts: Vec::new(alloc),
+        }
+    }
+
+    pub(crate) fn is_empty(&self) -> bool
+        ensures { IsTrue result → entries_along P.PLACES P.entries self.now ≡ (λ _. None) }
+    {
+        self.parts.is_empty()
+    }
+
+    pub(crate) fn get(&self, at: usize) -> Option<&Entry>
+        ensures { option_copied result ≡ entries_along P.PLACES P.entries self.now at }
+    {
+        self.get_at(at / P::PLACES, at % P::PLACES)
+    }
+
+    pub(crate) fn set(
+        &mut self,
+        alloc: Global,
+        at: usize,
+        entry: Option<Rc<Entry>>,
+    ) -> Result<(), AllocError>
+        requires { at < P.ALL }
+        ensures ok { OnOk result (entries_along P.PLACES P.entries self.new ≡ with_entry (entries_along P.PLACES P.entries self.old) at (entry_of entry)) }
+        ensures err { OnErr result (entries_along P.PLACES P.entries self.new ≡ entries_along P.PLACES P.entries self.old) }
+    {
+        self.set_at(alloc, at / P::PLACES, at % P::PLACES, entry)
+    }
+
+    /// The first place from this one on that has a block.
+    pub(crate) fn next_from(&self, at: usize) -> Option<usize>
+        ensures { IsNext (entries_along P.PLACES P.entries self.now) at P.ALL result }
+    {
+        let each = P::PLACES;
+        match self.next_at(at / each, at % each, P::PARTS) {
+            Some((part, found)) => Some(part * each + found),
+            None => None,
+        }
+    }
+
+    /// The last place below this one that has a block.
+    pub(crate) fn last_below(&self, at: usize) -> Option<usize>
+        requires { at ≤ P.ALL }
+        ensures { IsLast (entries_along P.PLACES P.entries self.now) at result }
+    {
+        let each = P::PLACES;
+        match self.last_at(at / each, at % each) {
+            Some((part, found)) => Some(part * each + found),
+            None => None,
+        }
     }
 }
 

@@ -1,12 +1,14 @@
-use Rattle.std.proofs.Common.{◌≡◌, length, vec_len, rules, arith}
-use Rattle.guest_heap.specs.Branches.{grid_of}
-use Rattle.guest_heap.proofs.GridSteps.{down_begins}
-use Rattle.guest_heap.proofs.Rows.{past_grid}
+use Rattle.guest_heap.specs.Branches.{entries_along}
+use Rattle.guest_heap.proofs.Numbering.{last_some_by, last_none_by}
 use Rattle.guest_heap.proofs.table.row.Row.last_below.Goals as goal
 
-pub loop-i-init : goal.loop-i-init
-loop-i-init g c =
-    let row = c.args.self.now in
-    let long : vec_len row.parts ≡ length row.parts.items = search rules in
-    down_begins (grid_of g.P.Part.entries row) g.P.Part.PLACES c.args.part c.args.at c.min-i.result
-    (λ k above below. past_grid g.P.Part.entries row k (omega arith))
+pub returns-in-Some : goal.returns-in-Some
+unfolding entries_along
+returns-in-Some g c =
+    last_some_by _ _ _ _ g.met.P.InRow.parts c.args.at _ 0 c.PLACES-each.ensures c.in-Some.part c.in-Some.found
+    c.in-Some.ensures
+
+pub returns-in-None : goal.returns-in-None
+unfolding entries_along
+returns-in-None g c =
+    last_none_by _ _ _ _ g.met.P.InRow.parts c.args.at _ 0 c.PLACES-each.ensures c.in-None.ensures

@@ -1,12 +1,14 @@
-use Rattle.std.proofs.Common.{◌≡◌, length, vec_len, rules, arith}
-use Rattle.guest_heap.specs.Branches.{grid_of}
-use Rattle.guest_heap.proofs.GridSteps.{up_ends}
-use Rattle.guest_heap.proofs.Rows.{past_grid}
+use Rattle.guest_heap.specs.Branches.{entries_along}
+use Rattle.guest_heap.proofs.Numbering.{next_some_by, next_none_by}
 use Rattle.guest_heap.proofs.table.row.Row.next_from.Goals as goal
 
-pub returns : goal.returns
-returns g c =
-    let row = c.args.self.now in
-    let long : vec_len row.parts ≡ length row.parts.items = search rules in
-    up_ends (grid_of g.P.Part.entries row) g.P.Part.PLACES c.args.part c.args.at c.loop-i.i c.args.end
-    c.loop-i.invariant (λ k above below. past_grid g.P.Part.entries row k (omega arith))
+pub returns-in-Some : goal.returns-in-Some
+unfolding entries_along
+returns-in-Some g c =
+    next_some_by _ _ _ _ g.met.P.InRow.parts c.args.at _ _ c.PLACES-each.ensures c.in-Some.part c.in-Some.found
+    c.PARTS.ensures c.in-Some.ensures
+
+pub returns-in-None : goal.returns-in-None
+unfolding entries_along
+returns-in-None g c =
+    next_none_by _ _ _ _ g.met.P.InRow.parts c.args.at _ _ c.PLACES-each.ensures c.PARTS.ensures c.in-None.ensures

@@ -1,6 +1,6 @@
 use Rattle.std.proofs.Common.{◌≡◌, length, vec_len, ap, sym, rules, arith}
 use Rattle.guest_heap.proofs.Rows.{past_grid}
-use Rattle.guest_heap.proofs.table.row.Row.get.Goals as goal
+use Rattle.guest_heap.proofs.table.row.Row.get_at.Goals as goal
 
 pub returns : goal.returns
 returns g c =
