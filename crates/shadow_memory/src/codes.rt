@@ -202,7 +202,8 @@ impl Codes {
         requires { code < 4 }
         ensures { IsTrue result → (at : ℕ) → at < page_len → code_at self.now at ≡ code }
     {
-        all_are(&self.packed, code * FOUR_ONES)
+        // The last four are looked at before the scan: where a stack's end lies in a page, they differ from its first.
+        self.packed[PACKED - 1] == code * FOUR_ONES && all_are(&self.packed, code * FOUR_ONES)
     }
 
     /// Is each number, from one place up to, not with, another, that of a defined byte?
