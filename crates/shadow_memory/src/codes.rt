@@ -1,5 +1,5 @@
 //! Two bits for each byte of a page.
-ghost use Rattle.std.specs.Prelude.{◌≡◌, ◌⊎◌, ℕ, ◌+◌, ◌-◌, ◌%◌, ◌<◌, ◌≤◌, ◌==◌, if◌then◌else◌, vec_len, IfOk, IfSome, IsTrue};
+ghost use Rattle.std.specs.Prelude.{◌≡◌, ◌⊎◌, ℕ, ◌+◌, ◌-◌, ◌%◌, ◌<◌, ◌≤◌, ◌==◌, if◌then◌else◌, vec_len, IfOk, IfSome, IsTrue, IsFalse};
 ghost use Rattle.shadow_memory.specs.Marks.{defined};
 ghost use Rattle.shadow_memory.specs.Places.{changed_from, is_between, page_len};
 ghost use Rattle.shadow_memory.specs.Loads.{four};
@@ -231,14 +231,29 @@ impl Codes {
         requires within { to ≤ page_len }
         ensures { IsTrue result → (at : ℕ) → from ≤ at → at < to → 0 < code_at self.now at }
     {
-        if from % 4 == 0 && to - from == 4 && self.packed[from / 4] == UNDEFINED * FOUR_ONES {
-            return true;
-        }
         for at in from..to {
             if self.code(at) == NO_ACCESS {
                 return false;
             }
         }
+        true
+    }
+
+    /// Has four places, from a multiple of 4 on, take a number at once, if their bytes are all undefined or all defined. Says whether
+    /// it did.
+    #[inline(always)]
+    pub(crate) fn take_word(&mut self, from: usize, to: usize, made: u8) -> bool
+        requires order { from ≤ to }
+        requires within { to ≤ page_len }
+        requires small { made < 4 }
+        ensures done { IsTrue result → (k : ℕ) → code_at self.new k ≡ (if is_between from to k then made else code_at self.old k) }
+        ensures accessible { IsTrue result → (k : ℕ) → from ≤ k → k < to → 0 < code_at self.old k }
+        ensures kept { IsFalse result → self.new ≡ self.old }
+    {
+        if from % 4 != 0 || to - from != 4 || !are_alike(self.packed[from / 4]) {
+            return false;
+        }
+        self.packed[from / 4] = made * FOUR_ONES;
         true
     }
 
@@ -395,6 +410,18 @@ impl Codes {
 
     /// Has the places from one up to, not with, another take a number; those of inaccessible bytes keep theirs.
     pub(crate) fn take(&mut self, from: usize, to: usize, made: u8)
+        requires order { from ≤ to }
+        requires within { to ≤ page_len }
+        requires small { made < 4 }
+        ensures { (k : ℕ) → code_at self.new k ≡ (if is_between from to k then taken_code made (code_at self.old k) else code_at self.old k) }
+    {
+        if !self.take_word(from, to, made) {
+            self.take_runs(from, to, made);
+        }
+    }
+
+    // The same, run by run.
+    fn take_runs(&mut self, from: usize, to: usize, made: u8)
         requires order { from ≤ to }
         requires within { to ≤ page_len }
         requires small { made < 4 }

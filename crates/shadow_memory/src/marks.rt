@@ -149,9 +149,17 @@ impl Mixed {
         requires within { to ≤ page_len }
         ensures { Agree (marks_mixed self.new) (λ k. if is_between from to k then defined (marks_mixed self.old k) else marks_mixed self.old k) }
     {
-        if self.are_defined(from, to) {
-            return;
+        if !self.are_defined(from, to) && !self.codes.take_word(from, to, DEFINED) {
+            self.define_each(from, to);
         }
+    }
+
+    // The same, byte by byte.
+    fn define_each(&mut self, from: usize, to: usize)
+        requires order { from ≤ to }
+        requires within { to ≤ page_len }
+        ensures { Agree (marks_mixed self.new) (λ k. if is_between from to k then defined (marks_mixed self.old k) else marks_mixed self.old k) }
+    {
         for at in from..to {
             let code = defined_code(self.codes.code(at));
             self.codes.set(at, code);
@@ -166,10 +174,13 @@ impl Mixed {
         ensures whole { IsTrue result → (k : ℕ) → from ≤ k → k < to → (marks_mixed self.old k).accessible ≡ true }
         ensures kept { IsFalse result → self.new ≡ self.old }
     {
+        if self.codes.take_word(from, to, DEFINED) {
+            return true;
+        }
         if !self.codes.are_accessible(from, to) {
             return false;
         }
-        self.define(from, to);
+        self.codes.make(from, to, DEFINED);
         true
     }
 

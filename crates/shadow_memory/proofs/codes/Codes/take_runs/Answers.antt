@@ -3,7 +3,7 @@ use Rattle.shadow_memory.specs.Places.{is_between}
 use Rattle.shadow_memory.specs.Codes.{code_at}
 use Rattle.shadow_memory.specs.Parts.{taken_code}
 use Rattle.shadow_memory.proofs.Taking.{take-joins}
-use Rattle.shadow_memory.proofs.codes.Codes.take.Goals as goal
+use Rattle.shadow_memory.proofs.codes.Codes.take_runs.Goals as goal
 
 pub loop-at-preserved : goal.loop-at-preserved
 loop-at-preserved c =

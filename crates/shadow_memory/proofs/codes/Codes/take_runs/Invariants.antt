@@ -2,7 +2,7 @@ use Rattle.std.proofs.Common.{ℕ, ◌≡◌, ◌≤◌, ◌-◌, if◌then◌el
 use Rattle.shadow_memory.specs.Places.{is_between}
 use Rattle.shadow_memory.specs.Codes.{code_at}
 use Rattle.shadow_memory.specs.Parts.{taken_code}
-use Rattle.shadow_memory.proofs.codes.Codes.take.Given as goal
+use Rattle.shadow_memory.proofs.codes.Codes.take_runs.Given as goal
 
 abbrev pub invariant-loop-at : goal.invariant-loop-at
 invariant-loop-at l = record {

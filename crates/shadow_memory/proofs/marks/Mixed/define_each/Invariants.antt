@@ -2,7 +2,7 @@ use Rattle.std.proofs.Common.{if◌then◌else◌}
 use Rattle.shadow_memory.specs.Marks.{defined}
 use Rattle.shadow_memory.specs.Places.{Agree, is_between}
 use Rattle.shadow_memory.specs.Pages.{marks_mixed}
-use Rattle.shadow_memory.proofs.marks.Mixed.define.Given as goal
+use Rattle.shadow_memory.proofs.marks.Mixed.define_each.Given as goal
 
 abbrev pub invariant-loop-at : goal.invariant-loop-at
 invariant-loop-at l =

@@ -5,7 +5,7 @@ use Rattle.shadow_memory.specs.Marks.{defined}
 use Rattle.shadow_memory.specs.Parts.{mark_by}
 use Rattle.shadow_memory.specs.Pages.{marks_mixed}
 use Rattle.shadow_memory.proofs.Between.{after-between, between-more}
-use Rattle.shadow_memory.proofs.marks.Mixed.define.Goals as goal
+use Rattle.shadow_memory.proofs.marks.Mixed.define_each.Goals as goal
 
 pub loop-at-preserved : goal.loop-at-preserved
 unfolding marks_mixed
