@@ -206,18 +206,19 @@ impl Codes {
         self.packed[PACKED - 1] == code * FOUR_ONES && all_are(&self.packed, code * FOUR_ONES)
     }
 
-    /// Is each number, from one place up to, not with, another, that of a defined byte?
+    /// Is each number, from one place up to, not with, another, this one?
     #[inline(always)]
-    pub(crate) fn are_defined(&self, from: usize, to: usize) -> bool
+    pub(crate) fn are_all_between(&self, from: usize, to: usize, code: u8) -> bool
         requires order { from ≤ to }
         requires within { to ≤ page_len }
-        ensures { IsTrue result → (at : ℕ) → from ≤ at → at < to → code_at self.now at ≡ 2 }
+        requires small { code < 4 }
+        ensures { IsTrue result → (at : ℕ) → from ≤ at → at < to → code_at self.now at ≡ code }
     {
         if from % 4 == 0 && to - from == 4 {
-            return self.packed[from / 4] == DEFINED * FOUR_ONES;
+            return self.packed[from / 4] == code * FOUR_ONES;
         }
         for at in from..to {
-            if self.code(at) != DEFINED {
+            if self.code(at) != code {
                 return false;
             }
         }

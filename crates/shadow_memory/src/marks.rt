@@ -140,7 +140,17 @@ impl Mixed {
         requires within { to ≤ page_len }
         ensures { IsTrue result → (k : ℕ) → from ≤ k → k < to → marks_mixed self.now k ≡ mark_of RangeKind.Defined }
     {
-        self.codes.are_defined(from, to)
+        self.codes.are_all_between(from, to, DEFINED)
+    }
+
+    // Are they all accessible, with all bits undefined? `false` may be told of such bytes too.
+    #[inline(always)]
+    fn are_undefined(&self, from: usize, to: usize) -> bool
+        requires order { from ≤ to }
+        requires within { to ≤ page_len }
+        ensures { IsTrue result → (k : ℕ) → from ≤ k → k < to → marks_mixed self.now k ≡ mark_of RangeKind.Undefined }
+    {
+        self.codes.are_all_between(from, to, UNDEFINED)
     }
 
     // Makes the bits of the accessible bytes defined.
@@ -391,6 +401,18 @@ impl PageShadows {
         match self {
             PageShadows::Uniform(kind) => *kind == RangeKind::Defined,
             PageShadows::Mixed(mixed) => mixed.are_defined(from, to),
+        }
+    }
+
+    /// Are they all accessible, with all bits undefined? `false` may be told of such bytes too.
+    pub(crate) fn are_undefined(&self, from: usize, to: usize) -> bool
+        requires order { from ≤ to }
+        requires within { to ≤ page_len }
+        ensures { IsTrue result → (k : ℕ) → from ≤ k → k < to → marks_in self.now k ≡ mark_of RangeKind.Undefined }
+    {
+        match self {
+            PageShadows::Uniform(kind) => *kind == RangeKind::Undefined,
+            PageShadows::Mixed(mixed) => mixed.are_undefined(from, to),
         }
     }
 

@@ -16,7 +16,7 @@ use crate::edits::{Each, PageEdit};
 use crate::laws::all_are;
 use crate::marks::PageShadows;
 use crate::slices::{fill_at, set_all, write_at};
-use crate::words::{ABSENT, loaded_from, may_lie_within, word};
+use crate::words::{ABSENT, all_bits, loaded_from, may_lie_within, word};
 use std::alloc::{AllocError, Global};
 
 /// How many bytes a page has.
@@ -103,8 +103,27 @@ impl Page {
                 undef: 0,
                 bad: None,
             },
-            None => self.load_cells(at, addr, n),
+            None => self.load_undefined(at, addr, n),
         }
+    }
+
+    // The same, where some bits are undefined.
+    #[inline(never)]
+    fn load_undefined(&self, at: usize, addr: u32, n: u32) -> Loaded
+        requires width { IsWidth n }
+        requires within { at + n ≤ page_len }
+        ensures value { result ≡ loaded_at (λ i. cells_in self.now (at + i)) addr n }
+        ensures small { result.value < 2 ^ (8 * n) }
+        ensures small_undef { result.undef < 2 ^ (8 * n) }
+    {
+        if self.marks.are_undefined(at, at + n as usize) {
+            return Loaded {
+                value: self.number(at, n),
+                undef: all_bits(n),
+                bad: None,
+            };
+        }
+        self.load_cells(at, addr, n)
     }
 
     // The same, cell by cell.

@@ -1,10 +1,10 @@
 //! The bytes of words, and the cells that they are stored in or loaded from.
-ghost use Rattle.std.specs.Prelude.{◌≡◌, ℕ, ◌<◌, ◌&&◌, IsFalse, false, length, nat_le, nat_lt, slice_index, if◌then◌else◌};
+ghost use Rattle.std.specs.Prelude.{◌≡◌, ℕ, ◌*◌, ◌^◌, ◌<◌, ◌&&◌, IsFalse, false, length, nat_le, nat_lt, slice_index, if◌then◌else◌};
 ghost use Rattle.shadow_memory.specs.Ranges.{byte_of, little_word};
 ghost use Rattle.shadow_memory.specs.Cells.{shadow_in, IsClean};
 ghost use Rattle.shadow_memory.specs.Shadows.{loaded_undef};
 ghost use Rattle.shadow_memory.specs.Loads.{four, loaded_at};
-ghost use Rattle.shadow_memory.specs.Changes.{stored};
+ghost use Rattle.shadow_memory.specs.Changes.{stored, IsWidth};
 
 use crate::cells::{Cell, Loaded};
 use definedness::Bits;
@@ -55,6 +55,21 @@ pub(crate) fn word(first: u8, second: u8, third: u8, fourth: u8) -> u32
     ensures { result ≡ little_word (four first second third fourth) }
 {
     u32::from_le_bytes([first, second, third, fourth])
+}
+
+/// The number of n bytes, all of whose bits are set.
+#[inline(always)]
+#[tactic(auto, unfolding(crate::specs::Ranges::little_word))]
+pub(crate) fn all_bits(n: u32) -> u32
+    requires { IsWidth n }
+    ensures value { result ≡ little_word (λ i. if nat_lt i n then 255 else 0) }
+    ensures small { result < 2 ^ (8 * n) }
+{
+    match n {
+        1 => 0xff,
+        2 => 0xffff,
+        _ => u32::MAX,
+    }
 }
 
 /// Whether four bytes may have a value from low up to, not with, high, as far as the highest of them tells.
