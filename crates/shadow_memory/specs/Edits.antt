@@ -1,16 +1,17 @@
 -- What one change does to cells that lie one after another.
 use Rattle.std.specs.Prelude.{ℕ, length, slice_index, ◌+◌, ◌<◌, ◌≤◌, ◌≡◌}
 use Rattle.shadow_memory.specs.Cells.{IsClean}
-use Rattle.shadow_memory.specs.Marks.{blank}
+use Rattle.shadow_memory.specs.Marks.{blank, mark_of, marked}
 use Rattle.shadow_memory.specs.Pages.{cells_in, AreWhole}
 use Rattle.shadow_memory.specs.Places.{changed_from, page_len}
 use Rattle.shadow_memory.specs.Changes.{filled, ranged, received, taken_cell}
 use Rattle.shadow_memory.specs.declared.cells.Cell.{Cell}
 use Rattle.shadow_memory.specs.declared.cells.RangeKind.{RangeKind}
+use Rattle.shadow_memory.specs.declared.cells.RangeKind.TheVariants.{Undefined}
 use Rattle.shadow_memory.specs.declared.edits.Each.{Each}
 use Rattle.shadow_memory.specs.declared.edits.Each.TheVariants.{Make, Clear, Take}
 use Rattle.shadow_memory.specs.declared.edits.PageEdit.{PageEdit}
-use Rattle.shadow_memory.specs.declared.edits.PageEdit.TheVariants.{Set, All, Fill, Store, Copy}
+use Rattle.shadow_memory.specs.declared.edits.PageEdit.TheVariants.{Set, All, Fill, Store, StoreUndefined, Copy}
 
 -- what becomes of a cell that changes as each of its range does
 unfoldable pub each_of : Each → Cell → Cell
@@ -24,6 +25,7 @@ count_of (Set cell) = 1
 count_of (All count each) = count
 count_of (Fill count bytes) = count
 count_of (Store bytes) = length bytes.now
+count_of (StoreUndefined bytes) = length bytes.now
 count_of (Copy page place count) = count
 
 -- what becomes of the one at an offset
@@ -32,6 +34,7 @@ change_of (Set made) i cell = made
 change_of (All count each) i cell = each_of each cell
 change_of (Fill count bytes) i cell = filled (slice_index bytes.now) i cell
 change_of (Store bytes) i cell = received (slice_index bytes.now) i cell
+change_of (StoreUndefined bytes) i cell = taken_cell (marked (slice_index bytes.now i) (mark_of Undefined)) cell
 change_of (Copy page place count) i cell = taken_cell (cells_in page.now (place + i)) cell
 
 -- no inaccessible byte gets undefined bits, and what is copied lies in a page, with no byte that is defined in part
@@ -40,6 +43,7 @@ Fits (Set cell) = IsClean cell
 Fits (All count each) = Unit {0}
 Fits (Fill count bytes) = Unit {0}
 Fits (Store bytes) = Unit {0}
+Fits (StoreUndefined bytes) = Unit {0}
 Fits (Copy page place count) = (place + count ≤ page_len) × AreWhole page.now.marks place (place + count)
 
 -- a blank page is blank after a change, of this kind

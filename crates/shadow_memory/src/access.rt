@@ -13,7 +13,7 @@ use crate::cells::{Cell, Loaded};
 use crate::edits::PageEdit;
 use crate::memory::Memory;
 use crate::pages::PAGE;
-use crate::words::{ABSENT, byte_at, loaded_from, stored_cell, word_bytes};
+use crate::words::{ABSENT, byte_at, has_all_bits, loaded_from, stored_cell, word_bytes};
 use definedness::Bits;
 use std::alloc::AllocError;
 
@@ -162,14 +162,18 @@ impl Memory {
         Ok(bad)
     }
 
-    // The same, of cells: by one change, where they lie in one page and are stored defined.
+    // The same, of cells: by one change, where they lie in one page and are stored all defined or all undefined.
     fn store_at(&mut self, addr: u32, n: u32, bits: Bits) -> Result<(), AllocError>
         requires { IsWidth n }
         ensures ok { OnOk result (cells_of self.new ≡ changed_in (cells_of self.old) addr n (stored bits)) }
         ensures err { OnErr result (SomeFront n (λ k. cells_of self.new ≡ changed_in (cells_of self.old) addr k (stored bits))) }
     {
-        if bits.undef == 0 && addr as usize % PAGE + n as usize <= PAGE {
+        if addr as usize % PAGE + n as usize > PAGE {
+            self.store_cells(addr, n, bits)
+        } else if bits.undef == 0 {
             self.store_defined(addr, n, bits.value)
+        } else if has_all_bits(bits.undef, n) {
+            self.store_undefined(addr, n, bits)
         } else {
             self.store_cells(addr, n, bits)
         }
@@ -185,6 +189,19 @@ impl Memory {
     {
         let bytes = word_bytes(value);
         self.change(addr, &PageEdit::Store(&bytes[..n as usize]))
+    }
+
+    // Stores bytes all of whose bits are undefined in one page, all of them or none.
+    #[tactic(auto, unfolding(crate::specs::Edits::count_of, crate::specs::Edits::change_of, crate::specs::Edits::Fits))]
+    fn store_undefined(&mut self, addr: u32, n: u32, bits: Bits) -> Result<(), AllocError>
+        requires width { n ≤ 4 }
+        requires one_page { addr % page_len + n ≤ page_len }
+        requires undefined { (i : ℕ) → i < n → byte_of bits.undef i ≡ 255 }
+        ensures ok { OnOk result (cells_of self.new ≡ changed_in (cells_of self.old) addr n (stored bits)) }
+        ensures err { OnErr result (cells_of self.new ≡ cells_of self.old) }
+    {
+        let bytes = word_bytes(bits.value);
+        self.change(addr, &PageEdit::StoreUndefined(&bytes[..n as usize]))
     }
 
     // Stores cell by cell.

@@ -46,6 +46,8 @@ pub(crate) enum PageEdit<'a> {
     Fill(usize, &'a [u8]),
     /// These bytes are stored, all of their bits defined. An inaccessible one stays inaccessible.
     Store(&'a [u8]),
+    /// These bytes are stored, all of their bits undefined. An inaccessible one stays inaccessible.
+    StoreUndefined(&'a [u8]),
     /// Bytes are copied from a place of a page on, so many, with what is known of them. An inaccessible one stays inaccessible.
     Copy(&'a Page, usize, usize),
 }

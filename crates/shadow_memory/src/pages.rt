@@ -1,7 +1,7 @@
 //! One page of 4,096 bytes.
 ghost use Rattle.std.specs.Prelude.{◌≡◌, ℕ, ◌+◌, ◌*◌, ◌%◌, ◌^◌, ◌<◌, ◌≤◌, true, None, OnOk, OnErr, IfOk, IfNone, IfSome, IsTrue, IsFalse, length, nat_lt, slice_index, vec_len};
 ghost use Rattle.shadow_memory.specs.Cells.{set_at, shadow_in, IsClean};
-ghost use Rattle.shadow_memory.specs.Marks.{blank};
+ghost use Rattle.shadow_memory.specs.Marks.{blank, mark_of, marked};
 ghost use Rattle.shadow_memory.specs.Places.{changed_from, page_len, AgreeInPage};
 ghost use Rattle.shadow_memory.specs.Changes.{IsWidth};
 ghost use Rattle.shadow_memory.specs.Loads.{loaded_at};
@@ -355,6 +355,19 @@ impl Page {
         Ok(())
     }
 
+    // Stores bytes all of whose bits are undefined.
+    fn store_undefined(&mut self, alloc: Global, at: usize, bytes: &[u8]) -> Result<(), AllocError>
+        requires { at + length bytes.now ≤ page_len }
+        ensures ok { OnOk result (AgreeInPage (cells_in self.new) (changed_from (cells_in self.old) at (length bytes.now)
+            (λ i cell. taken_cell (marked (slice_index bytes.now i) (mark_of RangeKind.Undefined)) cell))) }
+        ensures err { OnErr result (AgreeInPage (cells_in self.new) (cells_in self.old)) }
+    {
+        self.marks
+            .take(alloc, at, at + bytes.len(), RangeKind::Undefined)?;
+        write_at(&mut self.bytes, at, bytes);
+        Ok(())
+    }
+
     /// Stores bytes from a place on, if what is there is all accessible. Says whether it did; it takes no memory.
     #[inline(always)]
     pub(crate) fn put(&mut self, at: usize, bytes: &[u8]) -> bool
@@ -404,6 +417,7 @@ impl Page {
             PageEdit::All(count, each) => self.all(alloc, at, *count, *each),
             PageEdit::Fill(count, bytes) => self.fill(alloc, at, *count, bytes),
             PageEdit::Store(bytes) => self.store(alloc, at, bytes),
+            PageEdit::StoreUndefined(bytes) => self.store_undefined(alloc, at, bytes),
             PageEdit::Copy(source, from, count) => self.copy(alloc, at, source, *from, *count),
         }
     }

@@ -1,5 +1,5 @@
 //! The bytes of words, and the cells that they are stored in or loaded from.
-ghost use Rattle.std.specs.Prelude.{◌≡◌, ℕ, ◌*◌, ◌^◌, ◌<◌, ◌&&◌, IsFalse, false, length, nat_le, nat_lt, slice_index, if◌then◌else◌};
+ghost use Rattle.std.specs.Prelude.{◌≡◌, ℕ, ◌*◌, ◌^◌, ◌<◌, ◌&&◌, IsFalse, IsTrue, false, length, nat_le, nat_lt, slice_index, if◌then◌else◌};
 ghost use Rattle.shadow_memory.specs.Ranges.{byte_of, little_word};
 ghost use Rattle.shadow_memory.specs.Cells.{shadow_in, IsClean};
 ghost use Rattle.shadow_memory.specs.Shadows.{loaded_undef};
@@ -69,6 +69,19 @@ pub(crate) fn all_bits(n: u32) -> u32
         1 => 0xff,
         2 => 0xffff,
         _ => u32::MAX,
+    }
+}
+
+/// Are all bits of the low n bytes of a number set?
+#[tactic(auto, unfolding(crate::specs::Ranges::byte_of))]
+pub(crate) fn has_all_bits(number: u32, n: u32) -> bool
+    requires { IsWidth n }
+    ensures { IsTrue result → (i : ℕ) → i < n → byte_of number i ≡ 255 }
+{
+    match n {
+        1 => number % 256 == 0xff,
+        2 => number % 65536 == 0xffff,
+        _ => number == u32::MAX,
     }
 }
 
