@@ -103,11 +103,24 @@ impl Page {
                 undef: 0,
                 bad: None,
             },
-            None => self.load_undefined(at, addr, n),
+            None => self.load_out(at, addr, n),
         }
     }
 
-    // The same, where some bits are undefined.
+    // The same, where some bits are undefined. What a function out of line answers in memory gets its place, filled with zeros, where the
+    // function that calls it begins, in line or not: so this one calls it.
+    #[inline(always)]
+    fn load_out(&self, at: usize, addr: u32, n: u32) -> Loaded
+        requires width { IsWidth n }
+        requires within { at + n ≤ page_len }
+        ensures value { result ≡ loaded_at (λ i. cells_in self.now (at + i)) addr n }
+        ensures small { result.value < 2 ^ (8 * n) }
+        ensures small_undef { result.undef < 2 ^ (8 * n) }
+    {
+        self.load_undefined(at, addr, n)
+    }
+
+    // The same: at once, where all are.
     #[inline(never)]
     fn load_undefined(&self, at: usize, addr: u32, n: u32) -> Loaded
         requires width { IsWidth n }
