@@ -101,6 +101,21 @@ impl Directory {
         }
     }
 
+    /// Changes cells of one page, if it is its own and that takes no memory. Says whether it did.
+    #[inline(always)]
+    pub(crate) fn change_own(&mut self, at: usize, edit: &PageEdit<'_>) -> bool
+        requires within { at < 4194304 }
+        requires one_page { at % page_len + count_of edit.now ≤ page_len }
+        requires fits { Fits edit.now }
+        ensures done { IsTrue result → cells_under self.new ≡ changed_from (cells_under self.old) at (count_of edit.now) (change_of edit.now) }
+        ensures kept { IsFalse result → cells_under self.new ≡ cells_under self.old }
+    {
+        match self.place(at / PAGE) {
+            Some(place) => self.pages[place].change_own(at % PAGE, edit),
+            None => false,
+        }
+    }
+
     /// Keeps the pages from this one, which comes before the first, on.
     fn reach_down(&mut self, alloc: Global, number: usize) -> Result<(), AllocError>
         requires { number < self.old.first }

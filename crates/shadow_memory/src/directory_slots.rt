@@ -82,6 +82,23 @@ impl DirectorySlot {
         false
     }
 
+    /// Changes cells of one page, if it and the directory are its own and that takes no memory. Says whether it did.
+    #[inline(always)]
+    pub(crate) fn change_own(&mut self, at: usize, edit: &PageEdit<'_>) -> bool
+        requires within { at < 4194304 }
+        requires one_page { at % page_len + count_of edit.now ≤ page_len }
+        requires fits { Fits edit.now }
+        ensures done { IsTrue result → AgreeInDirectory (cells_below self.new) (changed_from (cells_below self.old) at (count_of edit.now) (change_of edit.now)) }
+        ensures kept { IsFalse result → cells_below self.new ≡ cells_below self.old }
+    {
+        if let DirectorySlot::Held(shared) = self
+            && let Some(own) = Rc::get_mut(shared)
+        {
+            return own.change_own(at, edit);
+        }
+        false
+    }
+
     /// Changes cells of one page, in a directory of its own.
     pub(crate) fn change(
         &mut self,

@@ -573,6 +573,41 @@ impl PageShadows {
         }
     }
 
+    /// Sets the marks from one place up to, not with, another, if they are held one by one. Says whether they are; it takes no memory.
+    pub(crate) fn make_held(&mut self, from: usize, to: usize, kind: RangeKind) -> bool
+        requires order { from ≤ to }
+        requires within { to ≤ page_len }
+        ensures done { IsTrue result → AgreeInPage (marks_in self.new) (λ k. if is_between from to k then mark_of kind else marks_in self.old k) }
+        ensures kept { IsFalse result → self.new ≡ self.old }
+    {
+        match self {
+            PageShadows::Uniform(_) => false,
+            PageShadows::Mixed(mixed) => {
+                mixed.make(from, to, kind);
+                self.fold(kind);
+                true
+            }
+        }
+    }
+
+    /// The same for the accessible bytes, which take the bits undefined that one of a kind loads with.
+    pub(crate) fn take_held(&mut self, from: usize, to: usize, kind: RangeKind) -> bool
+        requires order { from ≤ to }
+        requires within { to ≤ page_len }
+        ensures done { IsTrue result → AgreeInPage (marks_in self.new) (λ k.
+            if is_between from to k then taken (mark_of kind) (marks_in self.old k) else marks_in self.old k) }
+        ensures kept { IsFalse result → self.new ≡ self.old }
+    {
+        match self {
+            PageShadows::Uniform(_) => false,
+            PageShadows::Mixed(mixed) => {
+                mixed.take(from, to, kind);
+                self.fold(kind);
+                true
+            }
+        }
+    }
+
     /// Sets the marks from one place up to, not with, another.
     pub(crate) fn make(
         &mut self,

@@ -118,8 +118,34 @@ impl Memory {
         number < self.shelves.len() && self.shelves[number].put(at % SHELF, bytes)
     }
 
+    // Changes cells of one page, if no other memory has it and that takes no memory. Says whether it did.
+    #[inline(never)]
+    fn change_own(&mut self, addr: u32, edit: &PageEdit<'_>) -> bool
+        requires one_page { addr % page_len + count_of edit.now ≤ page_len }
+        requires fits { Fits edit.now }
+        ensures done { IsTrue result → cells_of self.new ≡ changed_from (cells_of self.old) addr (count_of edit.now) (change_of edit.now) }
+        ensures kept { IsFalse result → cells_of self.new ≡ cells_of self.old }
+    {
+        let at = addr as usize;
+        let number = at / SHELF;
+        number < self.shelves.len() && self.shelves[number].change_own(at % SHELF, edit)
+    }
+
     /// Changes cells of one page, all of them or none.
     pub(crate) fn change(&mut self, addr: u32, edit: &PageEdit<'_>) -> Result<(), AllocError>
+        requires one_page { addr % page_len + count_of edit.now ≤ page_len }
+        requires fits { Fits edit.now }
+        ensures ok { OnOk result (cells_of self.new ≡ changed_from (cells_of self.old) addr (count_of edit.now) (change_of edit.now)) }
+        ensures err { OnErr result (cells_of self.new ≡ cells_of self.old) }
+    {
+        if self.change_own(addr, edit) {
+            return Ok(());
+        }
+        self.change_any(addr, edit)
+    }
+
+    // The same of any page, in one of its own.
+    fn change_any(&mut self, addr: u32, edit: &PageEdit<'_>) -> Result<(), AllocError>
         requires one_page { addr % page_len + count_of edit.now ≤ page_len }
         requires fits { Fits edit.now }
         ensures ok { OnOk result (cells_of self.new ≡ changed_from (cells_of self.old) addr (count_of edit.now) (change_of edit.now)) }
@@ -130,6 +156,17 @@ impl Memory {
         self.shelves[at / SHELF].change(self.alloc, at % SHELF, edit)
     }
 
+    // Changes bytes of one page alike, if no other memory has it and that takes no memory. Says whether it did.
+    #[tactic(auto, unfolding(crate::specs::Edits::count_of, crate::specs::Edits::change_of, crate::specs::Edits::Fits))]
+    fn change_own_alike(&mut self, addr: u32, count: u32, each: Each) -> bool
+        ensures inside { IsTrue result → addr + count ≤ 2 ^ 32 }
+        ensures done { IsTrue result → cells_of self.new ≡ changed_from (cells_of self.old) addr count (λ i cell. each_of each cell) }
+        ensures kept { IsFalse result → cells_of self.new ≡ cells_of self.old }
+    {
+        let count = count as usize;
+        addr as usize % PAGE + count <= PAGE && self.change_own(addr, &PageEdit::All(count, each))
+    }
+
     /// Changes bytes alike from an address on, at least one and at most so many, all of them or none. Answers how many.
     pub(crate) fn change_some(
         &mut self,
@@ -137,6 +174,21 @@ impl Memory {
         most: u32,
         each: Each,
     ) -> Result<u32, AllocError>
+        requires { 0 < most }
+        ensures some { IfOk result (λ n. 0 < n) }
+        ensures within { IfOk result (λ n. n ≤ most) }
+        ensures inside { IfOk result (λ n. addr + n ≤ 2 ^ 32) }
+        ensures ok { IfOk result (λ n. cells_of self.new ≡ changed_from (cells_of self.old) addr n (λ i cell. each_of each cell)) }
+        ensures err { OnErr result (cells_of self.new ≡ cells_of self.old) }
+    {
+        if self.change_own_alike(addr, most, each) {
+            return Ok(most);
+        }
+        self.change_any_some(addr, most, each)
+    }
+
+    // The same of any bytes, in pages of its own.
+    fn change_any_some(&mut self, addr: u32, most: u32, each: Each) -> Result<u32, AllocError>
         requires { 0 < most }
         ensures some { IfOk result (λ n. 0 < n) }
         ensures within { IfOk result (λ n. n ≤ most) }

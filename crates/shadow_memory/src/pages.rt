@@ -413,6 +413,28 @@ impl Page {
         true
     }
 
+    /// Makes bytes so, or stores undefined ones, if their marks are held one by one. Says whether it did; it takes no memory.
+    pub(crate) fn change_own(&mut self, at: usize, edit: &PageEdit<'_>) -> bool
+        requires within { at + count_of edit.now ≤ page_len }
+        requires fits { Fits edit.now }
+        ensures done { IsTrue result → AgreeInPage (cells_in self.new) (changed_from (cells_in self.old) at (count_of edit.now) (change_of edit.now)) }
+        ensures kept { IsFalse result → cells_in self.new ≡ cells_in self.old }
+    {
+        match edit {
+            PageEdit::All(count, Each::Make(kind)) => self.marks.make_held(at, at + *count, *kind),
+            PageEdit::StoreUndefined(bytes) => {
+                let stored = self
+                    .marks
+                    .take_held(at, at + bytes.len(), RangeKind::Undefined);
+                if stored {
+                    write_at(&mut self.bytes, at, bytes);
+                }
+                stored
+            }
+            _ => false,
+        }
+    }
+
     /// Changes cells from a place on.
     pub(crate) fn change(
         &mut self,

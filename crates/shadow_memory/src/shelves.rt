@@ -106,6 +106,19 @@ impl Shelf {
         number < self.directories.len() && self.directories[number].put(at % DIRECTORY, bytes)
     }
 
+    /// Changes cells of one page, if it and its directory are its own and that takes no memory. Says whether it did.
+    #[inline(always)]
+    pub(crate) fn change_own(&mut self, at: usize, edit: &PageEdit<'_>) -> bool
+        requires within { at < 134217728 }
+        requires one_page { at % page_len + count_of edit.now ≤ page_len }
+        requires fits { Fits edit.now }
+        ensures done { IsTrue result → cells_on self.new ≡ changed_from (cells_on self.old) at (count_of edit.now) (change_of edit.now) }
+        ensures kept { IsFalse result → cells_on self.new ≡ cells_on self.old }
+    {
+        let number = at / DIRECTORY;
+        number < self.directories.len() && self.directories[number].change_own(at % DIRECTORY, edit)
+    }
+
     /// Changes cells of one page, all of them or none.
     pub(crate) fn change(
         &mut self,

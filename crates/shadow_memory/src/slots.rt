@@ -86,6 +86,22 @@ impl PageSlot {
         false
     }
 
+    /// Changes cells from a place on, if the page is its own and that takes no memory. Says whether it did.
+    #[inline(always)]
+    pub(crate) fn change_own(&mut self, at: usize, edit: &PageEdit<'_>) -> bool
+        requires within { at + count_of edit.now ≤ page_len }
+        requires fits { Fits edit.now }
+        ensures done { IsTrue result → AgreeInPage (cells_at self.new) (changed_from (cells_at self.old) at (count_of edit.now) (change_of edit.now)) }
+        ensures kept { IsFalse result → cells_at self.new ≡ cells_at self.old }
+    {
+        if let PageSlot::Held(shared) = self
+            && let Some(own) = Rc::get_mut(shared)
+        {
+            return own.change_own(at, edit);
+        }
+        false
+    }
+
     /// Changes each byte of a blank page. Says whether it was one.
     pub(crate) fn sweep(&mut self, each: Each) -> bool
         ensures done { IsTrue result → cells_at self.new ≡ (λ k. each_of each (cells_at self.old k)) }

@@ -5,7 +5,7 @@ use Rattle.shadow_memory.specs.Edits.{change_of, count_of}
 use Rattle.shadow_memory.specs.Memories.{cells_of}
 use Rattle.shadow_memory.specs.declared.cells.Cell.{Cell}
 use Rattle.shadow_memory.proofs.Tables.{shelf-changed, shelf-kept}
-use Rattle.shadow_memory.proofs.memory.Memory.change.Goals as goal
+use Rattle.shadow_memory.proofs.memory.Memory.change_any.Goals as goal
 
 pub returns-clause-ok : goal.returns-clause-ok
 unfolding cells_of
