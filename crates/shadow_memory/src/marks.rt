@@ -104,12 +104,13 @@ impl Mixed {
         }
     }
 
-    // The side map is written first, which can fail. What it has of a byte that is not partly defined is never read.
-    fn set(&mut self, at: usize, mark: ByteShadow) -> Result<(), AllocError>
+    // Sets a mark that isn't one of a byte defined in part. Says whether it is none.
+    fn set_whole(&mut self, at: usize, mark: ByteShadow) -> bool
         requires within { at < page_len }
         requires clean { IsCleanMark mark }
-        ensures ok { OnOk result ((k : ℕ) → marks_mixed self.new k ≡ set_at (marks_mixed self.old) at mark k) }
-        ensures err { OnErr result ((k : ℕ) → marks_mixed self.new k ≡ marks_mixed self.old k) }
+        ensures done { IsTrue result → (k : ℕ) → marks_mixed self.new k ≡ set_at (marks_mixed self.old) at mark k }
+        ensures kept { IsFalse result → self.new ≡ self.old }
+        ensures partly { IsFalse result → mark.accessible ≡ true }
     {
         if !mark.accessible {
             self.codes.set(at, NO_ACCESS);
@@ -118,6 +119,19 @@ impl Mixed {
         } else if mark.undef == 0 {
             self.codes.set(at, DEFINED);
         } else {
+            return false;
+        }
+        true
+    }
+
+    // The side map is written first, which can fail. What it has of a byte that is not partly defined is never read.
+    fn set(&mut self, at: usize, mark: ByteShadow) -> Result<(), AllocError>
+        requires within { at < page_len }
+        requires clean { IsCleanMark mark }
+        ensures ok { OnOk result ((k : ℕ) → marks_mixed self.new k ≡ set_at (marks_mixed self.old) at mark k) }
+        ensures err { OnErr result ((k : ℕ) → marks_mixed self.new k ≡ marks_mixed self.old k) }
+    {
+        if !self.set_whole(at, mark) {
             self.partly.insert(at as u16, mark.undef)?;
             self.codes.set(at, PARTLY);
         }
@@ -388,6 +402,19 @@ impl PageShadows {
                 *self = PageShadows::Mixed(mixed);
                 Ok(())
             }
+        }
+    }
+
+    /// Sets a mark, if that takes no memory. Says whether it did.
+    pub(crate) fn set_held(&mut self, at: usize, mark: ByteShadow) -> bool
+        requires within { at < page_len }
+        requires clean { IsCleanMark mark }
+        ensures done { IsTrue result → AgreeInPage (marks_in self.new) (set_at (marks_in self.old) at mark) }
+        ensures kept { IsFalse result → self.new ≡ self.old }
+    {
+        match self {
+            PageShadows::Uniform(kind) => mark_of_kind(*kind) == mark,
+            PageShadows::Mixed(mixed) => mixed.set_whole(at, mark),
         }
     }
 

@@ -413,7 +413,41 @@ impl Page {
         true
     }
 
-    /// Makes bytes so, or stores undefined ones, if their marks are held one by one. Says whether it did; it takes no memory.
+    // One cell, if that takes no memory. Says whether it did.
+    fn set_own(&mut self, at: usize, cell: Cell) -> bool
+        requires within { at < page_len }
+        requires clean { IsClean cell }
+        ensures done { IsTrue result → AgreeInPage (cells_in self.new) (set_at (cells_in self.old) at cell) }
+        ensures kept { IsFalse result → cells_in self.new ≡ cells_in self.old }
+    {
+        let mark = ByteShadow {
+            accessible: cell.accessible,
+            undef: cell.undef,
+        };
+        if !self.marks.set_held(at, mark) {
+            return false;
+        }
+        self.bytes[at] = cell.byte;
+        true
+    }
+
+    // Bytes all of whose bits are undefined, if their marks are held one by one. Says whether they are.
+    fn store_undefined_own(&mut self, at: usize, bytes: &[u8]) -> bool
+        requires { at + length bytes.now ≤ page_len }
+        ensures done { IsTrue result → AgreeInPage (cells_in self.new) (changed_from (cells_in self.old) at (length bytes.now)
+            (λ i cell. taken_cell (marked (slice_index bytes.now i) (mark_of RangeKind.Undefined)) cell)) }
+        ensures kept { IsFalse result → cells_in self.new ≡ cells_in self.old }
+    {
+        let to = at + bytes.len();
+        if !self.marks.take_held(at, to, RangeKind::Undefined) {
+            return false;
+        }
+        write_at(&mut self.bytes, at, bytes);
+        true
+    }
+
+    /// Changes cells from a place on, if that takes no memory: one, or those of a range that is made so or stored undefined. Says
+    /// whether it did.
     pub(crate) fn change_own(&mut self, at: usize, edit: &PageEdit<'_>) -> bool
         requires within { at + count_of edit.now ≤ page_len }
         requires fits { Fits edit.now }
@@ -421,16 +455,9 @@ impl Page {
         ensures kept { IsFalse result → cells_in self.new ≡ cells_in self.old }
     {
         match edit {
+            PageEdit::Set(cell) => self.set_own(at, *cell),
             PageEdit::All(count, Each::Make(kind)) => self.marks.make_held(at, at + *count, *kind),
-            PageEdit::StoreUndefined(bytes) => {
-                let stored = self
-                    .marks
-                    .take_held(at, at + bytes.len(), RangeKind::Undefined);
-                if stored {
-                    write_at(&mut self.bytes, at, bytes);
-                }
-                stored
-            }
+            PageEdit::StoreUndefined(bytes) => self.store_undefined_own(at, bytes),
             _ => false,
         }
     }
