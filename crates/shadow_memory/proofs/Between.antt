@@ -1,12 +1,10 @@
--- Marks from one place on, set one by one.
-use Rattle.std.proofs.Common.{◌≡◌, ◌≢◌, ℕ, Bool, true, false, refl, ap, sym, ◌∙◌, ◌+◌, ◌<◌, ◌≤◌, inl, inr, cond, arith}
-use Rattle.std.proofs.Common.{subst}
-use Rattle.std.proofs.lemmas.Bool.{cases_Bool, cases_eq, cases_lt}
+-- Marks from one place on, set part by part.
+use Rattle.std.proofs.Common.{◌≡◌, ℕ, Bool, true, false, refl, ap, ◌∙◌, ◌+◌, ◌<◌, ◌≤◌, inl, inr, cond, arith, subst}
+use Rattle.std.proofs.lemmas.Bool.{cases_Bool, cases_lt}
 use Rattle.std.proofs.lemmas.Bool.Decides.{nat_tests}
 use Rattle.shadow_memory.specs.Marks.{mark_of}
-use Rattle.shadow_memory.specs.Places.{Agree, is_between}
+use Rattle.shadow_memory.specs.Places.{is_between}
 use Rattle.shadow_memory.specs.Parts.{code_of, mark_by}
-use Rattle.shadow_memory.specs.declared.cells.ByteShadow.{ByteShadow}
 use Rattle.shadow_memory.specs.declared.cells.RangeKind.{RangeKind}
 use Rattle.shadow_memory.specs.declared.cells.RangeKind.TheVariants.{NoAccess, Undefined, Defined}
 
@@ -14,31 +12,6 @@ pub mark_by-code_of : (kind : RangeKind) (partly : ℕ) → mark_by (code_of kin
 mark_by-code_of NoAccess partly = refl
 mark_by-code_of Undefined partly = refl
 mark_by-code_of Defined partly = refl
-
-same-between : (from at k : ℕ) → k ≢ at → is_between from (at + 1) k ≡ is_between from at k
-same-between from at k other = grind (arith, nat_tests)
-
-here-between : (from at : ℕ) → from ≤ at → is_between from (at + 1) at ≡ true
-here-between from at order = grind (arith, nat_tests)
-
-not-between : (from at : ℕ) → is_between from at at ≡ false
-not-between from at = grind (arith, nat_tests)
-
--- what comes after a range is as it was
-pub after-between : (marks before made : ℕ → ByteShadow) (from at : ℕ)
-    → Agree before (λ k. cond (is_between from at k) (made k) (marks k)) → before at ≡ marks at
-after-between marks before made from at so = so at ∙ ap (λ t. cond t (made at) (marks at)) (not-between from at)
-
--- one more mark of a range is set
-pub between-more : (marks before after made : ℕ → ByteShadow) (from at : ℕ) → from ≤ at
-    → Agree before (λ k. cond (is_between from at k) (made k) (marks k))
-    → after at ≡ made at → ((k : ℕ) → k ≢ at → after k ≡ before k)
-    → Agree after (λ k. cond (is_between from (at + 1) k) (made k) (marks k))
-between-more marks before after made from at order so here others = λ k. elim (cases_eq k at) [
-  | inl e ↦ ap after e ∙ here ∙ ap made (sym e)
-      ∙ ap (λ t. cond t (made k) (marks k)) (sym (ap (is_between from (at + 1)) e ∙ here-between from at order))
-  | inr other ↦ others k other ∙ so k ∙ ap (λ t. cond t (made k) (marks k)) (sym (same-between from at k other))
-]
 
 -- a kind's number, where a range is set
 pub made-mark : (b : Bool) (kind : RangeKind) (code old partly : ℕ) → code ≡ cond b (code_of kind) old

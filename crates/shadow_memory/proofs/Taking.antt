@@ -11,6 +11,7 @@ use Rattle.shadow_memory.specs.Parts.{code_of, loaded_code, mark_by, part_of, ta
 use Rattle.shadow_memory.specs.declared.cells.RangeKind.{RangeKind}
 use Rattle.shadow_memory.specs.declared.cells.RangeKind.TheVariants.{NoAccess, Undefined, Defined}
 use Rattle.shadow_memory.proofs.Between.{mark_by-code_of, outside-between, whole-between}
+use Rattle.shadow_memory.proofs.Growing.{one-place}
 
 between-start : (at next k : ℕ) → is_between at next k ≡ true → at ≤ k
 between-start at next k h = grind (arith, nat_tests)
@@ -27,6 +28,13 @@ run-taken at next k code made old new same is = is ∙ elim (cases_Bool (is_betw
       (sym (same k (between-start at next k h) (between-end at next k h)))
   | inr h ↦ rw h refl
 ]
+
+-- and so does one place
+pub one-taken : (at k code made : ℕ) (old new : ℕ → ℕ) → code ≡ taken_code made (old at)
+    → new k ≡ cond (k == at) code (old k) → new k ≡ cond (is_between at (at + 1) k) (taken_code made (old k)) (old k)
+one-taken at k code made old new code-is is =
+    run-taken at (at + 1) k (old at) made old new (λ j low high. let here : j ≡ at = omega arith in ap old here)
+    (is ∙ ap₂ (λ (b : Bool) (c : ℕ). cond b c (old k)) (sym (one-place at k)) code-is)
 
 was-before : (from at next k : ℕ) → is_between at next k ≡ true → is_between from at k ≡ false
 was-before from at next k h = grind (arith, nat_tests)

@@ -1,9 +1,8 @@
 //! Two bits for each byte of a page.
 ghost use Rattle.std.specs.Prelude.{◌≡◌, ◌⊎◌, ℕ, ◌+◌, ◌-◌, ◌%◌, ◌<◌, ◌≤◌, ◌==◌, if◌then◌else◌, vec_len, IfOk, IfSome, IsTrue, IsFalse};
-ghost use Rattle.shadow_memory.specs.Marks.{defined};
 ghost use Rattle.shadow_memory.specs.Places.{changed_from, is_between, page_len};
 ghost use Rattle.shadow_memory.specs.Loads.{four};
-ghost use Rattle.shadow_memory.specs.Parts.{code_of, loaded_code, mark_by, part_of, taken_code};
+ghost use Rattle.shadow_memory.specs.Parts.{code_of, loaded_code, part_of, taken_code};
 
 use crate::cells::RangeKind;
 use crate::laws::{all_are, first_not};
@@ -65,19 +64,6 @@ fn taken_code(made: u8, old: u8) -> u8
     ensures value { result ≡ taken_code made old }
 {
     if old == NO_ACCESS { NO_ACCESS } else { made }
-}
-
-/// The number of a byte that is stored with all bits defined.
-pub(crate) fn defined_code(code: u8) -> u8
-    requires { code < 4 }
-    ensures small { result < 4 }
-    ensures value { (old new : ℕ) → mark_by result new ≡ defined (mark_by code old) }
-{
-    if code == NO_ACCESS {
-        NO_ACCESS
-    } else {
-        DEFINED
-    }
 }
 
 // How many bytes hold the numbers of a page, four to a byte.
@@ -416,8 +402,26 @@ impl Codes {
         requires small { made < 4 }
         ensures { (k : ℕ) → code_at self.new k ≡ (if is_between from to k then taken_code made (code_at self.old k) else code_at self.old k) }
     {
-        if !self.take_word(from, to, made) {
+        if self.take_word(from, to, made) {
+            return;
+        }
+        if to - from <= 4 {
+            self.take_each(from, to, made);
+        } else {
             self.take_runs(from, to, made);
+        }
+    }
+
+    // The same, place by place.
+    fn take_each(&mut self, from: usize, to: usize, made: u8)
+        requires order { from ≤ to }
+        requires within { to ≤ page_len }
+        requires small { made < 4 }
+        ensures { (k : ℕ) → code_at self.new k ≡ (if is_between from to k then taken_code made (code_at self.old k) else code_at self.old k) }
+    {
+        for at in from..to {
+            let code = taken_code(made, self.code(at));
+            self.set(at, code);
         }
     }
 

@@ -9,8 +9,7 @@ ghost use Rattle.shadow_memory.specs.Codes.{code_at};
 
 use crate::cells::{ByteShadow, RangeKind, is_bad_mark, mark_of_kind};
 use crate::codes::{
-    Codes, DEFINED, NO_ACCESS, PARTLY, UNDEFINED, code_of_kind, defined_code, kind_of_code,
-    loaded_code,
+    Codes, DEFINED, NO_ACCESS, PARTLY, UNDEFINED, code_of_kind, kind_of_code, loaded_code,
 };
 use crate::pages::PAGE;
 use std::alloc::{AllocError, Global};
@@ -104,7 +103,7 @@ impl Mixed {
         }
     }
 
-    // Sets a mark that isn't one of a byte defined in part. Says whether it is none.
+    // Sets a mark, if it isn't that of a byte defined in part. Says whether it did.
     fn set_whole(&mut self, at: usize, mark: ByteShadow) -> bool
         requires within { at < page_len }
         requires clean { IsCleanMark mark }
@@ -173,20 +172,8 @@ impl Mixed {
         requires within { to ≤ page_len }
         ensures { Agree (marks_mixed self.new) (λ k. if is_between from to k then defined (marks_mixed self.old k) else marks_mixed self.old k) }
     {
-        if !self.are_defined(from, to) && !self.codes.take_word(from, to, DEFINED) {
-            self.define_each(from, to);
-        }
-    }
-
-    // The same, byte by byte.
-    fn define_each(&mut self, from: usize, to: usize)
-        requires order { from ≤ to }
-        requires within { to ≤ page_len }
-        ensures { Agree (marks_mixed self.new) (λ k. if is_between from to k then defined (marks_mixed self.old k) else marks_mixed self.old k) }
-    {
-        for at in from..to {
-            let code = defined_code(self.codes.code(at));
-            self.codes.set(at, code);
+        if !self.are_defined(from, to) {
+            self.take(from, to, RangeKind::Defined);
         }
     }
 
