@@ -66,9 +66,11 @@
 //! memory used by a program", VEE 2007); a range that makes them one kind again is found by a scan. Every change goes through
 //! `Memory::change`, which changes cells of one page, all of them or none, in a page of its own, or through `Memory::change_some`,
 //! which changes the bytes of a range alike: those of blank pages one after another at once. `Rc::make_mut` copies a directory or a
-//! page that others share first. Only where no other memory has the page, and its bytes there are accessible and defined,
-//! `Memory::put` stores at once. A load that lies in one page looks it up once, and so does a store that `Memory::put` makes; any
-//! other store of defined bits in one page looks it up twice more: to find what is inaccessible, and to write.
+//! page that others share first. Two ways change a page at once, only where no other memory has it, and take no memory: `Memory::put`
+//! stores defined bits where the bytes are accessible, and `Memory::change_own`, which `change` and `change_some` try first, makes a
+//! range of one page so, stores undefined bytes or sets a cell that isn't defined in part. A load that lies in one page looks it up
+//! once, and so does a store that `Memory::put` makes; any other store in one page looks it up to find what is inaccessible, and to
+//! write.
 //!
 //! A copy looks for zeros of one kind first, over as many pages as there are: they change the target as a range alike, so that
 //! blank pages stay blank, and a held page that becomes zeros of one kind becomes blank. Other bytes go from one page to one page,
@@ -86,6 +88,7 @@ mod directories;
 mod directory_slots;
 mod edits;
 pub mod laws;
+mod mark_changes;
 mod marks;
 mod memory;
 mod pages;

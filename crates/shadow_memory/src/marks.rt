@@ -68,7 +68,7 @@ impl Mixed {
     ghost use Rattle.shadow_memory.specs.Pages.{marks_mixed};
     ghost use Rattle.shadow_memory.specs.Places.{Agree, AgreeInPage};
 
-    fn filled(alloc: Global, kind: RangeKind) -> Result<Mixed, AllocError>
+    pub(crate) fn filled(alloc: Global, kind: RangeKind) -> Result<Mixed, AllocError>
         ensures { IfOk result (λ mixed. (at : ℕ) → at < page_len → marks_mixed mixed at ≡ mark_of kind) }
     {
         let codes = Codes::filled(alloc, code_of_kind(kind))?;
@@ -103,8 +103,8 @@ impl Mixed {
         }
     }
 
-    // Sets a mark, if it isn't that of a byte defined in part. Says whether it did.
-    fn set_whole(&mut self, at: usize, mark: ByteShadow) -> bool
+    /// Sets a mark, if it isn't that of a byte defined in part. Says whether it did.
+    pub(crate) fn set_whole(&mut self, at: usize, mark: ByteShadow) -> bool
         requires within { at < page_len }
         requires clean { IsCleanMark mark }
         ensures done { IsTrue result → (k : ℕ) → marks_mixed self.new k ≡ set_at (marks_mixed self.old) at mark k }
@@ -123,8 +123,8 @@ impl Mixed {
         true
     }
 
-    // The side map is written first, which can fail. What it has of a byte that is not partly defined is never read.
-    fn set(&mut self, at: usize, mark: ByteShadow) -> Result<(), AllocError>
+    /// The side map is written first, which can fail. What it has of a byte that is not partly defined is never read.
+    pub(crate) fn set(&mut self, at: usize, mark: ByteShadow) -> Result<(), AllocError>
         requires within { at < page_len }
         requires clean { IsCleanMark mark }
         ensures ok { OnOk result ((k : ℕ) → marks_mixed self.new k ≡ set_at (marks_mixed self.old) at mark k) }
@@ -137,8 +137,8 @@ impl Mixed {
         Ok(())
     }
 
-    // Sets the marks from one place up to, not with, another.
-    fn make(&mut self, from: usize, to: usize, kind: RangeKind)
+    /// Sets the marks from one place up to, not with, another.
+    pub(crate) fn make(&mut self, from: usize, to: usize, kind: RangeKind)
         requires order { from ≤ to }
         requires within { to ≤ page_len }
         ensures { Agree (marks_mixed self.new) (λ k. if is_between from to k then mark_of kind else marks_mixed self.old k) }
@@ -166,8 +166,8 @@ impl Mixed {
         self.codes.are_all_between(from, to, UNDEFINED)
     }
 
-    // Makes the bits of the accessible bytes defined.
-    fn define(&mut self, from: usize, to: usize)
+    /// Makes the bits of the accessible bytes defined.
+    pub(crate) fn define(&mut self, from: usize, to: usize)
         requires order { from ≤ to }
         requires within { to ≤ page_len }
         ensures { Agree (marks_mixed self.new) (λ k. if is_between from to k then defined (marks_mixed self.old k) else marks_mixed self.old k) }
@@ -177,8 +177,8 @@ impl Mixed {
         }
     }
 
-    // Makes the bits of bytes defined, if all of them are accessible. Says whether they are.
-    fn define_accessible(&mut self, from: usize, to: usize) -> bool
+    /// Makes the bits of bytes defined, if all of them are accessible. Says whether they are.
+    pub(crate) fn define_accessible(&mut self, from: usize, to: usize) -> bool
         requires order { from ≤ to }
         requires within { to ≤ page_len }
         ensures done { IsTrue result → Agree (marks_mixed self.new) (λ k. if is_between from to k then defined (marks_mixed self.old k) else marks_mixed self.old k) }
@@ -195,8 +195,8 @@ impl Mixed {
         true
     }
 
-    // Has the accessible bytes take the bits undefined that one of a kind loads with.
-    fn take(&mut self, from: usize, to: usize, kind: RangeKind)
+    /// Has the accessible bytes take the bits undefined that one of a kind loads with.
+    pub(crate) fn take(&mut self, from: usize, to: usize, kind: RangeKind)
         requires order { from ≤ to }
         requires within { to ≤ page_len }
         ensures { Agree (marks_mixed self.new) (λ k. if is_between from to k then taken (mark_of kind) (marks_mixed self.old k) else marks_mixed self.old k) }
@@ -204,8 +204,8 @@ impl Mixed {
         self.codes.take(from, to, loaded_code(code_of_kind(kind)));
     }
 
-    // Has the accessible bytes take the bits undefined that others load with, none of which is defined in part.
-    fn copy(&mut self, at: usize, source: &Mixed, from: usize, count: usize)
+    /// Has the accessible bytes take the bits undefined that others load with, none of which is defined in part.
+    pub(crate) fn copy(&mut self, at: usize, source: &Mixed, from: usize, count: usize)
         requires room { at + count ≤ page_len }
         requires within { from + count ≤ page_len }
         requires whole { (k : ℕ) → from ≤ k → k < from + count → code_at source.now.codes k < 3 }
@@ -275,8 +275,8 @@ impl Mixed {
         None
     }
 
-    // Is each byte of this kind?
-    fn are_all(&self, kind: RangeKind) -> bool
+    /// Is each byte of this kind?
+    pub(crate) fn are_all(&self, kind: RangeKind) -> bool
         ensures { IsTrue result → AgreeInPage (marks_mixed self.now) (λ k. mark_of kind) }
     {
         self.codes.are_all(code_of_kind(kind))
@@ -367,44 +367,6 @@ impl PageShadows {
         }
     }
 
-    pub(crate) fn set(
-        &mut self,
-        alloc: Global,
-        at: usize,
-        mark: ByteShadow,
-    ) -> Result<(), AllocError>
-        requires within { at < page_len }
-        requires clean { IsCleanMark mark }
-        ensures ok { OnOk result (AgreeInPage (marks_in self.new) (set_at (marks_in self.old) at mark)) }
-        ensures err { OnErr result (AgreeInPage (marks_in self.new) (marks_in self.old)) }
-    {
-        match self {
-            PageShadows::Mixed(mixed) => mixed.set(at, mark),
-            PageShadows::Uniform(kind) => {
-                if mark_of_kind(*kind) == mark {
-                    return Ok(());
-                }
-                let mut mixed = Mixed::filled(alloc, *kind)?;
-                mixed.set(at, mark)?;
-                *self = PageShadows::Mixed(mixed);
-                Ok(())
-            }
-        }
-    }
-
-    /// Sets a mark, if that takes no memory. Says whether it did.
-    pub(crate) fn set_held(&mut self, at: usize, mark: ByteShadow) -> bool
-        requires within { at < page_len }
-        requires clean { IsCleanMark mark }
-        ensures done { IsTrue result → AgreeInPage (marks_in self.new) (set_at (marks_in self.old) at mark) }
-        ensures kept { IsFalse result → self.new ≡ self.old }
-    {
-        match self {
-            PageShadows::Uniform(kind) => mark_of_kind(*kind) == mark,
-            PageShadows::Mixed(mixed) => mixed.set_whole(at, mark),
-        }
-    }
-
     /// Are the bytes from one place up to, not with, another all accessible and defined? `false` may be told of such bytes too.
     #[inline(always)]
     pub(crate) fn are_defined(&self, from: usize, to: usize) -> bool
@@ -427,137 +389,6 @@ impl PageShadows {
         match self {
             PageShadows::Uniform(kind) => *kind == RangeKind::Undefined,
             PageShadows::Mixed(mixed) => mixed.are_undefined(from, to),
-        }
-    }
-
-    // Is each byte of this kind? Then the marks are held as one again.
-    fn fold(&mut self, kind: RangeKind)
-        ensures { AgreeInPage (marks_in self.new) (marks_in self.old) }
-    {
-        if let PageShadows::Mixed(mixed) = self
-            && mixed.are_all(kind)
-        {
-            *self = PageShadows::Uniform(kind);
-        }
-    }
-
-    /// Makes the bits of the accessible bytes from one place up to, not with, another defined.
-    pub(crate) fn define(&mut self, alloc: Global, from: usize, to: usize) -> Result<(), AllocError>
-        requires order { from ≤ to }
-        requires within { to ≤ page_len }
-        ensures ok { OnOk result (AgreeInPage (marks_in self.new) (λ k. if is_between from to k then defined (marks_in self.old k) else marks_in self.old k)) }
-        ensures err { OnErr result (AgreeInPage (marks_in self.new) (marks_in self.old)) }
-    {
-        match self {
-            PageShadows::Uniform(RangeKind::Undefined) => {
-                self.make(alloc, from, to, RangeKind::Defined)
-            }
-            PageShadows::Uniform(_) => Ok(()),
-            PageShadows::Mixed(mixed) => {
-                mixed.define(from, to);
-                Ok(())
-            }
-        }
-    }
-
-    /// Makes the bits of the bytes from one place up to, not with, another defined, if all of them are accessible and they are held one by
-    /// one. Says whether they are; it takes no memory.
-    pub(crate) fn define_accessible(&mut self, from: usize, to: usize) -> bool
-        requires order { from ≤ to }
-        requires within { to ≤ page_len }
-        ensures done { IsTrue result → AgreeInPage (marks_in self.new) (λ k. if is_between from to k then defined (marks_in self.old k) else marks_in self.old k) }
-        ensures whole { IsTrue result → (k : ℕ) → from ≤ k → k < to → (marks_in self.old k).accessible ≡ true }
-        ensures kept { IsFalse result → self.new ≡ self.old }
-    {
-        match self {
-            PageShadows::Uniform(_) => false,
-            PageShadows::Mixed(mixed) => mixed.define_accessible(from, to),
-        }
-    }
-
-    /// Has the accessible bytes from one place up to, not with, another take the bits undefined that one of a kind loads with.
-    pub(crate) fn take(
-        &mut self,
-        alloc: Global,
-        from: usize,
-        to: usize,
-        kind: RangeKind,
-    ) -> Result<(), AllocError>
-        requires order { from ≤ to }
-        requires within { to ≤ page_len }
-        ensures ok { OnOk result (AgreeInPage (marks_in self.new) (λ k.
-            if is_between from to k then taken (mark_of kind) (marks_in self.old k) else marks_in self.old k)) }
-        ensures err { OnErr result (AgreeInPage (marks_in self.new) (marks_in self.old)) }
-    {
-        let made = match kind {
-            RangeKind::Undefined => RangeKind::Undefined,
-            _ => RangeKind::Defined,
-        };
-        match self {
-            PageShadows::Uniform(RangeKind::NoAccess) => Ok(()),
-            PageShadows::Uniform(_) => self.make(alloc, from, to, made),
-            PageShadows::Mixed(mixed) => {
-                mixed.take(from, to, kind);
-                self.fold(made);
-                Ok(())
-            }
-        }
-    }
-
-    // Has the accessible bytes take the bits undefined that others load with, none of which is defined in part.
-    fn copy_mixed(
-        &mut self,
-        alloc: Global,
-        at: usize,
-        source: &Mixed,
-        from: usize,
-        count: usize,
-    ) -> Result<(), AllocError>
-        requires room { at + count ≤ page_len }
-        requires within { from + count ≤ page_len }
-        requires whole { (k : ℕ) → from ≤ k → k < from + count → code_at source.now.codes k < 3 }
-        ensures ok { OnOk result (AgreeInPage (marks_in self.new) (changed_from (marks_in self.old) at count
-            (λ i mark. taken (marks_mixed source.now (from + i)) mark))) }
-        ensures err { OnErr result (AgreeInPage (marks_in self.new) (marks_in self.old)) }
-    {
-        match self {
-            PageShadows::Uniform(RangeKind::NoAccess) => Ok(()),
-            PageShadows::Uniform(old) => {
-                let mut mixed = Mixed::filled(alloc, *old)?;
-                mixed.copy(at, source, from, count);
-                *self = PageShadows::Mixed(mixed);
-                Ok(())
-            }
-            PageShadows::Mixed(mixed) => {
-                mixed.copy(at, source, from, count);
-                Ok(())
-            }
-        }
-    }
-
-    /// Has so many accessible bytes take the bits undefined that others load with, none of which is defined in part.
-    pub(crate) fn copy(
-        &mut self,
-        alloc: Global,
-        at: usize,
-        source: &PageShadows,
-        from: usize,
-        count: usize,
-    ) -> Result<(), AllocError>
-        requires room { at + count ≤ page_len }
-        requires within { from + count ≤ page_len }
-        requires whole { AreWhole source.now from (from + count) }
-        ensures ok { OnOk result (AgreeInPage (marks_in self.new) (changed_from (marks_in self.old) at count
-            (λ i mark. taken (marks_in source.now (from + i)) mark))) }
-        ensures err { OnErr result (AgreeInPage (marks_in self.new) (marks_in self.old)) }
-    {
-        match source {
-            PageShadows::Uniform(kind) => self.take(alloc, at, at + count, *kind),
-            PageShadows::Mixed(mixed) => {
-                self.copy_mixed(alloc, at, mixed, from, count)?;
-                self.fold(RangeKind::Defined);
-                Ok(())
-            }
         }
     }
 
@@ -584,76 +415,6 @@ impl PageShadows {
         match self {
             PageShadows::Uniform(kind) => Some(*kind),
             PageShadows::Mixed(mixed) => mixed.kind(from, to),
-        }
-    }
-
-    /// Sets the marks from one place up to, not with, another, if they are held one by one. Says whether they are; it takes no memory.
-    pub(crate) fn make_held(&mut self, from: usize, to: usize, kind: RangeKind) -> bool
-        requires order { from ≤ to }
-        requires within { to ≤ page_len }
-        ensures done { IsTrue result → AgreeInPage (marks_in self.new) (λ k. if is_between from to k then mark_of kind else marks_in self.old k) }
-        ensures kept { IsFalse result → self.new ≡ self.old }
-    {
-        match self {
-            PageShadows::Uniform(_) => false,
-            PageShadows::Mixed(mixed) => {
-                mixed.make(from, to, kind);
-                self.fold(kind);
-                true
-            }
-        }
-    }
-
-    /// The same for the accessible bytes, which take the bits undefined that one of a kind loads with.
-    pub(crate) fn take_held(&mut self, from: usize, to: usize, kind: RangeKind) -> bool
-        requires order { from ≤ to }
-        requires within { to ≤ page_len }
-        ensures done { IsTrue result → AgreeInPage (marks_in self.new) (λ k.
-            if is_between from to k then taken (mark_of kind) (marks_in self.old k) else marks_in self.old k) }
-        ensures kept { IsFalse result → self.new ≡ self.old }
-    {
-        match self {
-            PageShadows::Uniform(_) => false,
-            PageShadows::Mixed(mixed) => {
-                mixed.take(from, to, kind);
-                self.fold(kind);
-                true
-            }
-        }
-    }
-
-    /// Sets the marks from one place up to, not with, another.
-    pub(crate) fn make(
-        &mut self,
-        alloc: Global,
-        from: usize,
-        to: usize,
-        kind: RangeKind,
-    ) -> Result<(), AllocError>
-        requires order { from ≤ to }
-        requires within { to ≤ page_len }
-        ensures ok { OnOk result (AgreeInPage (marks_in self.new) (λ k. if is_between from to k then mark_of kind else marks_in self.old k)) }
-        ensures err { OnErr result (AgreeInPage (marks_in self.new) (marks_in self.old)) }
-    {
-        if from == 0 && to == 4096 {
-            *self = PageShadows::Uniform(kind);
-            return Ok(());
-        }
-        match self {
-            PageShadows::Mixed(mixed) => {
-                mixed.make(from, to, kind);
-                self.fold(kind);
-                Ok(())
-            }
-            PageShadows::Uniform(old) => {
-                if *old == kind {
-                    return Ok(());
-                }
-                let mut mixed = Mixed::filled(alloc, *old)?;
-                mixed.make(from, to, kind);
-                *self = PageShadows::Mixed(mixed);
-                Ok(())
-            }
         }
     }
 }
