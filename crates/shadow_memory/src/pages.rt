@@ -108,7 +108,7 @@ impl Page {
     }
 
     // The same, where some bits are undefined. What a function out of line answers in memory gets its place, filled with zeros, where the
-    // function that calls it begins, in line or not: so this one calls it.
+    // function that calls it begins, in line or not. So it is called from here, and not where each load begins.
     #[inline(always)]
     fn load_out(&self, at: usize, addr: u32, n: u32) -> Loaded
         requires width { IsWidth n }
@@ -120,7 +120,7 @@ impl Page {
         self.load_undefined(at, addr, n)
     }
 
-    // The same: at once, where all are.
+    // The same: at once, where all bits are undefined.
     #[inline(never)]
     fn load_undefined(&self, at: usize, addr: u32, n: u32) -> Loaded
         requires width { IsWidth n }
