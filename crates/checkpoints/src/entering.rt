@@ -1,5 +1,5 @@
 //! How first uses are entered, looked up and forgotten.
-ghost use Rattle.std.specs.Prelude.{◌≡◌, ℕ, ◌+◌, ◌-◌, ◌*◌, ◌/◌, ◌%◌, ◌^◌, ◌<◌, ◌≤◌, slice_index_or, slice_set, if◌then◌else◌, true, map, min, max, length, IfOk, IsTrue, Some};
+ghost use Rattle.std.specs.Prelude.{◌≡◌, ℕ, ◌+◌, ◌-◌, ◌*◌, ◌/◌, ◌%◌, ◌^◌, ◌<◌, ◌≤◌, slice_index_or, slice_set, if◌then◌else◌, true, map, min, max, length, IfOk, IfSome, IsTrue, Some};
 ghost use Rattle.std.specs.List.{list_any};
 ghost use Rattle.std.specs.List.Sorted.{IsNonDecreasingBy};
 ghost use Rattle.run_values.specs.declared.span.Span.{Span as SpanOf};
@@ -7,8 +7,7 @@ ghost use Rattle.checkpoints.specs.declared.uses.Row.{Row as RowOf};
 ghost use Rattle.checkpoints.specs.declared.uses.Place.TheVariants.{At};
 ghost use Rattle.guest_elf.specs.Segments.{has_address};
 ghost use Rattle.guest_machine.specs.Exec.{has_touched};
-ghost use Rattle.guest_machine.specs.Spans.{span_at};
-ghost use Rattle.guest_machine.specs.Spans.{covers};
+ghost use Rattle.guest_machine.specs.Spans.{covers, span_at, IsWord};
 ghost use Rattle.guest_elf.specs.declared.segment.Segment.{Segment as SegmentOf};
 ghost use Rattle.checkpoints.specs.Words.{meets, is_among, is_from, words_in, word_end, words_of, IsPlaced, IsPlace, never, kept_below, group_size, AreBelowBounds, DropsAt, IsEntered, is_in_group};
 ghost use Rattle.checkpoints.specs.Entries.{ranges_of, entry_of, below, EntersAt, IsClean};
@@ -270,14 +269,39 @@ impl FirstUses {
         self.steps[place] = step;
     }
 
-    /// Whether a range lies in a word that is remembered: then it changes nothing to enter a step for it that isn't below the others.
+    /// Whether the word of a range that lies in one is remembered: then it changes nothing to enter a step for it that isn't below the others.
     #[inline(always)]
     #[tactic(auto, unfolding(crate::specs::Entries::ranges_of, crate::specs::Entries::entry_of))]
-    fn is_known(&self, span: Span) -> bool
+    fn remembers(&self, span: Span) -> bool
+        requires { span.len ≤ 4 - span.start % 4 }
         ensures { IsTrue result → (step : ℕ) → IsClean self.now (step + 1) → EntersAt step (covers (Some span)) self.now self.now }
     {
         let word = span.start / 4;
-        self.remembered[word as usize % REMEMBERED] == word && span.len <= 4 - span.start % 4
+        self.remembered[word as usize % REMEMBERED] == word
+    }
+
+    /// Whether a range lies in a word that is remembered.
+    #[inline(always)]
+    fn is_known(&self, span: Span) -> bool
+        ensures { IsTrue result → (step : ℕ) → IsClean self.now (step + 1) → EntersAt step (covers (Some span)) self.now self.now }
+    {
+        span.len <= 4 - span.start % 4 && self.remembers(span)
+    }
+
+    /// Enters a step for the word that was taken, if one was.
+    #[inline(always)]
+    fn enter_fetch(&mut self, fetch: Option<Span>, step: u32)
+        requires clean { IsClean self.old (step + 1) }
+        requires word { IfSome fetch IsWord }
+        ensures ranges { ranges_of self.new ≡ ranges_of self.old }
+        ensures clean { IsClean self.new (step + 1) }
+        ensures entries { EntersAt step (covers fetch) self.old self.new }
+    {
+        if let Some(word) = fetch {
+            if !self.remembers(word) {
+                self.enter_unknown(word, step);
+            }
+        }
     }
 
     /// Enters a step for each word that a range meets.
@@ -331,12 +355,13 @@ impl FirstUses {
     /// Enters a step for each word that it touched. None after it was entered.
     #[inline(always)]
     pub(crate) fn enter_touched(&mut self, touched: &Touched, step: u32)
-        requires { IsClean self.old (step + 1) }
+        requires clean { IsClean self.old (step + 1) }
+        requires word { IfSome touched.now.fetch IsWord }
         ensures ranges { ranges_of self.new ≡ ranges_of self.old }
         ensures clean { IsClean self.new (step + 1) }
         ensures entries { EntersAt step (has_touched touched.now) self.old self.new }
     {
-        self.enter_span(touched.fetch, step);
+        self.enter_fetch(touched.fetch, step);
         self.enter_span(touched.reads, step);
         self.enter_span(touched.writes, step);
     }

@@ -13,3 +13,4 @@ pub mod DecodeSteps
 pub mod Altering
 pub mod AtOnce
 pub mod SameWords
+pub mod Fetching

@@ -1,5 +1,5 @@
 //! One step.
-ghost use Rattle.std.specs.Prelude.{◌≡◌, ◌+◌, ◌&&◌, ◌≤◌, [], min, length, nat_lt, true, false, Option, Some, None, IfOk, IfSome, IfNone, OnErr, OnOk};
+ghost use Rattle.std.specs.Prelude.{◌≡◌, ◌+◌, ◌%◌, ◌&&◌, ◌≤◌, [], min, length, nat_lt, true, false, Option, Some, None, IfOk, IfSome, IfNone, OnErr, OnOk};
 ghost use Rattle.guest_machine.specs.State.{State};
 ghost use Rattle.guest_machine.specs.Errors.{fetch_undef};
 ghost use Rattle.instructions.specs.Instructions.{row_of};
@@ -8,7 +8,7 @@ ghost use Rattle.guest_machine.specs.Exec.{no_intake, nothing, reading, writing,
 ghost use Rattle.guest_machine.specs.Exec.{exec, touched_of, IsFetched};
 ghost use Rattle.guest_machine.specs.Run.{pre};
 ghost use Rattle.guest_machine.specs.Shows.{core_of, bytes_of, Holds, Shows, has_raised};
-ghost use Rattle.guest_machine.specs.Spans.{span_at};
+ghost use Rattle.guest_machine.specs.Spans.{span_at, IsWord};
 ghost use Rattle.guest_machine.specs.Doing.{IsDecoded, touched_in, used_of, uses_by, touched_by, Does, DoesRow, DoesRound, DoesStep};
 
 use crate::hooks::Hooks;
@@ -72,7 +72,9 @@ impl Used {
     /// These, beside the word at pc.
     #[inline(always)]
     fn touched_at(self, pc: u32) -> Touched
-        ensures { result ≡ touched_in self (Some (span_at pc 4)) }
+        requires { pc % 4 ≡ 0 }
+        ensures value { result ≡ touched_in self (Some (span_at pc 4)) }
+        ensures word { IfSome result.fetch IsWord }
     {
         self.touched(Some(Span { start: pc, len: 4 }))
     }
@@ -363,6 +365,7 @@ impl Guest {
         requires { called_here (core_of self.old) setup.now.hooks ≡ None }
         ensures does { OnOk result (DoesStep self.old self.new setup.now) }
         ensures touched { IfOk result (λ touched. touched ≡ touched_by self.old setup.now) }
+        ensures word { IfOk result (λ touched. IfSome touched.fetch IsWord) }
     {
         let pc = self.pc;
         match self.fetch() {
@@ -383,6 +386,7 @@ impl Guest {
         requires { called_here (core_of self.old) setup.now.hooks ≡ None }
         ensures does { OnOk result (DoesStep self.old self.new setup.now) }
         ensures touched { IfOk result (λ touched. touched ≡ touched_by self.old setup.now) }
+        ensures word { IfOk result (λ touched. IfSome touched.fetch IsWord) }
     {
         let touched = self.perform_anew(setup)?;
         Ok(touched)
@@ -395,6 +399,7 @@ impl Guest {
         requires { called_here (core_of self.old) setup.now.hooks ≡ Some function }
         ensures does { OnOk result (DoesStep self.old self.new setup.now) }
         ensures touched { IfOk result (λ touched. touched ≡ touched_by self.old setup.now) }
+        ensures word { IfOk result (λ touched. IfSome touched.fetch IsWord) }
     {
         let used = self.call_by_name(function, setup)?;
         Ok(used.touched(None))
@@ -406,6 +411,7 @@ impl Guest {
     fn perform(&mut self, setup: &Setup) -> Result<Touched, AllocError>
         ensures does { OnOk result (DoesStep self.old self.new setup.now) }
         ensures touched { IfOk result (λ touched. touched ≡ touched_by self.old setup.now) }
+        ensures word { IfOk result (λ touched. IfSome touched.fetch IsWord) }
     {
         if let Some(function) = self.called_here(&setup.hooks) {
             return self.perform_by_name(function, setup);
@@ -434,6 +440,7 @@ impl Guest {
     fn step(&mut self, setup: &Setup) -> Result<Touched, AllocError>
         ensures holds { OnOk result ((s : State) → Holds self.old s → Holds self.new (exec s setup.now)) }
         ensures touched { IfOk result (λ t. (s : State) → Holds self.old s → t ≡ touched_of s setup.now) }
+        ensures word { IfOk result (λ t. IfSome t.fetch IsWord) }
         ensures raised { OnOk result ((s : State) → Holds self.old s
             → self.new.noted.raised ≡ nat_lt (length s.events) (length (exec s setup.now).events)) }
     {
@@ -465,6 +472,7 @@ impl Machine {
     pub fn step_uncounted(self, setup: &Setup) -> Result<(Machine, Touched), AllocError>
         ensures shows { IfOk result (λ r. (s : State) → Shows self s → Shows r.0 (exec s setup.now)) }
         ensures touched { IfOk result (λ r. (s : State) → Shows self s → r.1 ≡ touched_of s setup.now) }
+        ensures word { IfOk result (λ r. IfSome r.1.fetch IsWord) }
         ensures raised { IfOk result (λ r. (s : State) → Shows self s
             → has_raised r.0 ≡ nat_lt (length s.events) (length (exec s setup.now).events)) }
     {

@@ -10,10 +10,10 @@ pub returns-clause-entries : goal.returns-clause-entries
 returns-clause-entries c w few placed =
     let t = c.args.touched.now in
     let P : List Span → Type 0 = λ rs. IsPlaced rs w in
-    let one = c.enter_span.ensures.entries w few placed in
-    let two = c.enter_span-2.ensures.entries w few (subst P (sym c.enter_span.ensures.ranges) placed) in
-    let three = c.enter_span-3.ensures.entries w few
-    (subst P (sym (c.enter_span-2.ensures.ranges ∙ c.enter_span.ensures.ranges)) placed) in
+    let one = c.enter_fetch.ensures.entries w few placed in
+    let two = c.enter_span.ensures.entries w few (subst P (sym c.enter_fetch.ensures.ranges) placed) in
+    let three = c.enter_span-2.ensures.entries w few
+    (subst P (sym (c.enter_span.ensures.ranges ∙ c.enter_fetch.ensures.ranges)) placed) in
     after-three (meets (covers t.fetch) (4 * w)) (meets (covers t.reads) (4 * w)) (meets (covers t.writes) (4 * w)) _
     c.args.step _ _ _ one two three
     ∙ ap (λ b. cond b (min (entry_of c.args.self.now w) c.args.step) (entry_of c.args.self.now w))

@@ -96,6 +96,6 @@ invariant_of-result c =
       early = λ k entered. absurd (entered (inv.none k));
       grouped = c.in_ok-resize-2.ensures.len ∙ ap (λ n. n / 64 + 1) c.len-2.ensures;
       bounded = λ k entered. absurd (entered (inv.none k));
-      known = none-remembered _ _ 64;
+      known = none-remembered _ _ 256;
       room = refl;
     }
