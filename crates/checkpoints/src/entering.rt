@@ -22,6 +22,8 @@ use std::alloc::{AllocError, Global};
 const NEVER: u32 = u32::MAX;
 /// So many rows are looked at one by one.
 const FEW: usize = 8;
+/// How many bytes a word has.
+const WORD: u32 = 4;
 /// How many words there are at all.
 const ALL_WORDS: u32 = 1 << 30;
 
@@ -299,7 +301,13 @@ impl FirstUses {
     {
         if let Some(word) = fetch {
             if !self.remembers(word) {
-                self.enter_unknown(word, step);
+                self.enter_unknown(
+                    Span {
+                        start: word.start,
+                        len: WORD,
+                    },
+                    step,
+                );
             }
         }
     }
@@ -352,9 +360,9 @@ impl FirstUses {
         }
     }
 
-    /// Enters a step for each word that it touched. None after it was entered.
+    /// Enters a step for each word that it touched.
     #[inline(always)]
-    pub(crate) fn enter_touched(&mut self, touched: &Touched, step: u32)
+    fn enter_each(&mut self, touched: &Touched, step: u32)
         requires clean { IsClean self.old (step + 1) }
         requires word { IfSome touched.now.fetch IsWord }
         ensures ranges { ranges_of self.new ≡ ranges_of self.old }
@@ -364,6 +372,36 @@ impl FirstUses {
         self.enter_fetch(touched.fetch, step);
         self.enter_span(touched.reads, step);
         self.enter_span(touched.writes, step);
+    }
+
+    /// The same. Out of line, for a step that took no word, which is rare.
+    #[cold]
+    #[inline(never)]
+    fn enter_apart(&mut self, touched: Touched, step: u32)
+        requires clean { IsClean self.old (step + 1) }
+        requires word { IfSome touched.fetch IsWord }
+        ensures ranges { ranges_of self.new ≡ ranges_of self.old }
+        ensures clean { IsClean self.new (step + 1) }
+        ensures entries { EntersAt step (has_touched touched) self.old self.new }
+    {
+        self.enter_each(&touched, step);
+    }
+
+    /// Enters a step for each word that it touched. None after it was entered. Says whether it took a word, as no step of a halted machine does.
+    #[inline(always)]
+    pub(crate) fn enter_touched(&mut self, touched: &Touched, step: u32) -> bool
+        requires clean { IsClean self.old (step + 1) }
+        requires word { IfSome touched.now.fetch IsWord }
+        ensures ranges { ranges_of self.new ≡ ranges_of self.old }
+        ensures clean { IsClean self.new (step + 1) }
+        ensures entries { EntersAt step (has_touched touched.now) self.old self.new }
+    {
+        if touched.fetch.is_none() {
+            self.enter_apart(*touched, step);
+            return false;
+        }
+        self.enter_each(touched, step);
+        true
     }
 
     /// Drops the entries of steps from one on.

@@ -42,18 +42,18 @@ loop-k-preserved c =
       marked = λ start marks none h low. unmarked start setup marks (k + 1) c.in_ok-stepped.stepped
           (none (k + 1) (omega arith) low) (next start marks none h);
       shows = λ start marks none h later. next start marks none h;
-      ranges = c.enter_touched.ensures.ranges ∙ inv.ranges;
+      ranges = c.enter_touched-took_word.ensures.ranges ∙ inv.ranges;
       kept = λ n w low few placed.
           below-stays (meets (has_touched c.in_ok-stepped.touched) (4 * w)) n k (entry_of c.loop-k.uses w) _
-          (omega arith) (c.enter_touched.ensures.entries w few (moved _ _ w inv.ranges placed))
+          (omega arith) (c.enter_touched-took_word.ensures.entries w few (moved _ _ w inv.ranges placed))
           ∙ inv.kept n w low few placed;
-      clean = c.enter_touched.ensures.clean;
+      clean = c.enter_touched-took_word.ensures.clean;
       first = λ start marks none h addr word f.
           let few : addr / 4 < 2 ^ 30 = (let small = word.small in omega arith) in
           enters-on start setup marks addr k (entry_of c.loop-k.uses (addr / 4)) _ c.in_ok-stepped.touched
           (c.in_ok-stepped.ensures.touched _ (inv.marked start marks none h within)) word.aligned
           (clean-entry c.loop-k.uses k (addr / 4) inv.clean) (omega arith)
-          (c.enter_touched.ensures.entries (addr / 4) few
+          (c.enter_touched-took_word.ensures.entries (addr / 4) few
           (moved _ _ (addr / 4) inv.ranges (placed-word (ranges_of c.args.uses.now) addr word)))
           (inv.first start marks none h addr word f);
     }
@@ -70,7 +70,7 @@ returns-then-not-is_running-clause-first c start marks none h addr word f =
     enters-on start c.args.setup.now marks addr c.loop-k.k (entry_of c.loop-k.uses (addr / 4)) _ c.in_ok-stepped.touched
     (c.in_ok-stepped.ensures.touched _ (inv.marked start marks none h (omega arith))) word.aligned
     (clean-entry c.loop-k.uses c.loop-k.k (addr / 4) inv.clean) (omega arith)
-    (c.enter_touched.ensures.entries (addr / 4) few
+    (c.enter_touched-took_word.ensures.entries (addr / 4) few
     (moved _ _ (addr / 4) inv.ranges (placed-word (ranges_of c.args.uses.now) addr word)))
     (inv.first start marks none h addr word f)
 

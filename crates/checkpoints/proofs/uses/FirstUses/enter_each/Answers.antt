@@ -4,7 +4,7 @@ use Rattle.guest_machine.specs.Spans.{covers}
 use Rattle.checkpoints.specs.Words.{meets, IsPlaced}
 use Rattle.checkpoints.specs.Entries.{entry_of}
 use Rattle.checkpoints.proofs.WordSteps.{meets-touched, after-three}
-use Rattle.checkpoints.proofs.uses.FirstUses.enter_touched.Goals as goal
+use Rattle.checkpoints.proofs.uses.FirstUses.enter_each.Goals as goal
 
 pub returns-clause-entries : goal.returns-clause-entries
 returns-clause-entries c w few placed =
