@@ -15,6 +15,7 @@
 //! | [`Machine::start`] | the machine before the first step of an image |
 //! | [`Machine::step`] | the machine after one step, and the ranges whose bytes it took or wrote |
 //! | [`Machine::step_uncounted`] | the same, on no meter |
+//! | [`Machine::step_on`] | the same, and doesn't tell whether it raised an error |
 //! | [`Machine::run`] | the machine many steps later |
 //! | [`Machine::mark`] | the machine with a range made inaccessible, undefined or defined |
 //! | [`Machine::poke_word`] | the machine with the four bytes at an address changed |

@@ -435,12 +435,23 @@ impl Guest {
         self.noted.raised = false;
     }
 
-    /// What [`Guest::perform`] does, said of each state that is held, and whether an error was raised.
+    /// What [`Guest::perform`] does, said of each state that is held.
+    #[inline(always)]
+    fn step_on(&mut self, setup: &Setup) -> Result<Touched, AllocError>
+        ensures holds { OnOk result ((s : State) → Holds self.old s → Holds self.new (exec s setup.now)) }
+        ensures touched { IfOk result (λ t. (s : State) → Holds self.old s → t ≡ touched_of s setup.now) }
+        ensures word { IfOk result (λ t. IfSome t.fetch IsWord) }
+    {
+        groups_grow();
+        let touched = self.perform(setup)?;
+        Ok(touched)
+    }
+
+    /// The same, and whether an error was raised.
     #[inline(always)]
     fn step(&mut self, setup: &Setup) -> Result<Touched, AllocError>
         ensures holds { OnOk result ((s : State) → Holds self.old s → Holds self.new (exec s setup.now)) }
         ensures touched { IfOk result (λ t. (s : State) → Holds self.old s → t ≡ touched_of s setup.now) }
-        ensures word { IfOk result (λ t. IfSome t.fetch IsWord) }
         ensures raised { OnOk result ((s : State) → Holds self.old s
             → self.new.noted.raised ≡ nat_lt (length s.events) (length (exec s setup.now).events)) }
     {
@@ -458,13 +469,27 @@ impl Guest {
             if !self.runs() {
                 return Ok(());
             }
-            let _touched = self.step(setup)?;
+            let _touched = self.step_on(setup)?;
         }
         Ok(())
     }
 }
 
 impl Machine {
+    /// One step, and the ranges whose bytes it took or wrote, for a caller that counts its steps itself and doesn't ask whether they raise errors:
+    /// [`Machine::has_raised`] doesn't tell it. A machine for which memory fails is dropped.
+    #[inline(always)]
+    #[tactic(auto, unfolding(crate::specs::Shows::Shows))]
+    pub fn step_on(self, setup: &Setup) -> Result<(Machine, Touched), AllocError>
+        ensures shows { IfOk result (λ r. (s : State) → Shows self s → Shows r.0 (exec s setup.now)) }
+        ensures touched { IfOk result (λ r. (s : State) → Shows self s → r.1 ≡ touched_of s setup.now) }
+        ensures word { IfOk result (λ r. IfSome r.1.fetch IsWord) }
+    {
+        let mut machine = self;
+        let touched = machine.guest.step_on(setup)?;
+        Ok((machine, touched))
+    }
+
     /// One step, and the ranges whose bytes it took or wrote, for a caller that counts its steps itself. [`Machine::has_raised`] then
     /// tells whether the step raised an error. A machine for which memory fails is dropped.
     #[inline(always)]
@@ -472,7 +497,6 @@ impl Machine {
     pub fn step_uncounted(self, setup: &Setup) -> Result<(Machine, Touched), AllocError>
         ensures shows { IfOk result (λ r. (s : State) → Shows self s → Shows r.0 (exec s setup.now)) }
         ensures touched { IfOk result (λ r. (s : State) → Shows self s → r.1 ≡ touched_of s setup.now) }
-        ensures word { IfOk result (λ r. IfSome r.1.fetch IsWord) }
         ensures raised { IfOk result (λ r. (s : State) → Shows self s
             → has_raised r.0 ≡ nat_lt (length s.events) (length (exec s setup.now).events)) }
     {

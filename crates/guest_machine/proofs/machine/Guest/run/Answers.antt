@@ -19,6 +19,6 @@ returns-then-not-runs c s h =
 pub loop-step-preserved : goal.loop-step-preserved
 loop-step-preserved c = record {
   holds =
-      λ s h. goes-on c.step.new.self s c.args.setup.now c.loop-step._step
+      λ s h. goes-on c.step_on.new.self s c.args.setup.now c.loop-step._step
       (c.in_ok-_touched.ensures.holds _ (c.loop-step.invariant.holds s h));
 }
