@@ -1,10 +1,10 @@
 -- Searches for a word whose value lies in a range, from page to page.
-use Rattle.std.proofs.Common.{◌≡◌, ℕ, Bool, true, false, not, ◌&&◌, refl, ap, ap₂, sym, ◌∙◌, ◌+◌, ◌-◌, ◌*◌, ◌/◌, ◌%◌}
-use Rattle.std.proofs.Common.{◌^◌, ◌<◌, ◌≤◌, inl, inr, IsFalse, nat_le, nat_lt, arith}
+use Rattle.std.proofs.Common.{◌≡◌, ℕ, zero, suc, Bool, true, false, not, ◌&&◌, refl, ap, ap₂, sym, ◌∙◌, ◌+◌, ◌-◌}
+use Rattle.std.proofs.Common.{◌*◌, ◌/◌, ◌%◌, ◌^◌, ◌<◌, ◌≤◌, inl, inr, IsFalse, nat_le, nat_lt, arith}
 use Rattle.std.proofs.lemmas.Bool.{cases_lt, false≢true}
 use Rattle.std.proofs.lemmas.Bool.Decides.{nat_tests}
 use Rattle.shadow_memory.specs.Cells.{shadow_in}
-use Rattle.shadow_memory.specs.Ranges.{little_word}
+use Rattle.shadow_memory.specs.Ranges.{byte_of, little_word}
 use Rattle.shadow_memory.specs.Shadows.{Shadow, holds_word, is_bad}
 use Rattle.shadow_memory.specs.Values.{value_at, holds_in_range, HoldNoneInRange, IsNextInRange}
 use Rattle.shadow_memory.specs.declared.cells.Cell.{Cell}
@@ -145,3 +145,16 @@ module _ (cells seen : ℕ → Cell) (start low high : ℕ) (page : start % 4096
         holds = holds-seen place four inside ∙ next.holds;
         least = page-holds-none addr from place (omega arith) next.least before;
       }
+
+-- the bytes of the number of four bytes are these
+pub byte-of-number : (b : ℕ → ℕ) → ((i : ℕ) → b i < 256) → (i : ℕ) → i < 4 → byte_of (little_word b) i ≡ b i
+unfolding byte_of little_word
+byte-of-number b small zero h =
+    omega (arith, small 0, small 1, small 2, small 3)
+byte-of-number b small (suc zero) h =
+    omega (arith, small 0, small 1, small 2, small 3)
+byte-of-number b small (suc (suc zero)) h =
+    omega (arith, small 0, small 1, small 2, small 3)
+byte-of-number b small (suc (suc (suc zero))) h =
+    omega (arith, small 0, small 1, small 2, small 3)
+byte-of-number b small (suc (suc (suc (suc i)))) h = absurd (omega (arith, h))

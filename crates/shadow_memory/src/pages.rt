@@ -5,7 +5,7 @@ ghost use Rattle.shadow_memory.specs.Marks.{blank, mark_of, marked};
 ghost use Rattle.shadow_memory.specs.Places.{changed_from, page_len, AgreeInPage};
 ghost use Rattle.shadow_memory.specs.Changes.{IsWidth};
 ghost use Rattle.shadow_memory.specs.Loads.{loaded_at};
-ghost use Rattle.shadow_memory.specs.Ranges.{little_word};
+ghost use Rattle.shadow_memory.specs.Ranges.{byte_of, little_word};
 ghost use Rattle.shadow_memory.specs.Firsts.{IsFirst, NonePass};
 ghost use Rattle.shadow_memory.specs.Shadows.{is_bad, HoldNoWord, IsNextWord};
 ghost use Rattle.shadow_memory.specs.Values.{holds_in_range, HoldNoneInRange, IsNextInRange};
@@ -16,7 +16,7 @@ use crate::edits::{Each, PageEdit};
 use crate::laws::all_are;
 use crate::marks::PageShadows;
 use crate::slices::{fill_at, set_all, write_at};
-use crate::words::{ABSENT, all_bits, loaded_from, may_lie_within, word};
+use crate::words::{ABSENT, all_bits, loaded_from, may_lie_within, word, word_bytes};
 use std::alloc::{AllocError, Global};
 
 /// How many bytes a page has.
@@ -394,7 +394,33 @@ impl Page {
             write_at(&mut self.bytes, at, bytes);
             return true;
         }
+        self.put_out(at, bytes)
+    }
+
+    // The same, out of line. A word goes there by its number: bytes that are lent stand in memory, and are written one by one above.
+    #[inline(always)]
+    fn put_out(&mut self, at: usize, bytes: &[u8]) -> bool
+        requires { at + length bytes.now ≤ page_len }
+        ensures done { IsTrue result → AgreeInPage (cells_in self.new)
+            (changed_from (cells_in self.old) at (length bytes.now) (received (slice_index bytes.now))) }
+        ensures whole { IsTrue result → (k : ℕ) → at ≤ k → k < at + length bytes.now → (cells_in self.old k).accessible ≡ true }
+        ensures kept { IsFalse result → cells_in self.new ≡ cells_in self.old }
+    {
+        if let [first, second, third, fourth] = bytes {
+            return self.put_word(at, word(*first, *second, *third, *fourth));
+        }
         self.put_defining(at, bytes)
+    }
+
+    // The same, of a word.
+    #[inline(never)]
+    fn put_word(&mut self, at: usize, value: u32) -> bool
+        requires { at + 4 ≤ page_len }
+        ensures done { IsTrue result → AgreeInPage (cells_in self.new) (changed_from (cells_in self.old) at 4 (received (byte_of value))) }
+        ensures whole { IsTrue result → (k : ℕ) → at ≤ k → k < at + 4 → (cells_in self.old k).accessible ≡ true }
+        ensures kept { IsFalse result → cells_in self.new ≡ cells_in self.old }
+    {
+        self.put_defining(at, &word_bytes(value))
     }
 
     // The same, where some bits of what is there are undefined.
