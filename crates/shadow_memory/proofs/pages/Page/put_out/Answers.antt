@@ -17,9 +17,9 @@ returns-in-len4-clause-done c done k within =
     let value : c.word.result ≡ little_word (slice_index bytes) = c.word.ensures in
     let alike : (i : ℕ) → i < length bytes → (x : Cell)
     → received (byte_of c.word.result) i x ≡ received (slice_index bytes) i x = λ i few x.
-        ap (λ b. record { byte = b; accessible = x.accessible; undef = cond x.accessible 0 x.undef })
-        (ap (λ n. byte_of n i) value ∙ byte-of-number (slice_index bytes) (λ j. omega (arith, c.type_inv.bytes j)) i
-        (omega (arith, few, four))) in
+    ap (λ b. record { byte = b; accessible = x.accessible; undef = cond x.accessible 0 x.undef })
+    (ap (λ n. byte_of n i) value ∙ byte-of-number (slice_index bytes) (λ j. omega (arith, c.type_inv.bytes j)) i
+    (omega (arith, few, four))) in
     c.put_word.ensures.done done k within
     ∙ ap (λ n. changed_from old c.args.at n (received (byte_of c.word.result)) k) (sym four)
     ∙ ap (λ (f : ℕ → Cell). f k) (same-change old c.args.at (length bytes) _ _ alike)
