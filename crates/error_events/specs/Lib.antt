@@ -3,6 +3,7 @@ pub mod Groups
 pub mod Adding
 pub mod Regrouping
 pub mod KeptNotes
+pub mod Lent
 pub mod Entries
 pub mod Layers
 pub mod Merging

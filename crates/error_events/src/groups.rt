@@ -1,13 +1,17 @@
 ghost use Rattle.std.specs.Prelude.{◌≡◌, [], ◌∷◌, ◌++◌, map, None, position, length, take, List, ◌≤◌, ◌+◌, ◌<◌, slice_get, OnOk, OnErr, IfOk};
 ghost use Rattle.std.specs.List.{filter_map, range_with_len};
+ghost use Rattle.std.specs.Option.{option_map};
 ghost use Rattle.error_events.specs.Counts.{raised_at};
 ghost use Rattle.error_events.specs.CountLists.{counts_of};
-ghost use Rattle.error_events.specs.Merging.{cut_group, merged, merged_with};
+ghost use Rattle.error_events.specs.Lent.{group_with, lent_group, lent_note};
+ghost use Rattle.error_events.specs.Merging.{merged, merged_with};
 ghost use Rattle.error_events.specs.Regrouping.{regrouped};
 
 use crate::counts::Counts;
-use crate::event::{Event, Group, Key, Note};
+use crate::event::{Event, Group, Key};
+use crate::kept_note::KeptNote;
 use crate::layered_map::LayeredMap;
+use crate::lent::NoteRef;
 use std::alloc::{AllocError, Global};
 
 /// Errors counted by kind and trace, in order of first occurrence. Contracts see the list of the groups, `groups_of`.
@@ -18,16 +22,15 @@ pub struct Groups {
     ghost matched: { length known ≡ length (counts_of counts) },
 }
 
-/// A group with the first addresses of its trace alone.
-fn cut(group: Group, callers: u32) -> Group
+/// A key with the first addresses of its trace alone.
+fn cut(key: &Key, callers: u32) -> Key
     requires { 0 < callers }
-    ensures { result ≡ cut_group callers group }
+    ensures kind { result.kind ≡ key.now.kind }
+    ensures trace { result.trace ≡ take callers key.now.trace }
 {
-    Group {
-        kind: group.kind,
-        trace: group.trace.front(callers),
-        count: group.count,
-        note: group.note,
+    Key {
+        kind: key.kind,
+        trace: key.trace.front(callers),
     }
 }
 
@@ -58,14 +61,22 @@ impl Groups {
     pub fn get(&self, index: usize) -> Option<Group>
         ensures { result ≡ slice_get (groups_of self.now) index }
     {
-        let (key, note) = self.known.get(index)?;
-        let count = self.counts.get(index)?;
+        let (key, note, count) = self.entry(index)?;
         Some(Group {
             kind: key.kind,
             trace: key.trace,
             count,
-            note,
+            note: note.note(),
         })
+    }
+
+    /// The key, the note and the count of the group at a place.
+    fn entry(&self, index: usize) -> Option<(&Key, &KeptNote, u64)>
+        ensures { option_map lent_group result ≡ slice_get (groups_of self.now) index }
+    {
+        let (key, note) = self.known.get(index)?;
+        let count = self.counts.get(index)?;
+        Some((key, note, count))
     }
 
     /// One more error. Where memory fails, the groups stay as they were.
@@ -73,26 +84,21 @@ impl Groups {
         ensures ok { OnOk result (groups_of self.new ≡ add_event (groups_of self.old) event) }
         ensures err { OnErr result (groups_of self.new ≡ groups_of self.old) }
     {
-        self.add_group(Group {
+        let key = Key {
             kind: event.kind,
             trace: event.trace,
-            count: 1,
-            note: event.note,
-        })
+        };
+        self.add_group(&key, &NoteRef::Plain(&event.note), 1)
     }
 
     /// The errors of one more group.
-    pub(crate) fn add_group(&mut self, group: Group) -> Result<(), AllocError>
-        ensures ok { OnOk result (groups_of self.new ≡ add_group (groups_of self.old) group) }
+    fn add_group(&mut self, key: &Key, note: &NoteRef<'_>, count: u64) -> Result<(), AllocError>
+        ensures ok { OnOk result (groups_of self.new ≡ add_group (groups_of self.old) (group_with key.now (lent_note note.now) count)) }
         ensures err { OnErr result (groups_of self.new ≡ groups_of self.old) }
     {
-        let key = Key {
-            kind: group.kind,
-            trace: group.trace,
-        };
-        match self.known.position(&key) {
-            Some(index) => self.raise(index, group.count),
-            None => self.begin(key, group.note, group.count),
+        match self.known.position(key) {
+            Some(index) => self.raise(index, count),
+            None => self.begin(key, note, count),
         }
     }
 
@@ -107,15 +113,17 @@ impl Groups {
     }
 
     /// A new group. All that can fail comes before the count, so that keys and counts stay matched.
-    fn begin(&mut self, key: Key, note: Note, count: u64) -> Result<(), AllocError>
-        requires { position (⟦<Key as PartialEq>⟧.eq key) (map (λ e. e.0) self.old.known) ≡ None }
-        ensures known { OnOk result (self.new.known ≡ self.old.known ++ (key, note) ∷ []) }
+    fn begin(&mut self, key: &Key, note: &NoteRef<'_>, count: u64) -> Result<(), AllocError>
+        requires { position (⟦<Key as PartialEq>⟧.eq key.now) (map (λ e. e.0) self.old.known) ≡ None }
+        ensures known { OnOk result (self.new.known ≡ self.old.known ++ (key.now, lent_note note.now) ∷ []) }
         ensures counts { OnOk result (counts_of self.new.counts ≡ counts_of self.old.counts ++ count ∷ []) }
         ensures known_err { OnErr result (self.new.known ≡ self.old.known) }
         ensures counts_err { OnErr result (counts_of self.new.counts ≡ counts_of self.old.counts) }
     {
+        let alloc = self.counts.allocator();
+        let note = note.kept(alloc)?;
         self.counts.make_room()?;
-        self.known.push(self.counts.allocator(), &key, &note)?;
+        self.known.push(alloc, key, note)?;
         self.counts.push(count);
         Ok(())
     }
@@ -148,18 +156,25 @@ impl Groups {
     {
         let mut groups = Groups::new(self.counts.allocator());
         for index in 0..keep.len() {
-            groups.merge(callers, keep[index], self.get(index))?;
+            groups.merge(callers, keep[index], self.entry(index))?;
         }
         Ok(groups)
     }
 
     /// The errors of one more group, if it is kept, with the first addresses of its trace.
-    fn merge(&mut self, callers: u32, keep: bool, group: Option<Group>) -> Result<(), AllocError>
+    fn merge(
+        &mut self,
+        callers: u32,
+        keep: bool,
+        group: Option<(&Key, &KeptNote, u64)>,
+    ) -> Result<(), AllocError>
         requires { 0 < callers }
-        ensures { OnOk result (groups_of self.new ≡ merged_with callers (groups_of self.old) keep group) }
+        ensures { OnOk result (groups_of self.new ≡ merged_with callers (groups_of self.old) keep (option_map lent_group group.entry)) }
     {
         match group {
-            Some(group) if keep => self.add_group(cut(group, callers)),
+            Some((key, note, count)) if keep => {
+                self.add_group(&cut(key, callers), &NoteRef::Kept(note), count)
+            }
             _ => Ok(()),
         }
     }

@@ -3,8 +3,11 @@
 //! The entries lie in layers and then in one young map, all of which copies share. A new key goes into the young map, which a
 //! copy's owner has to copy first; once it has 64 entries, it is put among the layers instead.
 ghost use Rattle.std.specs.Prelude.{◌≡◌, ◌<◌, ◌^◌, [], ◌∷◌, ◌++◌, None, length, map, position, slice_get, OnOk, OnErr, IfOk};
+ghost use Rattle.std.specs.Map.Iter.{deref_pair};
+ghost use Rattle.std.specs.Option.{option_map};
 
-use crate::event::{Key, Note};
+use crate::event::Key;
+use crate::kept_note::KeptNote;
 use crate::layers::Layers;
 use crate::shared_map::SharedMap;
 use std::alloc::{AllocError, Global};
@@ -59,8 +62,8 @@ impl LayeredMap {
     }
 
     /// The entry at an index.
-    pub(crate) fn get(&self, index: usize) -> Option<(Key, Note)>
-        ensures { result ≡ slice_get self.now index }
+    pub(crate) fn get(&self, index: usize) -> Option<(&Key, &KeptNote)>
+        ensures { option_map deref_pair result ≡ slice_get self.now index }
     {
         let first = self.settled.len();
         if index < first {
@@ -71,9 +74,14 @@ impl LayeredMap {
     }
 
     /// Adds a key that is not there, as the last.
-    pub(crate) fn push(&mut self, alloc: Global, key: &Key, note: &Note) -> Result<(), AllocError>
+    pub(crate) fn push(
+        &mut self,
+        alloc: Global,
+        key: &Key,
+        note: KeptNote,
+    ) -> Result<(), AllocError>
         requires { position (⟦<Key as PartialEq>⟧.eq key.now) (map (λ e. e.0) self.old) ≡ None }
-        ensures ok { OnOk result (self.new ≡ self.old ++ (key.now, note.now) ∷ []) }
+        ensures ok { OnOk result (self.new ≡ self.old ++ (key.now, note) ∷ []) }
         ensures err { OnErr result (self.new ≡ self.old) }
     {
         self.prepare(alloc)?;

@@ -3,10 +3,13 @@
 //! can be halved. Copies share each map.
 ghost use Rattle.std.specs.Prelude.{◌≡◌, ◌≤◌, ◌<◌, ◌^◌, ◌∷◌, [], ◌++◌, length, map, position, slice_get, take, OnOk, OnErr, IfOk};
 ghost use Rattle.std.specs.List.{flat_map};
+ghost use Rattle.std.specs.Map.Iter.{deref_pair};
+ghost use Rattle.std.specs.Option.{option_map};
 ghost use Rattle.error_events.specs.Entries.{AreNew};
 ghost use Rattle.error_events.specs.Layers.{AreApart, entries_in};
 
-use crate::event::{Key, Note};
+use crate::event::Key;
+use crate::kept_note::KeptNote;
 use crate::shared_map::SharedMap;
 use std::alloc::{AllocError, Global};
 use std::marker::Model;
@@ -47,8 +50,8 @@ fn position_in(maps: &[SharedMap], key: &Key) -> Option<usize>
 }
 
 /// The entry at an index among those of some maps.
-fn entry_in(maps: &[SharedMap], index: usize) -> Option<(Key, Note)>
-    ensures { result ≡ slice_get (entries_in maps.now) index }
+fn entry_in(maps: &[SharedMap], index: usize) -> Option<(&Key, &KeptNote)>
+    ensures { option_map deref_pair result ≡ slice_get (entries_in maps.now) index }
 {
     let (oldest, later) = maps.split_first()?;
     let len = oldest.len();
@@ -113,8 +116,8 @@ impl Layers {
     }
 
     /// The entry at an index.
-    pub(crate) fn get(&self, index: usize) -> Option<(Key, Note)>
-        ensures { result ≡ slice_get self.now index }
+    pub(crate) fn get(&self, index: usize) -> Option<(&Key, &KeptNote)>
+        ensures { option_map deref_pair result ≡ slice_get self.now index }
     {
         entry_in(&self.maps, index)
     }

@@ -44,7 +44,7 @@
 //! - `Adding`: one more error (`add_event`), and the law that ties it to `grouped`.
 //! - `Regrouping`: which errors are kept (`kept`), and their groups by fewer addresses (`regrouped`).
 //! - `Parameters`: the texts of parameters. `Shown`: what `Groups` show (`groups_of`).
-//! - `Counts`, `CountLists`, `Entries`, `KeptNotes`, `Layers` and `Merging` are for this crate's proofs.
+//! - `Counts`, `CountLists`, `Entries`, `KeptNotes`, `Layers`, `Lent` and `Merging` are for this crate's proofs.
 //!
 //! Sources: Valgrind user manual, section 2.4 (how errors are compared and counted) and option `--num-callers`; Memcheck manual,
 //! section 4.2 (the kinds).
@@ -58,6 +58,7 @@ mod kind;
 pub mod laws;
 mod layered_map;
 mod layers;
+mod lent;
 mod parameter;
 mod shared_map;
 

@@ -2,8 +2,10 @@
 ghost use Rattle.error_events.specs.Entries.{AreNew};
 ghost use Rattle.indexmap.specs.IndexMap.{insert_entry};
 ghost use Rattle.std.specs.Prelude.{◌≡◌, [], ◌∷◌, ◌++◌, None, length, map, position, slice_get, OnOk, OnErr, IfOk};
+ghost use Rattle.std.specs.Map.Iter.{deref_pair};
+ghost use Rattle.std.specs.Option.{option_map};
 
-use crate::event::{Key, Note};
+use crate::event::Key;
 use crate::kept_note::KeptNote;
 use indexmap::IndexMap;
 use std::alloc::{AllocError, Global};
@@ -110,22 +112,26 @@ impl SharedMap {
     }
 
     /// The entry at an index.
-    pub(crate) fn get(&self, index: usize) -> Option<(Key, Note)>
-        ensures { result ≡ slice_get self.now index }
+    pub(crate) fn get(&self, index: usize) -> Option<(&Key, &KeptNote)>
+        ensures { option_map deref_pair result ≡ slice_get self.now index }
     {
         match &self.map {
-            Some(map) => map.get_index(index).map(|(key, note)| (*key, note.note())),
+            Some(map) => map.get_index(index),
             None => None,
         }
     }
 
     /// Adds a key that is not there, as the last.
-    pub(crate) fn push(&mut self, alloc: Global, key: &Key, note: &Note) -> Result<(), AllocError>
+    pub(crate) fn push(
+        &mut self,
+        alloc: Global,
+        key: &Key,
+        note: KeptNote,
+    ) -> Result<(), AllocError>
         requires { position (⟦<Key as PartialEq>⟧.eq key.now) (map (λ e. e.0) self.old) ≡ None }
-        ensures ok { OnOk result (self.new ≡ self.old ++ (key.now, note.now) ∷ []) }
+        ensures ok { OnOk result (self.new ≡ self.old ++ (key.now, note) ∷ []) }
         ensures err { OnErr result (self.new ≡ self.old) }
     {
-        let note = KeptNote::of(alloc, note)?;
         match &mut self.map {
             Some(shared) => insert(shared, key, note),
             None => {

@@ -10,7 +10,7 @@ push-requires c =
 
 pub invariant_of-self : goal.invariant_of-self
 invariant_of-self c =
-    new-pushed ghosts.eq c.args.key.now c.args.note.now c.self.inside.settled c.self.inside.recent c.push.new.self
+    new-pushed ghosts.eq c.args.key.now c.args.note c.self.inside.settled c.self.inside.recent c.push.new.self
     c.push.result c.self.invariant
     (absent-both (ghosts.eq c.args.key.now) c.self.inside.settled c.self.inside.recent c.args.self.now
     (c.self.view_is ∙ c.prepare.ensures) c.requires).0

@@ -1,0 +1,28 @@
+//! Notes that are lent, of which one is kept only where a group is new.
+ghost use Rattle.std.specs.Prelude.{◌≡◌, IfOk};
+ghost use Rattle.error_events.specs.Lent.{lent_note};
+
+use crate::event::Note;
+use crate::kept_note::KeptNote;
+use std::alloc::{AllocError, Global};
+
+/// A note that is lent.
+#[derive(Clone, Copy)]
+pub(crate) enum NoteRef<'a> {
+    /// An error's.
+    Plain(&'a Note),
+    /// One that a map keeps.
+    Kept(&'a KeptNote),
+}
+
+impl NoteRef<'_> {
+    /// A note to keep. One that is kept already shares what it says of a block.
+    pub(crate) fn kept(&self, alloc: Global) -> Result<KeptNote, AllocError>
+        ensures { IfOk result (λ kept. kept ≡ lent_note self.now) }
+    {
+        match self {
+            NoteRef::Plain(note) => KeptNote::of(alloc, note),
+            NoteRef::Kept(note) => (*note).clone(),
+        }
+    }
+}
