@@ -1,5 +1,6 @@
 pub mod Clones
 pub mod Rows
+pub mod Parts
 pub mod GridSteps
 pub mod Numbering
 pub mod RunSteps

@@ -1,26 +1,31 @@
 -- Places in a row of parts, numbered through: a number tells the part and the place in it.
 use Rattle.std.proofs.Common.{◌≡◌, ℕ, ◌+◌, ◌*◌, ◌/◌, ◌%◌, ◌<◌, ◌≤◌, ◌==◌, inl, inr, is_some, false}
-use Rattle.std.proofs.Common.{cond, mul_comm, ap, ap₂, sym, ◌∙◌, subst, arith, eq-eqb}
+use Rattle.std.proofs.Common.{Bool, Option, refl, cond, mul_comm, ap, ap₂, sym, ◌∙◌, subst, arith, eq-eqb}
+use Rattle.std.proofs.Math.Path.{fun_ext}
 use Rattle.std.proofs.Math.Nat.{mod-lt, div-mul-le_self, div-add-mod, div-lt_iff_lt-mul}
 use Rattle.std.proofs.lemmas.Nat.{le-div, div-mul-add, mod-mul-add, mul-add-lt}
 use Rattle.std.proofs.lemmas.Bool.{cases_lt}
 use Rattle.std.proofs.lemmas.Bool.Decides.{nat_tests}
-use Rattle.guest_heap.specs.Entries.{AreNone, FirstAt, LastAt}
-use Rattle.guest_heap.specs.Branches.{AreParts, Grid, begin_in, end_in, AreNoneUpTo, AreNoneDownTo}
-use Rattle.guest_heap.specs.Branches.{FirstIn, LastIn}
+use Rattle.guest_heap.specs.Entries.{with_entry, AreNone, FirstAt, LastAt}
+use Rattle.guest_heap.specs.declared.entry.Entry.{Entry}
+use Rattle.guest_heap.specs.Rows.{Grid, with_cell, begin_in, end_in, AreNoneUpTo, AreNoneDownTo, FirstIn, LastIn}
+use Rattle.guest_heap.specs.Sizes.{IsSize, row_sized, parts_of, places_of}
 use Rattle.guest_heap.proofs.PutSteps.{same_or}
+
+differ : (a b : ℕ) → (a ≡ b → ⊥) → (a == b) ≡ false
+differ a b h = grind (arith, nat_tests)
 
 begin-same : (part at i : ℕ) → i ≡ part → begin_in part at i ≡ at
 begin-same part at i e = ap (λ b. cond b at 0) (eq-eqb i part e)
 
 begin-other : (part at i : ℕ) → (i ≡ part → ⊥) → begin_in part at i ≡ 0
-begin-other part at i h = let e : (i == part) ≡ false = grind (arith, nat_tests) in ap (λ b. cond b at 0) e
+begin-other part at i h = ap (λ b. cond b at 0) (differ i part h)
 
 end-same : (w part at i : ℕ) → i ≡ part → end_in w part at i ≡ at
 end-same w part at i e = ap (λ b. cond b at w) (eq-eqb i part e)
 
 end-other : (w part at i : ℕ) → (i ≡ part → ⊥) → end_in w part at i ≡ w
-end-other w part at i h = let e : (i == part) ≡ false = grind (arith, nat_tests) in ap (λ b. cond b at w) e
+end-other w part at i h = ap (λ b. cond b at w) (differ i part h)
 
 -- how places of so many parts, with w places each, are numbered
 pub record IsNumbering (w count total : ℕ) (part place : ℕ → ℕ) (number : ℕ → ℕ → ℕ) : Type 0 where
@@ -162,6 +167,27 @@ module _ (w count total : ℕ) (part place : ℕ → ℕ) (number : ℕ → ℕ 
               ];
         }
 
+    -- what is written at one place is at its number
+    pub written_along : (at : ℕ) (entry : Option Entry) (k : ℕ)
+        → with_cell grid (part at) (place at) entry (part k) (place k)
+        ≡ with_entry (λ n. grid (part n) (place n)) at entry k
+    written_along at entry k =
+        let stays = grid (part k) (place k) in
+        let cell : Bool → Option Entry =
+        λ b. cond b (with_entry (grid (part k)) (place at) entry) (grid (part k)) (place k) in
+        let at-place : Bool → Option Entry = λ b. cond b entry stays in
+        elim (same_or (part k) (part at)) [
+          | inl p ↦
+              (let here = ap cell (eq-eqb (part k) (part at) p) in
+              elim (same_or (place k) (place at)) [
+                | inl q ↦ here ∙ ap at-place (eq-eqb (place k) (place at) q)
+                    ∙ sym (ap at-place (eq-eqb k at (is.one k at p q)))
+                | inr d ↦ here ∙ ap at-place (differ (place k) (place at) d)
+                    ∙ sym (ap at-place (differ k at (λ e. d (ap place e))))
+              ])
+          | inr d ↦ ap cell (differ (part k) (part at) d) ∙ sym (ap at-place (differ k at (λ e. d (ap part e))))
+        ]
+
 -- by division
 less-rest : (p q x y a b : ℕ) → p + x ≡ a → q + y ≡ b → p ≡ q → a ≤ b → x ≤ y
 less-rest p q x y a b h g same le = omega arith
@@ -169,10 +195,9 @@ less-rest p q x y a b h g same le = omega arith
 same-sum : (p q x y a b : ℕ) → p + x ≡ a → q + y ≡ b → p ≡ q → x ≡ y → a ≡ b
 same-sum p q x y a b h g same rest = omega arith
 
-pub divided : (count w total : ℕ) → AreParts count w total
+pub divided : (count w total : ℕ) → 0 < w → total ≡ count * w
     → IsNumbering w count total (λ k. k / w) (λ k. k % w) (λ i n. i * w + n)
-divided count w total are =
-    let some = are.some in
+divided count w total some whole =
     record {
       in_part = λ k. mod-lt k some;
       grows = λ a b le. le-div (a / w) b w some (omega (arith, div-mul-le_self a w, le));
@@ -182,36 +207,64 @@ divided count w total are =
           (div-add-mod b w) (ap (λ x. w * x) p) q;
       part_of = λ i n less. div-mul-add i w n less;
       place_of = λ i n less. mod-mul-add i w n less;
-      low = λ k less. (let P : ℕ → Type 0 = λ t. k < t in (div-lt_iff_lt-mul some).1 (subst P are.whole less));
+      low = λ k less. (let P : ℕ → Type 0 = λ t. k < t in (div-lt_iff_lt-mul some).1 (subst P whole less));
       high = λ i n low less. (let P : ℕ → Type 0 = λ t. i * w + n < t in
-          subst P (mul_comm w count ∙ sym are.whole) (mul-add-lt i w n count low less));
+          subst P (mul_comm w count ∙ sym whole) (mul-add-lt i w n count low less));
     }
 
--- the same, where the numbers go by other names
-module _ (grid : Grid) (w count total : ℕ) (are : AreParts count w total) (at v p : ℕ) (each : v ≡ w) where
-  pub next_some_by : (i n : ℕ) → p ≡ count → FirstIn grid w (at / v) (at % v) p i n
-      → FirstAt (λ k. grid (k / w) (k % w)) at total (i * v + n)
+-- the places of a row --
+
+row-numbering : (w : ℕ) → 0 < w
+    → IsNumbering w (parts_of w) (places_of w) (λ k. k / w) (λ k. k % w) (λ i n. i * w + n)
+unfolding places_of
+row-numbering w some = divided (parts_of w) w (parts_of w * w) some refl
+
+-- what follows is the same, where the numbers go by other names
+
+-- the number of a place
+pub number_fits : (w v : ℕ) → IsSize w → v ≡ w → (i n : ℕ) → i < parts_of v → n < w → i * v + n < 33554432
+number_fits w v sized each i n low less =
+    let P : ℕ → Type 0 = λ x. i < parts_of x in
+    let R : ℕ → Type 0 = λ x. i * x + n < places_of w in
+    let below = subst R (sym each) ((row-numbering w sized.some).high i n (subst P each low) less) in
+    let few = (row_sized w sized).few in
+    omega arith
+
+module _ (grid : Grid) (w : ℕ) (sized : IsSize w) (at v p : ℕ) (each : v ≡ w) where
+  pub next_some_by : (i n : ℕ) → p ≡ parts_of v → FirstIn grid w (at / v) (at % v) p i n
+      → FirstAt (λ k. grid (k / w) (k % w)) at (places_of w) (i * v + n)
   next_some_by i n all h =
       let P : ℕ → Type 0 = λ x. FirstIn grid w (at / x) (at % x) p i n in
       let Q : ℕ → Type 0 = λ x. FirstIn grid w (at / w) (at % w) x i n in
-      let R : ℕ → Type 0 = λ x. FirstAt (λ k. grid (k / w) (k % w)) at total (i * x + n) in
-      subst R (sym each) (next_some _ _ _ _ _ _ (divided count w total are) grid at i n (subst Q all (subst P each h)))
+      let R : ℕ → Type 0 = λ x. FirstAt (λ k. grid (k / w) (k % w)) at (places_of w) (i * x + n) in
+      subst R (sym each) (next_some _ _ _ _ _ _ (row-numbering w sized.some) grid at i n
+      (subst Q (all ∙ ap parts_of each) (subst P each h)))
 
-  pub next_none_by : p ≡ count → AreNoneUpTo grid w (at / v) (at % v) p
-      → AreNone (λ k. grid (k / w) (k % w)) at total
+  pub next_none_by : p ≡ parts_of v → AreNoneUpTo grid w (at / v) (at % v) p
+      → AreNone (λ k. grid (k / w) (k % w)) at (places_of w)
   next_none_by all h =
       let P : ℕ → Type 0 = λ x. AreNoneUpTo grid w (at / x) (at % x) p in
       let Q : ℕ → Type 0 = λ x. AreNoneUpTo grid w (at / w) (at % w) x in
-      next_none _ _ _ _ _ _ (divided count w total are) grid at (subst Q all (subst P each h))
+      next_none _ _ _ _ _ _ (row-numbering w sized.some) grid at
+      (subst Q (all ∙ ap parts_of each) (subst P each h))
 
   pub last_some_by : (i n : ℕ) → LastIn grid w (at / v) (at % v) i n
       → LastAt (λ k. grid (k / w) (k % w)) at (i * v + n)
   last_some_by i n h =
       let P : ℕ → Type 0 = λ x. LastIn grid w (at / x) (at % x) i n in
       let R : ℕ → Type 0 = λ x. LastAt (λ k. grid (k / w) (k % w)) at (i * x + n) in
-      subst R (sym each) (last_some _ _ _ _ _ _ (divided count w total are) grid at i n (subst P each h))
+      subst R (sym each) (last_some _ _ _ _ _ _ (row-numbering w sized.some) grid at i n (subst P each h))
 
   pub last_none_by : AreNoneDownTo grid w (at / v) (at % v) 0 → AreNone (λ k. grid (k / w) (k % w)) 0 at
   last_none_by h =
       let P : ℕ → Type 0 = λ x. AreNoneDownTo grid w (at / x) (at % x) 0 in
-      last_none _ _ _ _ _ _ (divided count w total are) grid at (subst P each h)
+      last_none _ _ _ _ _ _ (row-numbering w sized.some) grid at (subst P each h)
+
+  pub written_by : (old mid new : Grid) (entry : Option Entry) → new ≡ mid
+      → mid ≡ with_cell old (at / v) (at % v) entry → old ≡ grid
+      → (λ k. new (k / w) (k % w)) ≡ with_entry (λ k. grid (k / w) (k % w)) at entry
+  written_by old mid new entry last write first =
+      let P : ℕ → Type 0 = λ x. new ≡ with_cell grid (at / x) (at % x) entry in
+      let all = last ∙ write ∙ ap (λ g. with_cell g (at / v) (at % v) entry) first in
+      fun_ext (λ k. ap (λ f. f (k / w) (k % w)) (subst P each all)
+      ∙ written_along _ _ _ _ _ _ (row-numbering w sized.some) grid at entry k)

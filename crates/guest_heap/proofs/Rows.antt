@@ -3,12 +3,12 @@ use Rattle.std.proofs.Common.{◌/◌, ◌%◌, ◌≡◌, ℕ, zero, suc, ◌-�
 use Rattle.std.proofs.Common.{slice_index_or, slice_get, vec_len, subst, length, refl, ap, sym, ◌∙◌, arith, rules}
 use Rattle.std.proofs.Math.Path.{fun_ext}
 use Rattle.std.specs.Option.{option_to_list}
-use Rattle.std.proofs.lemmas.List.{get_or_past}
+use Rattle.std.proofs.lemmas.List.{get_or_default, get_or_past}
 use Rattle.std.specs.declared.alloc.Global.{Global}
 use Rattle.std.specs.declared.rc.Rc.{Rc}
 use Rattle.std.specs.declared.vec.Vec.{Vec}
 use Rattle.guest_heap.specs.Entries.{Entries, entries_at}
-use Rattle.guest_heap.specs.Branches.{Grid, grid_of, entries_along}
+use Rattle.guest_heap.specs.Rows.{Grid, grid_of, entries_along}
 use Rattle.guest_heap.specs.declared.table.row.Row.{Row}
 
 -- one more part, which is absent
@@ -71,15 +71,27 @@ module _ {P : Type 0} (entries : P → Entries) where
   shrunk_grid a b last e none =
       sym (grown_grid b a (e ∙ ap (λ x. b.parts.items ++ option_to_list x) none))
 
+  pub part_in : (row : Row P) (i : ℕ) (slot : Option (Rc P Global)) → slot ≡ slice_index_or row.parts.items i slot
+      → i < vec_len row.parts → entries_at entries slot ≡ grid_of entries row i
+  unfolding grid_of
+  part_in row i slot there inside =
+      let long : vec_len row.parts ≡ length row.parts.items = search rules in
+      ap (entries_at entries) (there ∙ get_or_default row.parts.items i slot None (omega arith))
+
   -- past the end of a row there is no part
-  pub past_grid : (row : Row P) (i : ℕ) → length row.parts.items ≤ i → grid_of entries row i ≡ (λ _. None)
+  pub past_grid : (row : Row P) (i : ℕ) → vec_len row.parts ≤ i → grid_of entries row i ≡ (λ _. None)
   unfolding grid_of entries_at
-  past_grid row i past = ap (entries_at entries) (get_or_past row.parts.items i None past)
+  past_grid row i past =
+      let long : vec_len row.parts ≡ length row.parts.items = search rules in
+      ap (entries_at entries) (get_or_past row.parts.items i None (omega arith))
+
+  pub same_along : (w : ℕ) (a b : Row P) → grid_of entries b ≡ grid_of entries a
+      → entries_along w entries b ≡ entries_along w entries a
+  unfolding entries_along
+  same_along w a b e = let F : Grid → Entries = λ grid k. grid (k / w) (k % w) in ap F e
 
   pub empty_grid : (row : Row P) → vec_len row.parts ≡ 0 → grid_of entries row ≡ (λ _ _. None)
-  empty_grid row none =
-      let long : vec_len row.parts ≡ length row.parts.items = search rules in
-      fun_ext (λ i. past_grid row i (omega arith))
+  empty_grid row none = fun_ext (λ i. past_grid row i (omega arith))
 
   pub none_along : (w : ℕ) (row : Row P) → row.parts.items ≡ [] → entries_along w entries row ≡ (λ _. None)
   unfolding entries_along

@@ -1,7 +1,8 @@
 pub mod Entries
 pub mod Unused
 pub mod Leaves
-pub mod Branches
+pub mod Sizes
+pub mod Rows
 pub mod Tables
 pub mod Runs
 pub mod Queues

@@ -33,14 +33,13 @@
 //! - `specs/Blocks.antt`: blocks, intervals, places, the queue, what is near an address, as relations.
 //! - `specs/Steps.antt`: the calls as functions. `specs/Laws.antt`: what these mean, at all blocks.
 //! - The others are for this crate's proofs: `Heaps` (`blocks_of`), `States` and `Bounds` (what a heap keeps true), and `Entries`, `Leaves`,
-//!   `Branches`, `Tables`, `Runs`, `Queues`, `BoundLists`, `Unused` (how it stores these).
+//!   `Rows`, `Sizes`, `Tables`, `Runs`, `Queues`, `BoundLists`, `Unused` (how it stores these).
 //!
 //! # Costs
 //!
-//! Blocks are in two tables, live and freed, that are trees over the multiples of 16 of the heap region: a root of up to 128 limbs, a limb of
-//! up to 64 branches, a branch of up to 64 leaves, and a leaf of 64 places. The queue is in runs of 256; copies share what neither has
-//! changed. So a search is a few steps, a change after a copy copies one node of each kind, and `share` copies a reference for each table, and
-//! one for each run. What is kept of a block has references to its traces, which blocks of the same calls share while the heap remembers
+//! Blocks are in two tables, live and freed, that are trees over the multiples of 16 of the heap region: a row of up to 128 rows of up to 64
+//! rows of up to 64 leaves, and a leaf has 64 places. The queue is in runs of 256; copies share what neither has changed. So a search is a few steps, a change after a copy copies one row of each kind and one leaf, and `share` copies a reference for
+//! each table, and one for each run. What is kept of a block has references to its traces, which blocks of the same calls share while the heap remembers
 //! them (`traces.rt`). `allocate` keeps a bound for each class of sizes, below which they have no place, and one range further up (`bounds.rt`):
 //! it looks at kept blocks only from there on, and forgets no more of this than a block that leaves the queue makes room for.
 #![tactic(auto)]

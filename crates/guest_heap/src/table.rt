@@ -1,24 +1,22 @@
 //! Blocks by their places: the multiples of 16 of the heap region in order. Copies share what neither has changed.
 
 use crate::entry::Entry;
-use crate::table::part::{get_in, last_in, next_in, set_in};
-use crate::table::root::Root;
+use crate::table::leaf::Leaf;
+use crate::table::part::{Part, set_in};
+use crate::table::row::Row;
 use std::alloc::{AllocError, Global};
 use std::rc::Rc;
 
-pub(crate) mod branch;
 pub(crate) mod leaf;
-pub(crate) mod limb;
 pub(crate) mod part;
-pub(crate) mod root;
 pub(crate) mod row;
 
 #[derive(Drop)]
 pub(crate) struct Table {
-    root: Option<Rc<Root>>,
+    root: Option<Rc<Row<Row<Row<Leaf>>>>>,
 }
 
-#[tactic(auto, unfolding(crate::specs::Tables::entries_of, crate::specs::Entries::entries_at))]
+#[tactic(auto, unfolding(crate::specs::Tables::entries_of, crate::specs::Tables::entries_in_root, crate::specs::Entries::entries_at, crate::specs::Sizes::places_of, crate::specs::Sizes::parts_of))]
 impl Table {
     ghost use Rattle.std.specs.Prelude.{◌≡◌, ◌<◌, ◌≤◌, OnOk, OnErr, IfOk, None};
     ghost use Rattle.std.specs.Option.{option_copied};
@@ -35,7 +33,10 @@ impl Table {
         requires { at < 33554432 }
         ensures { option_copied result ≡ entries_of self.now at }
     {
-        get_in(&self.root, at)
+        match &self.root {
+            Some(root) => root.get(at),
+            None => None,
+        }
     }
 
     pub(crate) fn set(
@@ -56,7 +57,10 @@ impl Table {
         requires { at ≤ 33554432 }
         ensures { IsNext (entries_of self.now) at 33554432 result }
     {
-        next_in(&self.root, at)
+        match &self.root {
+            Some(root) => root.next_from(at),
+            None => None,
+        }
     }
 
     /// The last slot below this one that has a block.
@@ -64,7 +68,10 @@ impl Table {
         requires { at ≤ 33554432 }
         ensures { IsLast (entries_of self.now) at result }
     {
-        last_in(&self.root, at)
+        match &self.root {
+            Some(root) => root.last_below(at),
+            None => None,
+        }
     }
 
     /// A table that holds the same, for one reference.

@@ -92,7 +92,7 @@ impl RecentTraces {
         &mut self,
         alloc: Global,
         slot: usize,
-        trace: SharedTrace,
+        trace: &SharedTrace,
     ) -> Result<(), AllocError> {
         if self.slots.is_none() {
             let slots = vec![in alloc; None; RECENT]?;
@@ -101,7 +101,7 @@ impl RecentTraces {
         if let Some(shared) = &mut self.slots {
             let slots = Rc::make_mut(shared)?;
             if slot < slots.len() {
-                slots[slot] = Some(trace);
+                slots[slot] = Some(trace.clone()?);
             }
         }
         Ok(())
@@ -116,8 +116,7 @@ impl RecentTraces {
             return known.clone();
         }
         let made = SharedTrace::new(alloc, *trace)?;
-        let kept = made.clone()?;
-        let _ = self.remember(alloc, slot, kept);
+        let _ = self.remember(alloc, slot, &made);
         Ok(made)
     }
 }

@@ -28,24 +28,27 @@ fn freed_by(block: &Block, trace: Trace) -> Block
     }
 }
 
-/// What is kept of a block that is freed, with how many were freed before it.
+/// What is kept of a block that is freed: with the trace of its allocation, which blocks share as they do that of its release, and with how
+/// many were freed before it.
 fn freed_entry(
     alloc: Global,
-    entry: &Entry,
+    block: &Block,
+    made: SharedTrace,
     trace: SharedTrace,
     number: u64,
 ) -> Result<Rc<Entry>, AllocError>
-    ensures { IfOk result (λ freed. freed.value ≡ entry_for (freed_by trace (block_of entry.now)) number) }
+    requires { made ≡ block.now.trace }
+    ensures { IfOk result (λ freed. freed.value ≡ entry_for (freed_by trace block.now) number) }
 {
-    let made = Entry {
-        start: entry.start,
-        size: entry.size,
-        redzone: entry.redzone,
+    let entry = Entry {
+        start: block.start,
+        size: block.size,
+        redzone: block.redzone,
         number,
-        trace: entry.trace.clone()?,
+        trace: made,
         freed: Some(trace),
     };
-    Ok(Rc::new(alloc, made)?)
+    Ok(Rc::new(alloc, entry)?)
 }
 
 /// Takes a block out of the live ones, and puts its entry among the freed. Where memory fails it stays live.
@@ -99,22 +102,24 @@ impl Heap {
     fn enqueue(
         &mut self,
         alloc: Global,
-        entry: &Entry,
+        block: &Block,
+        made: SharedTrace,
         trace: SharedTrace,
     ) -> Result<(), AllocError>
-        requires { (blocks_of self.old).live entry.now.start ≡ Some (block_of entry.now) }
-        ensures ok { OnOk result (blocks_of self.new ≡ queue_with (blocks_of self.old) (freed_by trace (block_of entry.now))) }
+        requires live { (blocks_of self.old).live block.now.start ≡ Some block.now }
+        requires made { made ≡ block.now.trace }
+        ensures ok { OnOk result (blocks_of self.new ≡ queue_with (blocks_of self.old) (freed_by trace block.now)) }
         ensures err { OnErr result (blocks_of self.new ≡ blocks_of self.old) }
     {
         // No run comes to 2^64 releases or bytes; there it would be want of memory.
         let Some(next) = self.next.checked_add(1) else {
             return Err(AllocError);
         };
-        let Some(held) = self.held.checked_add(u64::from(entry.size)) else {
+        let Some(held) = self.held.checked_add(u64::from(block.size)) else {
             return Err(AllocError);
         };
-        let freed = freed_entry(alloc, entry, trace, self.next)?;
-        let slot = slot_of(entry.start);
+        let freed = freed_entry(alloc, block, made, trace, self.next)?;
+        let slot = slot_of(block.start);
         self.queue.prepare(alloc)?;
         move_to_freed(alloc, &mut self.live, &mut self.freed, slot, &freed)?;
         self.queue.push(freed);
@@ -171,13 +176,13 @@ impl Heap {
         if ptr == 0 {
             return Ok(Released::Nothing);
         }
-        let entry = match self.live_at(ptr) {
-            Some(entry) => entry.share()?,
+        let (block, made) = match self.live_at(ptr) {
+            Some(entry) => (entry.block(), entry.trace.clone()?),
             None => return Ok(Released::Invalid),
         };
         let shared = self.share_trace(alloc, &trace)?;
-        self.enqueue(alloc, &entry, shared)?;
+        self.enqueue(alloc, &block, made, shared)?;
         self.forget(alloc, volume);
-        Ok(Released::Done(freed_by(&entry.block(), trace)))
+        Ok(Released::Done(freed_by(&block, trace)))
     }
 }

@@ -11,6 +11,7 @@ use std::rc::Rc;
 pub(crate) trait Part: Clone + Drop {
     ghost use Rattle.std.specs.Prelude.{ℕ};
     ghost use Rattle.guest_heap.specs.Entries.{Entries};
+    ghost use Rattle.guest_heap.specs.Sizes.{IsSize};
 
     /// How many places it has.
     ghost PLACES: { ℕ };
@@ -46,24 +47,11 @@ pub(crate) trait Part: Clone + Drop {
         requires { at ≤ PLACES }
         ensures { IsLast (entries self.now) at result };
 
+    /// There are some places, and no more than the heap region has.
+    ghost sized: { IsSize PLACES };
+
     /// A clone has the same blocks.
     ghost clones_same: { (part copy : Self) → Self.is_clone part copy → entries copy ≡ entries part };
-}
-
-/// A part of which rows are made: how many a row has at most, and how many places that are.
-pub(crate) trait InRow: Part {
-    ghost use Rattle.std.specs.Prelude.{ℕ};
-    ghost use Rattle.guest_heap.specs.Branches.{AreParts};
-
-    ghost PARTS: { ℕ };
-
-    const PARTS: usize;
-
-    ghost ALL: { ℕ };
-
-    const ALL: usize;
-
-    ghost parts: { AreParts PARTS Self.PLACES ALL };
 }
 
 #[tactic(auto, unfolding(crate::specs::Entries::entries_at))]
@@ -77,7 +65,38 @@ pub(crate) fn get_in<P: Part>(slot: &Option<Rc<P>>, at: usize) -> Option<&Entry>
     }
 }
 
-/// Changes a part of its own, which is left out once it has no blocks.
+/// A new part, with an entry at one of its places.
+fn part_with<P: Part>(
+    alloc: Global,
+    at: usize,
+    entry: Option<Rc<Entry>>,
+) -> Result<Rc<P>, AllocError>
+    requires { at < P.PLACES }
+    ensures { IfOk result (λ part. P.entries part.value ≡ with_entry (λ _. None) at (entry_of entry)) }
+{
+    let mut part = P::empty(alloc)?;
+    part.set(alloc, at, entry)?;
+    Ok(Rc::new(alloc, part)?)
+}
+
+/// Changes a part of its own; whether it has no blocks then.
+fn set_shared<P: Part>(
+    shared: &mut Rc<P>,
+    alloc: Global,
+    at: usize,
+    entry: Option<Rc<Entry>>,
+) -> Result<bool, AllocError>
+    requires { at < P.PLACES }
+    ensures ok { OnOk result (P.entries shared.new.value ≡ with_entry (P.entries shared.old.value) at (entry_of entry)) }
+    ensures empty { IfOk result (λ empty. IsTrue empty → P.entries shared.new.value ≡ (λ _. None)) }
+    ensures err { OnErr result (P.entries shared.new.value ≡ P.entries shared.old.value) }
+{
+    let part = Rc::make_mut(shared)?;
+    part.set(alloc, at, entry)?;
+    Ok(part.is_empty())
+}
+
+/// Changes a part, which is left out once it has no blocks.
 #[tactic(auto, unfolding(crate::specs::Entries::entries_at))]
 pub(crate) fn set_in<P: Part>(
     slot: &mut Option<Rc<P>>,
@@ -91,20 +110,13 @@ pub(crate) fn set_in<P: Part>(
 {
     match slot {
         Some(shared) => {
-            let part = Rc::make_mut(shared)?;
-            part.set(alloc, at, entry)?;
-            if part.is_empty() {
+            if set_shared(shared, alloc, at, entry)? {
                 *slot = None;
             }
-            Ok(())
         }
-        None => {
-            let mut part = P::empty(alloc)?;
-            part.set(alloc, at, entry)?;
-            *slot = Some(Rc::new(alloc, part)?);
-            Ok(())
-        }
+        None => *slot = Some(part_with(alloc, at, entry)?),
     }
+    Ok(())
 }
 
 /// The first place from this one on that has a block.

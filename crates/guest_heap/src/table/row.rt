@@ -1,13 +1,26 @@
 //! Parts in a row, each of which may be absent, or shared with copies.
-ghost use Rattle.std.specs.Prelude.{◌≡◌, ◌<◌, ◌≤◌, vec_len, IfOk, OnOk, OnErr, IsTrue, None};
-ghost use Rattle.std.specs.Option.{option_copied};
+ghost use Rattle.std.specs.Prelude.{◌≡◌, ◌<◌, ◌≤◌, vec_len, OnOk, OnErr};
 ghost use Rattle.guest_heap.specs.Entries.{entry_of};
-ghost use Rattle.guest_heap.specs.Branches.{grid_of, with_cell, begin_in, end_in, IsNextIn, IsLastIn};
+ghost use Rattle.guest_heap.specs.Rows.{grid_of, with_cell, begin_in, end_in};
+ghost use Rattle.guest_heap.specs.Sizes.{parts_of, IsSize};
 
 use crate::entry::Entry;
-use crate::table::part::{InRow, Part, get_in, last_in, next_in, set_in};
+use crate::region::SLOTS;
+use crate::table::part::{Part, get_in, last_in, next_in, set_in};
 use std::alloc::{AllocError, Global};
 use std::rc::Rc;
+
+/// How many places a row of 64 rows of 64 leaves has.
+const THIRD_LEVEL: usize = 262144;
+
+/// How many parts a row has, each with so many places: 64, or as many as the heap region has where one is a row of 64 rows of 64 leaves.
+#[tactic(auto, unfolding(crate::specs::Sizes::parts_of))]
+const fn parts_of(each: usize) -> usize
+    requires { IsSize each }
+    ensures { result ≡ parts_of each }
+{
+    if each < THIRD_LEVEL { 64 } else { SLOTS / each }
+}
 
 /// Where in a part a search upwards begins, which begins at a place of one.
 fn begin_in(part: usize, at: usize, i: usize) -> usize
@@ -23,28 +36,18 @@ fn end_in(places: usize, part: usize, at: usize, i: usize) -> usize
     if i == part { at } else { places }
 }
 
+/// Parts in a row, the places of which are numbered through.
 #[derive(Drop)]
 pub(crate) struct Row<P> {
     // From its end on there is no part.
     parts: Vec<Option<Rc<P>>>,
 }
 
-#[tactic(auto, unfolding(crate::specs::Branches::grid_of))]
+#[tactic(auto, unfolding(crate::specs::Rows::grid_of))]
 impl<P: Part> Row<P> {
-    /// What is at a place of a part.
-    fn get_at(&self, part: usize, at: usize) -> Option<&Entry>
-        requires { at < P.PLACES }
-        ensures { option_copied result ≡ grid_of P.entries self.now part at }
-    {
-        if part < self.parts.len() {
-            return get_in(&self.parts[part], at);
-        }
-        None
-    }
-
     /// Makes room for a part, by its number.
     fn grow(&mut self, part: usize) -> Result<(), AllocError>
-        requires { part < 33554432 }
+        requires { part ≤ 33554432 }
         ensures same { grid_of P.entries self.new ≡ grid_of P.entries self.old }
         ensures room { OnOk result (part < vec_len self.new.parts) }
     {
@@ -77,121 +80,85 @@ impl<P: Part> Row<P> {
             self.parts.pop();
         }
     }
+}
 
-    fn set_at(
+#[tactic(auto, unfolding(crate::specs::Rows::grid_of, crate::specs::Rows::entries_along))]
+impl<P: Part> Part for Row<P> {
+    ghost use Rattle.guest_heap.specs.Rows.{entries_along};
+    ghost use Rattle.guest_heap.specs.Sizes.{places_of, row_sized};
+
+    ghost PLACES = { places_of P.PLACES };
+
+    const PLACES: usize = parts_of(P::PLACES) * P::PLACES;
+
+    ghost entries = { entries_along P.PLACES P.entries };
+
+    fn empty(alloc: Global) -> Result<Row<P>, AllocError> {
+        Ok(Row {
+            parts: Vec::new(alloc),
+        })
+    }
+
+    fn is_empty(&self) -> bool {
+        self.parts.is_empty()
+    }
+
+    fn get(&self, at: usize) -> Option<&Entry> {
+        let each = P::PLACES;
+        let part = at / each;
+        if part < self.parts.len() {
+            return get_in(&self.parts[part], at % each);
+        }
+        None
+    }
+
+    fn set(
         &mut self,
         alloc: Global,
-        part: usize,
         at: usize,
         entry: Option<Rc<Entry>>,
-    ) -> Result<(), AllocError>
-        requires part { part < 33554432 }
-        requires within { at < P.PLACES }
-        ensures ok { OnOk result (grid_of P.entries self.new ≡ with_cell (grid_of P.entries self.old) part at (entry_of entry)) }
-        ensures err { OnErr result (grid_of P.entries self.new ≡ grid_of P.entries self.old) }
-    {
+    ) -> Result<(), AllocError> {
+        let each = P::PLACES;
+        let part = at / each;
         self.grow(part)?;
-        self.write(alloc, part, at, entry)?;
+        self.write(alloc, part, at % each, entry)?;
         self.shrink();
         Ok(())
     }
 
-    /// The first place that has a block, from a place of one part on, in the parts up to, not with, another.
-    fn next_at(&self, part: usize, at: usize, end: usize) -> Option<(usize, usize)>
-        requires { at < P.PLACES }
-        ensures { IsNextIn (grid_of P.entries self.now) P.PLACES part at end result }
-    {
-        for i in part..self.parts.len().min(end) {
-            if let Some(found) = next_in(&self.parts[i], begin_in(part, at, i)) {
-                return Some((i, found));
+    fn next_from(&self, at: usize) -> Option<usize> {
+        let each = P::PLACES;
+        let (part, place) = (at / each, at % each);
+        for i in part..self.parts.len().min(parts_of(each)) {
+            if let Some(found) = next_in(&self.parts[i], begin_in(part, place, i)) {
+                return Some(i * each + found);
             }
         }
         None
     }
 
-    /// The last place that has a block, below a place of a part.
-    fn last_at(&self, part: usize, at: usize) -> Option<(usize, usize)>
-        requires part { part ≤ 33554432 }
-        requires within { at < P.PLACES }
-        ensures { IsLastIn (grid_of P.entries self.now) P.PLACES part at result }
-    {
+    fn last_below(&self, at: usize) -> Option<usize> {
+        let each = P::PLACES;
+        let (part, place) = (at / each, at % each);
         for i in (0..(part + 1).min(self.parts.len())).rev() {
-            if let Some(found) = last_in(&self.parts[i], end_in(P::PLACES, part, at, i)) {
-                return Some((i, found));
+            if let Some(found) = last_in(&self.parts[i], end_in(each, part, place, i)) {
+                return Some(i * each + found);
             }
         }
         None
     }
+
+    ghost sized = { row_sized P.PLACES P.sized };
+
+    ghost clones_same = { λ row copy same. same };
 }
 
-#[tactic(auto, unfolding(crate::specs::Branches::entries_along))]
-impl<P: InRow> Row<P> {
-    ghost use Rattle.guest_heap.specs.Entries.{with_entry, IsNext, IsLast};
-    ghost use Rattle.guest_heap.specs.Branches.{entries_along};
-
-    pub(crate) fn new(alloc: Global) -> Row<P>
-        ensures { entries_along P.PLACES P.entries result ≡ (λ _. None) }
-    {
-        Row {
-            parts: Vec::new(alloc),
-        }
-    }
-
-    pub(crate) fn is_empty(&self) -> bool
-        ensures { IsTrue result → entries_along P.PLACES P.entries self.now ≡ (λ _. None) }
-    {
-        self.parts.is_empty()
-    }
-
-    pub(crate) fn get(&self, at: usize) -> Option<&Entry>
-        ensures { option_copied result ≡ entries_along P.PLACES P.entries self.now at }
-    {
-        self.get_at(at / P::PLACES, at % P::PLACES)
-    }
-
-    pub(crate) fn set(
-        &mut self,
-        alloc: Global,
-        at: usize,
-        entry: Option<Rc<Entry>>,
-    ) -> Result<(), AllocError>
-        requires { at < P.ALL }
-        ensures ok { OnOk result (entries_along P.PLACES P.entries self.new ≡ with_entry (entries_along P.PLACES P.entries self.old) at (entry_of entry)) }
-        ensures err { OnErr result (entries_along P.PLACES P.entries self.new ≡ entries_along P.PLACES P.entries self.old) }
-    {
-        self.set_at(alloc, at / P::PLACES, at % P::PLACES, entry)
-    }
-
-    /// The first place from this one on that has a block.
-    pub(crate) fn next_from(&self, at: usize) -> Option<usize>
-        ensures { IsNext (entries_along P.PLACES P.entries self.now) at P.ALL result }
-    {
-        let each = P::PLACES;
-        match self.next_at(at / each, at % each, P::PARTS) {
-            Some((part, found)) => Some(part * each + found),
-            None => None,
-        }
-    }
-
-    /// The last place below this one that has a block.
-    pub(crate) fn last_below(&self, at: usize) -> Option<usize>
-        requires { at ≤ P.ALL }
-        ensures { IsLast (entries_along P.PLACES P.entries self.now) at result }
-    {
-        let each = P::PLACES;
-        match self.last_at(at / each, at % each) {
-            Some((part, found)) => Some(part * each + found),
-            None => None,
-        }
-    }
-}
-
-#[tactic(auto, unfolding(crate::specs::Branches::grid_of))]
+#[tactic(auto, unfolding(crate::specs::Rows::entries_along))]
 impl<P: Part> Clone for Row<P> {
     ghost use Rattle.std.specs.Prelude.{◌≡◌};
-    ghost use Rattle.guest_heap.specs.Branches.{grid_of};
+    ghost use Rattle.guest_heap.specs.Rows.{entries_along};
 
-    ghost is_clone = { λ row copy. grid_of P.entries copy ≡ grid_of P.entries row };
+    ghost is_clone = { λ row copy. entries_along P.PLACES P.entries copy ≡ entries_along P.PLACES P.entries row };
 
     fn clone(&self) -> Result<Row<P>, AllocError> {
         let parts = self.parts.clone()?;

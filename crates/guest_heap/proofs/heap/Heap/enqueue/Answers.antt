@@ -4,7 +4,7 @@ use Rattle.guest_heap.specs.Heaps.{blocks_of}
 use Rattle.guest_heap.specs.Blocks.{Blocks, freed_by}
 use Rattle.guest_heap.specs.States.{shown, volume_in}
 use Rattle.guest_heap.specs.Bounds.{AreBounds}
-use Rattle.guest_heap.specs.Entries.{block_of, entry_for}
+use Rattle.guest_heap.specs.Entries.{entry_for}
 use Rattle.guest_heap.specs.Tables.{entries_of}
 use Rattle.guest_heap.specs.Queues.{queued}
 use Rattle.guest_heap.specs.declared.entry.Entry.{Entry}
@@ -18,39 +18,39 @@ unfolding blocks_of
 slot_of-slot-requires c =
     let heap = c.args.self.now in
     let placed = (old (entries_of heap.live) (entries_of heap.freed) (queued heap.queue) heap.first heap.sound
-    (block_of c.args.entry.now) c.args.trace c.requires).placed in
+    c.args.block.now c.args.trace c.requires.live).placed in
     omega (arith, placed.low)
 
 pub invariant_of-self-2 : goal.invariant_of-self-2
 unfolding blocks_of
 invariant_of-self-2 c =
     let heap = c.args.self.now in
-    let P : ℕ → Entry = λ n. entry_for (freed_by c.args.trace (block_of c.args.entry.now)) n in
+    let P : ℕ → Entry = λ n. entry_for (freed_by c.args.trace c.args.block.now) n in
     let sizes = enqueued_volume (entries_of heap.live) (entries_of heap.freed) (queued heap.queue) heap.first heap.sound
-    (block_of c.args.entry.now) c.args.trace c.requires
+    c.args.block.now c.args.trace c.requires.live
     _ _ _ _ _ _ _ c.in_ok-move_to_freed.ensures.live c.in_ok-move_to_freed.ensures.freed c.push.ensures
     c.in_ok-prepare.ensures.same c.slot_of-slot.ensures refl (c.in_ok-freed.ensures ∙ ap P heap.numbered) in
     let lengths = enqueued_length (entries_of heap.live) (entries_of heap.freed) (queued heap.queue) heap.first
-    heap.sound (block_of c.args.entry.now) c.args.trace c.requires
+    heap.sound c.args.block.now c.args.trace c.requires.live
     _ _ _ _ _ _ _ c.in_ok-move_to_freed.ensures.live c.in_ok-move_to_freed.ensures.freed c.push.ensures
     c.in_ok-prepare.ensures.same c.slot_of-slot.ensures refl (c.in_ok-freed.ensures ∙ ap P heap.numbered) in
     record {
       sound =
           enqueued_sound (entries_of heap.live) (entries_of heap.freed) (queued heap.queue) heap.first heap.sound
-          (block_of c.args.entry.now) c.args.trace c.requires
+          c.args.block.now c.args.trace c.requires.live
           _ _ _ _ _ _ _ c.in_ok-move_to_freed.ensures.live c.in_ok-move_to_freed.ensures.freed c.push.ensures
           c.in_ok-prepare.ensures.same c.slot_of-slot.ensures refl (c.in_ok-freed.ensures ∙ ap P heap.numbered);
       numbered = omega (arith, heap.numbered, lengths, c.in-Some.ensures);
       volume = omega (arith, heap.volume, sizes, c.in-Some-checked_add.ensures, c.from.ensures);
       bounded = (let Q : Blocks → Type 0 = λ bs. AreBounds bs heap.redzone (bounds_in heap.bounds) in
           subst Q (sym (enqueued_shown (entries_of heap.live) (entries_of heap.freed) (queued heap.queue) heap.first
-          heap.sound (block_of c.args.entry.now) c.args.trace c.requires
+          heap.sound c.args.block.now c.args.trace c.requires.live
           _ _ _ _ _ _ _ c.in_ok-move_to_freed.ensures.live c.in_ok-move_to_freed.ensures.freed c.push.ensures
           c.in_ok-prepare.ensures.same c.slot_of-slot.ensures refl
           (c.in_ok-freed.ensures ∙ ap P heap.numbered)))
-          (no_more_freed (shown (entries_of heap.live) (queued heap.queue)) (block_of c.args.entry.now) c.args.trace
+          (no_more_freed (shown (entries_of heap.live) (queued heap.queue)) c.args.block.now c.args.trace
           heap.redzone
-          (bounds_in heap.bounds) c.requires
+          (bounds_in heap.bounds) c.requires.live
           heap.bounded));
     }
 
@@ -58,9 +58,9 @@ pub returns-clause-ok : goal.returns-clause-ok
 unfolding blocks_of
 returns-clause-ok c =
     let heap = c.args.self.now in
-    let P : ℕ → Entry = λ n. entry_for (freed_by c.args.trace (block_of c.args.entry.now)) n in
+    let P : ℕ → Entry = λ n. entry_for (freed_by c.args.trace c.args.block.now) n in
     enqueued_shown (entries_of heap.live) (entries_of heap.freed) (queued heap.queue) heap.first heap.sound
-    (block_of c.args.entry.now) c.args.trace c.requires
+    c.args.block.now c.args.trace c.requires.live
     _ _ _ _ _ _ _ c.in_ok-move_to_freed.ensures.live c.in_ok-move_to_freed.ensures.freed c.push.ensures
     c.in_ok-prepare.ensures.same c.slot_of-slot.ensures refl (c.in_ok-freed.ensures ∙ ap P heap.numbered)
 
@@ -71,7 +71,7 @@ invariant_of-self-in-Break-branch-3 c =
     record {
       sound =
           spared_sound (entries_of heap.live) (entries_of heap.freed) (queued heap.queue) heap.first heap.sound
-          (block_of c.args.entry.now) c.args.trace c.requires
+          c.args.block.now c.args.trace c.requires.live
           _ _ _ _ _ c.in_err-move_to_freed.ensures.live_err c.prepare.ensures.same c.slot_of-slot.ensures
           c.in_err-move_to_freed.ensures.freed_err;
       numbered = heap.numbered ∙ ap (λ es. heap.first + length es) (sym c.prepare.ensures.same);

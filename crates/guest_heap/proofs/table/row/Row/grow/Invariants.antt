@@ -1,5 +1,5 @@
 use Rattle.std.proofs.Common.{◌≡◌, vec_len}
-use Rattle.guest_heap.specs.Branches.{grid_of}
+use Rattle.guest_heap.specs.Rows.{grid_of}
 use Rattle.guest_heap.proofs.table.row.Row.grow.Given as goal
 
 abbrev pub invariant-loop-i : goal.invariant-loop-i

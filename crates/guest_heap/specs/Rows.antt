@@ -1,13 +1,9 @@
 -- The entries of parts in a row, by the number of a part and the place in it, and by places numbered through.
-use Rattle.std.specs.Prelude.{ℕ, ◌+◌, ◌*◌, ◌<◌, ◌≤◌, ◌≡◌, ◌==◌, ◌/◌, ◌%◌, Option, Some, None}
+use Rattle.std.specs.Prelude.{ℕ, ◌+◌, ◌*◌, ◌<◌, ◌≤◌, ◌≡◌, ◌==◌, ◌/◌, ◌%◌, Option, None}
 use Rattle.std.specs.Prelude.{if◌then◌else◌, slice_index_or}
 use Rattle.guest_heap.specs.Entries.{Entries, entries_at, with_entry, AreNone, FirstAt, LastAt}
-use Rattle.guest_heap.specs.Leaves.{entries_in}
 use Rattle.guest_heap.specs.declared.entry.Entry.{Entry}
 use Rattle.guest_heap.specs.declared.table.row.Row.{Row}
-use Rattle.guest_heap.specs.declared.table.branch.Branch.{Branch}
-use Rattle.guest_heap.specs.declared.table.limb.Limb.{Limb}
-use Rattle.guest_heap.specs.declared.table.root.Root.{Root}
 
 abbrev pub Grid : Type 0
 Grid = ℕ → Entries
@@ -35,10 +31,6 @@ pub record FirstIn (grid : Grid) (places part at end i n : ℕ) : Type 0 where
   pub first : FirstAt (grid i) (begin_in part at i) places n
   pub none : AreNoneUpTo grid places part at i
 
-abbrev pub IsNextIn : Grid → ℕ → ℕ → ℕ → ℕ → Option (ℕ × ℕ) → Type 0
-IsNextIn grid places part at end None = AreNoneUpTo grid places part at end
-IsNextIn grid places part at end (Some (i, n)) = FirstIn grid places part at end i n
-
 -- the place in a part at which a search downwards begins: the given one in the last part, its end in the others
 abbrev pub end_in : ℕ → ℕ → ℕ → ℕ → ℕ
 end_in places part at i = if i == part then at else places
@@ -54,26 +46,6 @@ pub record LastIn (grid : Grid) (places part at i n : ℕ) : Type 0 where
   pub last : LastAt (grid i) (end_in places part at i) n
   pub none : AreNoneDownTo grid places part at (i + 1)
 
-abbrev pub IsLastIn : Grid → ℕ → ℕ → ℕ → Option (ℕ × ℕ) → Type 0
-IsLastIn grid places part at None = AreNoneDownTo grid places part at 0
-IsLastIn grid places part at (Some (i, n)) = LastIn grid places part at i n
-
 -- the entries of parts with w places each, by places numbered through
 unfoldable pub entries_along : {P : Type 0} → ℕ → (P → Entries) → Row P → Entries
 entries_along w entries row = λ k. grid_of entries row (k / w) (k % w)
-
--- the entries of 64 leaves, of 64 branches and of 128 limbs
-unfoldable pub entries_in_branch : Branch → Entries
-entries_in_branch branch = entries_along 64 entries_in branch.leaves
-
-unfoldable pub entries_in_limb : Limb → Entries
-entries_in_limb limb = entries_along 4096 entries_in_branch limb.branches
-
-unfoldable pub entries_in_root : Root → Entries
-entries_in_root root = entries_along 262144 entries_in_limb root.limbs
-
--- so many parts with w places each have so many places in all, of which there are no more than the heap region has
-pub record AreParts (parts w all : ℕ) : Type 0 where
-  pub some : 0 < w
-  pub whole : all ≡ parts * w
-  pub few : all ≤ 33554432

@@ -1,5 +1,0 @@
-use Rattle.guest_heap.specs.Branches.{grid_of, AreNoneDownTo}
-use Rattle.guest_heap.proofs.table.row.Row.last_at.Given as goal
-
-abbrev pub invariant-loop-i : goal.invariant-loop-i
-invariant-loop-i g l = AreNoneDownTo (grid_of g.P.Part.entries l.self) g.P.Part.PLACES l.part l.at l.i
