@@ -2,7 +2,7 @@
 use Rattle.std.proofs.Common.{◌≡◌, ℕ, ◌+◌, ◌*◌, ◌/◌, ◌%◌, ◌<◌, ◌≤◌, ◌==◌, inl, inr, is_some, false}
 use Rattle.std.proofs.Common.{Bool, Option, refl, cond, mul_comm, ap, ap₂, sym, ◌∙◌, subst, arith, eq-eqb}
 use Rattle.std.proofs.Math.Path.{fun_ext}
-use Rattle.std.proofs.Math.Nat.{mod-lt, div-mul-le_self, div-add-mod, div-lt_iff_lt-mul}
+use Rattle.std.proofs.Math.Nat.{mod-lt, mul-le-mul_right, div-mul-le_self, div-add-mod, div-lt_iff_lt-mul}
 use Rattle.std.proofs.lemmas.Nat.{le-div, div-mul-add, mod-mul-add, mul-add-lt}
 use Rattle.std.proofs.lemmas.Bool.{cases_lt}
 use Rattle.std.proofs.lemmas.Bool.Decides.{nat_tests}
@@ -228,6 +228,24 @@ number_fits w v sized each i n low less =
     let R : ℕ → Type 0 = λ x. i * x + n < places_of w in
     let below = subst R (sym each) ((row-numbering w sized.some).high i n (subst P each low) less) in
     let few = (row_sized w sized).few in
+    omega arith
+
+-- a place below the end of a search downwards
+pub end_within : (w v part at i end n : ℕ) → 0 < w → v ≡ w → end ≡ end_in v part (at % v) i → n < end → n < w
+end_within w v part at i end n some each is less =
+    let some-v : 0 < v = omega arith in
+    elim (same_or i part) [
+      | inl e ↦ (let same = end-same v part (at % v) i e in let rest = mod-lt at some-v in omega arith)
+      | inr d ↦ (let other = end-other v part (at % v) i d in omega arith)
+    ]
+
+-- the number of a place in a part that isn't past that of another number
+pub number_small : (w v at : ℕ) → IsSize w → at ≤ places_of w → (i n : ℕ) → i ≤ at / v → n < w → i * v + n < 67108864
+number_small w v at sized within i n below less =
+    let under = mul-le-mul_right v below in
+    let most = div-mul-le_self at v in
+    let few = sized.few in
+    let all = (row_sized w sized).few in
     omega arith
 
 module _ (grid : Grid) (w : ℕ) (sized : IsSize w) (at v p : ℕ) (each : v ≡ w) where
