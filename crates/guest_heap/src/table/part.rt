@@ -8,7 +8,7 @@ use std::alloc::{AllocError, Global};
 use std::rc::Rc;
 
 /// Places in a row, each for a block. A part that has none is left out of what it is a part of.
-pub(crate) trait Part: Clone + Drop {
+pub(crate) trait Part: Drop {
     ghost use Rattle.std.specs.Prelude.{ℕ};
     ghost use Rattle.guest_heap.specs.Entries.{Entries};
     ghost use Rattle.guest_heap.specs.Sizes.{IsSize};
@@ -25,17 +25,21 @@ pub(crate) trait Part: Clone + Drop {
     fn empty(alloc: Global) -> Result<Self, AllocError>
         ensures { IfOk result (λ part. entries part ≡ (λ _. None)) };
 
-    fn is_empty(&self) -> bool
-        ensures { IsTrue result → entries self.now ≡ (λ _. None) };
-
     fn get(&self, at: usize) -> Option<&Entry>
         requires { at < PLACES }
         ensures { option_copied result ≡ entries self.now at };
 
-    fn set(&mut self, alloc: Global, at: usize, entry: Option<Rc<Entry>>) -> Result<(), AllocError>
+    /// Changes what is at a place, in a part of its own where copies share the one behind the reference; whether it has no blocks then.
+    fn set(
+        shared: &mut Rc<Self>,
+        alloc: Global,
+        at: usize,
+        entry: Option<Rc<Entry>>,
+    ) -> Result<bool, AllocError>
         requires { at < PLACES }
-        ensures ok { OnOk result (entries self.new ≡ with_entry (entries self.old) at (entry_of entry)) }
-        ensures err { OnErr result (entries self.new ≡ entries self.old) };
+        ensures ok { OnOk result (entries shared.new.value ≡ with_entry (entries shared.old.value) at (entry_of entry)) }
+        ensures empty { IfOk result (λ empty. IsTrue empty → entries shared.new.value ≡ (λ _. None)) }
+        ensures err { OnErr result (entries shared.new.value ≡ entries shared.old.value) };
 
     /// The first place from this one on that has a block.
     fn next_from(&self, at: usize) -> Option<usize>
@@ -49,9 +53,6 @@ pub(crate) trait Part: Clone + Drop {
 
     /// There are some places, and no more than the heap region has.
     ghost sized: { IsSize PLACES };
-
-    /// A clone has the same blocks.
-    ghost clones_same: { (part copy : Self) → Self.is_clone part copy → entries copy ≡ entries part };
 }
 
 #[tactic(auto, unfolding(crate::specs::Entries::entries_at))]
@@ -74,26 +75,9 @@ fn part_with<P: Part>(
     requires { at < P.PLACES }
     ensures { IfOk result (λ part. P.entries part.value ≡ with_entry (λ _. None) at (entry_of entry)) }
 {
-    let mut part = P::empty(alloc)?;
-    part.set(alloc, at, entry)?;
-    Ok(Rc::new(alloc, part)?)
-}
-
-/// Changes a part of its own; whether it has no blocks then.
-fn set_shared<P: Part>(
-    shared: &mut Rc<P>,
-    alloc: Global,
-    at: usize,
-    entry: Option<Rc<Entry>>,
-) -> Result<bool, AllocError>
-    requires { at < P.PLACES }
-    ensures ok { OnOk result (P.entries shared.new.value ≡ with_entry (P.entries shared.old.value) at (entry_of entry)) }
-    ensures empty { IfOk result (λ empty. IsTrue empty → P.entries shared.new.value ≡ (λ _. None)) }
-    ensures err { OnErr result (P.entries shared.new.value ≡ P.entries shared.old.value) }
-{
-    let part = Rc::make_mut(shared)?;
-    part.set(alloc, at, entry)?;
-    Ok(part.is_empty())
+    let mut part = Rc::new(alloc, P::empty(alloc)?)?;
+    P::set(&mut part, alloc, at, entry)?;
+    Ok(part)
 }
 
 /// Changes a part, which is left out once it has no blocks.
@@ -110,7 +94,7 @@ pub(crate) fn set_in<P: Part>(
 {
     match slot {
         Some(shared) => {
-            if set_shared(shared, alloc, at, entry)? {
+            if P::set(shared, alloc, at, entry)? {
                 *slot = None;
             }
         }

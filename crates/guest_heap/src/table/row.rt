@@ -1,5 +1,5 @@
 //! Parts in a row, each of which may be absent, or shared with copies.
-ghost use Rattle.std.specs.Prelude.{◌≡◌, ◌<◌, ◌≤◌, vec_len, OnOk, OnErr};
+ghost use Rattle.std.specs.Prelude.{◌≡◌, ◌<◌, ◌≤◌, vec_len, OnOk, OnErr, IsTrue, None};
 ghost use Rattle.guest_heap.specs.Entries.{entry_of};
 ghost use Rattle.guest_heap.specs.Rows.{grid_of, with_cell, begin_in, end_in};
 ghost use Rattle.guest_heap.specs.Sizes.{parts_of, IsSize};
@@ -83,6 +83,32 @@ impl<P: Part> Row<P> {
 }
 
 #[tactic(auto, unfolding(crate::specs::Rows::grid_of, crate::specs::Rows::entries_along))]
+impl<P: Part> Row<P> {
+    ghost use Rattle.guest_heap.specs.Entries.{with_entry};
+    ghost use Rattle.guest_heap.specs.Rows.{entries_along};
+    ghost use Rattle.guest_heap.specs.Sizes.{places_of};
+
+    fn put(&mut self, alloc: Global, at: usize, entry: Option<Rc<Entry>>) -> Result<(), AllocError>
+        requires { at < places_of P.PLACES }
+        ensures ok { OnOk result (entries_along P.PLACES P.entries self.new ≡ with_entry (entries_along P.PLACES P.entries self.old) at (entry_of entry)) }
+        ensures err { OnErr result (entries_along P.PLACES P.entries self.new ≡ entries_along P.PLACES P.entries self.old) }
+    {
+        let each = P::PLACES;
+        let part = at / each;
+        self.grow(part)?;
+        self.write(alloc, part, at % each, entry)?;
+        self.shrink();
+        Ok(())
+    }
+
+    fn is_empty(&self) -> bool
+        ensures { IsTrue result → entries_along P.PLACES P.entries self.now ≡ (λ _. None) }
+    {
+        self.parts.is_empty()
+    }
+}
+
+#[tactic(auto, unfolding(crate::specs::Rows::grid_of, crate::specs::Rows::entries_along))]
 impl<P: Part> Part for Row<P> {
     ghost use Rattle.guest_heap.specs.Rows.{entries_along};
     ghost use Rattle.guest_heap.specs.Sizes.{places_of, row_sized};
@@ -99,10 +125,6 @@ impl<P: Part> Part for Row<P> {
         })
     }
 
-    fn is_empty(&self) -> bool {
-        self.parts.is_empty()
-    }
-
     fn get(&self, at: usize) -> Option<&Entry> {
         let each = P::PLACES;
         let part = at / each;
@@ -113,17 +135,14 @@ impl<P: Part> Part for Row<P> {
     }
 
     fn set(
-        &mut self,
+        shared: &mut Rc<Row<P>>,
         alloc: Global,
         at: usize,
         entry: Option<Rc<Entry>>,
-    ) -> Result<(), AllocError> {
-        let each = P::PLACES;
-        let part = at / each;
-        self.grow(part)?;
-        self.write(alloc, part, at % each, entry)?;
-        self.shrink();
-        Ok(())
+    ) -> Result<bool, AllocError> {
+        let row = Rc::make_mut(shared)?;
+        row.put(alloc, at, entry)?;
+        Ok(row.is_empty())
     }
 
     fn next_from(&self, at: usize) -> Option<usize> {
@@ -149,8 +168,6 @@ impl<P: Part> Part for Row<P> {
     }
 
     ghost sized = { row_sized P.PLACES P.sized };
-
-    ghost clones_same = { λ row copy same. same };
 }
 
 #[tactic(auto, unfolding(crate::specs::Rows::entries_along))]

@@ -1,7 +1,7 @@
 use Rattle.std.proofs.Common.{◌≡◌, arith, vec_len}
 use Rattle.std.proofs.lemmas.Bool.Decides.{nat_tests}
 use Rattle.guest_heap.proofs.Rows.{empty_along}
-use Rattle.guest_heap.proofs.table.row.RowPart.is_empty.Goals as goal
+use Rattle.guest_heap.proofs.table.row.Row.is_empty.Goals as goal
 
 pub returns : goal.returns
 returns g c = λ empty.
