@@ -29,6 +29,11 @@ pub(crate) trait Part: Drop {
         requires { at < PLACES }
         ensures { option_copied result ≡ entries self.now at };
 
+    fn put(&mut self, alloc: Global, at: usize, entry: Option<Rc<Entry>>) -> Result<(), AllocError>
+        requires { at < PLACES }
+        ensures ok { OnOk result (entries self.new ≡ with_entry (entries self.old) at (entry_of entry)) }
+        ensures err { OnErr result (entries self.new ≡ entries self.old) };
+
     /// Changes what is at a place, in a part of its own where copies share the one behind the reference; whether it has no blocks then.
     fn set(
         shared: &mut Rc<Self>,
@@ -75,9 +80,9 @@ fn part_with<P: Part>(
     requires { at < P.PLACES }
     ensures { IfOk result (λ part. P.entries part.value ≡ with_entry (λ _. None) at (entry_of entry)) }
 {
-    let mut part = Rc::new(alloc, P::empty(alloc)?)?;
-    P::set(&mut part, alloc, at, entry)?;
-    Ok(part)
+    let mut part = P::empty(alloc)?;
+    part.put(alloc, at, entry)?;
+    Ok(Rc::new(alloc, part)?)
 }
 
 /// Changes a part, which is left out once it has no blocks.

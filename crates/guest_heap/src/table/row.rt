@@ -84,22 +84,7 @@ impl<P: Part> Row<P> {
 
 #[tactic(auto, unfolding(crate::specs::Rows::grid_of, crate::specs::Rows::entries_along))]
 impl<P: Part> Row<P> {
-    ghost use Rattle.guest_heap.specs.Entries.{with_entry};
     ghost use Rattle.guest_heap.specs.Rows.{entries_along};
-    ghost use Rattle.guest_heap.specs.Sizes.{places_of};
-
-    fn put(&mut self, alloc: Global, at: usize, entry: Option<Rc<Entry>>) -> Result<(), AllocError>
-        requires { at < places_of P.PLACES }
-        ensures ok { OnOk result (entries_along P.PLACES P.entries self.new ≡ with_entry (entries_along P.PLACES P.entries self.old) at (entry_of entry)) }
-        ensures err { OnErr result (entries_along P.PLACES P.entries self.new ≡ entries_along P.PLACES P.entries self.old) }
-    {
-        let each = P::PLACES;
-        let part = at / each;
-        self.grow(part)?;
-        self.write(alloc, part, at % each, entry)?;
-        self.shrink();
-        Ok(())
-    }
 
     fn is_empty(&self) -> bool
         ensures { IsTrue result → entries_along P.PLACES P.entries self.now ≡ (λ _. None) }
@@ -132,6 +117,20 @@ impl<P: Part> Part for Row<P> {
             return get_in(&self.parts[part], at % each);
         }
         None
+    }
+
+    fn put(
+        &mut self,
+        alloc: Global,
+        at: usize,
+        entry: Option<Rc<Entry>>,
+    ) -> Result<(), AllocError> {
+        let each = P::PLACES;
+        let part = at / each;
+        self.grow(part)?;
+        self.write(alloc, part, at % each, entry)?;
+        self.shrink();
+        Ok(())
     }
 
     fn set(

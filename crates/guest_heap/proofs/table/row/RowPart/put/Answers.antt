@@ -6,7 +6,7 @@ use Rattle.guest_heap.specs.Sizes.{row_sized}
 use Rattle.guest_heap.proofs.FreeSteps.{on_any}
 use Rattle.guest_heap.proofs.Numbering.{written_by}
 use Rattle.guest_heap.proofs.Rows.{same_along}
-use Rattle.guest_heap.proofs.table.row.Row.put.Goals as goal
+use Rattle.guest_heap.proofs.table.row.RowPart.put.Goals as goal
 
 pub grow-requires : goal.grow-requires
 grow-requires g c =
