@@ -1,5 +1,5 @@
 -- The entries of parts in a row, by the number of a part and the place in it, and by places numbered through.
-use Rattle.std.specs.Prelude.{ℕ, ◌+◌, ◌*◌, ◌<◌, ◌≤◌, ◌≡◌, ◌==◌, ◌/◌, ◌%◌, Option, None}
+use Rattle.std.specs.Prelude.{ℕ, ◌+◌, ◌<◌, ◌≤◌, ◌==◌, ◌/◌, ◌%◌, Option, None}
 use Rattle.std.specs.Prelude.{if◌then◌else◌, slice_index_or}
 use Rattle.guest_heap.specs.Entries.{Entries, entries_at, with_entry, AreNone, FirstAt, LastAt}
 use Rattle.guest_heap.specs.declared.entry.Entry.{Entry}

@@ -1,4 +1,4 @@
-use Rattle.std.proofs.Common.{ap, ap₂, subst, sym, ◌*◌, ◌∙◌, ◌≡◌, ℕ, Fits, w64, arith}
+use Rattle.std.proofs.Common.{ap, ap₂, ◌*◌, ◌∙◌, ◌≡◌, arith}
 use Rattle.guest_heap.specs.Sizes.{places_of, parts_of, row_sized}
 use Rattle.guest_heap.proofs.table.row.RowPart.PLACES.Goals as goal
 
