@@ -1,5 +1,5 @@
 //! How first uses are entered, looked up and forgotten.
-ghost use Rattle.std.specs.Prelude.{◌≡◌, ℕ, ◌+◌, ◌-◌, ◌*◌, ◌/◌, ◌%◌, ◌^◌, ◌<◌, ◌≤◌, slice_index_or, slice_set, if◌then◌else◌, true, map, min, max, length, IfOk, IfSome, IsTrue, Some};
+ghost use Rattle.std.specs.Prelude.{◌≡◌, ℕ, ◌+◌, ◌-◌, ◌*◌, ◌/◌, ◌%◌, ◌^◌, ◌<◌, ◌≤◌, slice_index_or, slice_set, if◌then◌else◌, true, map, min, max, length, IfOk, IfSome, IsTrue, Some, is_some};
 ghost use Rattle.std.specs.List.{list_any};
 ghost use Rattle.std.specs.List.Sorted.{IsNonDecreasingBy};
 ghost use Rattle.run_values.specs.declared.span.Span.{Span as SpanOf};
@@ -395,6 +395,7 @@ impl FirstUses {
         ensures ranges { ranges_of self.new ≡ ranges_of self.old }
         ensures clean { IsClean self.new (step + 1) }
         ensures entries { EntersAt step (has_touched touched.now) self.old self.new }
+        ensures took { result ≡ is_some touched.now.fetch }
     {
         if touched.fetch.is_none() {
             self.enter_apart(*touched, step);

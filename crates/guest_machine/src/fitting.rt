@@ -40,10 +40,9 @@ impl DecodeCache {
             (entry_at self.new.entries.items place).addr 4 (little_word (window (bytes_in other.now) (entry_at self.new.entries.items place).addr 4)) }
     {
         let addr = self.entries[place].addr;
-        if addr % 4 == 0 && has_word_of(memory, other, addr) {
-            return;
+        if addr % 4 == 0 && !has_word_of(memory, other, addr) {
+            self.drop_at(place);
         }
-        self.drop_at(place);
     }
 
     /// Takes out each entry, unless a memory has its word as another one has it.

@@ -14,8 +14,7 @@
 //! |---|---|
 //! | [`Machine::start`] | the machine before the first step of an image |
 //! | [`Machine::step`] | the machine after one step, and the ranges whose bytes it took or wrote |
-//! | [`Machine::step_uncounted`] | the same, on no meter |
-//! | [`Machine::step_on`] | the same, and doesn't tell whether it raised an error |
+//! | [`Machine::step_on`] | the same, on no meter, and doesn't tell whether it raised an error |
 //! | [`Machine::run`] | the machine many steps later |
 //! | [`Machine::mark`] | the machine with a range made inaccessible, undefined or defined |
 //! | [`Machine::poke_word`] | the machine with the four bytes at an address changed |
@@ -26,7 +25,7 @@
 //! | [`Machine::status`], [`Machine::pc`], [`Machine::register`] | whether it runs, and its registers |
 //! | [`Machine::position`], [`Machine::end_seen`] | how much of the input was read so far, and whether its end was seen |
 //! | [`Machine::output_len`], [`Machine::heap_calls`] | what was written and called so far |
-//! | [`Machine::has_raised`] | whether the last step raised an error |
+//! | [`Machine::has_raised`] | whether the last step by [`Machine::step`] raised an error |
 //! | [`Machine::memory`], [`Machine::heap`] | the bytes with what is known of them, and the blocks of the heap |
 //! | [`Machine::groups`] | the errors so far, in order of first occurrence |
 //! | [`Hooks::new`], [`Hooks::at`] | the functions of the heap that are called by name, from a list in order of address; the one that begins at an address |

@@ -490,23 +490,10 @@ impl Machine {
         Ok((machine, touched))
     }
 
-    /// One step, and the ranges whose bytes it took or wrote, for a caller that counts its steps itself. [`Machine::has_raised`] then
-    /// tells whether the step raised an error. A machine for which memory fails is dropped.
+    /// One step, and the ranges whose bytes it took or wrote. [`Machine::has_raised`] then tells whether the step raised an error. The meter
+    /// rises by one. A machine for which memory fails is dropped, and the meter stays.
     #[inline(always)]
     #[tactic(auto, unfolding(crate::specs::Shows::Shows, crate::specs::Shows::has_raised))]
-    pub fn step_uncounted(self, setup: &Setup) -> Result<(Machine, Touched), AllocError>
-        ensures shows { IfOk result (λ r. (s : State) → Shows self s → Shows r.0 (exec s setup.now)) }
-        ensures touched { IfOk result (λ r. (s : State) → Shows self s → r.1 ≡ touched_of s setup.now) }
-        ensures raised { IfOk result (λ r. (s : State) → Shows self s
-            → has_raised r.0 ≡ nat_lt (length s.events) (length (exec s setup.now).events)) }
-    {
-        let mut machine = self;
-        let touched = machine.guest.step(setup)?;
-        Ok((machine, touched))
-    }
-
-    /// The same. The meter rises by one; where memory fails, it stays.
-    #[inline(always)]
     pub fn step(self, setup: &Setup, meter: &mut Meter) -> Result<(Machine, Touched), AllocError>
         ensures shows { IfOk result (λ r. (s : State) → Shows self s → Shows r.0 (exec s setup.now)) }
         ensures touched { IfOk result (λ r. (s : State) → Shows self s → r.1 ≡ touched_of s setup.now) }
@@ -515,9 +502,10 @@ impl Machine {
         ensures meter { OnOk result (meter.new ≡ min (meter.old + 1) u64.MAX) }
         ensures unmoved { OnErr result (meter.new ≡ meter.old) }
     {
-        let stepped = self.step_uncounted(setup)?;
+        let mut machine = self;
+        let touched = machine.guest.step(setup)?;
         meter.rise();
-        Ok(stepped)
+        Ok((machine, touched))
     }
 
     /// So many steps. The meter rises by as many, also where the machine halts on the way: a step of a halted one leaves it as it is
