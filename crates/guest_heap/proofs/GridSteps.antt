@@ -31,4 +31,8 @@ module _ (grid : Grid) (places part at : ℕ) where
         let N : ℕ → Type 0 = AreNoneDownTo grid places part at in
         let P : Entries → Type 0 = λ f. LastAt f begin n in
         let Q : ℕ → Type 0 = λ b. LastAt (grid i) b n in
-        record { below = below; last = subst Q (from ∙ ap (λ x. end_in x part at i) each) (subst P here found); none = subst N more none }
+        record {
+          below = below;
+          last = subst Q (from ∙ ap (λ x. end_in x part at i) each) (subst P here found);
+          none = subst N more none;
+        }

@@ -9,7 +9,8 @@ pub returns-clause-ok : goal.returns-clause-ok
 returns-clause-ok g c =
     let entries = entries_along g.P.Part.PLACES g.P.Part.entries in
     let kept = c.make_mut.follows.holds c.put.new.self (is_ok _ _ c.in_ok-row.was) in
-    let same = own_part entries (λ row copy. entries copy ≡ entries row) (λ row copy h. h) _ _ c.in_ok-row.ensures.value in
+    let same =
+        own_part entries (λ row copy. entries copy ≡ entries row) (λ row copy h. h) _ _ c.in_ok-row.ensures.value in
     ap entries kept ∙ c.in_ok-put.ensures.ok ∙ ap (λ es. with_entry es c.args.at (entry_of c.args.entry)) same
 
 pub returns-clause-empty : goal.returns-clause-empty
@@ -22,5 +23,6 @@ pub returns-in_err-put-clause-err : goal.returns-in_err-put-clause-err
 returns-in_err-put-clause-err g c =
     let entries = entries_along g.P.Part.PLACES g.P.Part.entries in
     let kept = c.make_mut.follows.holds c.put.new.self (is_ok _ _ c.in_ok-row.was) in
-    let same = own_part entries (λ row copy. entries copy ≡ entries row) (λ row copy h. h) _ _ c.in_ok-row.ensures.value in
+    let same =
+        own_part entries (λ row copy. entries copy ≡ entries row) (λ row copy h. h) _ _ c.in_ok-row.ensures.value in
     (on_any _ (ap entries kept ∙ c.in_err-put.ensures.err ∙ same)).1
