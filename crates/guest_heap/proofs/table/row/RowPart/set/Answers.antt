@@ -10,7 +10,7 @@ returns-clause-ok g c =
     let entries = entries_along g.P.Part.PLACES g.P.Part.entries in
     let kept = c.make_mut.follows.holds c.put.new.self (is_ok _ _ c.in_ok-row.was) in
     let same =
-        own_part entries (λ row copy. entries copy ≡ entries row) (λ row copy h. h) _ _ c.in_ok-row.ensures.value in
+    own_part entries (λ row copy. entries copy ≡ entries row) (λ row copy h. h) _ _ c.in_ok-row.ensures.value in
     ap entries kept ∙ c.in_ok-put.ensures.ok ∙ ap (λ es. with_entry es c.args.at (entry_of c.args.entry)) same
 
 pub returns-clause-empty : goal.returns-clause-empty
@@ -24,5 +24,5 @@ returns-in_err-put-clause-err g c =
     let entries = entries_along g.P.Part.PLACES g.P.Part.entries in
     let kept = c.make_mut.follows.holds c.put.new.self (is_ok _ _ c.in_ok-row.was) in
     let same =
-        own_part entries (λ row copy. entries copy ≡ entries row) (λ row copy h. h) _ _ c.in_ok-row.ensures.value in
+    own_part entries (λ row copy. entries copy ≡ entries row) (λ row copy h. h) _ _ c.in_ok-row.ensures.value in
     (on_any _ (ap entries kept ∙ c.in_err-put.ensures.err ∙ same)).1
