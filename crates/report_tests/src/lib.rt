@@ -8,6 +8,8 @@ mod outlines;
 #[cfg(test)]
 mod reports;
 #[cfg(test)]
+mod runs;
+#[cfg(test)]
 mod searches;
 #[cfg(test)]
 mod trails;

@@ -2,17 +2,18 @@
 //! an edit first shows: a trail that is asked for step n makes those from the last multiple of 1024 that it holds, or n has.
 ghost use Rattle.checkpoints.specs.Trails.{LoadsAs};
 
-use checkpoints::{Effect, Fork, Trail, run_to};
+use crate::runs::setup_of;
+use checkpoints::{Effect, Fork, Sought, Trail, Watch, run_to};
 use guest_elf::{Image, read};
-use guest_machine::{Hooks, Input, Machine, Mark, Meter, Setup, Status, Stop};
-use guest_programs::{program, sized_program};
+use guest_machine::{Input, Machine, Mark, Meter, Setup, Span, Status, Stop};
+use guest_programs::sized_program;
 use shadow_memory::RangeKind;
 use std::alloc::{AllocError, Global};
-use std::test::Fail;
+use std::process::Abort;
 
 /// `lui x5, 0x10; lw x6, 20(x5); addi x5, x5, 4; beq x6, x0, -8; ebreak`: the words from 0x10014 on are read until one isn't 0,
 /// word i of them in step 1 + 3i.
-pub(crate) const READS_ON: [u32; 5] = [
+const READS_ON: [u32; 5] = [
     0x0001_02B7,
     0x0142_A303,
     0x0042_8293,
@@ -21,7 +22,7 @@ pub(crate) const READS_ON: [u32; 5] = [
 ];
 
 /// `read(0, x2, 4)` in step 5, and an exit with the second byte.
-pub(crate) const EXITS_WITH_INPUT: [u32; 10] = [
+const EXITS_WITH_INPUT: [u32; 10] = [
     0x03F0_0893,
     0x0000_0513,
     0xFF01_0113,
@@ -53,45 +54,57 @@ const READS_BYTES: [u32; 13] = [
     0x0000_0073,
 ];
 
-/// The programs of the table.
+/// The programs of the tables.
 #[derive(Clone, Copy)]
-enum Program {
+pub(crate) enum Program {
+    /// Runs at 0x10008 in steps 2 + 3i, and reads the word at 0x10014 + 4i in step 1 + 3i.
     ReadsOn,
+    /// Has a frame from 0x7FFFFFE0 on from step 2 on, is given two bytes there in step 5, reads the second in step 6, and is halted from
+    /// step 10 on.
     ExitsWithInput,
     /// Reads to the end, so many bytes a call.
     ReadsBytes(u32),
 }
 
+/// The words of a program that asks for so many bytes a call.
+fn reads_bytes(len: u32) -> [u32; 13] {
+    let mut words = READS_BYTES;
+    words[1] |= len << 20;
+    words
+}
+
 impl Program {
-    fn words(self, alloc: Global) -> Result<Vec<u32>, AllocError> {
+    /// Its file, with zeros behind its words.
+    fn file(self, alloc: Global) -> Result<Vec<u8>, AllocError> {
         match self {
-            Program::ReadsOn => READS_ON.to_vec(alloc),
-            Program::ExitsWithInput => EXITS_WITH_INPUT.to_vec(alloc),
-            Program::ReadsBytes(len) => {
-                let mut words = READS_BYTES.to_vec(alloc)?;
-                words[1] |= len << 20;
-                Ok(words)
-            }
+            Program::ReadsOn => sized_program(alloc, &READS_ON, 0x2000),
+            Program::ExitsWithInput => sized_program(alloc, &EXITS_WITH_INPUT, 0x2000),
+            Program::ReadsBytes(len) => sized_program(alloc, &reads_bytes(len), 0x2000),
         }
     }
 }
 
-/// The steps made on a trail so far; and of the machine that was asked for last its status, its pc and how many errors it has.
+/// The steps made on a trail so far; and of the machine that was asked for its status, its pc and how many errors it has.
 type Told = (u64, Status, u32, usize);
+
+/// The step of a fork; and of the machine at a step of the edited run, how many steps were made for it, its status and its pc.
+type Forked = (u32, u64, Status, u32);
+
+/// A step that was found, and how many steps were made to find it.
+pub(crate) type Found = (Option<u32>, u64);
 
 const RUNS: Status = Status::Running;
 
 const ENDS: Status = Status::Stopped(Stop::Break);
 
-/// What is done to a trail.
-#[derive(Clone, Copy)]
-enum Act {
+/// What is done to a trail, and what is told then.
+pub(crate) enum Act {
     /// The machine at a step is asked for.
-    Ask(u32),
+    Ask(u32, Told),
     /// A word is patched.
     Patch(u32, u32),
-    /// A mark of four bytes, with its step and address, is put at the end of the list.
-    AddMark(u32, u32, RangeKind),
+    /// A mark is put at the end of the list.
+    AddMark(Mark),
     /// The first mark is taken away.
     TakeMark,
     /// The input is another, from an offset on.
@@ -100,46 +113,32 @@ enum Act {
     Append(u8),
     /// The redzone is another.
     SetRedzone(u32),
+    /// At a byte of the input there is a fork, from which another input goes on to step 5000.
+    ForkAtByte(u32, &'static [u8], Forked),
+    /// At a word there is one, from which another word goes on to step 4000.
+    ForkAtWord(u32, u32, Forked),
+    /// The run up to a step, without the trail: the steps that were made, and the status.
+    Run(u32, (u64, Status)),
+    /// The next and the last step at which something is met in a range of addresses, from a step on and below one.
+    Search((Watch, u32, u32), (u32, u32), [Found; 2]),
 }
 
-/// An input that grows from nothing and shrinks again.
-const GROWS_AND_SHRINKS: [Act; 11] = [
-    Act::Ask(5000),
-    Act::Append(b'a'),
-    Act::Ask(5000),
-    Act::ReplaceInput(0, b""),
-    Act::Ask(5000),
-    Act::Append(b'b'),
-    Act::Ask(5000),
-    Act::Append(b'c'),
-    Act::Ask(5000),
-    Act::ReplaceInput(1, b"b"),
-    Act::Ask(5000),
-];
+/// A label, a program, and what is done to its trail.
+pub(crate) type Case = (&'static str, Program, &'static [Act]);
 
-/// A label, a program, what is done to its trail, and what is told of each machine that was asked for.
-type Case = (&'static str, Program, &'static [Act], &'static [Told]);
-
-const CASES: [Case; 8] = [
+const EDITS: [Case; 4] = [
     // A word that isn't read by the step asked for, and one that is read in step 1201.
     (
         "words that are read late",
         Program::ReadsOn,
         &[
-            Act::Ask(3000),
+            Act::Ask(3000, (3000, RUNS, 0x1000C, 0)),
             Act::Patch(0x112D4, 1),
-            Act::Ask(3000),
-            Act::Ask(4000),
+            Act::Ask(3000, (3952, RUNS, 0x1000C, 0)),
+            Act::Ask(4000, (5904, ENDS, 0x10010, 0)),
             Act::Patch(0x10654, 1),
-            Act::Ask(4000),
-            Act::Ask(1204),
-        ],
-        &[
-            (3000, RUNS, 0x1000C, 0),
-            (3952, RUNS, 0x1000C, 0),
-            (5904, ENDS, 0x10010, 0),
-            (8880, ENDS, 0x10010, 0),
-            (9060, RUNS, 0x10010, 0),
+            Act::Ask(4000, (8880, ENDS, 0x10010, 0)),
+            Act::Ask(1204, (9060, RUNS, 0x10010, 0)),
         ],
     ),
     // A word that is read in step 4, there and back; and one that is read in step 1024: the machine at 1024 is kept and has the word.
@@ -147,19 +146,13 @@ const CASES: [Case; 8] = [
         "words that are read early, there and back",
         Program::ReadsOn,
         &[
-            Act::Ask(3000),
+            Act::Ask(3000, (3000, RUNS, 0x1000C, 0)),
             Act::Patch(0x10018, 1),
-            Act::Ask(3000),
+            Act::Ask(3000, (6000, ENDS, 0x10010, 0)),
             Act::Patch(0x10018, 0),
-            Act::Ask(3000),
+            Act::Ask(3000, (9000, RUNS, 0x1000C, 0)),
             Act::Patch(0x10568, 1),
-            Act::Ask(3000),
-        ],
-        &[
-            (3000, RUNS, 0x1000C, 0),
-            (6000, ENDS, 0x10010, 0),
-            (9000, RUNS, 0x1000C, 0),
-            (10976, ENDS, 0x10010, 0),
+            Act::Ask(3000, (10976, ENDS, 0x10010, 0)),
         ],
     ),
     // Marks at steps 2500, 1024 and 1023, of which the first is taken away; and another redzone, where no heap call was made. The one
@@ -168,25 +161,32 @@ const CASES: [Case; 8] = [
         "marks, and another redzone",
         Program::ReadsOn,
         &[
-            Act::Ask(3000),
-            Act::AddMark(2500, 0x10D18, RangeKind::Undefined),
-            Act::Ask(3000),
-            Act::AddMark(1024, 0x20000, RangeKind::Defined),
-            Act::Ask(3000),
-            Act::AddMark(1023, 0x20000, RangeKind::Defined),
-            Act::Ask(3000),
+            Act::Ask(3000, (3000, RUNS, 0x1000C, 0)),
+            Act::AddMark(Mark {
+                step: 2500,
+                addr: 0x10D18,
+                len: 4,
+                kind: RangeKind::Undefined,
+            }),
+            Act::Ask(3000, (3952, RUNS, 0x1000C, 1)),
+            Act::AddMark(Mark {
+                step: 1024,
+                addr: 0x20000,
+                len: 4,
+                kind: RangeKind::Defined,
+            }),
+            Act::Ask(3000, (5928, RUNS, 0x1000C, 1)),
+            Act::AddMark(Mark {
+                step: 1023,
+                addr: 0x20000,
+                len: 4,
+                kind: RangeKind::Defined,
+            }),
+            Act::Ask(3000, (8928, RUNS, 0x1000C, 1)),
             Act::TakeMark,
-            Act::Ask(3000),
+            Act::Ask(3000, (9880, RUNS, 0x1000C, 0)),
             Act::SetRedzone(0),
-            Act::Ask(3000),
-        ],
-        &[
-            (3000, RUNS, 0x1000C, 0),
-            (3952, RUNS, 0x1000C, 1),
-            (5928, RUNS, 0x1000C, 1),
-            (8928, RUNS, 0x1000C, 1),
-            (9880, RUNS, 0x1000C, 0),
-            (10832, RUNS, 0x1000C, 0),
+            Act::Ask(3000, (10832, RUNS, 0x1000C, 0)),
         ],
     ),
     // An input, another second byte of it, and an earlier step.
@@ -195,30 +195,32 @@ const CASES: [Case; 8] = [
         Program::ExitsWithInput,
         &[
             Act::ReplaceInput(0, b"ab"),
-            Act::Ask(10),
+            Act::Ask(10, (10, Status::Exited(98), 0x10024, 0)),
             Act::ReplaceInput(1, b"a\x07"),
-            Act::Ask(10),
-            Act::Ask(5),
-        ],
-        &[
-            (10, Status::Exited(98), 0x10024, 0),
-            (20, Status::Exited(7), 0x10024, 0),
-            (25, RUNS, 0x10014, 0),
+            Act::Ask(10, (20, Status::Exited(7), 0x10024, 0)),
+            Act::Ask(5, (25, RUNS, 0x10014, 0)),
         ],
     ),
+];
+
+const BYTES: [Case; 4] = [
     // Bytes put at the input's end and taken off it. Of n bytes each is read by a call of its own, and the end is seen in step
     // 1205(n + 1): a trail with one byte more or less at the end than n has the machines up to there.
     (
         "bytes at the end, one a call",
         Program::ReadsBytes(1),
-        &GROWS_AND_SHRINKS,
         &[
-            (5000, Status::Exited(0), 0x10030, 0),
-            (8976, Status::Exited(1), 0x10030, 0),
-            (12952, Status::Exited(0), 0x10030, 0),
-            (16928, Status::Exited(1), 0x10030, 0),
-            (19880, Status::Exited(2), 0x10030, 0),
-            (22832, Status::Exited(1), 0x10030, 0),
+            Act::Ask(5000, (5000, Status::Exited(0), 0x10030, 0)),
+            Act::Append(b'a'),
+            Act::Ask(5000, (8976, Status::Exited(1), 0x10030, 0)),
+            Act::ReplaceInput(0, b""),
+            Act::Ask(5000, (12952, Status::Exited(0), 0x10030, 0)),
+            Act::Append(b'b'),
+            Act::Ask(5000, (16928, Status::Exited(1), 0x10030, 0)),
+            Act::Append(b'c'),
+            Act::Ask(5000, (19880, Status::Exited(2), 0x10030, 0)),
+            Act::ReplaceInput(1, b"b"),
+            Act::Ask(5000, (22832, Status::Exited(1), 0x10030, 0)),
         ],
     ),
     // From two bytes.
@@ -227,36 +229,33 @@ const CASES: [Case; 8] = [
         Program::ReadsBytes(1),
         &[
             Act::ReplaceInput(0, b"ab"),
-            Act::Ask(5000),
+            Act::Ask(5000, (5000, Status::Exited(2), 0x10030, 0)),
             Act::Append(b'c'),
-            Act::Ask(5000),
+            Act::Ask(5000, (6928, Status::Exited(3), 0x10030, 0)),
             Act::ReplaceInput(2, b"ab"),
-            Act::Ask(5000),
+            Act::Ask(5000, (8856, Status::Exited(2), 0x10030, 0)),
             Act::ReplaceInput(1, b"a"),
-            Act::Ask(5000),
+            Act::Ask(5000, (11808, Status::Exited(1), 0x10030, 0)),
             Act::Append(b'b'),
-            Act::Ask(5000),
-        ],
-        &[
-            (5000, Status::Exited(2), 0x10030, 0),
-            (6928, Status::Exited(3), 0x10030, 0),
-            (8856, Status::Exited(2), 0x10030, 0),
-            (11808, Status::Exited(1), 0x10030, 0),
-            (14760, Status::Exited(2), 0x10030, 0),
+            Act::Ask(5000, (14760, Status::Exited(2), 0x10030, 0)),
         ],
     ),
     // The first call asks for four bytes, and sees the end where there are fewer.
     (
         "bytes at the end, four a call",
         Program::ReadsBytes(4),
-        &GROWS_AND_SHRINKS,
         &[
-            (5000, Status::Exited(0), 0x10030, 0),
-            (8976, Status::Exited(1), 0x10030, 0),
-            (12952, Status::Exited(0), 0x10030, 0),
-            (16928, Status::Exited(1), 0x10030, 0),
-            (20904, Status::Exited(2), 0x10030, 0),
-            (24880, Status::Exited(1), 0x10030, 0),
+            Act::Ask(5000, (5000, Status::Exited(0), 0x10030, 0)),
+            Act::Append(b'a'),
+            Act::Ask(5000, (8976, Status::Exited(1), 0x10030, 0)),
+            Act::ReplaceInput(0, b""),
+            Act::Ask(5000, (12952, Status::Exited(0), 0x10030, 0)),
+            Act::Append(b'b'),
+            Act::Ask(5000, (16928, Status::Exited(1), 0x10030, 0)),
+            Act::Append(b'c'),
+            Act::Ask(5000, (20904, Status::Exited(2), 0x10030, 0)),
+            Act::ReplaceInput(1, b"b"),
+            Act::Ask(5000, (24880, Status::Exited(1), 0x10030, 0)),
         ],
     ),
     // It sees no end where there are just four: that shows a call later.
@@ -265,36 +264,44 @@ const CASES: [Case; 8] = [
         Program::ReadsBytes(4),
         &[
             Act::ReplaceInput(0, b"abc"),
-            Act::Ask(5000),
+            Act::Ask(5000, (5000, Status::Exited(3), 0x10030, 0)),
             Act::Append(b'd'),
-            Act::Ask(5000),
+            Act::Ask(5000, (8976, Status::Exited(4), 0x10030, 0)),
             Act::Append(b'e'),
-            Act::Ask(5000),
+            Act::Ask(5000, (11928, Status::Exited(5), 0x10030, 0)),
             Act::ReplaceInput(4, b"abcd"),
-            Act::Ask(5000),
+            Act::Ask(5000, (14880, Status::Exited(4), 0x10030, 0)),
             Act::ReplaceInput(3, b"abc"),
-            Act::Ask(5000),
-        ],
-        &[
-            (5000, Status::Exited(3), 0x10030, 0),
-            (8976, Status::Exited(4), 0x10030, 0),
-            (11928, Status::Exited(5), 0x10030, 0),
-            (14880, Status::Exited(4), 0x10030, 0),
-            (18856, Status::Exited(3), 0x10030, 0),
+            Act::Ask(5000, (18856, Status::Exited(3), 0x10030, 0)),
         ],
     ),
 ];
 
-/// Memcheck's redzone and volume of freed blocks, and an input.
-pub(crate) fn setup(alloc: Global, input: &[u8]) -> Result<Setup, AllocError> {
-    let input = Input::new(input.to_vec(alloc)?);
-    Ok(Setup {
-        input,
-        redzone: 16,
-        volume: 20_000_000,
-        hooks: Hooks::new(Vec::new(alloc)),
-    })
-}
+const FORKS: [Case; 3] = [
+    // The second byte is read in step 2410; of three bytes each is read by a call of its own.
+    (
+        "another input goes on from a fork",
+        Program::ReadsBytes(1),
+        &[
+            Act::ReplaceInput(0, b"ab"),
+            Act::ForkAtByte(1, b"acd", (2410, 2590, Status::Exited(3), 0x10030)),
+        ],
+    ),
+    // The word is read in step 1201.
+    (
+        "another word goes on from a fork",
+        Program::ReadsOn,
+        &[Act::ForkAtWord(0x10654, 1, (1201, 2799, ENDS, 0x10010))],
+    ),
+    (
+        "a run has no need of a trail",
+        Program::ExitsWithInput,
+        &[
+            Act::ReplaceInput(0, b"a\x07"),
+            Act::Run(10, (10, Status::Exited(7))),
+        ],
+    ),
+];
 
 /// A trail, with the input, the heap's settings and the marks that are edited.
 #[derive(Drop)]
@@ -307,6 +314,42 @@ struct Edited<'a> {
     marks: Vec<Mark>,
 }
 
+/// Whether a machine goes on from a fork as it is told, with no marks.
+fn goes_on(
+    fork: &Fork,
+    effect: Effect,
+    setup: &Setup,
+    step: u32,
+    told: &Forked,
+) -> Result<bool, AllocError> {
+    if step < fork.step {
+        return Ok(false);
+    }
+    let mut meter = Meter::new();
+    let machine = fork.follow(effect, setup, &[], step, &mut meter)?;
+    let (at, made, status, pc) = told;
+    Ok(
+        fork.step == *at
+            && meter.read() == *made
+            && machine.status() == *status
+            && machine.pc() == *pc,
+    )
+}
+
+/// Whether a run of an image ends as it is told.
+fn runs(
+    alloc: Global,
+    image: &Image,
+    setup: &Setup,
+    step: u32,
+    told: &(u64, Status),
+) -> Result<bool, AllocError> {
+    let start = Machine::start(alloc, image)?;
+    let mut meter = Meter::new();
+    let machine = run_to(start, setup, &[], step, &mut meter)?;
+    Ok(meter.read() == told.0 && machine.status() == told.1)
+}
+
 impl<'a> Edited<'a> {
     /// The trail of a program with no input, no marks and the settings of Memcheck.
     fn begin(alloc: Global, image: Image<'a>) -> Result<Self, AllocError> {
@@ -315,165 +358,223 @@ impl<'a> Edited<'a> {
             alloc,
             image,
             trail,
-            setup: setup(alloc, b"")?,
+            setup: setup_of(alloc, Input::new(Vec::new(alloc))),
             marks: Vec::new(alloc),
         })
     }
 
-    /// What is told of the machine at a step.
-    fn ask(&mut self, step: u32) -> Result<Told, AllocError> {
+    /// Whether that is told of the machine at a step.
+    fn asks(&mut self, step: u32, told: &Told) -> Result<bool, AllocError> {
         let machine = self.trail.at(step, &self.setup, &self.marks)?;
-        let worked = self.trail.meter().read();
-        Ok((
-            worked,
-            machine.status(),
-            machine.pc(),
-            machine.groups().len(),
-        ))
+        let (made, status, pc, errors) = told;
+        Ok(
+            self.trail.meter().read() == *made
+                && machine.status() == *status
+                && machine.pc() == *pc
+                && machine.groups().len() == *errors,
+        )
     }
 
-    /// Patches a word whose bytes are loaded.
-    fn patch(&mut self, addr: u32, word: u32) -> Result<(), AllocError> {
-        if addr % 4 == 0 && self.image.patchable(addr) {
-            self.trail.follow(Effect::Word { addr, word })?;
+    /// Patches a word, if its bytes are loaded.
+    fn patches(&mut self, addr: u32, word: u32) -> Result<bool, AllocError> {
+        if addr % 4 != 0 || !self.image.patchable(addr) {
+            return Ok(false);
         }
-        Ok(())
+        self.trail.follow(Effect::Word { addr, word })?;
+        Ok(true)
     }
 
-    /// A fork at a word whose bytes are loaded.
-    fn fork_at_word(&mut self, addr: u32, last: u32) -> Result<Option<Fork>, AllocError> {
-        if last >= 1 << 31 || addr % 4 != 0 || !self.image.patchable(addr) {
-            return Ok(None);
-        }
-        let fork = self
-            .trail
-            .fork_at_word(addr, last, &self.setup, &self.marks)?;
-        Ok(Some(fork))
+    fn adds_mark(&mut self, mark: Mark) -> Result<bool, AllocError> {
+        self.marks.push(mark)?;
+        self.trail.cut(Effect::After(mark.step));
+        Ok(true)
     }
 
     /// Takes the first mark away, if there is one.
-    fn take_mark(&mut self) {
-        if !self.marks.is_empty() {
-            let mark = self.marks.remove(0);
-            self.trail.cut(Effect::After(mark.step));
+    fn takes_mark(&mut self) -> bool {
+        if self.marks.is_empty() {
+            return false;
         }
+        let mark = self.marks.remove(0);
+        self.trail.cut(Effect::After(mark.step));
+        true
     }
 
-    /// Does what is to be done, and tells of the machine, if one was asked for.
-    fn perform(&mut self, act: Act) -> Result<Option<Told>, AllocError> {
+    fn replaces_input(&mut self, offset: u32, bytes: &[u8]) -> Result<bool, AllocError> {
+        self.setup.input = Input::new(bytes.to_vec(self.alloc)?);
+        self.trail.cut(Effect::Input(offset));
+        Ok(true)
+    }
+
+    fn appends(&mut self, byte: u8) -> Result<bool, AllocError> {
+        self.setup.input.push(byte)?;
+        self.trail.cut(Effect::End);
+        Ok(true)
+    }
+
+    fn sets_redzone(&mut self, len: u32) -> bool {
+        self.setup.redzone = len;
+        self.trail.cut(Effect::Heap);
+        true
+    }
+
+    /// Whether another input goes on from a fork as it is told.
+    fn forks_at_byte(
+        &mut self,
+        offset: u32,
+        other: &[u8],
+        told: &Forked,
+    ) -> Result<bool, AllocError> {
+        let setup = setup_of(self.alloc, Input::new(other.to_vec(self.alloc)?));
+        let fork = self
+            .trail
+            .fork_at_byte(offset, 5000, &self.setup, &self.marks)?;
+        goes_on(&fork, Effect::Input(offset), &setup, 5000, told)
+    }
+
+    /// Whether another word whose bytes are loaded does.
+    fn forks_at_word(&mut self, addr: u32, word: u32, told: &Forked) -> Result<bool, AllocError> {
+        if addr % 4 != 0 || !self.image.patchable(addr) {
+            return Ok(false);
+        }
+        let fork = self
+            .trail
+            .fork_at_word(addr, 4000, &self.setup, &self.marks)?;
+        goes_on(&fork, Effect::Word { addr, word }, &self.setup, 4000, told)
+    }
+
+    /// Whether the next step is found that is sought.
+    fn finds_next(
+        &mut self,
+        sought: Sought,
+        steps: (u32, u32),
+        found: &Found,
+    ) -> Result<bool, AllocError> {
+        let mut meter = Meter::new();
+        let next = self.trail.next(
+            sought,
+            steps.0,
+            steps.1,
+            &self.setup,
+            &self.marks,
+            &mut meter,
+        )?;
+        Ok(next == found.0 && meter.read() == found.1)
+    }
+
+    /// Whether the last one is.
+    fn finds_last(
+        &mut self,
+        sought: Sought,
+        steps: (u32, u32),
+        found: &Found,
+    ) -> Result<bool, AllocError> {
+        let mut meter = Meter::new();
+        let last = self.trail.last(
+            sought,
+            steps.0,
+            steps.1,
+            &self.setup,
+            &self.marks,
+            &mut meter,
+        )?;
+        Ok(last == found.0 && meter.read() == found.1)
+    }
+
+    /// Whether both are, one after the other.
+    fn finds(
+        &mut self,
+        sought: Sought,
+        steps: (u32, u32),
+        found: &[Found; 2],
+    ) -> Result<bool, AllocError> {
+        if !self.finds_next(sought, steps, &found[0])? {
+            return Ok(false);
+        }
+        self.finds_last(sought, steps, &found[1])
+    }
+
+    /// Does what is to be done; whether that is told which is to be.
+    fn performs(&mut self, act: &Act) -> Result<bool, AllocError> {
         match act {
-            Act::Ask(step) => return Ok(Some(self.ask(step)?)),
-            Act::Patch(addr, word) => self.patch(addr, word)?,
-            Act::AddMark(step, addr, kind) => {
-                self.marks.push(Mark {
-                    step,
-                    addr,
-                    len: 4,
-                    kind,
-                })?;
-                self.trail.cut(Effect::After(step));
-            }
-            Act::TakeMark => self.take_mark(),
-            Act::ReplaceInput(offset, bytes) => {
-                self.setup.input = Input::new(bytes.to_vec(self.alloc)?);
-                self.trail.cut(Effect::Input(offset));
-            }
-            Act::Append(byte) => {
-                self.setup.input.push(byte)?;
-                self.trail.cut(Effect::End);
-            }
-            Act::SetRedzone(len) => {
-                self.setup.redzone = len;
-                self.trail.cut(Effect::Heap);
+            Act::Ask(step, told) => self.asks(*step, told),
+            Act::Patch(addr, word) => self.patches(*addr, *word),
+            Act::AddMark(mark) => self.adds_mark(*mark),
+            Act::TakeMark => Ok(self.takes_mark()),
+            Act::ReplaceInput(offset, bytes) => self.replaces_input(*offset, bytes),
+            Act::Append(byte) => self.appends(*byte),
+            Act::SetRedzone(len) => Ok(self.sets_redzone(*len)),
+            Act::ForkAtByte(offset, other, told) => self.forks_at_byte(*offset, other, told),
+            Act::ForkAtWord(addr, word, told) => self.forks_at_word(*addr, *word, told),
+            Act::Run(step, told) => runs(self.alloc, &self.image, &self.setup, *step, told),
+            Act::Search((watch, start, len), steps, found) => {
+                let range = Span {
+                    start: *start,
+                    len: *len,
+                };
+                let sought = Sought {
+                    watch: *watch,
+                    range,
+                };
+                self.finds(sought, *steps, found)
             }
         }
-        Ok(None)
     }
-}
 
-/// What is told of each machine that is asked for.
-fn told(alloc: Global, program: Program, acts: &[Act]) -> Result<Vec<Told>, Fail> {
-    let file = sized_program(alloc, &program.words(alloc)?, 0x2000)?;
-    let mut edited = Edited::begin(alloc, read(alloc, &file)?)?;
-    let mut told = Vec::new(alloc);
-    for act in acts {
-        if let Some(one) = edited.perform(*act)? {
-            told.push(one)?;
+    /// The same of each, one after another.
+    fn performs_all(&mut self, acts: &[Act]) -> Result<bool, AllocError> {
+        for act in acts {
+            if !self.performs(act)? {
+                return Ok(false);
+            }
         }
+        Ok(true)
     }
-    Ok(told)
 }
 
-#[test]
-fn edits_cost_what_follows_them(rt: HostRuntime) -> Result<(), Fail> {
-    for (label, program, acts, wanted) in CASES {
+/// Whether acts are performed on the trail of an image.
+fn are_performed_on(alloc: Global, image: Image<'_>, acts: &[Act]) -> Result<bool, AllocError> {
+    let mut edited = Edited::begin(alloc, image)?;
+    edited.performs_all(acts)
+}
+
+/// Whether they are on that of a file.
+fn are_performed_of(alloc: Global, file: &[u8], acts: &[Act]) -> Result<bool, AllocError> {
+    match read(alloc, file) {
+        Ok(image) => are_performed_on(alloc, image, acts),
+        Err(_) => Ok(false),
+    }
+}
+
+/// Whether the acts of a case are.
+fn are_performed(alloc: Global, case: &Case) -> Result<bool, AllocError> {
+    let (_, program, acts) = case;
+    let file = program.file(alloc)?;
+    are_performed_of(alloc, &file, acts)
+}
+
+/// Asserts that the acts of each case are performed.
+pub(crate) fn assert_performed(rt: &impl Abort, alloc: Global, cases: &[Case]) {
+    for case in cases {
         assert!(rt;
-            told(rt.alloc(), program, acts)?.as_slice() == wanted,
-            "{label}"
+            matches!(are_performed(alloc, case), Ok(true)),
+            "{}",
+            case.0
         );
     }
-    Ok(())
 }
 
 #[test]
-fn a_run_has_no_need_of_a_trail(rt: HostRuntime) -> Result<(), Fail> {
-    let file = program(rt.alloc(), &EXITS_WITH_INPUT)?;
-    let image = read(rt.alloc(), &file)?;
-    let setup = setup(rt.alloc(), b"a\x07")?;
-    let mut meter = Meter::new();
-    let start = Machine::start(rt.alloc(), &image)?;
-    let machine = run_to(start, &setup, &[], 10, &mut meter)?;
-    assert!(rt; (meter.read(), machine.status()) == (10, Status::Exited(7)));
-    Ok(())
+fn edits_cost_what_follows_them(rt: HostRuntime) {
+    assert_performed(&rt, rt.alloc(), &EDITS);
 }
 
-/// The step of a fork; and of the machine at a step of the edited run, how many steps were made for it, its status and its pc.
-type Forked = (u32, u64, Status, u32);
-
-/// What is told of a machine that goes on from a fork, with no marks.
-fn forked(
-    fork: &Fork,
-    effect: Effect,
-    setup: &Setup,
-    step: u32,
-) -> Result<Option<Forked>, AllocError> {
-    if step < fork.step {
-        return Ok(None);
-    }
-    let mut meter = Meter::new();
-    let machine = fork.follow(effect, setup, &[], step, &mut meter)?;
-    Ok(Some((fork.step, meter.read(), machine.status(), machine.pc())))
-}
-
-// The second byte is read in step 2410; of three bytes each is read by a call of its own.
 #[test]
-fn another_input_goes_on_from_a_fork(rt: HostRuntime) -> Result<(), Fail> {
-    let file = program(rt.alloc(), &Program::ReadsBytes(1).words(rt.alloc())?)?;
-    let mut trail = Trail::begin(rt.alloc(), &read(rt.alloc(), &file)?)?;
-    let fork = trail.fork_at_byte(1, 5000, &setup(rt.alloc(), b"ab")?, &[])?;
-    let other = setup(rt.alloc(), b"acd")?;
-    assert!(rt;
-        forked(&fork, Effect::Input(1), &other, 5000)?
-            == Some((2410, 2590, Status::Exited(3), 0x10030))
-    );
-    Ok(())
+fn bytes_at_the_end_cost_what_follows_them(rt: HostRuntime) {
+    assert_performed(&rt, rt.alloc(), &BYTES);
 }
 
-// The word is read in step 1201.
 #[test]
-fn another_word_goes_on_from_a_fork(rt: HostRuntime) -> Result<(), Fail> {
-    let file = sized_program(rt.alloc(), &READS_ON, 0x2000)?;
-    let mut edited = Edited::begin(rt.alloc(), read(rt.alloc(), &file)?)?;
-    if let Some(fork) = edited.fork_at_word(0x10654, 4000)? {
-        let effect = Effect::Word {
-            addr: 0x10654,
-            word: 1,
-        };
-        assert!(rt;
-            forked(&fork, effect, &edited.setup, 4000)? == Some((1201, 2799, ENDS, 0x10010))
-        );
-        return Ok(());
-    }
-    assert!(rt; false, "the word is loaded");
-    Ok(())
+fn forks_go_on(rt: HostRuntime) {
+    assert_performed(&rt, rt.alloc(), &FORKS);
 }
