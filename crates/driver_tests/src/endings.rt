@@ -10,7 +10,6 @@ use std::alloc::{AllocError, Global};
 use std::io;
 use std::io::ErrorKind;
 use std::process::Abort;
-use std::test::Fail;
 use suppressions::SuppFault;
 
 /// Three words: exit with status 0.
@@ -64,150 +63,246 @@ const REPORTS: [Report; 4] = [
     ),
 ];
 
-/// Whether the report on an image comes to what a row says.
-fn is_cut(alloc: Global, image: &Image<'_>, report: &Report) -> Result<bool, AllocError> {
-    let (_, room, flushes, input, want, sent) = *report;
-    let input = vec![in alloc; 0u8; input]?;
-    let mut writer = Room::new(alloc, room);
-    writer.flushes = flushes;
-    let end = run_once(alloc, image, input, &[], 3, &mut writer);
-    Ok(told(end) == want && writer.taken.len() == sent && REPORT.starts_with(&writer.taken))
+/// Whether the report on an image comes to what a row says, with an input, by what a writer takes.
+fn is_cut_to(
+    alloc: Global,
+    image: &Image<'_>,
+    input: Vec<u8>,
+    writer: &mut Room,
+    report: &Report,
+) -> bool {
+    let end = run_once(alloc, image, input, &[], 3, writer);
+    told(end) == report.4 && writer.taken.len() == report.5 && REPORT.starts_with(&writer.taken)
 }
 
-/// Asserts that of each row.
-fn are_cut(rt: &impl Abort, alloc: Global, image: &Image<'_>) -> Result<(), AllocError> {
-    for report in &REPORTS {
-        assert!(rt; is_cut(alloc, image, report)?, "{}", report.0);
+/// The same on a file.
+fn is_cut_of(alloc: Global, file: &[u8], report: &Report) -> Result<bool, AllocError> {
+    let input = vec![in alloc; 0u8; report.3]?;
+    let mut writer = Room::new(alloc, report.1);
+    writer.flushes = report.2;
+    match read(alloc, file) {
+        Ok(image) => Ok(is_cut_to(alloc, &image, input, &mut writer, report)),
+        Err(_) => Ok(false),
     }
-    Ok(())
+}
+
+/// The same on a new one.
+fn is_cut(alloc: Global, report: &Report) -> Result<bool, AllocError> {
+    let file = program(alloc, &EXITS)?;
+    is_cut_of(alloc, &file, report)
 }
 
 /// A write that fails has taken a front of the report, and a flush that fails all of it.
 #[test]
-fn a_report_is_cut(rt: HostRuntime) -> Result<(), Fail> {
-    let file = program(rt.alloc(), &EXITS)?;
-    let image = read(rt.alloc(), &file)?;
-    are_cut(&rt, rt.alloc(), &image)?;
-    Ok(())
+fn a_report_is_cut(rt: HostRuntime) {
+    for report in &REPORTS {
+        assert!(rt;
+            matches!(is_cut(rt.alloc(), report), Ok(true)),
+            "{}",
+            report.0
+        );
+    }
 }
 
-/// Ends, each with its status and its line.
-const ENDS: [(End<'static>, u8, &str); 17] = [
-    (End::Done, 0, ""),
+/// An end, with its status and its line.
+type Told = (End<'static>, u8, &'static [u8]);
+
+/// Whether a writer with so much room takes as much of an end's line, with its status.
+fn is_told(alloc: Global, row: &Told, room: usize) -> bool {
+    let (end, status, line) = row;
+    let mut writer = Room::new(alloc, room);
+    tell(end, &mut writer) == *status
+        && writer.taken.len() == line.len().min(room)
+        && line.starts_with(&writer.taken)
+}
+
+/// Asserts that each end has its status and its line, and of a line a front where a write fails.
+fn assert_told(rt: &impl Abort, alloc: Global, rows: &[Told]) {
+    for (i, row) in rows.iter().enumerate() {
+        assert!(rt;
+            is_told(alloc, row, 1000) && is_told(alloc, row, 24),
+            "end {i}"
+        );
+    }
+}
+
+const ENDS: [Told; 6] = [
+    (End::Done, 0, b""),
     (
         End::CannotRead("a file"),
         1,
-        "replaycheck: cannot read a file\n",
+        b"replaycheck: cannot read a file\n",
     ),
     (
         End::CannotReadInput,
         1,
-        "replaycheck: cannot read standard input\n",
+        b"replaycheck: cannot read standard input\n",
     ),
-    (End::CannotWrite, 1, "replaycheck: cannot write\n"),
-    (End::Usage, 2, ""),
+    (End::CannotWrite, 1, b"replaycheck: cannot write\n"),
+    (End::Usage, 2, b""),
     (
         End::NotText,
         2,
-        "error: invalid UTF-8 was detected in one or more arguments\n",
+        b"error: invalid UTF-8 was detected in one or more arguments\n",
     ),
+];
+
+#[test]
+fn ends_are_told(rt: HostRuntime) {
+    assert_told(&rt, rt.alloc(), &ENDS);
+}
+
+const FILE_ENDS: [Told; 6] = [
     (
         End::Image(ElfFault::Memory),
         4,
-        "replaycheck: out of memory\n",
+        b"replaycheck: out of memory\n",
     ),
     (
         End::Image(ElfFault::NotElf),
         3,
-        "replaycheck: image refused 20\n",
+        b"replaycheck: image refused 20\n",
     ),
     (
         End::Image(ElfFault::BadSymbols),
         3,
-        "replaycheck: image refused 31\n",
+        b"replaycheck: image refused 31\n",
     ),
     (
         End::Suppressions(SuppFault::Memory),
         4,
-        "replaycheck: out of memory\n",
+        b"replaycheck: out of memory\n",
     ),
     (
         End::Suppressions(SuppFault::BadSuppression(u32::MAX)),
         3,
-        "replaycheck: suppressions refused 13 at line 4294967295\n",
+        b"replaycheck: suppressions refused 13 at line 4294967295\n",
     ),
     (
         End::SuppressionsTooLong,
         3,
-        "replaycheck: suppressions refused 15\n",
+        b"replaycheck: suppressions refused 15\n",
     ),
-    (End::InputTooLarge, 3, "replaycheck: input refused 14\n"),
-    (End::BytesRefused, 3, "replaycheck: bytes refused 3\n"),
-    (End::WordsRefused, 3, "replaycheck: words refused 4\n"),
+];
+
+#[test]
+fn ends_by_files_are(rt: HostRuntime) {
+    assert_told(&rt, rt.alloc(), &FILE_ENDS);
+}
+
+const WORD_ENDS: [Told; 5] = [
+    (End::InputTooLarge, 3, b"replaycheck: input refused 14\n"),
+    (End::BytesRefused, 3, b"replaycheck: bytes refused 3\n"),
+    (End::WordsRefused, 3, b"replaycheck: words refused 4\n"),
     (
         End::BadText {
             option: SweepOption::Bytes,
             text: "5..x",
         },
         2,
-        "replaycheck: no range, list or part: --bytes 5..x\n",
+        b"replaycheck: no range, list or part: --bytes 5..x\n",
     ),
-    (End::NoMemory, 4, "replaycheck: out of memory\n"),
+    (End::NoMemory, 4, b"replaycheck: out of memory\n"),
 ];
 
-/// Whether an end has this status, and a writer with so much room takes as much of its line.
-fn is_told(alloc: Global, end: &End<'_>, status: u8, line: &str, room: usize) -> bool {
-    let mut writer = Room::new(alloc, room);
-    tell(end, &mut writer) == status
-        && writer.taken.len() == line.len().min(room)
-        && line.as_bytes().starts_with(&writer.taken)
+#[test]
+fn ends_by_words_are(rt: HostRuntime) {
+    assert_told(&rt, rt.alloc(), &WORD_ENDS);
 }
 
-/// Each end has its status and its line, and of a line a front where a write fails.
-#[test]
-fn each_end_is_told(rt: HostRuntime) {
-    for (end, status, line) in &ENDS {
-        let whole = is_told(rt.alloc(), end, *status, line, 1000);
-        let front = is_told(rt.alloc(), end, *status, line, 24);
-        assert!(rt; whole && front, "{line}");
+/// What an order writes.
+enum Written {
+    Nothing,
+    /// A report with something before it and after it.
+    Around(&'static [u8], &'static [u8]),
+    /// A table with this end.
+    Table(&'static [u8]),
+}
+
+/// Whether a text is that.
+fn is_written(text: &[u8], want: &Written) -> bool {
+    match want {
+        Written::Nothing => text.is_empty(),
+        Written::Around(before, after) => is_around(text, before, after),
+        Written::Table(end) => text.ends_with(end),
     }
 }
 
-/// How an order on a shelf with these suppressions ends, as its status, and what it writes.
-fn carried(alloc: Global, order: &Order<'_>, rules: &[u8]) -> Result<(u8, Vec<u8>), Fail> {
-    let file = program(alloc, &EXITS)?;
-    let shelf = Shelf {
-        program: &file,
-        rules,
-    };
-    let mut writer = Room::new(alloc, 1 << 20);
-    let mut reader = Script::new(b"goto 3\nreport\nlook last run 0x10008 4 0\n");
-    let end = run_order(alloc, order, &shelf, &mut reader, &mut writer);
-    let mut line = Room::new(alloc, 1 << 20);
-    Ok((tell(&end, &mut line), writer.taken))
-}
-
-/// Whether a text is a report with this around it, or nothing.
-fn is_around(written: &[u8], want: &Option<Around>) -> bool {
-    let Some((before, after)) = want else {
-        return written.is_empty();
-    };
-    match written.strip_prefix(*before) {
+/// Whether a text is a report with this around it.
+fn is_around(text: &[u8], before: &[u8], after: &[u8]) -> bool {
+    match text.strip_prefix(before) {
         Some(rest) => match rest.strip_prefix(REPORT) {
-            Some(rest) => rest == *after,
+            Some(rest) => rest == after,
             None => false,
         },
         None => false,
     }
 }
 
-/// An order on a program.
-fn order_of<'a>(file: &'a str, suppressions: Option<&'a str>, task: Task<'a>) -> Order<'a> {
-    Order {
+/// What a row shows; a file, whether it has suppressions, a command, and these suppressions on the shelf; the status that an order for
+/// that ends with, and what it writes.
+type Case = (
+    &'static str,
+    (&'static str, bool, Asked),
+    &'static [u8],
+    u8,
+    Written,
+);
+
+/// A command.
+enum Asked {
+    Task(Task<'static>),
+    /// A sweep over the input of the shelf: its bytes, words and part.
+    Sweep(Option<&'static str>, Option<&'static str>, &'static str),
+}
+
+/// An order's input and its command.
+fn task_of(asked: &Asked) -> (Option<&'static str>, Task<'static>) {
+    match asked {
+        Asked::Task(task) => (None, *task),
+        Asked::Sweep(bytes, words, part) => {
+            let words = SweepWords {
+                step: 3,
+                bytes: *bytes,
+                byte_values: "0,97",
+                words: *words,
+                word_values: "0x00100513,0x513",
+                part,
+                with_output: true,
+            };
+            (Some("input"), Task::Sweep(words))
+        }
+    }
+}
+
+/// Whether an order on a program ends so.
+fn is_carried_on(alloc: Global, program: &[u8], case: &Case) -> bool {
+    let (_, (file, has_rules, asked), rules, status, written) = case;
+    let (input, task) = task_of(asked);
+    let order = Order {
         file,
-        input: None,
-        suppressions,
+        input,
+        suppressions: if *has_rules { Some("rules") } else { None },
         task,
+    };
+    let shelf = Shelf { program, rules };
+    let mut writer = Room::new(alloc, 1 << 20);
+    let mut reader = Script::new(b"goto 3\nreport\nlook last run 0x10008 4 0\n");
+    let end = run_order(alloc, &order, &shelf, &mut reader, &mut writer);
+    let mut line = Room::new(alloc, 1 << 20);
+    tell(&end, &mut line) == *status && is_written(&writer.taken, written)
+}
+
+/// Whether one on a new program does.
+fn is_carried(alloc: Global, case: &Case) -> Result<bool, AllocError> {
+    let file = program(alloc, &EXITS)?;
+    Ok(is_carried_on(alloc, &file, case))
+}
+
+/// Asserts that orders are carried out.
+fn assert_carried(rt: &impl Abort, alloc: Global, cases: &[Case]) {
+    for case in cases {
+        assert!(rt; matches!(is_carried(alloc, case), Ok(true)), "{}", case.0);
     }
 }
 
@@ -215,106 +310,71 @@ const GOOD_RULES: &[u8] = b"{\n  any\n  Memcheck:Cond\n  fun:*\n}\n";
 
 const BAD_RULES: &[u8] = b"# an empty block\n{\n}\n";
 
-/// An order's file, the file of its suppressions, and its command.
-type Words = (&'static str, Option<&'static str>, Task<'static>);
-
-/// What is written before a report and after it.
-type Around = (&'static [u8], &'static [u8]);
-
-/// What a row shows; an order and the suppressions on the shelf; its status, and what is written around the report, if there is one.
-const ORDERS: [(&str, Words, &[u8], u8, Option<Around>); 7] = [
+/// A report, a session and one that looks.
+const ORDERS: [Case; 4] = [
     (
         "a report",
-        ("program", None, Task::Report(3)),
+        ("program", false, Asked::Task(Task::Report(3))),
         b"",
         0,
-        Some((b"", b"")),
+        Written::Around(b"", b""),
     ),
     (
         "with suppressions",
-        ("program", Some("rules"), Task::Report(3)),
+        ("program", true, Asked::Task(Task::Report(3))),
         GOOD_RULES,
         0,
-        Some((b"", b"")),
+        Written::Around(b"", b""),
     ),
     (
         "a session",
-        ("program", None, Task::Session),
+        ("program", false, Asked::Task(Task::Session)),
         b"",
         0,
-        Some((b"ok\n", b"refused 2\n")),
+        Written::Around(b"ok\n", b"refused 2\n"),
     ),
     (
         "a session that looks",
-        ("program", None, Task::Look),
+        ("program", false, Asked::Task(Task::Look)),
         b"",
         0,
-        Some((b"ok\n", b"step 2\n")),
-    ),
-    (
-        "no such program",
-        ("prog", Some("rules"), Task::Session),
-        BAD_RULES,
-        1,
-        None,
-    ),
-    (
-        "no ELF file",
-        ("input", Some("rules"), Task::Look),
-        BAD_RULES,
-        3,
-        None,
-    ),
-    (
-        "bad suppressions",
-        ("program", Some("rules"), Task::Session),
-        BAD_RULES,
-        3,
-        None,
+        Written::Around(b"ok\n", b"step 2\n"),
     ),
 ];
 
-/// Whether an order ends with this status and writes a report with this around it, or nothing.
-fn is_carried(
-    alloc: Global,
-    order: &Order<'_>,
-    rules: &[u8],
-    status: u8,
-    want: &Option<Around>,
-) -> Result<bool, Fail> {
-    let (came, written) = carried(alloc, order, rules)?;
-    Ok(came == status && is_around(&written, want))
-}
-
-/// A report, a session and one that looks, and files that keep one from being made.
 #[test]
-fn orders_are_carried_out(rt: HostRuntime) -> Result<(), Fail> {
-    for (label, (file, suppressions, task), rules, status, want) in &ORDERS {
-        let order = order_of(file, *suppressions, *task);
-        assert!(rt;
-            is_carried(rt.alloc(), &order, rules, *status, want)?,
-            "{label}"
-        );
-    }
-    Ok(())
+fn orders_are_carried_out(rt: HostRuntime) {
+    assert_carried(&rt, rt.alloc(), &ORDERS);
 }
 
-/// An order for a sweep of the program of the shelf with its input.
-fn sweep_of<'a>(bytes: Option<&'a str>, words: Option<&'a str>, part: &'a str) -> Order<'a> {
-    Order {
-        file: "program",
-        input: Some("input"),
-        suppressions: None,
-        task: Task::Sweep(SweepWords {
-            step: 3,
-            bytes,
-            byte_values: "0,97",
-            words,
-            word_values: "0x00100513,0x513",
-            part,
-            with_output: true,
-        }),
-    }
+/// Files that keep one from being made.
+const NO_ORDERS: [Case; 3] = [
+    (
+        "no such program",
+        ("prog", true, Asked::Task(Task::Session)),
+        BAD_RULES,
+        1,
+        Written::Nothing,
+    ),
+    (
+        "no ELF file",
+        ("input", true, Asked::Task(Task::Look)),
+        BAD_RULES,
+        3,
+        Written::Nothing,
+    ),
+    (
+        "bad suppressions",
+        ("program", true, Asked::Task(Task::Session)),
+        BAD_RULES,
+        3,
+        Written::Nothing,
+    ),
+];
+
+#[test]
+fn files_keep_orders_from_it(rt: HostRuntime) {
+    assert_carried(&rt, rt.alloc(), &NO_ORDERS);
 }
 
 /// The end of a table behind its digests: a word that makes the exit status 1; the values that stand there are no edits.
@@ -353,85 +413,117 @@ tally 0 3
 end 3 1 0
 ";
 
-/// What a row shows; the bytes, the words and the part of a sweep that isn't made; its status.
-type NoSweep = (
-    &'static str,
-    Option<&'static str>,
-    Option<&'static str>,
-    &'static str,
-    u8,
-);
-
-const NO_SWEEPS: [NoSweep; 4] = [
-    ("bytes outside of the input", Some("1..2"), None, "1/1", 3),
-    ("no word loaded", None, Some("0..0xffff"), "1/1", 3),
-    ("no range", Some("2..1"), None, "1/1", 2),
-    ("no part", None, None, "4/3", 2),
+/// Words, the second of three parts; and bytes, up to the last.
+const SWEEPS: [Case; 2] = [
+    (
+        "words",
+        (
+            "program",
+            false,
+            Asked::Sweep(None, Some("0x10000..0x1000b"), "2/3"),
+        ),
+        b"",
+        0,
+        Written::Table(WORD_TABLE),
+    ),
+    (
+        "bytes",
+        ("program", false, Asked::Sweep(Some("0.."), None, "1/1")),
+        b"",
+        0,
+        Written::Table(BYTE_TABLE),
+    ),
 ];
 
-/// Whether a sweep is made and writes a table with this end.
-fn is_swept(alloc: Global, order: &Order<'_>, want: &[u8]) -> Result<bool, Fail> {
-    let (came, written) = carried(alloc, order, b"")?;
-    Ok(came == 0 && written.ends_with(want))
-}
-
-/// Whether a sweep ends with this status and writes nothing.
-fn is_not_swept(alloc: Global, order: &Order<'_>, status: u8) -> Result<bool, Fail> {
-    let (came, written) = carried(alloc, order, b"")?;
-    Ok(came == status && written.is_empty())
-}
-
-/// Words, the second of three parts.
 #[test]
-fn words_are_swept(rt: HostRuntime) -> Result<(), Fail> {
-    let order = sweep_of(None, Some("0x10000..0x1000b"), "2/3");
-    assert!(rt; is_swept(rt.alloc(), &order, WORD_TABLE)?);
-    Ok(())
-}
-
-/// Bytes, up to the last.
-#[test]
-fn bytes_are_swept(rt: HostRuntime) -> Result<(), Fail> {
-    let order = sweep_of(Some("0.."), None, "1/1");
-    assert!(rt; is_swept(rt.alloc(), &order, BYTE_TABLE)?);
-    Ok(())
+fn sweeps_are_made(rt: HostRuntime) {
+    assert_carried(&rt, rt.alloc(), &SWEEPS);
 }
 
 /// Words that no sweep has.
+const NO_SWEEPS: [Case; 4] = [
+    (
+        "bytes outside of the input",
+        ("program", false, Asked::Sweep(Some("1..2"), None, "1/1")),
+        b"",
+        3,
+        Written::Nothing,
+    ),
+    (
+        "no word loaded",
+        (
+            "program",
+            false,
+            Asked::Sweep(None, Some("0..0xffff"), "1/1"),
+        ),
+        b"",
+        3,
+        Written::Nothing,
+    ),
+    (
+        "no range",
+        ("program", false, Asked::Sweep(Some("2..1"), None, "1/1")),
+        b"",
+        2,
+        Written::Nothing,
+    ),
+    (
+        "no part",
+        ("program", false, Asked::Sweep(None, None, "4/3")),
+        b"",
+        2,
+        Written::Nothing,
+    ),
+];
+
 #[test]
-fn sweeps_are_refused(rt: HostRuntime) -> Result<(), Fail> {
-    for (label, bytes, words, part, status) in &NO_SWEEPS {
-        let order = sweep_of(*bytes, *words, part);
-        assert!(rt; is_not_swept(rt.alloc(), &order, *status)?, "{label}");
-    }
-    Ok(())
+fn sweeps_are_refused(rt: HostRuntime) {
+    assert_carried(&rt, rt.alloc(), &NO_SWEEPS);
 }
 
-/// Whether a reader gave these bytes, or none: `!` for a file that can't be read, `?` for want of memory.
-fn gives(alloc: Global, opened: io::Result<Script<'_>>, most: usize, want: &[u8]) -> bool {
-    match read_opened(alloc, opened, most) {
+/// A file: one from which so many bytes are read before a read fails, one that isn't there, and one for which memory is wanting.
+enum Opened {
+    Script(usize),
+    Missing,
+    NoMemory,
+}
+
+/// A file of three bytes, how many are asked for, and what is given: `!` for a file that can't be read, `?` for want of memory.
+const FILES: [(Opened, usize, &[u8]); 6] = [
+    (Opened::Script(usize::MAX), 4, b"abc"),
+    (Opened::Script(usize::MAX), 3, b"abc"),
+    (Opened::Script(usize::MAX), 2, b"ab"),
+    (Opened::Script(2), 4, b"!"),
+    (Opened::Missing, 4, b"!"),
+    (Opened::NoMemory, 4, b"?"),
+];
+
+/// A file that is opened, or why it isn't.
+fn opened_of(opened: &Opened) -> io::Result<Script<'static>> {
+    match opened {
+        Opened::Script(bytes) => {
+            let mut script = Script::new(b"abc");
+            script.bytes = *bytes;
+            Ok(script)
+        }
+        Opened::Missing => Err(io::Error::from(ErrorKind::NotFound)),
+        Opened::NoMemory => Err(io::Error::from(ErrorKind::OutOfMemory)),
+    }
+}
+
+/// Whether a file gives that.
+fn gives(alloc: Global, opened: &Opened, most: usize, want: &[u8]) -> bool {
+    match read_opened(alloc, opened_of(opened), most) {
         Ok(bytes) => bytes.as_slice() == want,
         Err(ReadFault::Unreadable) => want == b"!".as_slice(),
         Err(ReadFault::NoMemory) => want == b"?".as_slice(),
     }
 }
 
-/// The first bytes of a file.
+/// The first bytes of a file, or why there are none.
 #[test]
 fn files_are_read(rt: HostRuntime) {
-    assert!(rt; gives(rt.alloc(), Ok(Script::new(b"abc")), 4, b"abc"));
-    assert!(rt; gives(rt.alloc(), Ok(Script::new(b"abc")), 3, b"abc"));
-    assert!(rt; gives(rt.alloc(), Ok(Script::new(b"abc")), 2, b"ab"));
-}
-
-/// Why there are none: a read fails, or the file isn't there or can't be opened for want of memory.
-#[test]
-fn files_are_not_read(rt: HostRuntime) {
-    let mut failing = Script::new(b"abc");
-    failing.bytes = 2;
-    assert!(rt; gives(rt.alloc(), Ok(failing), 4, b"!"));
-    let missing = io::Error::from(ErrorKind::NotFound);
-    assert!(rt; gives(rt.alloc(), Err(missing), 4, b"!"));
-    let no_memory = io::Error::from(ErrorKind::OutOfMemory);
-    assert!(rt; gives(rt.alloc(), Err(no_memory), 4, b"?"));
+    for (i, (opened, most, want)) in FILES.iter().enumerate() {
+        assert!(rt; gives(rt.alloc(), opened, *most, want), "file {i}");
+    }
 }

@@ -2,68 +2,165 @@
 use clap::error::ErrorKind;
 use command_line::{Order, SweepWords, Task, read_order};
 use std::alloc::{AllocError, Global};
-use std::test::Fail;
+use std::process::Abort;
 
 /// The words of a line, after the program's name.
-fn words_of(alloc: Global, line: &[&str]) -> Result<Vec<String>, Fail> {
+fn words_of(alloc: Global, line: &[&str]) -> Result<Vec<String>, AllocError> {
     let mut words = Vec::new(alloc);
-    words.push(format!(in alloc; "replaycheck")?)?;
+    words.push(String::from_str(alloc, "replaycheck")?)?;
     for word in line {
-        words.push(format!(in alloc; "{word}")?)?;
+        words.push(String::from_str(alloc, word)?)?;
     }
     Ok(words)
 }
 
-/// A sweep as a text, with `-` for what it leaves out.
-fn sweep_text(alloc: Global, asked: &SweepWords<'_>) -> Result<String, AllocError> {
-    let (step, part, output) = (asked.step, asked.part, asked.with_output);
-    let (bytes, byte_values) = (asked.bytes.unwrap_or("-"), asked.byte_values);
-    let (words, word_values) = (asked.words.unwrap_or("-"), asked.word_values);
-    format!(in alloc; "{step} {bytes} {byte_values} {words} {word_values} {part} {output}")
-}
-
-/// What is asked for, as a text.
-fn task_text(alloc: Global, task: &Task<'_>) -> Result<String, AllocError> {
-    match task {
-        Task::Report(step) => format!(in alloc; "{step}"),
-        Task::Session => format!(in alloc; "session"),
-        Task::Look => format!(in alloc; "look"),
-        Task::Sweep(asked) => sweep_text(alloc, asked),
+/// Whether two texts are the same, or neither is there.
+fn is_text(asked: Option<&str>, want: Option<&str>) -> bool {
+    match (asked, want) {
+        (Some(asked), Some(want)) => asked == want,
+        (None, None) => true,
+        _ => false,
     }
 }
 
-/// An order as a text: its files and what is asked for, with `-` for what it leaves out.
-fn text_of(alloc: Global, order: &Order<'_>) -> Result<String, AllocError> {
-    let file = order.file;
-    let input = order.input.unwrap_or("-");
-    let rules = order.suppressions.unwrap_or("-");
-    let task = task_text(alloc, &order.task)?;
-    format!(in alloc; "{file} {input} {rules} {task}")
+/// Whether two sweeps are the same.
+fn is_sweep(asked: &SweepWords<'_>, want: &SweepWords<'_>) -> bool {
+    asked.step == want.step
+        && is_text(asked.bytes, want.bytes)
+        && asked.byte_values == want.byte_values
+        && is_text(asked.words, want.words)
+        && asked.word_values == want.word_values
+        && asked.part == want.part
+        && asked.with_output == want.with_output
 }
 
-/// What a row shows, the words of a line, and its order as a text.
-const LINES: [(&str, &[&str], &str); 7] = [
-    ("the usual step", &["run", "program"], "program - - 1048576"),
+/// Whether two commands are.
+fn is_task(asked: &Task<'_>, want: &Task<'_>) -> bool {
+    match (asked, want) {
+        (Task::Report(step), Task::Report(at)) => step == at,
+        (Task::Session, Task::Session) => true,
+        (Task::Look, Task::Look) => true,
+        (Task::Sweep(asked), Task::Sweep(want)) => is_sweep(asked, want),
+        _ => false,
+    }
+}
+
+/// Whether two orders are.
+fn is_order(asked: &Order<'_>, want: &Order<'_>) -> bool {
+    asked.file == want.file
+        && is_text(asked.input, want.input)
+        && is_text(asked.suppressions, want.suppressions)
+        && is_task(&asked.task, &want.task)
+}
+
+/// What a row shows, the words of a line, and its order.
+type Line = (&'static str, &'static [&'static str], Order<'static>);
+
+/// Whether words give an order.
+fn give(alloc: Global, words: &[String], want: &Order<'_>) -> bool {
+    match read_order(alloc, words) {
+        Ok(order) => is_order(&order, want),
+        Err(_) => false,
+    }
+}
+
+/// Whether a line does.
+fn gives(alloc: Global, line: &Line) -> Result<bool, AllocError> {
+    let words = words_of(alloc, line.1)?;
+    Ok(give(alloc, &words, &line.2))
+}
+
+/// Asserts that lines give their orders.
+fn assert_given(rt: &impl Abort, alloc: Global, lines: &[Line]) {
+    for line in lines {
+        assert!(rt; matches!(gives(alloc, line), Ok(true)), "{}", line.0);
+    }
+}
+
+const REPORTS: [Line; 3] = [
+    (
+        "the usual step",
+        &["run", "program"],
+        Order {
+            file: "program",
+            input: None,
+            suppressions: None,
+            task: Task::Report(1_048_576),
+        },
+    ),
     (
         "the greatest step",
         &["run", "--step=4194304", "f"],
-        "f - - 4194304",
+        Order {
+            file: "f",
+            input: None,
+            suppressions: None,
+            task: Task::Report(4_194_304),
+        },
     ),
-    ("no minus", &["run", "f", "--step=-0"], "f - - 0"),
+    (
+        "no minus",
+        &["run", "f", "--step=-0"],
+        Order {
+            file: "f",
+            input: None,
+            suppressions: None,
+            task: Task::Report(0),
+        },
+    ),
+];
+
+#[test]
+fn reports_are_ordered(rt: HostRuntime) {
+    assert_given(&rt, rt.alloc(), &REPORTS);
+}
+
+const SESSIONS: [Line; 2] = [
     (
         "a session with files",
         &["session", "f", "--supp", "s", "--input=i"],
-        "f i s session",
+        Order {
+            file: "f",
+            input: Some("i"),
+            suppressions: Some("s"),
+            task: Task::Session,
+        },
     ),
     (
         "one that looks",
         &["look", "f", "--input", "i"],
-        "f i - look",
+        Order {
+            file: "f",
+            input: Some("i"),
+            suppressions: None,
+            task: Task::Look,
+        },
     ),
+];
+
+#[test]
+fn sessions_are(rt: HostRuntime) {
+    assert_given(&rt, rt.alloc(), &SESSIONS);
+}
+
+const SWEEPS: [Line; 2] = [
     (
         "a sweep of all bytes",
         &["sweep", "f"],
-        "f - - 1048576 - all - skip 1/1 false",
+        Order {
+            file: "f",
+            input: None,
+            suppressions: None,
+            task: Task::Sweep(SweepWords {
+                step: 1_048_576,
+                bytes: None,
+                byte_values: "all",
+                words: None,
+                word_values: "skip",
+                part: "1/1",
+                with_output: false,
+            }),
+        },
     ),
     (
         "a sweep of bytes and words",
@@ -78,28 +175,32 @@ const LINES: [(&str, &[&str], &str); 7] = [
             "--with-output",
             "--step=9",
         ],
-        "f - - 9 1..2 edges 0x4 flips 2/3 true",
+        Order {
+            file: "f",
+            input: None,
+            suppressions: None,
+            task: Task::Sweep(SweepWords {
+                step: 9,
+                bytes: Some("1..2"),
+                byte_values: "edges",
+                words: Some("0x4"),
+                word_values: "flips",
+                part: "2/3",
+                with_output: true,
+            }),
+        },
     ),
 ];
 
-/// Whether words give an order with this text.
-fn gives(alloc: Global, words: &[String], want: &str) -> Result<bool, Fail> {
-    let order = read_order(alloc, words)?;
-    let text = text_of(alloc, &order)?;
-    Ok(text.as_str() == want)
-}
-
 #[test]
-fn lines_give_orders(rt: HostRuntime) -> Result<(), Fail> {
-    for (label, line, want) in &LINES {
-        let words = words_of(rt.alloc(), line)?;
-        assert!(rt; gives(rt.alloc(), &words, want)?, "{label}");
-    }
-    Ok(())
+fn sweeps_are(rt: HostRuntime) {
+    assert_given(&rt, rt.alloc(), &SWEEPS);
 }
 
 /// What a row shows, the words of a line, and why it has no order.
-const NO_ORDERS: [(&str, &[&str], ErrorKind); 9] = [
+type NoOrder = (&'static str, &'static [&'static str], ErrorKind);
+
+const NO_ORDERS: [NoOrder; 9] = [
     ("nothing", &[], ErrorKind::MissingSubcommand),
     ("help", &["--help"], ErrorKind::DisplayHelp),
     (
@@ -135,11 +236,19 @@ fn refuses(alloc: Global, words: &[String], want: ErrorKind) -> bool {
     }
 }
 
+/// Whether a line is.
+fn is_refused(alloc: Global, line: &NoOrder) -> Result<bool, AllocError> {
+    let words = words_of(alloc, line.1)?;
+    Ok(refuses(alloc, &words, line.2))
+}
+
 #[test]
-fn lines_without_an_order(rt: HostRuntime) -> Result<(), Fail> {
-    for (label, line, want) in &NO_ORDERS {
-        let words = words_of(rt.alloc(), line)?;
-        assert!(rt; refuses(rt.alloc(), &words, *want), "{label}");
+fn lines_without_an_order(rt: HostRuntime) {
+    for line in &NO_ORDERS {
+        assert!(rt;
+            matches!(is_refused(rt.alloc(), line), Ok(true)),
+            "{}",
+            line.0
+        );
     }
-    Ok(())
 }
