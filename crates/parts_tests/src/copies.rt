@@ -1,8 +1,8 @@
 //! Copies of bytes with what is known of them, each beside a plain copy byte by byte.
+use crate::comes;
 use definedness::Bits;
 use shadow_memory::{Cell, Memory, RangeKind};
 use std::alloc::{AllocError, Global};
-use std::test::Fail;
 
 /// A page that is held, with some bytes inaccessible, undefined and defined in part; two blank pages of undefined bytes; one of
 /// zeros; and inaccessible ones after them. The same stands at each base.
@@ -72,6 +72,8 @@ fn first_wrong(old: &Memory, new: &Memory, from: u32, to: u32, len: u32) -> Opti
 
 /// Where a copy leaves a memory that is laid out at both bases as it shouldn't; none where all is well.
 fn wrong_in(memory: &mut Memory, from: u32, to: u32, len: u32) -> Result<Option<u32>, AllocError> {
+    lay_out(memory, 0x1_0000)?;
+    lay_out(memory, 0x3_0000)?;
     let old = memory.share()?;
     if !copy_apart(memory, from, to, len)? {
         return Ok(Some(len));
@@ -82,60 +84,51 @@ fn wrong_in(memory: &mut Memory, from: u32, to: u32, len: u32) -> Result<Option<
 /// The same, in a new memory.
 fn wrong_copy(alloc: Global, from: u32, to: u32, len: u32) -> Result<Option<u32>, AllocError> {
     let mut memory = Memory::new(alloc);
-    lay_out(&mut memory, 0x1_0000)?;
-    lay_out(&mut memory, 0x3_0000)?;
     wrong_in(&mut memory, from, to, len)
 }
 
-/// The first of 256 pairs of offsets in 16 bytes, of a source and of a target, at which a copy goes wrong; 256 where all is well.
-fn wrong_pair(alloc: Global, from: u32, to: u32, len: u32) -> Result<u32, AllocError> {
-    for pair in 0..256u32 {
+/// What a row shows; from where, to where and how many bytes are copied; and at how many pairs of offsets in 16 bytes, of a source and of
+/// a target.
+type Copy = (&'static str, u32, u32, u32, u32);
+
+/// Whether a copy goes well at each pair.
+fn is_copied(alloc: Global, copy: &Copy) -> Result<bool, AllocError> {
+    let (_, from, to, len, pairs) = copy;
+    for pair in 0..*pairs {
         let from = from.wrapping_add(pair & 15);
         let to = to.wrapping_add(pair / 16);
-        if wrong_copy(alloc, from, to, len)? != None {
-            return Ok(pair);
+        if wrong_copy(alloc, from, to, *len)? != None {
+            return Ok(false);
         }
     }
-    Ok(256)
+    Ok(true)
 }
 
-// What a row shows; from where, to where and how many bytes are copied.
-type Copy = (&'static str, u32, u32, u32);
-
-const COPIES: [Copy; 8] = [
-    ("mixed bytes to mixed ones", 0x1_0F00, 0x3_0F08, 0x90),
-    ("mixed bytes to undefined ones", 0x1_0F80, 0x3_1FC0, 0x90),
-    ("undefined bytes to mixed ones", 0x1_1F80, 0x3_0F80, 0x90),
-    ("undefined bytes to zeros", 0x1_1F80, 0x3_2FC0, 0x90),
-    ("zeros to undefined bytes", 0x1_2FC0, 0x3_1F80, 0x90),
-    ("past accessible bytes", 0x1_0F80, 0x3_3FC0, 0x90),
-    ("from inaccessible bytes", 0x1_3FC0, 0x3_0F80, 0x90),
-    ("round the end", 0x1_0F80, 0xFFFF_FFC0, 0x90),
+/// Mixed bytes, and whole pages.
+const COPIES: [Copy; 12] = [
+    ("mixed bytes to mixed ones", 0x1_0F00, 0x3_0F08, 0x90, 256),
+    ("mixed to undefined ones", 0x1_0F80, 0x3_1FC0, 0x90, 256),
+    (
+        "undefined bytes to mixed ones",
+        0x1_1F80,
+        0x3_0F80,
+        0x90,
+        256,
+    ),
+    ("undefined bytes to zeros", 0x1_1F80, 0x3_2FC0, 0x90, 256),
+    ("zeros to undefined bytes", 0x1_2FC0, 0x3_1F80, 0x90, 256),
+    ("past accessible bytes", 0x1_0F80, 0x3_3FC0, 0x90, 256),
+    ("from inaccessible bytes", 0x1_3FC0, 0x3_0F80, 0x90, 256),
+    ("round the end", 0x1_0F80, 0xFFFF_FFC0, 0x90, 256),
+    ("to the same place in pages", 0x1_0E80, 0x3_0E80, 0x3400, 1),
+    ("to another place in pages", 0x1_0E80, 0x3_0EC0, 0x3400, 1),
+    ("from whole pages", 0x1_1000, 0x3_0000, 0x3000, 1),
+    ("within blank pages", 0x1_1008, 0x1_2010, 0xF80, 1),
 ];
 
-/// Each offset of a source and of a target in 16 bytes.
 #[test]
-fn copies_at_each_offset(rt: HostRuntime) -> Result<(), Fail> {
-    for (shows, from, to, len) in &COPIES {
-        let pair = wrong_pair(rt.alloc(), *from, *to, *len)?;
-        assert!(rt; pair == 256, "{shows}, {pair}");
+fn copies(rt: HostRuntime) {
+    for copy in &COPIES {
+        comes(&rt, copy.0, is_copied(rt.alloc(), copy));
     }
-    Ok(())
-}
-
-const PAGES: [Copy; 4] = [
-    ("to the same place in pages", 0x1_0E80, 0x3_0E80, 0x3400),
-    ("to another place in pages", 0x1_0E80, 0x3_0EC0, 0x3400),
-    ("from whole pages", 0x1_1000, 0x3_0000, 0x3000),
-    ("within blank pages", 0x1_1008, 0x1_2010, 0xF80),
-];
-
-/// Whole pages.
-#[test]
-fn copies_of_pages(rt: HostRuntime) -> Result<(), Fail> {
-    for (shows, from, to, len) in &PAGES {
-        let wrong = wrong_copy(rt.alloc(), *from, *to, *len)?;
-        assert!(rt; wrong == None, "{shows}");
-    }
-    Ok(())
 }

@@ -1,7 +1,6 @@
 //! Texts that are counted, with numbers and counts by hand.
+use crate::comes;
 use std::alloc::{AllocError, Global};
-use std::process::Abort;
-use std::test::Fail;
 use tallies::Tallies;
 
 /// Texts, the number of each and whether it was met before.
@@ -24,26 +23,21 @@ fn are_met(tallies: &mut Tallies) -> Result<bool, AllocError> {
     Ok(true)
 }
 
-/// Whether the texts have these counts.
-fn has_counts(alloc: Global, tallies: &Tallies, counts: &[u64]) -> Result<bool, AllocError> {
-    Ok(tallies.counts(alloc)?.as_slice() == counts)
+/// Whether the texts are found and counted.
+fn are_counted(alloc: Global, tallies: &mut Tallies) -> Result<bool, AllocError> {
+    if !are_met(tallies)? {
+        return Ok(false);
+    }
+    Ok(tallies.counts(alloc)?.as_slice() == [1, 3, 1].as_slice())
 }
 
-/// No text but the first.
-fn begun(alloc: Global) -> Result<Tallies, AllocError> {
-    Tallies::begin(alloc, b"exited 0\n".to_vec(alloc)?)
-}
-
-/// Meets the texts, and counts them.
-fn are_counted(rt: &impl Abort, alloc: Global, tallies: &mut Tallies) -> Result<(), AllocError> {
-    assert!(rt; are_met(tallies)?);
-    assert!(rt; has_counts(alloc, tallies, &[1, 3, 1])?);
-    Ok(())
+/// The same, from no text but the first.
+fn are_counted_from_one(alloc: Global) -> Result<bool, AllocError> {
+    let mut tallies = Tallies::begin(alloc, b"exited 0\n".to_vec(alloc)?)?;
+    are_counted(alloc, &mut tallies)
 }
 
 #[test]
-fn texts_have_numbers_and_counts(rt: HostRuntime) -> Result<(), Fail> {
-    let mut tallies = begun(rt.alloc())?;
-    are_counted(&rt, rt.alloc(), &mut tallies)?;
-    Ok(())
+fn texts_have_numbers_and_counts(rt: HostRuntime) {
+    comes(&rt, "numbers and counts", are_counted_from_one(rt.alloc()));
 }

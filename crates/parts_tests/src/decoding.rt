@@ -187,9 +187,12 @@ fn agrees(word: u32) -> bool {
 
 /// Whether `decode` agrees with the listing at each opcode, funct3 and funct7, with these other bits.
 fn all_agree(others: u32) -> bool {
-    (0..1 << 17).all(|key: u32| {
-        agrees(others | (key & 0x7F) | ((key >> 7 & 0x7) << 12) | ((key >> 10) << 25))
-    })
+    for key in 0..1 << 17u32 {
+        if !agrees(others | (key & 0x7F) | ((key >> 7 & 0x7) << 12) | ((key >> 10) << 25)) {
+            return false;
+        }
+    }
+    true
 }
 
 /// Whether a row's word is decoded to its other fields.
@@ -205,6 +208,16 @@ fn is_decoded(row: &(u32, Op, u8, u8, u8, u32)) -> bool {
         })
 }
 
+/// A shift with another funct7, BGE's opcode with funct3 2, a whole word but one bit, and no word.
+const NO_WORDS: [u32; 6] = [
+    0x6015_5513,
+    0x0205_2063,
+    0x0020_0073,
+    0x0010_00F3,
+    0x0000_0000,
+    0xFFFF_FFFF,
+];
+
 #[test]
 fn assembled_words(rt: HostRuntime) {
     one_row();
@@ -215,30 +228,15 @@ fn assembled_words(rt: HostRuntime) {
 
 #[test]
 fn words_without_a_row(rt: HostRuntime) {
-    // A shift with another funct7, BGE's opcode with funct3 2, a whole word but one bit, and no word.
-    for word in &[
-        0x6015_5513,
-        0x0205_2063,
-        0x0020_0073,
-        0x0010_00F3,
-        0x0000_0000,
-        0xFFFF_FFFF,
-    ] {
+    for word in &NO_WORDS {
         assert!(rt; decode(*word).is_none(), "at {word:#010x}");
     }
 }
 
+/// At zero operands, those of EBREAK, and others.
 #[test]
-fn listing_at_zero_operands(rt: HostRuntime) {
-    assert!(rt; all_agree(0));
-}
-
-#[test]
-fn listing_at_the_operands_of_ebreak(rt: HostRuntime) {
-    assert!(rt; all_agree(0x0010_0000));
-}
-
-#[test]
-fn listing_at_other_operands(rt: HostRuntime) {
-    assert!(rt; all_agree(0x0073_0280));
+fn listing(rt: HostRuntime) {
+    for others in &[0, 0x0010_0000, 0x0073_0280] {
+        assert!(rt; all_agree(*others), "with {others:#010x}");
+    }
 }

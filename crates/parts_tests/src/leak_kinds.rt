@@ -2,30 +2,40 @@
 ghost use Rattle.std.specs.Prelude.{IsTrue};
 ghost use Rattle.leak_graph.specs.Graphs.{GoWithin, AllGoWithin};
 
+use crate::comes;
 use leak_graph::LeakKind::{Definite, Indirect, Possible, Reachable};
 use leak_graph::{LeakKind, Pointer, leak_kinds};
 use std::alloc::{AllocError, Global};
-use std::test::Fail;
 
 // A label; the roots' pointers and those of the blocks, by the block that has each, the block that it goes to, and whether to its
 // start; and the kinds of the blocks.
 type Case = (
     &'static str,
-    &'static [(usize, bool)],
+    &'static [Pointer],
     &'static [(usize, usize, bool)],
     &'static [LeakKind],
 );
 
+const FIRST: Pointer = Pointer {
+    block: 0,
+    is_start: true,
+};
+
+const SECOND: Pointer = Pointer {
+    block: 1,
+    is_start: true,
+};
+
 const CASES: [Case; 6] = [
     (
         "a chain of start-pointers",
-        &[(0, true)],
+        &[FIRST],
         &[(0, 1, true), (1, 2, true)],
         &[Reachable, Reachable, Reachable],
     ),
     (
         "a chain that a pointer to an inside parts",
-        &[(0, true)],
+        &[FIRST],
         &[(0, 1, false), (1, 2, true)],
         &[Reachable, Possible, Possible],
     ),
@@ -49,7 +59,7 @@ const CASES: [Case; 6] = [
     ),
     (
         "a lost block that points to a found one",
-        &[(1, true)],
+        &[SECOND],
         &[(0, 1, true)],
         &[Definite, Reachable],
     ),
@@ -118,30 +128,16 @@ fn kinds_of(
     leak_kinds(alloc, roots, edges)
 }
 
-/// The pointers of the roots.
-fn pointers_of(alloc: Global, roots: &[(usize, bool)]) -> Result<Vec<Pointer>, AllocError> {
-    let mut pointers = Vec::new(alloc);
-    for (block, is_start) in roots {
-        pointers.push(Pointer {
-            block: *block,
-            is_start: *is_start,
-        })?;
-    }
-    Ok(pointers)
-}
-
 /// Whether the blocks of a case have its kinds.
 fn is_decided(alloc: Global, case: &Case) -> Result<bool, AllocError> {
     let (_, roots, pointers, kinds) = case;
-    let roots = pointers_of(alloc, roots)?;
     let edges = rows(alloc, kinds.len(), pointers)?;
-    Ok(kinds_of(alloc, &roots, &edges)?.as_slice() == *kinds)
+    Ok(kinds_of(alloc, roots, &edges)?.as_slice() == *kinds)
 }
 
 #[test]
-fn paths_decide_the_kind(rt: HostRuntime) -> Result<(), Fail> {
+fn paths_decide_the_kind(rt: HostRuntime) {
     for case in &CASES {
-        assert!(rt; is_decided(rt.alloc(), case)?, "{}", case.0);
+        comes(&rt, case.0, is_decided(rt.alloc(), case));
     }
-    Ok(())
 }

@@ -28,3 +28,20 @@ mod stacks;
 mod suppression_texts;
 #[cfg(test)]
 mod undefined_bits;
+
+#[cfg(test)]
+use std::alloc::AllocError;
+#[cfg(test)]
+use std::process::Abort;
+
+/// Asserts that what a row says is so, by its label.
+#[cfg(test)]
+fn holds(rt: &impl Abort, label: &str, is_so: bool) {
+    assert!(rt; is_so, "{label}");
+}
+
+/// The same of what may run out of memory.
+#[cfg(test)]
+fn comes(rt: &impl Abort, label: &str, is_so: Result<bool, AllocError>) {
+    holds(rt, label, matches!(is_so, Ok(true)));
+}

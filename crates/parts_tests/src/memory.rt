@@ -1,12 +1,11 @@
 //! Each call on its happy path, and ranges across the end of a page and of the address space. Expected values are worked out by
 //! hand from the definitions.
 use crate::copies::copy_apart;
+use crate::{comes, holds};
 use definedness::Bits;
 use shadow_memory::laws::{all_are, first_not};
 use shadow_memory::{Bad, Memory, RangeKind};
 use std::alloc::{AllocError, Global};
-use std::process::Abort;
-use std::test::Fail;
 
 /// Whether an address holds this byte with what is known of it.
 fn is_cell(memory: &Memory, addr: u32, byte: u8, accessible: bool, undef: u8) -> bool {
@@ -28,38 +27,36 @@ fn copies_of(alloc: Global, memory: &Memory, count: u32) -> Result<Vec<Memory>, 
     Ok(copies)
 }
 
-/// Asserts that the first so many copies have their byte, and the others none.
-fn are_written(rt: &impl Abort, copies: &[Memory], written: usize) {
+/// Whether the first so many copies have their byte, and the others none.
+fn are_written(copies: &[Memory], written: usize) -> bool {
     for (i, copy) in copies.iter().enumerate() {
         let want = if i < written { (i & 0x7f) as u8 } else { b'b' };
-        assert!(rt;
-            copy.byte(0x1000_0001).byte == want,
-            "copy {i} of {written} written"
-        );
+        if copy.byte(0x1000_0001).byte != want {
+            return false;
+        }
     }
+    true
 }
 
-/// Writes a byte into each copy in turn.
-fn write_each(rt: &impl Abort, copies: &mut [Memory]) -> Result<(), AllocError> {
+/// Writes a byte into each copy in turn; whether it is in that copy alone.
+fn are_apart(copies: &mut [Memory]) -> Result<bool, AllocError> {
     for i in 0..copies.len() {
         if let Some(copy) = copies.get_mut(i) {
             copy.poke(0x1000_0001, (i & 0x7f) as u8)?;
         }
-        are_written(rt, copies, i.saturating_add(1));
+        if !are_written(copies, i.saturating_add(1)) {
+            return Ok(false);
+        }
     }
-    Ok(())
+    Ok(true)
 }
 
 /// One byte is written into each of 1,025 memories that share their pages; after each write, the ones before it have theirs and
 /// the ones after it have none.
-#[test]
-fn shares_are_apart(rt: HostRuntime) -> Result<(), Fail> {
-    let mut first = Memory::new(rt.alloc());
+fn shares_are_apart(alloc: Global, first: &mut Memory) -> Result<bool, AllocError> {
     first.fill(0x1000_0000, 8192, b"abcd")?;
-    let mut copies = copies_of(rt.alloc(), &first, 1025)?;
-    write_each(&rt, &mut copies)?;
-    assert!(rt; has_word(&first, 0x1000_0000, 0x6463_6261));
-    Ok(())
+    let mut copies = copies_of(alloc, first, 1025)?;
+    Ok(are_apart(&mut copies)? && has_word(first, 0x1000_0000, 0x6463_6261))
 }
 
 /// Whether a word is stored at an address, all but its last byte, which isn't accessible; `next` is two bytes on.
@@ -99,26 +96,12 @@ fn is_copied(memory: &mut Memory, addr: u32) -> Result<bool, AllocError> {
     )
 }
 
-/// Loads, stores and copies from one address on; `next` is two bytes on.
-fn accesses(rt: &impl Abort, memory: &mut Memory, addr: u32, next: u32) -> Result<(), AllocError> {
-    assert!(rt; is_stored(memory, addr, next)?);
-    assert!(rt; is_loaded(memory, addr, next));
-    assert!(rt; is_copied(memory, addr)?);
-    Ok(())
-}
-
-#[test]
-fn accesses_cross_pages(rt: HostRuntime) -> Result<(), Fail> {
-    let mut memory = Memory::new(rt.alloc());
-    accesses(&rt, &mut memory, 0x1FFE, 0x2000)?;
-    Ok(())
-}
-
-#[test]
-fn accesses_go_round_the_end(rt: HostRuntime) -> Result<(), Fail> {
-    let mut memory = Memory::new(rt.alloc());
-    accesses(&rt, &mut memory, 0xFFFF_FFFE, 0)?;
-    Ok(())
+/// Whether there are loads, stores and copies from one address on; `next` is two bytes on.
+fn accesses(memory: &mut Memory, addr: u32, next: u32) -> Result<bool, AllocError> {
+    if !is_stored(memory, addr, next)? || !is_loaded(memory, addr, next) {
+        return Ok(false);
+    }
+    is_copied(memory, addr)
 }
 
 /// Splits two pages of one kind by a range and by a partly defined byte; whether the bytes there are as they should be.
@@ -170,44 +153,33 @@ fn fold(memory: &mut Memory) -> Result<bool, AllocError> {
     )
 }
 
-/// Splits pages, and makes them one again.
-fn split_and_fold(rt: &impl Abort, memory: &mut Memory) -> Result<(), AllocError> {
-    assert!(rt; split(memory)?);
-    assert!(rt; are_split(memory));
-    assert!(rt; are_passed_over(memory));
-    assert!(rt; fold(memory)?);
-    Ok(())
-}
-
-/// A page of one kind is split by a range and by a partly defined byte, and made one again.
-#[test]
-fn pages_split_and_fold(rt: HostRuntime) -> Result<(), Fail> {
-    let mut memory = Memory::new(rt.alloc());
-    split_and_fold(&rt, &mut memory)?;
-    Ok(())
+/// Whether pages are split, and made one again.
+fn split_and_fold(memory: &mut Memory) -> Result<bool, AllocError> {
+    if !split(memory)? || !are_split(memory) || !are_passed_over(memory) {
+        return Ok(false);
+    }
+    fold(memory)
 }
 
 /// Whether the words of two pages are told to be those of a copy, also up to one that is another, and not where one is or has an undefined
 /// byte.
-fn tells_words(memory: &mut Memory) -> Result<bool, AllocError> {
-    memory.fill(0x5000, 0x2000, b"words of code")?;
-    memory.poke_word(0x6004, 7)?;
-    let mut copy = memory.share()?;
+fn are_told(memory: &Memory, copy: &mut Memory) -> Result<bool, AllocError> {
     copy.poke_word(0x6FFC, 1)?;
     copy.set_range(0x5005, 1, RangeKind::Undefined)?;
     Ok(
-        memory.has_words_of(&copy, 0x5004, 0x1FF8)
-            && !memory.has_words_of(&copy, 0x5004, 0x1FFC)
+        memory.has_words_of(copy, 0x5004, 0x1FF8)
+            && !memory.has_words_of(copy, 0x5004, 0x1FFC)
             && !copy.has_words_of(memory, 0x5004, 0x1FF8)
             && copy.has_words_of(memory, 0x5008, 0x1FF4),
     )
 }
 
-#[test]
-fn words_are_compared(rt: HostRuntime) -> Result<(), Fail> {
-    let mut memory = Memory::new(rt.alloc());
-    assert!(rt; tells_words(&mut memory)?);
-    Ok(())
+/// The same of a new copy.
+fn tells_words(memory: &mut Memory) -> Result<bool, AllocError> {
+    memory.fill(0x5000, 0x2000, b"words of code")?;
+    memory.poke_word(0x6004, 7)?;
+    let mut copy = memory.share()?;
+    are_told(memory, &mut copy)
 }
 
 /// Whether bytes from outside are stored, the last of them to an inaccessible place.
@@ -227,28 +199,22 @@ fn are_poked(memory: &mut Memory) -> Result<bool, AllocError> {
     )
 }
 
-/// Whether both are so, one after the other.
+/// Whether bytes from outside come and go.
 fn are_stored_and_poked(memory: &mut Memory) -> Result<bool, AllocError> {
-    Ok(are_stored(memory)? && are_poked(memory)?)
+    if !are_stored(memory)? {
+        return Ok(false);
+    }
+    are_poked(memory)
 }
 
-/// Bytes from outside the program.
-#[test]
-fn bytes_come_and_go(rt: HostRuntime) -> Result<(), Fail> {
-    let mut memory = Memory::new(rt.alloc());
-    assert!(rt; are_stored_and_poked(&mut memory)?);
-    Ok(())
-}
-
-#[test]
-fn scans(rt: HostRuntime) -> Result<(), Fail> {
+/// Whether bytes are scanned for one that is another.
+fn are_scanned() -> bool {
     let bytes = *b"aaaaaaaaaaaaaaaaaaaaab";
-    assert!(rt; first_not(&bytes, b'a') == Some(21));
-    assert!(rt; first_not(&bytes[..21], b'a') == None);
-    assert!(rt; first_not(&bytes, b'b') == Some(0));
-    assert!(rt; all_are(&bytes[..17], b'a'));
-    assert!(rt; !all_are(&bytes, b'a'));
-    Ok(())
+    first_not(&bytes, b'a') == Some(21)
+        && first_not(&bytes[..21], b'a') == None
+        && first_not(&bytes, b'b') == Some(0)
+        && all_are(&bytes[..17], b'a')
+        && !all_are(&bytes, b'a')
 }
 
 // What a row shows; from where; the range of values; the word that is found.
@@ -286,30 +252,86 @@ const SEARCHES: [Search; 11] = [
     ("not across two words", 0, 0x9090_9090, 0x9090_9091, None),
 ];
 
-/// Fills a memory with pages of one kind, one byte apart from the others, and words that no search finds.
-fn fill_for_searches(rt: &impl Abort, memory: &mut Memory) -> Result<(), AllocError> {
-    memory.fill(0x4000, 0x3000, b"\x40")?;
-    memory.fill(0x0080_0000, 0x0100_0000, b"")?;
-    memory.fill(0xFFFF_FFFC, 4, b"\xFF\xFF\xFF\xFF")?;
-    memory.poke(0x4FFC, 0x4F)?;
+/// Stores words that no search finds: one with an inaccessible byte, one with an undefined bit, and bytes across two.
+fn hide(memory: &mut Memory) -> Result<bool, AllocError> {
     memory.poke(0x5010, 0x60)?;
     memory.set_range(0x5011, 1, RangeKind::NoAccess)?;
     let partly = Bits {
         value: 0x70,
         undef: 0x100,
     };
-    assert!(rt; memory.store(0x5020, 4, partly)? == None);
-    memory.store_bytes(0x5032, b"\x90\x90\x90\x90")
+    let bad = memory.store(0x5020, 4, partly)?;
+    memory.store_bytes(0x5032, b"\x90\x90\x90\x90")?;
+    Ok(bad == None)
 }
 
-/// Words whose values lie in a range.
-#[test]
-fn values_are_found(rt: HostRuntime) -> Result<(), Fail> {
-    let mut memory = Memory::new(rt.alloc());
-    fill_for_searches(&rt, &mut memory)?;
-    for (shows, from, low, high, found) in &SEARCHES {
-        let next = memory.next_in_range(*from, *low, *high);
-        assert!(rt; next == *found, "{shows}");
+/// Fills a memory with pages of one kind, and one byte apart from the others.
+fn fill_for_searches(memory: &mut Memory) -> Result<(), AllocError> {
+    memory.fill(0x4000, 0x3000, b"\x40")?;
+    memory.fill(0x0080_0000, 0x0100_0000, b"")?;
+    memory.fill(0xFFFF_FFFC, 4, b"\xFF\xFF\xFF\xFF")?;
+    memory.poke(0x4FFC, 0x4F)
+}
+
+/// Whether words are found by their values.
+fn are_found(memory: &Memory) -> bool {
+    for (_, from, low, high, found) in &SEARCHES {
+        if memory.next_in_range(*from, *low, *high) != *found {
+            return false;
+        }
     }
-    Ok(())
+    true
+}
+
+/// Whether they are in a memory that is filled first.
+fn searches(memory: &mut Memory) -> Result<bool, AllocError> {
+    fill_for_searches(memory)?;
+    Ok(hide(memory)? && are_found(memory))
+}
+
+/// What is tried in a new memory.
+enum Trial {
+    SharesApart,
+    /// Accesses from an address on, and two bytes after it.
+    Accesses(u32, u32),
+    SplitAndFold,
+    Words,
+    FromOutside,
+    Searches,
+}
+
+/// Whether a trial goes well in a memory.
+fn goes_well(alloc: Global, memory: &mut Memory, trial: &Trial) -> Result<bool, AllocError> {
+    match trial {
+        Trial::SharesApart => shares_are_apart(alloc, memory),
+        Trial::Accesses(addr, next) => accesses(memory, *addr, *next),
+        Trial::SplitAndFold => split_and_fold(memory),
+        Trial::Words => tells_words(memory),
+        Trial::FromOutside => are_stored_and_poked(memory),
+        Trial::Searches => searches(memory),
+    }
+}
+
+/// Whether it does in a new one.
+fn goes_well_in_new(alloc: Global, trial: &Trial) -> Result<bool, AllocError> {
+    let mut memory = Memory::new(alloc);
+    goes_well(alloc, &mut memory, trial)
+}
+
+const TRIALS: [(&str, Trial); 7] = [
+    ("memories that share pages", Trial::SharesApart),
+    ("across pages", Trial::Accesses(0x1FFE, 0x2000)),
+    ("round the end", Trial::Accesses(0xFFFF_FFFE, 0)),
+    ("pages split and fold", Trial::SplitAndFold),
+    ("words are compared", Trial::Words),
+    ("bytes come and go", Trial::FromOutside),
+    ("values are found", Trial::Searches),
+];
+
+#[test]
+fn memories(rt: HostRuntime) {
+    holds(&rt, "scans", are_scanned());
+    for (label, trial) in &TRIALS {
+        comes(&rt, label, goes_well_in_new(rt.alloc(), trial));
+    }
 }

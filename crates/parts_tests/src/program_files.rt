@@ -1,6 +1,7 @@
 //! A file byte for byte, as written down by hand.
+use crate::comes;
 use guest_programs::{program, sized_program};
-use std::test::Fail;
+use std::alloc::{AllocError, Global};
 
 /// Three words at 0x10000: `addi a7, x0, 93`, `addi a0, x0, 0`, `ecall`.
 const EXIT: [u8; 96] = [
@@ -12,16 +13,25 @@ const EXIT: [u8; 96] = [
     0x04, 0x00, 0x00, 0x00, 0x93, 0x08, 0xD0, 0x05, 0x13, 0x05, 0x00, 0x00, 0x73, 0x00, 0x00, 0x00,
 ];
 
+const WORDS: [u32; 3] = [0x05D0_0893, 0x0000_0513, 0x0000_0073];
+
 /// p_memsz, from its offset on.
 const LARGER: [u8; 4] = [0x00, 0x20, 0x00, 0x00];
 
+/// Whether the words make that file.
+fn is_exit(alloc: Global) -> Result<bool, AllocError> {
+    let exit = program(alloc, &WORDS)?;
+    Ok(exit.as_slice() == EXIT.as_slice())
+}
+
+/// Whether they make one with more memory.
+fn is_larger(alloc: Global) -> Result<bool, AllocError> {
+    let larger = sized_program(alloc, &WORDS, 0x2000)?;
+    Ok(larger.len() == 96 && larger[72..].starts_with(&LARGER))
+}
+
 #[test]
-fn files(rt: HostRuntime) -> Result<(), Fail> {
-    let words = [0x05D0_0893, 0x0000_0513, 0x0000_0073];
-    let exit = program(rt.alloc(), &words)?;
-    assert!(rt; exit.as_slice() == EXIT.as_slice());
-    let larger = sized_program(rt.alloc(), &words, 0x2000)?;
-    assert!(rt; larger.len() == 96);
-    assert!(rt; &larger[72..76] == LARGER.as_slice());
-    Ok(())
+fn files(rt: HostRuntime) {
+    comes(&rt, "words", is_exit(rt.alloc()));
+    comes(&rt, "words in more memory", is_larger(rt.alloc()));
 }

@@ -1,7 +1,7 @@
 //! Calls, returns and traces.
+use crate::{comes, holds};
 use call_stacks::{CallStack, Trace};
-use std::process::Abort;
-use std::test::Fail;
+use std::alloc::{AllocError, Global};
 
 /// Calls from 0x1000, 0x1010, 0x1020 and on, each of which returns to the next instruction.
 const FIRST: u32 = 0x1000;
@@ -20,25 +20,22 @@ fn depth(stack: &CallStack) -> usize {
     stack.trace(8).addresses().len()
 }
 
-/// Whether the oldest of 257 frames is gone, so that a return to it changes nothing.
+/// Whether the oldest of 257 frames is gone, so that a return to it changes nothing, and a return to the second, which is the oldest that
+/// was kept, takes all.
 fn has_256(stack: &mut CallStack) -> bool {
     stack.back_to(0x1004);
-    depth(stack) == 24 && stack.trace(8).addresses().get(1).copied() == Some(0x2000)
-}
-
-/// Whether a return to the second, which is the oldest that was kept, takes all.
-fn is_emptied(stack: &mut CallStack) -> bool {
+    if depth(stack) != 24 || stack.trace(8).addresses().get(1).copied() != Some(0x2000) {
+        return false;
+    }
     stack.back_to(0x1014);
     depth(stack) == 1
 }
 
-#[test]
-fn drops_the_oldest_of_257_frames(rt: HostRuntime) -> Result<(), Fail> {
-    let mut stack = CallStack::new(rt.alloc())?;
-    call_each(&mut stack, 257);
+/// Whether that is so, and a copy stays as it was.
+fn drops_the_oldest(stack: &mut CallStack) -> Result<bool, AllocError> {
+    call_each(stack, 257);
     let copy = stack.share()?;
-    assert!(rt; has_256(&mut stack) && is_emptied(&mut stack) && depth(&copy) == 24);
-    Ok(())
+    Ok(has_256(stack) && depth(&copy) == 24)
 }
 
 /// Calls, each by its site and where it returns to.
@@ -52,35 +49,61 @@ const RETURNS: [(u32, &[u32]); 4] = [
     (0x24, &[8, 0x10]),
 ];
 
-/// Whether the trace at 8 has these addresses.
-fn has_trace(stack: &CallStack, addresses: &[u32]) -> bool {
+/// Whether the trace at 8 has these addresses, once it is returned to a target.
+fn is_back(stack: &mut CallStack, target: u32, addresses: &[u32]) -> bool {
+    stack.back_to(target);
     stack.trace(8).addresses() == addresses
 }
 
-/// Returns past some of the frames of four calls.
-fn back_from_four(rt: &impl Abort, stack: &mut CallStack) {
+/// Whether returns go past some of the frames of four calls.
+fn returns_past(stack: &mut CallStack) -> bool {
     for (site, ret) in &CALLS {
         stack.call(*site, *ret);
     }
     for (target, addresses) in &RETURNS {
-        stack.back_to(*target);
-        assert!(rt; has_trace(stack, addresses), "to {target:#x}");
+        if !is_back(stack, *target, addresses) {
+            return false;
+        }
+    }
+    true
+}
+
+/// Whether a new stack does either.
+fn stacks_calls(alloc: Global, many: bool) -> Result<bool, AllocError> {
+    let mut stack = CallStack::new(alloc)?;
+    if many {
+        return drops_the_oldest(&mut stack);
+    }
+    Ok(returns_past(&mut stack))
+}
+
+/// Whether a trace of these addresses has them.
+fn is_made(addresses: &[u32]) -> bool {
+    match Trace::new(addresses) {
+        Some(trace) => trace.addresses() == addresses,
+        None => false,
     }
 }
 
-#[test]
-fn returns_past_newer_frames(rt: HostRuntime) -> Result<(), Fail> {
-    let mut stack = CallStack::new(rt.alloc())?;
-    back_from_four(&rt, &mut stack);
-    Ok(())
+/// Whether a trace has 1 to 24 addresses.
+fn have_1_to_24() -> bool {
+    Trace::of(8).addresses() == [8].as_slice()
+        && Trace::new(&[]).is_none()
+        && Trace::new(&[1; 25]).is_none()
+        && is_made(&[1; 24])
 }
 
 #[test]
-fn traces_have_1_to_24_addresses(rt: HostRuntime) -> Result<(), Fail> {
-    assert!(rt; Trace::of(8).addresses() == [8].as_slice());
-    assert!(rt; Trace::new(&[]).is_none());
-    assert!(rt; Trace::new(&[1; 25]).is_none());
-    let trace = Trace::new(&[1; 24]).ok_or("no trace")?;
-    assert!(rt; trace.addresses() == [1; 24].as_slice());
-    Ok(())
+fn stacks_and_traces(rt: HostRuntime) {
+    comes(
+        &rt,
+        "the oldest of 257 frames",
+        stacks_calls(rt.alloc(), true),
+    );
+    comes(
+        &rt,
+        "returns past newer frames",
+        stacks_calls(rt.alloc(), false),
+    );
+    holds(&rt, "traces of 1 to 24", have_1_to_24());
 }
