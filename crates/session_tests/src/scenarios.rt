@@ -1,5 +1,5 @@
 //! An edited scenario, by one run from step zero, and its outlines.
-use guest_elf::read;
+use guest_elf::{Image, read};
 use guest_machine::{Machine, Meter};
 use guest_programs::program;
 use scenario::{Edit, Scenario};
@@ -21,13 +21,18 @@ const EDIT: Edit = Edit::Patch {
     word: 0x0070_0513,
 };
 
-/// Whether that word, which is written into a scenario of `EXITS`, shows at step 3, and doesn't any more once it is dropped.
-fn is_written_and_dropped(alloc: Global, scenario: &mut Scenario<'_>) -> Result<bool, AllocError> {
+/// Whether that word, which is written into a scenario of `EXITS`, shows at step 3.
+fn is_written(alloc: Global, scenario: &mut Scenario<'_>) -> Result<bool, AllocError> {
     if scenario.refusal(&EDIT).is_some() {
         return Ok(false);
     }
     scenario.edit(EDIT)?;
-    if !has_state(alloc, scenario, b"step 3\nstate exited 7\n")? {
+    has_state(alloc, scenario, b"step 3\nstate exited 7\n")
+}
+
+/// Whether it does, and doesn't any more once it is dropped.
+fn is_written_and_dropped(alloc: Global, scenario: &mut Scenario<'_>) -> Result<bool, AllocError> {
+    if !is_written(alloc, scenario)? {
         return Ok(false);
     }
     scenario.drop_word();
@@ -84,13 +89,16 @@ fn is_so(alloc: Global, scenario: &mut Scenario<'_>) -> Result<bool, AllocError>
     is_written_and_dropped(alloc, scenario)
 }
 
-/// The same in a new scenario on a file.
+/// The same in a new scenario on an image.
+fn is_so_over(alloc: Global, image: Image<'_>) -> Result<bool, AllocError> {
+    let mut scenario = Scenario::begin(alloc, image, Vec::new(alloc), Vec::new(alloc))?;
+    is_so(alloc, &mut scenario)
+}
+
+/// The same on a file.
 fn is_so_on(alloc: Global, file: &[u8]) -> Result<bool, AllocError> {
     match read(alloc, file) {
-        Ok(image) => {
-            let mut scenario = Scenario::begin(alloc, image, Vec::new(alloc), Vec::new(alloc))?;
-            is_so(alloc, &mut scenario)
-        }
+        Ok(image) => is_so_over(alloc, image),
         Err(_) => Ok(false),
     }
 }

@@ -216,11 +216,30 @@ fn joined(alloc: Global, pieces: &[(&[u8], usize)]) -> Result<Vec<u8>, AllocErro
     Ok(text)
 }
 
-/// Whether the lines of a script are answered with these bytes, and all are flushed.
-fn answers(alloc: Global, script: &mut Script<'_>, want: &[u8]) -> Result<bool, AllocError> {
-    let mut writer = Room::new(alloc, 1 << 20);
-    let is_done = ends(alloc, (&EXITS, 2), script, &mut writer, &DONE)?;
-    Ok(is_done && writer.flushed == writer.taken.len() && writer.taken.as_slice() == want)
+/// A writer: how many bytes it takes, by each write how many at most; how many writes, and how it refuses one; how many flushes.
+type Writing = (usize, usize, u64, Refusal, usize);
+
+/// One that takes all.
+const ROOMY: Writing = (1 << 20, usize::MAX, u64::MAX, Refusal::Fails, usize::MAX);
+
+/// Whether lines end so that a writer has taken a front of the replies, of so many bytes, and flushed so many.
+fn are_taken(
+    alloc: Global,
+    script: &mut Script<'_>,
+    writing: &Writing,
+    want: &End,
+    (replies, taken, flushed): (&[u8], usize, usize),
+) -> Result<bool, AllocError> {
+    let mut writer = Room::new(alloc, writing.0);
+    (writer.most, writer.writes, writer.refusal) = (writing.1, writing.2, writing.3);
+    writer.flushes = writing.4;
+    let is_so = ends(alloc, (&EXITS, 2), script, &mut writer, want)?;
+    Ok(
+        is_so
+            && writer.taken.len() == taken
+            && writer.flushed == flushed
+            && replies.starts_with(&writer.taken),
+    )
 }
 
 /// Whether a row is so.
@@ -229,7 +248,8 @@ fn is_answered(alloc: Global, row: &Answered) -> Result<bool, AllocError> {
     let want = joined(alloc, row.4)?;
     let mut script = Script::new(&lines);
     (script.most, script.interruptions) = (row.2, row.3);
-    answers(alloc, &mut script, &want)
+    let all = (want.as_slice(), want.len(), want.len());
+    are_taken(alloc, &mut script, &ROOMY, &DONE, all)
 }
 
 /// Asserts that rows are so.
@@ -342,9 +362,8 @@ fn is_served(
         bytes: REPLIED[replies] as u64,
     };
     let want = if fails { Some(Err(fault)) } else { DONE };
-    let mut writer = Room::new(alloc, 1 << 20);
-    let is_so = ends(alloc, (&EXITS, 2), reader, &mut writer, &want)?;
-    Ok(is_so && writer.taken.len() == REPLIED[replies] && REPLIES.starts_with(&writer.taken))
+    let bytes = REPLIED[replies];
+    are_taken(alloc, reader, &ROOMY, &want, (REPLIES, bytes, bytes))
 }
 
 /// What a row shows; how many bytes each read gives, which reads are interrupted, how many bytes two reads give; how many there are; and
@@ -405,10 +424,12 @@ fn stops(
     (reader.interruptions, reader.endless) = (interruptions, endless);
     reader.failing_read = 10_000;
     let bytes = if replies == 0 { 0 } else { 3 };
-    let want = Some(Err(ServeFault::ReadFailed { replies, bytes }));
-    let mut writer = Room::new(alloc, 1 << 20);
-    let is_so = ends(alloc, (&EXITS, 2), &mut reader, &mut writer, &want)?;
-    Ok(is_so && writer.taken.len() as u64 == bytes && reader.reads == 10_000)
+    let want = Some(Err(ServeFault::ReadFailed {
+        replies,
+        bytes: bytes as u64,
+    }));
+    let is_so = are_taken(alloc, &mut reader, &ROOMY, &want, (REPLIES, bytes, bytes))?;
+    Ok(is_so && reader.reads == 10_000)
 }
 
 /// Reads that are all interrupted, and a line that never ends, until a read fails.
@@ -420,13 +441,13 @@ fn without_an_end(rt: HostRuntime) {
     assert!(rt; matches!(endless, Ok(true)));
 }
 
-/// A writer: how many bytes it takes, by each write at most 50 or any number; how many writes, and how it refuses one; how many flushes.
-/// And how many bytes of the replies to `LINES` are taken and how many flushed.
-type Writing = (usize, usize, u64, Refusal, usize, usize, usize);
-
-/// Whether a writer takes and flushes so much.
-fn is_written(alloc: Global, writing: Writing) -> Result<bool, AllocError> {
-    let (left, most, writes, refusal, flushes, bytes, flushed) = writing;
+/// Whether a writer takes so much of the replies to `LINES`, and flushes so much.
+fn is_written(
+    alloc: Global,
+    writing: &Writing,
+    bytes: usize,
+    flushed: usize,
+) -> Result<bool, AllocError> {
     let fault = ServeFault::WriteFailed {
         replies: whole_replies(bytes).0,
         bytes: bytes as u64,
@@ -436,16 +457,13 @@ fn is_written(alloc: Global, writing: Writing) -> Result<bool, AllocError> {
     } else {
         Some(Err(fault))
     };
-    let mut writer = Room::new(alloc, left);
-    (writer.most, writer.writes, writer.refusal) = (most, writes, refusal);
-    writer.flushes = flushes;
     let mut script = Script::new(LINES);
-    let is_so = ends(alloc, (&EXITS, 2), &mut script, &mut writer, &want)?;
-    Ok(
-        is_so
-            && writer.flushed == flushed
-            && writer.taken.len() == bytes
-            && REPLIES.starts_with(&writer.taken),
+    are_taken(
+        alloc,
+        &mut script,
+        writing,
+        &want,
+        (REPLIES, bytes, flushed),
     )
 }
 
@@ -466,8 +484,8 @@ const WRITTEN: [(usize, usize); 10] = [
 /// Whether writes that are refused from each on are told.
 fn writes_fail(alloc: Global, refusal: Refusal) -> Result<bool, AllocError> {
     for (n, (bytes, flushed)) in WRITTEN.iter().enumerate() {
-        let writing = (1 << 20, 50, n as u64, refusal, usize::MAX, *bytes, *flushed);
-        if !is_written(alloc, writing)? {
+        let writing = (1 << 20, 50, n as u64, refusal, usize::MAX);
+        if !is_written(alloc, &writing, *bytes, *flushed)? {
             return Ok(false);
         }
     }
@@ -477,17 +495,8 @@ fn writes_fail(alloc: Global, refusal: Refusal) -> Result<bool, AllocError> {
 /// Whether writes that fail from each byte on are.
 fn bytes_fail(alloc: Global) -> Result<bool, AllocError> {
     for bytes in 0..=REPLIED[4] {
-        let (_, flushed) = whole_replies(bytes);
-        let writing = (
-            bytes,
-            usize::MAX,
-            u64::MAX,
-            Refusal::Fails,
-            usize::MAX,
-            bytes,
-            flushed,
-        );
-        if !is_written(alloc, writing)? {
+        let writing = (bytes, usize::MAX, u64::MAX, Refusal::Fails, usize::MAX);
+        if !is_written(alloc, &writing, bytes, whole_replies(bytes).1)? {
             return Ok(false);
         }
     }
@@ -497,34 +506,44 @@ fn bytes_fail(alloc: Global) -> Result<bool, AllocError> {
 /// Whether flushes that fail are.
 fn flushes_fail(alloc: Global) -> Result<bool, AllocError> {
     for n in 0..4 {
-        let (bytes, flushed) = (REPLIED[n + 1], REPLIED[n]);
-        let writing = (
-            1 << 20,
-            usize::MAX,
-            u64::MAX,
-            Refusal::Fails,
-            n,
-            bytes,
-            flushed,
-        );
-        if !is_written(alloc, writing)? {
+        let writing = (1 << 20, usize::MAX, u64::MAX, Refusal::Fails, n);
+        if !is_written(alloc, &writing, REPLIED[n + 1], REPLIED[n])? {
             return Ok(false);
         }
     }
     Ok(true)
 }
 
-/// Writes are refused from each on, in each way, and fail from each byte on; each flush fails.
+/// What fails in turn.
+#[derive(Clone, Copy)]
+enum Failing {
+    /// Each write of at most 50 bytes, in a way.
+    Writes(Refusal),
+    /// Writes from each byte on.
+    Bytes,
+    Flushes,
+}
+
+/// Whether all of it is told.
+fn fails(alloc: Global, failing: Failing) -> Result<bool, AllocError> {
+    match failing {
+        Failing::Writes(refusal) => writes_fail(alloc, refusal),
+        Failing::Bytes => bytes_fail(alloc),
+        Failing::Flushes => flushes_fail(alloc),
+    }
+}
+
+const FAILINGS: [(&str, Failing); 5] = [
+    ("a write fails", Failing::Writes(Refusal::Fails)),
+    ("it takes nothing", Failing::Writes(Refusal::TakesNothing)),
+    ("it is interrupted", Failing::Writes(Refusal::IsInterrupted)),
+    ("from a byte on", Failing::Bytes),
+    ("a flush fails", Failing::Flushes),
+];
+
 #[test]
 fn each_write_fails_in_turn(rt: HostRuntime) {
-    for refusal in &[
-        Refusal::Fails,
-        Refusal::TakesNothing,
-        Refusal::IsInterrupted,
-    ] {
-        let is_told = writes_fail(rt.alloc(), *refusal);
-        assert!(rt; matches!(is_told, Ok(true)), "{refusal:?}");
+    for (label, failing) in &FAILINGS {
+        assert!(rt; matches!(fails(rt.alloc(), *failing), Ok(true)), "{label}");
     }
-    assert!(rt; matches!(bytes_fail(rt.alloc()), Ok(true)));
-    assert!(rt; matches!(flushes_fail(rt.alloc()), Ok(true)));
 }

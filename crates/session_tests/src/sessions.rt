@@ -1,6 +1,6 @@
 //! Lines and their answers, by calls of a session.
 use crate::serving::{EXITS, REPORT};
-use guest_elf::read;
+use guest_elf::{Image, read};
 use guest_programs::program;
 use replay_session::{Reply, Session};
 use std::alloc::{AllocError, Global};
@@ -39,13 +39,18 @@ fn answers_100_000(session: &mut Session<'_>, out: &mut Vec<u8>) -> bool {
         && out.len() == REPORT.len()
 }
 
-/// Whether a session that is begun on a file answers so.
-fn session_answers_100_000(alloc: Global, file: &[u8], out: &mut Vec<u8>) -> bool {
+/// Whether a session on an image answers so.
+fn begun_answers_100_000(alloc: Global, image: Image<'_>, out: &mut Vec<u8>) -> bool {
+    match Session::begin(alloc, image, Vec::new(alloc), Vec::new(alloc)) {
+        Ok(mut session) => answers_100_000(&mut session, out),
+        Err(_) => false,
+    }
+}
+
+/// The same on a file.
+fn read_answers_100_000(alloc: Global, file: &[u8], out: &mut Vec<u8>) -> bool {
     match read(alloc, file) {
-        Ok(image) => match Session::begin(alloc, image, Vec::new(alloc), Vec::new(alloc)) {
-            Ok(mut session) => answers_100_000(&mut session, out),
-            Err(_) => false,
-        },
+        Ok(image) => begun_answers_100_000(alloc, image, out),
         Err(_) => false,
     }
 }
@@ -54,7 +59,7 @@ fn session_answers_100_000(alloc: Global, file: &[u8], out: &mut Vec<u8>) -> boo
 fn answers_100_000_anew(alloc: Global) -> Result<bool, AllocError> {
     let file = program(alloc, &EXITS)?;
     let mut out = Vec::new(alloc);
-    Ok(session_answers_100_000(alloc, &file, &mut out))
+    Ok(read_answers_100_000(alloc, &file, &mut out))
 }
 
 #[test]
