@@ -5,3 +5,5 @@
 
 #[cfg(test)]
 mod tests;
+#[cfg(test)]
+mod trials;

@@ -1,0 +1,312 @@
+//! What is asked of the machines of programs.
+use definedness::Bits;
+use guest_elf::{Hook, Image, read};
+use guest_machine::{Hooks, Input, Machine, Mark, Meter, Register, Setup, Span, Status, Touched};
+use guest_programs::program;
+use shadow_memory::RangeKind;
+use std::alloc::{AllocError, Global};
+use std::process::Abort;
+
+/// `addi a0, a0, 1`, and by 2.
+pub(crate) const COUNT: u32 = 0x0015_0513;
+
+const COUNT_BY_2: u32 = 0x0025_0513;
+
+/// Where a machine is: its status and pc, a0, how many errors there are, and how many calls of the heap.
+pub(crate) type State = (Status, u32, u32, usize, u64);
+
+/// How many bytes of input were read, how many of output written, and whether the end was seen.
+pub(crate) type Streams = (u64, u64, bool);
+
+/// What a step touches: its word, what it reads and what it writes.
+pub(crate) type Touches = (Option<Span>, Option<Span>, Option<Span>);
+
+/// What is asked of a program's machine.
+pub(crate) enum Trial {
+    /// Whether each register is defined before the first step, and 0 but for the stack pointer.
+    Registers,
+    /// What each step touches, and how many steps follow; and where it is then.
+    Steps(&'static [Touches], u32, State, Streams),
+    /// Whether it rests where it has ended.
+    Rests,
+    /// Whether a mark and a word that is written are seen.
+    Marks,
+    /// Whether a copy stays as it was.
+    Copies,
+    /// Whether what was decoded is taken over.
+    Learns,
+}
+
+/// A label, a program's words, its input, whether functions of the heap have names, and what is asked of its machine.
+pub(crate) type Row = (&'static str, &'static [u32], &'static [u8], bool, Trial);
+
+pub(crate) const NO_STREAMS: Streams = (0, 0, false);
+
+/// Two functions of the heap by their addresses, or none.
+fn hooks_of(alloc: Global, are_named: bool) -> Result<Hooks, AllocError> {
+    if !are_named {
+        return Ok(Hooks::new(Vec::new(alloc)));
+    }
+    let named = vec![in alloc; (0, Hook::Realloc), (0x10008, Hook::Calloc)]?;
+    Ok(Hooks::new(named))
+}
+
+/// Whether one of them is found.
+pub(crate) fn are_hooks(alloc: Global) -> Result<bool, AllocError> {
+    let hooks = hooks_of(alloc, true)?;
+    Ok(hooks.at(0x10008) == Some(Hook::Calloc) && hooks.at(0x10004) == None)
+}
+
+/// The input and the functions of a row, and a heap with Memcheck's redzone and volume of freed blocks.
+fn setup_of(alloc: Global, row: &Row) -> Result<Setup, AllocError> {
+    let input = Input::new(row.2.to_vec(alloc)?);
+    Ok(Setup {
+        input,
+        redzone: 16,
+        volume: 20_000_000,
+        hooks: hooks_of(alloc, row.3)?,
+    })
+}
+
+/// The value and the undefined bits of x`number`.
+fn bits_of(machine: &Machine, number: u8) -> Bits {
+    machine.register(Register::new(number % 32))
+}
+
+/// Whether a machine is there.
+fn is_at(machine: &Machine, state: &State) -> bool {
+    let (status, pc, answer, errors, calls) = state;
+    machine.status() == *status
+        && machine.pc() == *pc
+        && bits_of(machine, 10).value == *answer
+        && machine.groups().len() == *errors
+        && machine.heap_calls() == *calls
+}
+
+/// Whether it has read and written so much.
+fn has_streams(machine: &Machine, streams: &Streams) -> bool {
+    let (position, output_len, end_seen) = streams;
+    machine.position() == *position
+        && machine.output_len() == *output_len
+        && machine.end_seen() == *end_seen
+}
+
+/// Whether a step touches what it should.
+fn is_touched(touched: Touched, want: &Touches) -> bool {
+    let (fetch, reads, writes) = want;
+    touched.fetch == *fetch && touched.reads == *reads && touched.writes == *writes
+}
+
+/// The machine after a step for each row, if each touches what its row says.
+fn touching(
+    start: Machine,
+    setup: &Setup,
+    meter: &mut Meter,
+    rows: &[Touches],
+) -> Result<Option<Machine>, AllocError> {
+    let mut machine = start;
+    for row in rows {
+        let (next, touched) = machine.step(setup, meter)?;
+        machine = next;
+        if !is_touched(touched, row) {
+            return Ok(None);
+        }
+    }
+    Ok(Some(machine))
+}
+
+/// The machine after some steps.
+fn stepped(
+    start: Machine,
+    setup: &Setup,
+    meter: &mut Meter,
+    steps: u32,
+) -> Result<Machine, AllocError> {
+    let mut machine = start;
+    for _ in 0..steps {
+        let (next, _) = machine.step(setup, meter)?;
+        machine = next;
+    }
+    Ok(machine)
+}
+
+/// Whether a machine is where a trial says after its steps, each of which is counted.
+fn goes(
+    start: Machine,
+    setup: &Setup,
+    touches: &[Touches],
+    steps: u32,
+    there: (&State, &Streams),
+) -> Result<bool, AllocError> {
+    let mut meter = Meter::new();
+    match touching(start, setup, &mut meter, touches)? {
+        Some(touched) => {
+            let machine = stepped(touched, setup, &mut meter, steps)?;
+            let made = (touches.len() as u64).wrapping_add(u64::from(steps));
+            Ok(meter.read() == made && is_at(&machine, there.0) && has_streams(&machine, there.1))
+        }
+        None => Ok(false),
+    }
+}
+
+/// Whether a machine that has ended after two steps makes three more, and stays.
+fn rests(start: Machine, setup: &Setup) -> Result<bool, AllocError> {
+    let ended = stepped(start, setup, &mut Meter::new(), 2)?;
+    let mut meter = Meter::new();
+    let rested = ended.run(setup, 3, &mut meter)?;
+    Ok(meter.read() == 3 && matches!(rested.status(), Status::Exited(_)))
+}
+
+/// The value and the undefined bits of a0 after some steps.
+fn answer(start: Machine, setup: &Setup, steps: u32) -> Result<Bits, AllocError> {
+    let machine = stepped(start, setup, &mut Meter::new(), steps)?;
+    Ok(bits_of(&machine, 10))
+}
+
+/// Whether a word that is written at the stack pointer, and marked before the first step, is loaded.
+fn marks(start: Machine, setup: &Setup) -> Result<bool, AllocError> {
+    let poked = start.poke_word(0x7FFF_FFF0, 0x8765_4321)?;
+    let marked = poked.mark(&Mark {
+        step: 0,
+        addr: 0x7FFF_FFF0,
+        len: 4,
+        kind: RangeKind::Undefined,
+    })?;
+    let bits = answer(marked, setup, 1)?;
+    Ok(bits.value == 0x8765_4321 && bits.undef == u32::MAX)
+}
+
+/// Whether a machine loads another word, and then a copy the word as it was.
+fn loads(machine: Machine, copy: Machine, setup: &Setup) -> Result<bool, AllocError> {
+    let later = answer(machine, setup, 1)?;
+    let pc = copy.pc();
+    let again = answer(copy, setup, 1)?;
+    Ok(pc == 0x10000 && later.value == 5 && again.value == 0)
+}
+
+/// Whether a copy stays as it was.
+fn copies(start: Machine, setup: &Setup) -> Result<bool, AllocError> {
+    let copy = start.share()?;
+    loads(start.poke_word(0x7FFF_FFF0, 5)?, copy, setup)
+}
+
+/// The machine of a program before the first step, with another first word.
+fn begun_with(alloc: Global, image: &Image, first: u32) -> Result<Machine, AllocError> {
+    let start = Machine::start(alloc, image)?;
+    start.poke_word(0x10000, first)
+}
+
+/// Whether a step of the program with another first word adds so much, where it takes over what a machine has decoded.
+fn adds(start: Machine, setup: &Setup, decoded: &Machine, want: u32) -> Result<bool, AllocError> {
+    let mut machine = start;
+    machine.learn(decoded);
+    Ok(answer(machine, setup, 1)?.value == want)
+}
+
+/// The same of a new machine.
+fn adds_anew(
+    alloc: Global,
+    image: &Image,
+    setup: &Setup,
+    decoded: &Machine,
+    (first, want): (u32, u32),
+) -> Result<bool, AllocError> {
+    let start = begun_with(alloc, image, first)?;
+    adds(start, setup, decoded, want)
+}
+
+/// Whether two more steps of a copy that is ready add to the two from before.
+fn goes_on(setup: &Setup, decoded: &Machine) -> Result<bool, AllocError> {
+    let copy = decoded.share_ready()?;
+    Ok(answer(copy, setup, 2)?.value == 3)
+}
+
+/// Whether three steps of the program that adds 2 add 4, where all that is decoded is taken over.
+fn takes_over(
+    alloc: Global,
+    image: &Image,
+    setup: &Setup,
+    decoded: &mut Machine,
+) -> Result<bool, AllocError> {
+    let mut machine = begun_with(alloc, image, COUNT_BY_2)?;
+    machine.take_over(decoded);
+    Ok(answer(machine, setup, 3)?.value == 4)
+}
+
+/// Whether instructions are taken over where a machine has the same words, and not where it has others.
+fn is_learnt(
+    alloc: Global,
+    image: &Image,
+    setup: &Setup,
+    decoded: &mut Machine,
+) -> Result<bool, AllocError> {
+    if !goes_on(setup, decoded)? {
+        return Ok(false);
+    }
+    for adding in &[(COUNT, 1), (COUNT_BY_2, 2)] {
+        if !adds_anew(alloc, image, setup, decoded, *adding)? {
+            return Ok(false);
+        }
+    }
+    takes_over(alloc, image, setup, decoded)
+}
+
+/// Whether they are of the program after three steps.
+fn learns(alloc: Global, image: &Image, start: Machine, setup: &Setup) -> Result<bool, AllocError> {
+    let mut decoded = stepped(start, setup, &mut Meter::new(), 3)?;
+    is_learnt(alloc, image, setup, &mut decoded)
+}
+
+/// Whether each register of a machine before its first step is defined, and 0 but for the stack pointer.
+fn has_registers(machine: &Machine) -> bool {
+    for number in 0..32 {
+        let value = if number == 2 { 0x7FFF_FFF0 } else { 0 };
+        let bits = bits_of(machine, number);
+        if bits.value != value || bits.undef != 0 {
+            return false;
+        }
+    }
+    true
+}
+
+/// Whether a trial goes well on an image.
+fn goes_well(
+    alloc: Global,
+    image: &Image,
+    setup: &Setup,
+    trial: &Trial,
+) -> Result<bool, AllocError> {
+    let start = Machine::start(alloc, image)?;
+    match trial {
+        Trial::Steps(touches, steps, state, streams) => {
+            goes(start, setup, touches, *steps, (state, streams))
+        }
+        Trial::Registers => Ok(has_registers(&start)),
+        Trial::Rests => rests(start, setup),
+        Trial::Marks => marks(start, setup),
+        Trial::Copies => copies(start, setup),
+        Trial::Learns => learns(alloc, image, start, setup),
+    }
+}
+
+/// Whether a row is so on a file.
+fn is_so_of(alloc: Global, file: &[u8], row: &Row) -> Result<bool, AllocError> {
+    let setup = setup_of(alloc, row)?;
+    match read(alloc, file) {
+        Ok(image) => goes_well(alloc, &image, &setup, &row.4),
+        Err(_) => Ok(false),
+    }
+}
+
+/// Whether it is on a new one.
+fn is_so(alloc: Global, row: &Row) -> Result<bool, AllocError> {
+    let file = program(alloc, row.1)?;
+    is_so_of(alloc, &file, row)
+}
+
+/// Asserts that rows are so.
+pub(crate) fn assert_so(rt: &impl Abort, alloc: Global, rows: &[Row]) {
+    for row in rows {
+        assert!(rt; matches!(is_so(alloc, row), Ok(true)), "{}", row.0);
+    }
+}
