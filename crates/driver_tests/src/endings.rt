@@ -63,25 +63,19 @@ const REPORTS: [Report; 4] = [
     ),
 ];
 
-/// Whether the report on an image comes to what a row says, with an input, by what a writer takes.
-fn is_cut_to(
-    alloc: Global,
-    image: &Image<'_>,
-    input: Vec<u8>,
-    writer: &mut Room,
-    report: &Report,
-) -> bool {
-    let end = run_once(alloc, image, input, &[], 3, writer);
+/// Whether the report on an image comes to what a row says, with an input.
+fn is_cut_to(alloc: Global, image: &Image<'_>, input: Vec<u8>, report: &Report) -> bool {
+    let mut writer = Room::new(alloc, report.1);
+    writer.flushes = report.2;
+    let end = run_once(alloc, image, input, &[], 3, &mut writer);
     told(end) == report.4 && writer.taken.len() == report.5 && REPORT.starts_with(&writer.taken)
 }
 
 /// The same on a file.
 fn is_cut_of(alloc: Global, file: &[u8], report: &Report) -> Result<bool, AllocError> {
     let input = vec![in alloc; 0u8; report.3]?;
-    let mut writer = Room::new(alloc, report.1);
-    writer.flushes = report.2;
     match read(alloc, file) {
-        Ok(image) => Ok(is_cut_to(alloc, &image, input, &mut writer, report)),
+        Ok(image) => Ok(is_cut_to(alloc, &image, input, report)),
         Err(_) => Ok(false),
     }
 }
@@ -186,7 +180,7 @@ const FILE_ENDS: [Told; 6] = [
 ];
 
 #[test]
-fn ends_by_files_are(rt: HostRuntime) {
+fn ends_of_files_are_told(rt: HostRuntime) {
     assert_told(&rt, rt.alloc(), &FILE_ENDS);
 }
 
@@ -206,7 +200,7 @@ const WORD_ENDS: [Told; 5] = [
 ];
 
 #[test]
-fn ends_by_words_are(rt: HostRuntime) {
+fn ends_of_words_are_told(rt: HostRuntime) {
     assert_told(&rt, rt.alloc(), &WORD_ENDS);
 }
 
@@ -275,6 +269,14 @@ fn task_of(asked: &Asked) -> (Option<&'static str>, Task<'static>) {
     }
 }
 
+/// The status that an order ends with, whose line is told.
+fn status_of(alloc: Global, order: &Order<'_>, shelf: &Shelf<'_>, writer: &mut Room) -> u8 {
+    let mut reader = Script::new(b"goto 3\nreport\nlook last run 0x10008 4 0\n");
+    let end = run_order(alloc, order, shelf, &mut reader, writer);
+    let mut line = Room::new(alloc, 1 << 20);
+    tell(&end, &mut line)
+}
+
 /// Whether an order on a program ends so.
 fn is_carried_on(alloc: Global, program: &[u8], case: &Case) -> bool {
     let (_, (file, has_rules, asked), rules, status, written) = case;
@@ -285,12 +287,9 @@ fn is_carried_on(alloc: Global, program: &[u8], case: &Case) -> bool {
         suppressions: if *has_rules { Some("rules") } else { None },
         task,
     };
-    let shelf = Shelf { program, rules };
     let mut writer = Room::new(alloc, 1 << 20);
-    let mut reader = Script::new(b"goto 3\nreport\nlook last run 0x10008 4 0\n");
-    let end = run_order(alloc, &order, &shelf, &mut reader, &mut writer);
-    let mut line = Room::new(alloc, 1 << 20);
-    tell(&end, &mut line) == *status && is_written(&writer.taken, written)
+    let came = status_of(alloc, &order, &Shelf { program, rules }, &mut writer);
+    came == *status && is_written(&writer.taken, written)
 }
 
 /// Whether one on a new program does.

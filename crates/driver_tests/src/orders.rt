@@ -139,7 +139,7 @@ const SESSIONS: [Line; 2] = [
 ];
 
 #[test]
-fn sessions_are(rt: HostRuntime) {
+fn sessions_are_ordered(rt: HostRuntime) {
     assert_given(&rt, rt.alloc(), &SESSIONS);
 }
 
@@ -193,7 +193,7 @@ const SWEEPS: [Line; 2] = [
 ];
 
 #[test]
-fn sweeps_are(rt: HostRuntime) {
+fn sweeps_are_ordered(rt: HostRuntime) {
     assert_given(&rt, rt.alloc(), &SWEEPS);
 }
 
