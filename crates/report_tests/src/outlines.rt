@@ -75,12 +75,12 @@ fn errors_and_leaks(rt: HostRuntime) {
 fn are_written(out: &mut Vec<u8>) -> Result<bool, AllocError> {
     push_number(out, 4095)?;
     push_address(out, 0x0001_02AF)?;
-    Ok(out.as_slice() == b"40950x000102af".as_slice())
+    Ok(out.as_slice() == b"input 40950x000102af".as_slice())
 }
 
-/// The same of a new text.
+/// The same of a new one.
 fn are_written_anew(alloc: Global) -> Result<bool, AllocError> {
-    let mut out = Vec::new(alloc);
+    let mut out = b"input ".to_vec(alloc)?;
     are_written(&mut out)
 }
 
