@@ -51,9 +51,9 @@ class Edit:
                 texts[source], old = texts[source].replace(old, text), None
         if not functions:
             raise Fault("it has no lines `old:` and `new:`")
-        inside = [it for it in functions if not any(module_of(source) == it for source in texts)]
-        self.is_of_bodies = inside == functions and not self.named
-        functions = inside or functions
+        self.inside = [it for it in functions if not any(module_of(source) == it for source in texts)]
+        self.is_of_bodies = self.inside == functions
+        functions = self.inside or functions
         if not self.named and "" in functions:
             raise Fault("a text of the root file stands in no function: name those whose contracts refuse it by lines `function: PATH`")
         return texts, self.named or functions
@@ -98,29 +98,55 @@ def owner(text):
     return "".join(last)
 
 
-def functions_of(folder):
-    """The free functions and the types' own methods of a crate's sources that don't call themselves, by their paths below the crate. The
-    proof of one that does stands elsewhere."""
-    texts = {str(it.relative_to(folder)): it.read_text(encoding="utf-8") for it in sorted(folder.glob("src/**/*.rt"))}
-    homes = {}
+def functions_of(texts):
+    """Of a crate's sources, the free functions and the types' own methods that don't call themselves, by their paths below the crate: the
+    source of each, and the lines between which its body stands. The proof of one that calls itself stands elsewhere."""
+    homes, found = {}, {}
     for source, text in texts.items():
         homes.update(dict.fromkeys(re.findall(r"(?m)^(?:pub(?:\(\w+\))? )?(?:struct|enum) (\w+)", text), module_of(source)))
-    found = []
     for source, text in texts.items():
         lines = text.split("\n")
         for at, head in ((at, HEAD.match(line)) for at, line in enumerate(lines)):
-            end = head and next((it for it in range(at, len(lines)) if lines[it].startswith(f"{head[1]}}}")), at)
-            call = r"\b[sS]elf(\.|::)" if head and head[1] else r"(?<![.:\w])"
-            if head and re.search(rf"{call}{head[2]}\(", "\n".join(lines[at + 1 : end])):
+            if not head:
                 continue
-            if head and not head[1]:
-                found.append([module_of(source), head[2]])
-            elif head:
+            begin, end = body_at(lines, at, head[1])
+            call = r"\b[sS]elf(\.|::)" if head[1] else r"(?<![.:\w])"
+            if re.search(rf"{call}{head[2]}\(", "\n".join(lines[begin:end])):
+                continue
+            if not head[1]:
+                path = [module_of(source), head[2]]
+            else:
                 above = next((it for it in range(at, -1, -1) if re.match(r"[a-z]", lines[it])), 0)
                 text = " ".join(lines[above : above + 4]).partition("{")[0]
-                if text.startswith("impl") and " for " not in text and owner(text) in homes:
-                    found.append([homes[owner(text)], owner(text), head[2]])
-    return ["::".join(it for it in path if it) for path in found]
+                if not text.startswith("impl") or " for " in text or owner(text) not in homes:
+                    continue
+                path = [homes[owner(text)], owner(text), head[2]]
+            found["::".join(it for it in path if it)] = source, begin, end
+    return found
+
+
+def body_at(lines, at, indent):
+    """Between which lines the body stands of the function whose head is in a line; none of a body in one line with a brace."""
+    begin = at
+    while not lines[begin].endswith(("{", "}")) or lines[begin].startswith(f"{indent} "):
+        begin += 1
+    if not lines[begin].endswith("{"):
+        return begin, begin
+    return begin + 1, next(it for it in range(begin + 1, len(lines)) if lines[it].startswith(f"{indent}}}"))
+
+
+def emptied(texts, functions):
+    """The sources with a loop that does nothing in the place of the bodies of all other functions, which has any type and calls none."""
+    lines = {source: text.split("\n") for source, text in texts.items()}
+    for path, (source, begin, end) in reversed(functions_of(texts).items()):
+        if begin < end and not is_one_of(path, functions) and "const fn" not in lines[source][begin - 1]:
+            lines[source][begin:end] = [re.match(" *", lines[source][end])[0] + "    loop {}"]
+    return {source: "\n".join(it) for source, it in lines.items()}
+
+
+def is_one_of(path, functions):
+    """Whether a path below the crate is one of these, which may be the ends of such paths."""
+    return any(f"::{path}".endswith(f"::{it}") for it in functions)
 
 
 def all_edits(top, crates=()):
