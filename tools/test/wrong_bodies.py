@@ -100,7 +100,7 @@ def owner(text):
 
 def functions_of(texts):
     """Of a crate's sources, the free functions and the types' own methods that don't call themselves, by their paths below the crate: the
-    source of each, and the lines between which its body stands. The proof of one that calls itself stands elsewhere."""
+    source of each, and the lines between which the body stands that can be another. The proof of one that calls itself stands elsewhere."""
     homes, found = {}, {}
     for source, text in texts.items():
         homes.update(dict.fromkeys(re.findall(r"(?m)^(?:pub(?:\(\w+\))? )?(?:struct|enum) (\w+)", text), module_of(source)))
@@ -121,7 +121,9 @@ def functions_of(texts):
                 if not text.startswith("impl") or " for " in text or owner(text) not in homes:
                     continue
                 path = [homes[owner(text)], owner(text), head[2]]
-            found["::".join(it for it in path if it)] = source, begin, end
+            # A constant may need what a body computes.
+            is_constant = "const fn" in lines[at]
+            found["::".join(it for it in path if it)] = source, begin, begin if is_constant else end
     return found
 
 
@@ -139,7 +141,7 @@ def emptied(texts, functions):
     """The sources with a loop that does nothing in the place of the bodies of all other functions, which has any type and calls none."""
     lines = {source: text.split("\n") for source, text in texts.items()}
     for path, (source, begin, end) in reversed(functions_of(texts).items()):
-        if begin < end and not is_one_of(path, functions) and "const fn" not in lines[source][begin - 1]:
+        if begin < end and not is_one_of(path, functions):
             lines[source][begin:end] = [re.match(" *", lines[source][end])[0] + "    loop {}"]
     return {source: "\n".join(it) for source, it in lines.items()}
 
