@@ -1,10 +1,7 @@
 """The command line of `replaycheck explore`, and its work."""
 import os
 import random
-import shutil
-import stat
 import sys
-import tempfile
 
 from replaycheck.endings import Fault, flush, write
 from replaycheck.options import LAST_STEP, Reader, number
@@ -13,8 +10,8 @@ from replaycheck.sessions import program
 from . import goals, remote, scripts
 from .heads import MOST_PARTS
 from .keeping import Kept, Room
-from .lines import shown
 from .merging import Merged, in_order, sources_in, spooled
+from .outputs import Outputs, check_outputs
 from .picture import Picture
 from .request import Request, range_of, values_reader, words_of
 from .running import Progress, Runner
@@ -22,13 +19,6 @@ from .summary import SourceLines, Summary
 
 PARTS_A_JOB = 8
 BYTES, WORDS = ("all", "flips", "edges"), ("skip", "flips")
-OLD_VALUES = {"nops": "of words it is --words-values skip now, the default",
-              "branches": "`--words-values skip` leaves each branch out too; `replaycheck word` has the word of one "
-                          "that is always taken, for a line `patch` of a session"}
-OLD = {"--also": "no lines come before the edits now: --supp takes suppressions; for a line `patch` or `mark` ask "
-                 "`replaycheck session`, edit by edit",
-       "--most": "a sweep of any size goes by parts now: --keep goes on where it was ended, and --sample takes some of "
-                 "it"}
 
 
 def options_of(page):
@@ -39,28 +29,22 @@ def options_of(page):
     reader.option("--step", type=number(0, LAST_STEP), default=1048576)
     reader.option("--bytes", type=range_of)
     reader.option("--words", type=words_of)
-    reader.option("--values", type=values_reader(BYTES, 256, OLD_VALUES))
-    reader.option("--words-values", type=values_reader(WORDS, 1 << 32, OLD_VALUES))
+    reader.option("--values", type=values_reader(BYTES, 256))
+    reader.option("--words-values", type=values_reader(WORDS, 1 << 32))
     reader.option("--with-output", is_flag=True)
     reader.option("--jobs", type=number(1, 10000))
     reader.option("--parts", type=number(1, MOST_PARTS))
     reader.option("--sample", type=number(1, MOST_PARTS))
     reader.option("--seed", type=number(0, 0xFFFFFFFF))
     reader.option("--script", choices=["slurm"])
-    reader.option("--exits", is_flag=True)
     reader.add_argument("--from", dest="tables", nargs="+", action="extend", default=[])
-    for name in OLD:
-        reader.repeated(name)
     options = reader.read()
     check(reader, options)
     return options
 
 
 def check(reader, options):
-    """Refuses what doesn't go together."""
-    for name, instead in OLD.items():
-        if getattr(options, name[2:]):
-            reader.error(f"{name} is no option any more: {instead}")
+    """Rejects what doesn't go together."""
     words = options.words is not None or options.code is not None
     making = [it for it in ("--bytes", "--words", "--code", "--values", "--words-values", "--with-output", "--jobs",
                             "--parts", "--keep", "--sshlogin", "--script")
@@ -134,69 +118,6 @@ def tables_made(options, request, room):
 # ---- what is told
 
 
-class Output:
-    """A file that is written whole or not at all; `-` is standard output, at the end."""
-
-    def __init__(self, path, room):
-        self.path, self.target = path, os.path.realpath(path)
-        self.is_plain = path != "-" and (not os.path.exists(path) or stat.S_ISREG(os.stat(path).st_mode))
-        folder = os.path.dirname(self.target) if self.is_plain else room
-        try:
-            number_of_file, self.beside = tempfile.mkstemp(dir=folder, prefix=".explore-")
-        except OSError as fault:
-            raise OSError(fault.errno, fault.strerror, path) from None
-        self.file = open(number_of_file, "wb")
-
-    def end(self):
-        self.file.close()
-        if self.is_plain:
-            mask = os.umask(0)
-            os.umask(mask)
-            is_there = os.path.exists(self.target)
-            os.chmod(self.beside, os.stat(self.target).st_mode & 0o777 if is_there else 0o666 & ~mask)
-            os.replace(self.beside, self.target)
-            return
-        with open(self.beside, "rb") as file:
-            if self.path == "-":
-                for content in iter(lambda: file.read(1 << 16), b""):
-                    write(content.decode("ascii"))
-            else:
-                self.copy(file)
-
-    def copy(self, file):
-        try:
-            with open(self.path, "wb") as out:
-                shutil.copyfileobj(file, out)
-        except OSError as fault:
-            raise Fault(f"cannot write {shown(self.path)}: {fault.strerror}") from None
-
-    def clear(self):
-        self.file.close()
-        if os.path.exists(self.beside):
-            os.unlink(self.beside)
-
-
-class Outputs:
-    """The files that are asked for, made ready before the work is done."""
-
-    def __init__(self, options, room):
-        self.asked = [(name, getattr(options, name)) for name in ("table", "svg") if getattr(options, name) is not None]
-        self.room, self.files = room, {}
-
-    def __enter__(self):
-        try:
-            for name, path in self.asked:
-                self.files[name] = Output(path, self.room)
-        except BaseException:
-            self.__exit__()
-            raise
-        return self.files
-
-    def __exit__(self, *_):
-        for it in self.files.values():
-            it.clear()
-
-
 def told(options, request, sources, notes, room, outputs):
     """Reads the tables as one, and tells what is asked for. Gives the status."""
     merged, goal = Merged(sources), None
@@ -205,22 +126,21 @@ def told(options, request, sources, notes, room, outputs):
     picture = Picture(merged, sources) if "svg" in outputs else None
     takers = [it.add for it in (goal, picture) if it]
     is_table = "table" in outputs and options.sample is None
-    for place in merged.places(outputs["table"].file.write if is_table else None):
+    for place in merged.places(outputs["table"].write if is_table else None):
         for take in takers:
             take(place)
     lines = SourceLines(request and os.path.abspath(request.program.path))
     summary = Summary(merged, request.title() if request else anonymous(merged.head),
                       request.before if request else lambda *_: None, lines, notes)
     if picture:
-        outputs["svg"].file.write(picture.text(summary).encode("utf-8"))
+        outputs["svg"].write(picture.text(summary).encode("utf-8"))
     if "table" in outputs and not is_table:
         for it in sources:
-            with open(it.path, "rb") as file:
-                shutil.copyfileobj(file, outputs["table"].file)
-    if "-" not in (options.table, options.svg):
-        write(goal.told() if goal else "".join(f"{line}\n" for line in summary.lines()))
+            outputs["table"].copy(it.path)
     for it in outputs.values():
         it.end()
+    if "-" not in (options.table, options.svg):
+        write(goal.told() if goal else "".join(f"{line}\n" for line in summary.lines()))
     flush()
     return int(bool(goal.count if goal else summary.is_new))
 
@@ -232,6 +152,7 @@ def anonymous(head):
 
 
 def explore(options):
+    check_outputs(options)
     with Room() as room:
         request = Request(options, room) if options.file is not None else None
         if options.script:
@@ -247,4 +168,4 @@ def explore(options):
                     request.check_files(it)
             else:
                 sources, notes = tables_made(options, request, room)
-            return told(options, request, sources, notes, room, outputs)
+            return told(options, request, sources, [*(request.notes if request else []), *notes], room, outputs)

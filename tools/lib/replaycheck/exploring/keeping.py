@@ -3,11 +3,11 @@ import fcntl
 import os
 import re
 import shutil
-import tempfile
 
 from replaycheck.endings import Fault, undisturbed
 
-from .lines import shown
+from .leftovers import new_folder
+from .lines import shown_name
 
 TABLE = re.compile(r"part-([1-9][0-9]{0,6})-of-([1-9][0-9]{0,6})")
 
@@ -15,7 +15,7 @@ TABLE = re.compile(r"part-([1-9][0-9]{0,6})-of-([1-9][0-9]{0,6})")
 class Room:
     """A folder that is gone at the end, however that comes."""
 
-    path = None
+    path = lock = None
 
     def __enter__(self):
         try:
@@ -26,11 +26,14 @@ class Room:
         return self.path
 
     def make(self):
-        self.path = tempfile.mkdtemp(prefix="explore-")
+        self.lock, self.path = new_folder()
 
-    def __exit__(self, *_):
+    def __exit__(self, _=None, fault=None, __=None):
         if self.path:
             shutil.rmtree(self.path, ignore_errors=True)
+            os.close(self.lock)
+        if isinstance(fault, OSError) and fault.filename is None:
+            raise Fault(f"cannot work in {shown_name(self.path)}: {fault.strerror}") from None
 
 
 class Kept:
@@ -43,7 +46,7 @@ class Kept:
         try:
             fcntl.flock(self.lock, fcntl.LOCK_EX | fcntl.LOCK_NB)
         except BlockingIOError:
-            raise Fault(f"{shown(path)}: another `explore` works in this folder") from None
+            raise Fault(f"{shown_name(path)}: another `explore` works in this folder") from None
         self.found = [it for it in map(TABLE.fullmatch, sorted(os.listdir(path))) if it]
 
     def count(self, wanted):
@@ -51,19 +54,24 @@ class Kept:
         counts = {int(it[2]) for it in self.found}
         if len(counts) > 1 or wanted and counts - {wanted}:
             told = " and of ".join(map(str, sorted(counts)))
-            raise Fault(f"{shown(self.path)}: it keeps another request: parts of {told}"
+            raise Fault(f"{shown_name(self.path)}: it keeps another request: parts of {told}"
                         + (f", not of {wanted}" if wanted else ""))
         return counts.pop() if counts else wanted
 
     def parts(self, runner):
         """The tables that are here, by the numbers of their parts."""
-        found = {}
-        for it in self.found:
-            try:
-                source = runner.source(os.path.join(self.path, it[0]))
-            except Fault as fault:
-                raise Fault(f"{shown(self.path)}: it keeps another request, or no whole table: {fault}") from None
-            if source.head.part != (int(it[1]), int(it[2])):
+        return {int(it[1]): self.part(runner, it) for it in self.found}
+
+    def part(self, runner, found):
+        """The table of a file with the name of a part."""
+        path = os.path.join(self.path, found[0])
+        try:
+            if not os.path.isfile(path):
+                raise Fault(f"{found[0]}: not a regular file")
+            source = runner.source(path)
+            if source.head.part != (int(found[1]), int(found[2])):
                 raise Fault(f"{source}: the file's name is that of another part")
-            found[int(it[1])] = source
-        return found
+        except Fault as fault:
+            raise Fault(f"{shown_name(self.path)}: it keeps another request, or no whole table: {fault}; delete "
+                        f"{shown_name(path)} to make that part again, or take another folder") from None
+        return source

@@ -20,12 +20,19 @@ def shown(text):
     return told + ("..." if len(text) > len(cut) else "")
 
 
+def shown_name(text):
+    """A file's name as a terminal may have it: printable characters as they are, all else as `\\x1b`, and not too
+    many."""
+    return "".join(it if it.isprintable() else shown(it) for it in text[:LONGEST_SHOWN]) + (
+        "..." if len(text) > LONGEST_SHOWN else "")
+
+
 class Lines:
     """Lines that are taken one after another, with their numbers. `next` is empty at the end. `taken` is a list of
     those that were taken, where one is kept."""
 
     def __init__(self, file, name, number=0):
-        self.file, self.name, self.number = file, shown(name), number
+        self.file, self.name, self.number = file, shown_name(name), number
         self.taken = None
         self.next, self.was = b"", b""
         self.go_on()

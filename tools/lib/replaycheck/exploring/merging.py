@@ -5,7 +5,7 @@ from dataclasses import dataclass
 from typing import Callable, Dict, List, Optional, Tuple
 
 from .heads import Head, Range, read_head
-from .lines import BadTable, Lines, shown
+from .lines import BadTable, Lines, shown_name
 from .tables import Table
 
 MOST_SPOOLED = 1 << 34
@@ -28,7 +28,7 @@ class Source:
         return Table(file, self.name, self.number)
 
     def __str__(self):
-        return f"{shown(self.name)} (part {self.head.part[0]}/{self.head.part[1]})"
+        return f"{shown_name(self.name)} (part {self.head.part[0]}/{self.head.part[1]})"
 
 
 def table_starts(file):
@@ -40,16 +40,19 @@ def table_starts(file):
         if not content:
             return
         text += content
+        counted = 0  # `number` is how many newlines come before this place of the text
         for found in NEXT_TABLE.finditer(text):
-            yield base + found.end(), number + text.count(b"\n", 0, found.end())
-        done = max(0, len(text) - 7)  # what begins behind it isn't whole
-        number, base, text = number + text.count(b"\n", 0, done), base + done, text[done:]
+            number, counted = number + text.count(b"\n", counted, found.end()), found.end()
+            yield base + counted, number
+        done = max(0, len(text) - 7)  # what begins after it isn't whole
+        number += text.count(b"\n", counted, done)
+        base, text = base + done, text[done:]
 
 
 def sources_in(path, name):
     """The tables that stand in a file."""
-    with open(path, "rb") as file:
-        for offset, number in list(table_starts(file)):
+    with open(path, "rb") as file, open(path, "rb") as ahead:
+        for offset, number in table_starts(ahead):
             file.seek(offset)
             yield Source(path, name, offset, number, read_head(Lines(file, name, number)))
 
@@ -64,7 +67,7 @@ def spooled(file, name, room):
             content = file.read(1 << 20)
             size += len(content)
             if size > MOST_SPOOLED:
-                raise BadTable(f"{shown(name)}: more than {MOST_SPOOLED} bytes; give them as a file")
+                raise BadTable(f"{shown_name(name)}: more than {MOST_SPOOLED} bytes; give them as a file")
             if not content:
                 return path
             out.write(content)

@@ -1,7 +1,7 @@
 """A picture of a sweep, as SVG."""
 import html
 
-from .lines import LONGEST_SHOWN, shown
+from .lines import LONGEST_SHOWN, shown_name
 from .outcomes import Outcome
 from .panels import panels_of
 
@@ -25,8 +25,8 @@ LEFT, TOP, LEGEND_LINE, LEAST_MARK, NARROWEST = 84, 72, 18, 3, 1060
 
 
 def xml(text, longest=LONGEST_SHOWN):
-    """A text as XML has it: printable ASCII, all else as `\\x1b`, cut where it is long."""
-    told = "".join(shown(text[at:at + LONGEST_SHOWN]) for at in range(0, min(len(text), longest), LONGEST_SHOWN))
+    """A text as XML has it: printable characters, all else as `\\x1b`, cut where it is long."""
+    told = "".join(shown_name(text[at:at + LONGEST_SHOWN]) for at in range(0, min(len(text), longest), LONGEST_SHOWN))
     return html.escape(told[:longest] + ("..." if len(text) > longest else ""), quote=True)
 
 

@@ -10,7 +10,7 @@ import time
 from replaycheck.endings import Fault, start
 
 from .keeping import Room
-from .lines import shown
+from .lines import shown, shown_name
 from .running import Runner
 
 PLAIN = re.compile(r"[A-Za-z0-9_./-]+")
@@ -38,7 +38,7 @@ class Remote(Runner):
         """Makes these parts. Gives their tables."""
         with Room() as room:
             if not PLAIN.fullmatch(room):
-                raise Fault(f"--sshlogin wants a TMPDIR with a plain name, not {shown(room)}")
+                raise Fault(f"--sshlogin wants a TMPDIR with a plain name, not {shown_name(room)}")
             child = self.child(room, parts)
             try:
                 found = self.take(child.stdout, room, progress)

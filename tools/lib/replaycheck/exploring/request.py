@@ -4,15 +4,17 @@ import hashlib
 import os
 import re
 import stat
+import subprocess
 import sys
 from dataclasses import dataclass
 
 from replaycheck.adopting.elf import Elf, refusals
-from replaycheck.endings import Fault
-from replaycheck.sessions import path_of
+from replaycheck.endings import Fault, start
+from replaycheck.reports import READ
+from replaycheck.sessions import path_of, program
 
 from .heads import Range
-from .lines import shown
+from .lines import shown_name
 from .tables import EDGES
 
 NUMBER = r"0[xX][0-9a-fA-F]{1,8}|[0-9]{1,10}"
@@ -41,11 +43,9 @@ def words_of(text):
     return first, last
 
 
-def values_reader(names, limit, instead):
-    """A reader of values: a name, or a list of numbers, none twice. `instead` has what took the place of old names."""
+def values_reader(names, limit):
+    """A reader of values: a name, or a list of numbers, none twice."""
     def read(text):
-        if text in instead:
-            raise argparse.ArgumentTypeError(f"{text!r}: {instead[text]}")
         if text in names:
             return text
         found = text.split(",")
@@ -105,33 +105,65 @@ class Request:
         self.program, self.input, self.supp = self.files
         self.code = options.code
         self.elf = None if refusals(self.program.content) else Elf(self.program.content)
+        self.ranges, self.notes = [], []
         words = options.words
         if options.code is not None:
             words = self.code_range(options.code)
-        self.ranges = []
-        if options.bytes or not words:
-            self.ranges.append(self.bytes_range(options.bytes or (0, None), options.values or "all"))
+        if not options.tables and (options.bytes or not words):
+            self.ranges.append(self.bytes_range(options.bytes, options.values or "all"))
         if words:
             self.ranges.append(Range("words", *words, options.words_values or "skip"))
 
+    # ---- the bytes that are edited
+
     def bytes_range(self, places, values):
-        first, last = places
-        last = max(first, len(self.input.content) - 1) if last is None else last
+        """The bytes that were asked for, or those that the unedited run reads: no edit of another one changes it."""
+        size = len(self.input.content)
+        if not self.input.path:
+            raise Fault("no input to edit: --input FILE gives one, --code NAME edits instructions")
+        if not size:
+            raise Fault(f"{shown_name(self.input.name)}: it is empty, so there is no byte to edit")
+        read = self.bytes_read()
+        first, last = places or (0, size - 1 if read is None else read - 1)
+        last = max(first, size - 1) if last is None else last
+        if read is not None and read < size and (not places or read <= last < size):
+            self.tell_unread(read, places)
         return Range("bytes", first, last, values)
+
+    def tell_unread(self, read, places):
+        """Says which bytes of the input the unedited run doesn't read, or that it reads none."""
+        size = len(self.input.content)
+        if not read and not places:
+            raise Fault(f"the run reads none of the {size} bytes of {shown_name(self.input.name)} up to step {self.step}, "
+                        "so no edit of them changes it: --bytes A..B tries them all the same, --code NAME edits "
+                        "instructions")
+        rest = "which no edit of them changes" if places else f"so the other {size - read} are left out"
+        self.notes.append(f"input: the unedited run reads {read} of {size} bytes, {rest}")
+
+    def bytes_read(self):
+        """How many bytes of the input the unedited run has read at the step of the sweep; None where the program
+        rejects its files, which the parts say."""
+        words = [program(), "run", f"--step={self.step}", f"--input={self.input.path}"]
+        words += [f"--supp={self.supp.path}"] if self.supp.path else []
+        child = start([*words, path_of(self.program.path)], stdin=subprocess.DEVNULL, stdout=subprocess.PIPE,
+                      stderr=subprocess.DEVNULL)
+        told = child.communicate()[0].decode("ascii", "replace").split("\n")
+        found = READ.fullmatch(told[2]) if not child.returncode and len(told) > 2 else None
+        return int(found[1]) if found else None
 
     def code_range(self, name):
         """The addresses of a function, or of A..B."""
         if RANGE.fullmatch(name) and not name.endswith(".."):
             return range_of(name)
         if self.elf is None:
-            raise Fault(f"--code {shown(name)}: {shown(self.program.name)} has no functions that can be read")
+            raise Fault(f"--code {shown_name(name)}: {shown_name(self.program.name)} has no functions that can be read")
         found = {(it.value, self.elf.extent(it)) for it in self.elf.functions
                  if self.elf.name(it) == name and self.elf.extent(it) >= 4}
         if not found:
-            raise Fault(f"--code {shown(name)}: no such function")
+            raise Fault(f"--code {shown_name(name)}: no such function")
         if len(found) > 1:
             where = "; ".join(f"--words 0x{at:08x}..0x{at + size - 4:08x}" for at, size in sorted(found))
-            raise Fault(f"--code {shown(name)}: {len(found)} functions have that name: {where}")
+            raise Fault(f"--code {shown_name(name)}: {len(found)} functions have that name: {where}")
         (at, size), = found
         return at, at + size // 4 * 4 - 4
 
@@ -173,7 +205,7 @@ class Request:
         """Refuses a table that isn't of these files."""
         for given_file, was, now in zip(self.files, (it.digest for it in self.files), source.head.files):
             if was != now:
-                named = shown(given_file.name) or "a file that wasn't given"
+                named = shown_name(given_file.name) or "a file that wasn't given"
                 raise Fault(f"{source}: it is of another {named}, {now[0]} bytes with the digest {now[1][:16]}.., not "
                             f"{was[0]} with {was[1][:16]}..: the file was changed, or the table is of another sweep")
 
@@ -207,4 +239,4 @@ class Request:
 
     def title(self):
         words = [os.path.basename(it.name) or it.name for it in self.files[:2] if it.name]
-        return shown(" with ".join(words)) + (f", {shown(self.code)}" if self.code else "")
+        return shown_name(" with ".join(words)) + (f", {shown_name(self.code)}" if self.code else "")

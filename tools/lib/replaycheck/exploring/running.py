@@ -1,4 +1,5 @@
 """The parts of a sweep, side by side: their tables go to files, whole or not at all."""
+import contextlib
 import os
 import selectors
 import subprocess
@@ -9,7 +10,7 @@ from dataclasses import dataclass, field
 from replaycheck.endings import Fault, start
 from replaycheck.refusals import with_words
 
-from .lines import shown
+from .lines import shown_name
 from .merging import sources_in
 
 AGAIN = 2  # so often a part is tried
@@ -70,7 +71,7 @@ class Runner:
         name = os.path.basename(path)
         found = list(sources_in(path, name))
         if len(found) != 1:
-            raise Fault(f"{shown(name)}: {len(found)} tables, not one")
+            raise Fault(f"{shown_name(name)}: {len(found)} tables, not one")
         self.request.check(found[0])
         return found[0]
 
@@ -115,12 +116,21 @@ class Runner:
                 job.open.discard(pipe)
                 ended += [job] if not job.open else []
             elif pipe is job.child.stdout:
-                job.file.write(content)
+                self.write(job, content)
                 job.tail = (job.tail + content)[-100:]
                 progress.add(b"\n" + content)
             else:
                 job.said = (job.said + content)[:MOST_SAID]
         return ended
+
+    @staticmethod
+    def write(job, content):
+        """Appends to the table of a job."""
+        try:
+            job.file.write(content)
+            job.file.flush()
+        except OSError as fault:
+            raise Fault(f"cannot write {shown_name(job.path)}: {fault.strerror}") from None
 
     def end(self, job):
         """How a job has failed, in words; None where it hasn't."""
@@ -135,7 +145,6 @@ class Runner:
 
     def keep(self, job):
         """Gives a whole table its name."""
-        job.file.flush()
         os.fsync(job.file.fileno())
         job.file.close()
         self.source(job.path)
@@ -160,7 +169,8 @@ class Runner:
             job.child.terminate()
         for job in self.running.values():
             job.child.wait()
-            job.file.close()
+            with contextlib.suppress(OSError):  # a full disk
+                job.file.close()
         for path in filter(os.path.exists, self.fresh):
             os.unlink(path)
         self.running, self.fresh = {}, set()
@@ -177,4 +187,4 @@ class Refused(Fault):
 
 def told(line):
     """A line of the program's, with words behind a number, as a terminal may have it."""
-    return shown(with_words(line.decode("utf-8", "surrogateescape")))
+    return shown_name(with_words(line.decode("utf-8", "surrogateescape")))

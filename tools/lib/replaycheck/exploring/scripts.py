@@ -3,7 +3,7 @@ import shlex
 
 from replaycheck.endings import Fault
 
-from .lines import shown
+from .lines import shown_name
 
 PARTS = 64
 SLURM = """#!/bin/bash
@@ -27,7 +27,7 @@ def slurm(options, request):
     """A job script for an array of tasks."""
     for name in filter(None, (options.file, options.input, options.supp, options.keep)):
         if "\n" in name or name == "-" or name.startswith("/dev/"):
-            raise Fault(f"--script: the tasks can't read {shown(name)}")
+            raise Fault(f"--script: the tasks can't read {shown_name(name)}")
     folder = options.keep or "sweep-parts"
     count = options.parts or min(PARTS, max(1, request.places))
     files = [f"--input={options.input}"] if options.input is not None else []

@@ -3,12 +3,24 @@ import os
 import shutil
 
 from replaycheck.endings import Fault
+from replaycheck.options import LAST_STEP
 from replaycheck.places import PROGRAMS, Paths, Places
 
-from .lines import shown
+from .lines import shown_name
 from .outcomes import Outcome
 
 INDENT = " " * 13
+WIDTHS = 26, 44  # the least and the greatest width of the column of first edits
+
+
+def counted(number, one, many=""):
+    """A number with its noun."""
+    return f"{number} {one if number == 1 else many or one + 's'}"
+
+
+def byte_told(value):
+    """A byte as hexadecimal digits, and as a character where it is a printable one."""
+    return f"0x{value:02x}" + (f" '{chr(value)}'" if 32 <= value < 127 else "")
 
 
 class SourceLines:
@@ -21,7 +33,7 @@ class SourceLines:
     def behind(self, address):
         """` (file.c:12)`, or nothing."""
         told = self.places.at(address) if self.places and address else []
-        return f" ({shown(' in '.join(map(str, told)))})" if told else ""
+        return f" ({shown_name(' in '.join(map(str, told)))})" if told else ""
 
     def learn(self, addresses):
         try:
@@ -45,6 +57,8 @@ class Summary:
         self.unedited = self.outcomes[0]
         self.news = [it.news(self.unedited) for it in self.outcomes]
         self.order = [0, *sorted(range(1, len(self.outcomes)), key=self.weight)]
+        # How wide the column of first edits is.
+        self.width = min(WIDTHS[1], max(WIDTHS[0], *(len(self.first(it)) for it in self.order)))
         sources.learn([part.address for it in self.outcomes for part in it.parts] + [
             f"0x{at:08x}" for it, at, *_ in merged.firsts.values() if it.kind == "words"])
 
@@ -70,33 +84,35 @@ class Summary:
         return sorted(found.values(), key=lambda it: (-it[0].badness, self.merged.firsts[it[2]][3]))
 
     def edit(self, number):
-        """The first edit of an outcome, as a line of a session."""
+        """The first edit of an outcome: a line of a session, and other forms of the byte."""
         it, at, value, _ = self.merged.firsts[number]
-        return it.line(at, value)
+        return it.line(at, value) + (f" ({byte_told(value)})" if it.kind == "bytes" else "")
 
     def bad_lines(self):
         finds = self.finds()
         bad = sum(self.merged.tallies[number] for number in self.order if self.news[number])
-        others = len(self.outcomes) - 1
-        yield (f"{len(finds)} new errors, leaks and stops, by {bad} edits; {others} outcomes other than the unedited")
+        new = counted(len(finds), "new error, leak or stop", "new errors, leaks and stops")
+        others = counted(len(self.outcomes) - 1, "outcome")
+        yield f"{new}, by {counted(bad, 'edit')}; {others} other than the unedited"
         if finds:
             yield ""
-            yield f"   {'edits':>8}  {'first edit':<30} new error, leak or stop"
+            yield f"   {'edits':>8}  {'first edit':<{self.width}} new error, leak or stop"
         for part, edits, number in finds:
-            yield f"   {edits:8}  {self.edit(number):<30} {self.sources.told(part)}"
+            yield f"   {edits:8}  {self.edit(number):<{self.width}} {self.sources.told(part)}"
 
     # ---- outcomes
 
     def first(self, number):
-        """The first edit of an outcome, with the byte that stood there."""
+        """The first edit of an outcome, with the byte that it replaces."""
+        if not number:
+            return "as unedited"
         it, at, *_ = self.merged.firsts[number]
         before = self.before(it, at) if it.kind == "bytes" else None
-        return self.edit(number) + (f" (was {before})" if before is not None else "")
+        return self.edit(number) + (f", was {before} ({byte_told(before)})" if before is not None else "")
 
     def outcome_lines(self, number):
         outcome, had = self.outcomes[number], {it.text for it in self.unedited.parts}
-        first = self.first(number) if number else "as unedited"
-        yield f"{number:2} {self.merged.tallies[number]:8}  {first:<30} {outcome.told}"
+        yield f"   {self.merged.tallies[number]:8}  {self.first(number):<{self.width}} {number}: {outcome.told}"
         if not number:
             return
         it, at, *_ = self.merged.firsts[number]
@@ -112,11 +128,16 @@ class Summary:
     def lines(self):
         head = self.merged.head
         where = "; ".join(map(str, head.ranges))
-        yield f"{self.title}: {self.merged.edits} edits, {where}, step {head.step}"
+        yield f"{self.title}: {counted(self.merged.edits, 'edit')}, {where}, step {head.step}"
         yield from self.notes
-        yield f"unedited: {self.unedited.told}, {len(self.unedited.parts) or 'no'} errors and leaks"
+        errors = counted(len(self.unedited.parts), "error or leak", "errors and leaks") if self.unedited.parts else (
+            "no errors or leaks")
+        yield f"unedited: {self.unedited.told}, {errors}"
+        if self.unedited.state == "running":
+            more = f"; --step goes up to {LAST_STEP}" if head.step < LAST_STEP else ""
+            yield f"still running: what the program does after step {head.step} isn't seen{more}"
         yield from self.bad_lines()
         yield ""
-        yield f"{'no':>2} {'edits':>8}  {'first edit':<30} outcome"
+        yield f"   {'edits':>8}  {'first edit':<{self.width}} outcome, by its number in the table"
         for number in self.order:
             yield from self.outcome_lines(number)
