@@ -16,7 +16,7 @@ SLOW = [
     ("run", ["run", "three-words.elf", "--error-exitcode=1"], ["REPLAYCHECK"]),
     ("origin", ["origin", "three-words.elf"], ["REPLAYCHECK"]),
     ("gdb", ["gdb", "three-words.elf"], ["REPLAYCHECK"]),
-    ("word", ["word", "nop"], ["AS", "OBJDUMP"]),
+    ("word", ["word", "nop"], ["AS", "LD", "OBJDUMP"]),
 ]
 
 
@@ -173,6 +173,21 @@ def word_rows():
                               ("0xff1ff06f", "j .-16"), ("0x00812e03", "lw t3,8(sp)"), ("0x02d7f7b3", "remu a5,a5,a3"),
                               ("0x00000073", "ecall")):
         yield Row(f"word: {instruction}", ["word", instruction], 0, f"{word}\n", needs=BINUTILS)
+    # The word of station.elf's call of malloc at this address.
+    at, symbols = ["--at", "0x101e8"], ["--symbols", "station.elf"]
+    for instruction, more, word in (("jal 0x10918", at, "0x730000ef"), ("jal malloc", at + symbols, "0x730000ef"),
+                                    ("lui a0,%hi(0x20800)", [], "0x00021537"), ("jal .+20", [], "0x014000ef"),
+                                    ("again: j again", [], "0x0000006f"), (".word 0x5a", [], "0x0000005a")):
+        yield Row(f"word: {' '.join([instruction, *more])}", ["word", instruction, *more], 0, f"{word}\n", needs=BINUTILS)
+    for instruction, more, said in (("jal 0x10918", [], "the word depends on the instruction's address: --at"),
+                                    ("j main", at, "unknown name: main; --symbols FILE gives"),
+                                    ("lui a0,%hi(nothing)", at + symbols, "nothing; it is no global symbol of station.elf"),
+                                    ("jal 0x30000000", at, "the target is too far"),
+                                    (".include \"/dev/zero\"", [], ".include: a directive"),
+                                    ("nop;.incbin \"/dev/zero\"", [], ".incbin: a directive")):
+        yield Row(f"word: refused, {' '.join([instruction, *more])}", ["word", instruction, *more], 1, "", f"*{said}*", needs=BINUTILS)
+    for more, said in ((["--at", "3"], "--at 0x3: not a multiple of 4"), (["--symbols", "missing"], "missing: no such file")):
+        yield Row(f"word: {' '.join(more)}", ["word", "nop", *more], 2, "", f"*{said}*", needs=BINUTILS)
     yield Row("word: two words", ["word", "li a0,70000"], 1, "", "*2 words, not one*", needs=BINUTILS)
     yield Row("word: no word", ["word", ""], 1, "", "*0 words, not one*", needs=BINUTILS)
     yield Row("word: no instruction", ["word", "hello a0"], 1, "", "*Error*", needs=BINUTILS)
@@ -180,6 +195,7 @@ def word_rows():
     yield Row("word: two lines", ["word", "nop\nnop"], 2, "", "*two lines in one word*", needs=BINUTILS)
     yield Row("word: no assembler", ["word", "nop"], 2, "", "*cannot run missing-as*binutils*",
               environment={"AS": "missing-as"})
+    yield Row("word: no linker", ["word", "nop"], 2, "", "*cannot run no-ld*", needs=BINUTILS, environment={"LD": "no-ld"})
     yield Row("word: no disassembler", ["word", "nop"], 2, "", "*cannot run no-objdump*", needs=BINUTILS,
               environment={"OBJDUMP": "no-objdump"})
 
