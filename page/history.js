@@ -26,10 +26,10 @@ export class History {
     return true;
   }
 
-  // Goes back to a scenario that was shown before, and forgets those behind it.
+  // Goes back to a scenario that was shown before, and forgets those after it. One that wasn't takes the place of the last.
   backTo(scenario) {
     const at = this.all.lastIndexOf(scenario, this.place);
-    this.all = at < 0 ? [scenario] : this.all.slice(0, at + 1);
+    this.all = at < 0 ? [...this.all.slice(0, this.place), scenario] : this.all.slice(0, at + 1);
     this.place = this.all.length - 1;
     this.series = null;
   }

@@ -3,19 +3,18 @@ import { Bytes } from './bytes.js';
 import { Code } from './code.js';
 import { $, say } from './dom.js';
 import { Edits } from './edits.js';
-import { Elf } from './elf.js';
 import { ERROR_KINDS, LAST_STEP, LEAK_KINDS, MODULE_SUM } from './facts.js';
 import { History } from './history.js';
-import { sourceLines } from './lines.js';
 import { grouped, hexByte, many } from './numbers.js';
+import { Opened } from './opened.js';
 import { Opening } from './opening.js';
 import { loadModule, makeWorker } from './resources.js';
 import { parseReport } from './report.js';
 import { Reports } from './reports.js';
-import { NoEdit, Scenario } from './scenario.js';
+import { NoEdit } from './scenario.js';
 import { notLoaded, sentence } from './sentences.js';
-import { Session } from './sessions.js';
-import { Search, Steps, endOf } from './steps.js';
+import { Refused } from './sessions.js';
+import { Search, Steps } from './steps.js';
 import { SweepPart } from './sweep-part.js';
 
 const words = new URLSearchParams(location.search);
@@ -23,29 +22,31 @@ const LIMIT = Number(words.get('memory')) || 1 << 30;  // bytes that a session m
 const WORKERS = Number(words.get('workers')) || navigator.hardwareConcurrency || 2;
 const SHORT_RUN = 100000;  // steps of a run whose edits are all made as it is opened
 const QUIET = 300;  // milliseconds after an edit, before landmarks are searched and the link is changed
-const BEYOND = 4096;  // steps behind the end of the unedited run, and three times as many as it has
 const LONG = 600;  // milliseconds after which work is told, with a button that stops it
-const MOST_BEFORE = 500;  // reports of the unedited run that are kept
 const PARTS = ['step', 'input', 'report', 'edits', 'code', 'picture'];
 const CHANGES_NOTHING = /^(?:#.*|report|worked|)$/;  // lines of a text that are no edits
+const BEYOND_STEPS = 5;  // the number with which a session refuses a step
+
+// The program's module can't be loaded, in words.
+class NotLoaded extends Error {}
 
 class App {
   constructor() {
-    this.lineOf = () => null;
-    this.turn = 0;
+    Object.assign(this, { turn: 0, left: 0, opened: null, history: null, sources: new Map() });
     const edit = (scenario, series) => this.edit(scenario, series);
-    const refuse = (text) => this.notice(text);
+    const refuse = (text, how) => this.notice(text, how);
     const make = (kind, at, value) => this.make(kind, at, value);
-    this.opening = new Opening({ open: (files, lines) => this.open(files, lines), refuse });
+    this.opening = new Opening({ open: (files, how) => this.open(files, how), refuse });
     this.bytes = new Bytes({ edit, tell: (at) => this.byteTold(at) });
     this.code = new Code({ edit, refuse });
-    this.reports = new Reports({ lineOf: (address) => this.lineOf(address), visit: (address) => this.code.visit(address),
+    this.reports = new Reports({ lineOf: (address) => this.opened.lineOf(address), visit: (address) => this.code.visit(address),
       suppress: (text) => this.edit(this.scenario.withSuppression(text)), kinds: { errors: ERROR_KINDS, leaks: LEAK_KINDS } });
     this.steps = new Steps({ go: (step) => this.go(step), most: LAST_STEP });
-    this.edits = new Edits({ edit, clear: () => this.edit(this.plain), use: (text) => this.use(text), refuse,
+    this.edits = new Edits({ edit, clear: () => this.edit(this.opened.plain), use: (text) => this.use(text), refuse,
       tell: (text) => this.notice(text, 'good'),
       link: async () => new URL(await this.opening.link(this.lines), location.href).href, text: () => `${this.lines.join('\n')}\n` });
-    const state = () => ({ program: this.program, scenario: this.scenario, step: this.step, range: this.code.range, lineOf: this.lineOf });
+    const state = () => ({ program: this.opened.program, lineOf: this.opened.lineOf, scenario: this.scenario, step: this.step,
+      range: this.code.range, isEnd: this.step === this.opened.follow });
     this.sweeps = new SweepPart({ state, make, refuse, fail: (fault) => this.notice(sentence(fault, LIMIT)),
       told: () => this.bytes.tellOf(this.bytes.here), makeWorker, workers: WORKERS });
     this.listen();
@@ -56,7 +57,7 @@ class App {
   listen() {
     $('undo').addEventListener('click', () => this.travel(-1));
     $('redo').addEventListener('click', () => this.travel(1));
-    $('stop-report').addEventListener('click', () => { this.session?.stop(); this.unedited?.stop(); });
+    $('stop-report').addEventListener('click', () => { for (const it of [this.opened, this.judged]) it?.stop(); });
     addEventListener('hashchange', () => this.opening.follow(location.hash));
     addEventListener('keydown', (event) => {
       const isText = /^(?:INPUT|TEXTAREA)$/.test(event.target.tagName) && !/^(?:range|checkbox)$/.test(event.target.type);
@@ -76,56 +77,81 @@ class App {
 
   // ---- opening
 
-  // Opens a program with its files, and uses lines of a session. Another one may be opened meanwhile: then this one isn't shown.
-  async open(files, lines = []) {
-    const turn = this.close();
-    let module;
-    try {
-      module = await loadModule();
-    } catch (fault) {
-      if (turn === this.turn) this.failed(notLoaded(fault));
-      return;
-    }
-    if (turn !== this.turn) return;
-    try {
-      this.take(files, module);
-      const isRunning = async (step) => (await this.reportBefore(step)).state.startsWith('running');
-      const last = await this.told('The program runs', endOf(isRunning, LAST_STEP));
-      if (turn === this.turn) await this.begin(files, lines, last);
-    } catch (fault) {
-      if (turn === this.turn) this.failed(sentence(fault, LIMIT));
-    }
+  // Opens files, and uses lines of a session. What can't be used leaves all as it was. Gives whether they were opened; others
+  // may be opened meanwhile: then these aren't.
+  async open(files, { lines = [], example = null } = {}) {
+    const base = files.input?.bytes.slice() ?? new Uint8Array();
+    const opened = await this.judge(files, base);
+    if (!opened) return false;
+    const scenario = this.keptOver(opened);
+    this.sources.set(base, { files, example });
+    this.replace(opened, example);
+    if (this.history) this.history.add(scenario);
+    else this.history = new History(scenario);
+    await this.begin(scenario, lines);
+    return true;
   }
 
-  // Ends what goes on with the program that was open.
+  // Runs files before anything is given up for them: null where they can't be used, which is told, or are wanted no more.
+  async judge(files, base) {
+    const wanted = this.wanted = Symbol('wanted');
+    this.judged?.close();
+    try {
+      const module = await loadModule().catch((fault) => { throw new NotLoaded(notLoaded(fault)); });
+      if (wanted !== this.wanted) return null;
+      const shape = { limit: LIMIT, again: words.has('again'), lines: Number(words.get('lines')) || undefined, makeWorker };
+      const opened = this.judged = new Opened(files, module, base, shape);
+      await this.told('The program runs', opened.run());
+      if (wanted === this.wanted) return opened;
+      opened.close();
+    } catch (fault) {
+      if (wanted === this.wanted) this.unusable(fault instanceof NotLoaded ? fault.message : sentence(fault, LIMIT));
+    }
+    return null;
+  }
+
+  unusable(text) {
+    this.judged?.close();
+    this.judged = null;
+    if (this.opened) this.notice(text);
+    else this.failed(text);
+  }
+
+  // The edits that stand, over other files of the same program: those that don't fit are left out, which is told.
+  keptOver(opened) {
+    if (this.opened?.files.program !== opened.files.program) return opened.plain;
+    const isSame = this.opened.files.supp === opened.files.supp;
+    const { scenario, left } = this.scenario.over(opened.base, isSame);
+    this.left = left;
+    return scenario.lines.length ? scenario : opened.plain;
+  }
+
+  // Shows other files in the place of those that are open.
+  replace(opened, example) {
+    const { history } = this;
+    this.close();
+    Object.assign(this, { opened, judged: null, history });
+    this.opening.hold(opened.files, example);
+  }
+
+  // Ends what goes on with the files that are open.
   close() {
     clearTimeout(this.timer);
-    for (const it of [this.session, this.unedited, this.search]) it?.close();
+    this.opened?.close();
     this.sweeps.close();
-    Object.assign(this, { session: null, unedited: null, search: null, scenario: null, history: null, shown: null, marked: null });
+    Object.assign(this, { opened: null, scenario: null, history: null, shown: null, marked: null });
     this.notice('');
     this.showTravel();
     $('main').inert = true;
     return this.turn += 1;
   }
 
-  take(files, module) {
-    const elf = new Elf(files.program.bytes);
-    const given = Object.fromEntries(Object.entries(files).map(([role, it]) => [role, it.bytes]));
-    const base = given.input ?? new Uint8Array();
-    const program = this.program = { module, files: given, base, elf, limit: LIMIT, again: words.has('again'), makeWorker,
-      loaded: (at) => elf.loaded(at) };
-    this.session = new Session(program, Number(words.get('lines')) || undefined);
-    this.unedited = new Session(program);
-    this.search = new Session(program);
-    this.plain = new Scenario(base);
-    this.before = new Map();
-    this.lineOf = remembered(sourceLines(elf));
-  }
-
-  // Shows why there is no report.
+  // Shows why there is no report. What was open before can be had again by Undo.
   failed(text) {
+    const { history } = this;
     this.close();
+    this.history = history;
+    this.showTravel();
     this.notice(text);
     say('verdict', 'No report.');
     for (const it of ['before', 'time']) say(it, '');
@@ -140,19 +166,19 @@ class App {
     $('example-told').hidden = !are || !this.opening.example;
   }
 
-  async begin(files, lines, last) {
-    Object.assign(this, { last, follow: Math.min(LAST_STEP, 4 * last + BEYOND), scenario: this.plain, history: new History(this.plain) });
-    this.step = this.follow;
+  async begin(scenario, lines = []) {
+    const { opened, left } = this, { files, last, follow } = opened;
+    Object.assign(this, { scenario, step: follow, left: 0 });
     say('example-told', this.opening.example?.about ?? '');
+    if (this.opening.example) $('goal').value = this.opening.example.goal ?? '';
     this.showParts(true);
     const title = [files.program, files.input].filter(Boolean).map((it) => it.name).join(' with ');
     document.title = `${title} — replaycheck`;
-    this.steps.open(this.last, this.follow);
-    this.code.open(this.program.elf, this.lineOf, this.scenario);
+    this.steps.open(last, follow);
+    this.code.open(opened.elf, opened.lineOf, scenario);
     if (lines.length) this.use(lines.join('\n'));
-    const { turn } = this;
+    if (left) this.notice(`${many(left, 'edit')} didn’t fit and ${left === 1 ? 'was' : 'were'} left out. Undo brings back what was open.`);
     await this.refresh();
-    if (turn === this.turn && this.last <= SHORT_RUN && !words.has('still')) this.sweeps.beginWhereShort();
   }
 
   // Waits for work, which is told where it is long, with the time that it takes.
@@ -191,7 +217,9 @@ class App {
     const { scenario } = this;
     this.bytes.show(scenario, this.shown?.report.read ?? 0);
     this.code.show(scenario);
-    this.edits.show(scenario, Math.min(this.step, this.last));
+    this.edits.show(scenario, Math.min(this.step, this.steps.last));
+    this.sweeps.showOf();
+    this.bytes.tellOf(this.bytes.here);
     this.showTravel();
   }
 
@@ -200,11 +228,26 @@ class App {
     $('redo').disabled = !this.history?.canRedo;
   }
 
-  travel(by) {
+  // Goes back or on in the history, in which other files may have been open.
+  async travel(by) {
     if (!this.history?.travel(by)) return;
+    this.wanted = null;
     this.notice('');
     this.bytes.beginSeries();
-    this.show(this.history.now);
+    const scenario = this.history.now;
+    if (scenario.base === this.opened?.base) this.show(scenario);
+    else if (!await this.openAgain(scenario) && this.history?.now === scenario) this.history.travel(-by);
+    this.showTravel();
+  }
+
+  // Opens the files that a scenario is of. Gives whether that could be done.
+  async openAgain(scenario) {
+    const { files, example } = this.sources.get(scenario.base);
+    const opened = await this.judge(files, scenario.base);
+    if (!opened) return false;
+    this.replace(opened, example);
+    await this.begin(scenario.lines.length ? scenario : opened.plain);
+    return true;
   }
 
   go(step) {
@@ -222,15 +265,17 @@ class App {
 
   // Makes the lines of a text the scenario.
   use(text) {
-    let scenario = this.plain, step = this.follow;
+    const { plain, follow } = this.opened;
+    let scenario = plain, step = follow;
     try {
       for (const line of text.split('\n').map((it) => it.replace(/\r$/, ''))) {
         const goto = /^goto (\d+|0[xX][0-9a-fA-F]+)$/.exec(line);
-        if (goto) step = Math.min(LAST_STEP, Number(goto[1]));
+        if (goto && Number(goto[1]) > LAST_STEP) throw new Refused(line, BEYOND_STEPS);
+        if (goto) step = Number(goto[1]);
         else if (!CHANGES_NOTHING.test(line)) scenario = scenario.after(line);
       }
     } catch (fault) {
-      if (!(fault instanceof NoEdit)) throw fault;
+      if (!(fault instanceof NoEdit || fault instanceof Refused)) throw fault;
       this.notice(sentence(fault, LIMIT));
       return;
     }
@@ -241,20 +286,10 @@ class App {
 
   // The scenario as lines, with its step where it isn't the end.
   get lines() {
-    return [...(this.step === this.follow ? [] : [`goto ${this.step}`]), ...this.scenario.lines];
+    return [...(this.step === this.opened.follow ? [] : [`goto ${this.step}`]), ...this.scenario.lines];
   }
 
   // ---- reports
-
-  async reportBefore(step) {
-    const { before, plain, unedited } = this;
-    if (!before.has(step)) {
-      const report = parseReport(await unedited.report(plain, step));
-      if (before.size >= MOST_BEFORE) before.clear();
-      before.set(step, report);
-    }
-    return before.get(step);
-  }
 
   // Shows the report of what is wanted last: of what is wanted meanwhile, all but the last is left out.
   refresh() {
@@ -276,9 +311,9 @@ class App {
   }
 
   async ask() {
-    const { scenario, step, turn } = this, begun = performance.now();
+    const { scenario, step, turn, opened } = this, begun = performance.now();
     try {
-      const both = Promise.all([this.session.report(scenario, step), this.reportBefore(step)]);
+      const both = Promise.all([opened.session.report(scenario, step), opened.reportBefore(step)]);
       const [text, unedited] = await this.told('The report is made', both);
       if (turn !== this.turn) return;
       this.shown = { scenario, step, report: parseReport(text), unedited, time: performance.now() - begun };
@@ -290,12 +325,12 @@ class App {
 
   // Goes back to what was shown last, where a report can't be had.
   refused(fault) {
-    const told = sentence(fault, LIMIT);
-    if (!this.shown && this.scenario === this.plain) {
+    const told = sentence(fault, LIMIT), { plain, follow } = this.opened;
+    if (!this.shown && this.scenario === plain) {
       this.failed(told);
       return;
     }
-    const { scenario, step } = this.shown ?? { scenario: this.plain, step: this.follow };
+    const { scenario, step } = this.shown ?? { scenario: plain, step: follow };
     this.history.backTo(scenario);
     this.steps.show(this.step = step);
     this.scenario = scenario;
@@ -306,8 +341,9 @@ class App {
 
   display() {
     const { step, report, unedited, time } = this.shown;
-    const isEnd = step === this.follow && !report.state.startsWith('running');
-    this.reports.show(report, unedited, { time, where: isEnd ? 'at the end of the run' : `at step ${grouped(report.step)}` });
+    const isLast = step === this.opened.follow, runsOn = report.state.startsWith('running');
+    const at = `at step ${grouped(report.step)}`, where = isLast ? (runsOn ? `${at}, still running` : 'at the end of the run') : at;
+    this.reports.show(report, unedited, { time, where, isLast });
     this.showScenario();
     this.lookAtNew();
     clearTimeout(this.timer);
@@ -322,20 +358,24 @@ class App {
     this.lookedAt = key;
   }
 
-  // What is done when nobody edits for a moment: the link, and the landmarks.
+  // What is done when nobody edits for a moment: the link, the sweep of the run that is shown now, its end, and its landmarks.
   async settle() {
-    const { scenario, search, turn } = this;
+    const { scenario, opened, turn } = this;
     const link = await this.opening.link(this.lines);
     if (turn !== this.turn) return;
     history.replaceState(null, '', link);
+    if (opened.last <= SHORT_RUN && !words.has('still')) this.sweeps.follow();
     if (this.marked === scenario) return;
     this.marked = scenario;
     this.steps.clear();
-    const isStale = () => this.marked !== scenario;
+    const isStale = () => turn !== this.turn || this.marked !== scenario;
     try {
-      await new Search(search, scenario, isStale, (it) => this.steps.add(it)).run(this.last);
+      const end = await opened.endOf(scenario);
+      if (isStale()) return;
+      this.steps.showEnd(end);
+      await new Search(opened.search, scenario, isStale, (it) => this.steps.add(it)).run(end.last);
     } catch (fault) {
-      this.notice(sentence(fault, LIMIT));
+      if (!isStale()) this.notice(sentence(fault, LIMIT));
     }
   }
 
@@ -343,16 +383,8 @@ class App {
   byteTold(at) {
     const value = this.scenario.byte(at), was = this.scenario.base[at];
     const before = this.scenario.isEdited(at) && was !== undefined ? `, unedited ${hexByte(was)}` : '';
-    return `byte ${at}: ${hexByte(value)}${before}. ${this.sweeps.picture.saidOf(at)}`;
+    return `byte ${at}: ${hexByte(value)}${before}. ${this.sweeps.saidOf(at)}`;
   }
-}
-
-function remembered(tell) {
-  const known = new Map();
-  return (address) => {
-    if (!known.has(address)) known.set(address, tell(address));
-    return known.get(address);
-  };
 }
 
 const app = new App();

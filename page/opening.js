@@ -24,7 +24,7 @@ async function sumOf(bytes) {
 const hasFiles = (event) => event.dataTransfer?.types.includes('Files');
 
 export class Opening {
-  // `open` takes files by their roles, each with a name and bytes; `refuse` a sentence.
+  // `open` takes files by their roles, each with a name and bytes, and gives whether they were opened; `refuse` a sentence.
   constructor({ open, refuse }) {
     Object.assign(this, { open, refuse, files: {}, example: null });
     for (const role of ROLES) {
@@ -69,34 +69,39 @@ export class Opening {
     return files.length ? this.take(found) : undefined;
   }
 
-  // Takes files beside those that are there. Another program begins without the old one's input and suppressions.
+  // Takes files beside those that are there. Another program begins without the old one's input and suppressions; what is
+  // given before there is a program waits for it.
   async take(files, lines) {
-    this.example = null;
-    $('example').value = '';
-    this.files = files.program ? files : { ...this.files, ...files };
-    if (!this.files.program) {
-      this.refuse('A program is needed first: an ELF file for RV32IM, as the linker writes it.');
+    const next = files.program && this.files.program ? files : { ...this.files, ...files };
+    if (next.program) {
+      await this.begin(next, { lines });
       return;
     }
-    await this.begin(lines);
+    this.files = next;
+    const names = Object.values(files).map((it) => `“${it.name}”`).join(' and ');
+    this.refuse(`${names} will be used with the next program. Open one: an ELF file for RV32IM, as the linker writes it.`, 'good');
   }
 
   async choose(name, lines) {
     const example = EXAMPLES.find((it) => it.name === name);
-    this.example = example;
-    $('example').value = name;
-    this.files = { program: { name: example.program, bytes: bytesOf(example.programBytes) } };
-    if (example.inputBytes !== undefined) this.files.input = { name: example.input, bytes: bytesOf(example.inputBytes) };
-    await this.begin(lines);
+    const files = { program: { name: example.program, bytes: bytesOf(example.programBytes) } };
+    if (example.inputBytes !== undefined) files.input = { name: example.input, bytes: bytesOf(example.inputBytes) };
+    await this.begin(files, { lines, example });
+    $('example').value = this.example?.name ?? '';
   }
 
-  async begin(lines) {
-    const wanted = lines ?? (this.wanted && this.files[this.wanted.last] ? this.wanted.lines : undefined);
-    const notice = this.wanted && wanted ? await this.differing() : '';
-    if (wanted) this.wanted = null;
-    const { files } = this;
-    await this.open(files, wanted);
+  async begin(files, { lines, example = null }) {
+    const used = lines ?? (this.wanted && files[this.wanted.last] ? this.wanted.lines : undefined);
+    const notice = this.wanted && used ? await this.differing(files) : '';
+    if (!await this.open(files, { lines: used, example })) return;
+    if (used) this.wanted = null;
     if (notice && files === this.files) this.refuse(notice);
+  }
+
+  // Notes what is open now.
+  hold(files, example) {
+    Object.assign(this, { files, example });
+    $('example').value = example?.name ?? '';
   }
 
   // ---- links
@@ -133,10 +138,10 @@ export class Opening {
   }
 
   // What to say where a file isn't the one that a link was made with.
-  async differing() {
+  async differing(files) {
     const other = [];
     for (const [index, role] of this.wanted.roles.entries()) {
-      const it = this.files[role];
+      const it = files[role];
       if (it && this.wanted.sums[index] && (await sumOf(it.bytes)) !== this.wanted.sums[index]) other.push(it.name);
     }
     const names = other.map((it) => `“${it}”`).join(' and ');

@@ -42,11 +42,21 @@ class Outcome {
   get isNew() { return this.fresh.length > 0; }
 }
 
-// The outcomes of a sweep, by their numbers, of which 0 is that of the run that is swept.
+const REACHED = 1000;  // worse than any error: what one looks for stands first
+
+// The outcomes of a sweep, by their numbers, of which 0 is that of the run that is swept. `goal` is a text with which a line
+// of an outcome begins, or empty.
 export class Outcomes {
-  constructor(swept, lineOf) {
-    Object.assign(this, { swept, lineOf, made: [] });
+  constructor(swept, lineOf, goal = '') {
+    Object.assign(this, { swept, lineOf, goal, made: [] });
   }
+
+  reaches(number) { return this.goal !== '' && this.swept.outcomes[number].split('\n').some((it) => it.startsWith(this.goal)); }
+
+  // Whether an outcome stands out: by something new, or by the goal, which the run that is swept doesn't reach.
+  isMarked(number) { return this.at(number).isNew || (this.reaches(number) && !this.reaches(0)); }
+
+  badness(number) { return this.isMarked(number) && this.reaches(number) ? REACHED : this.at(number).bad; }
 
   at(number) {
     while (this.made.length < this.swept.outcomes.length) {
@@ -59,10 +69,14 @@ export class Outcomes {
 
   get numbers() { return [...this.swept.outcomes.keys()]; }
 
-  // How many edits make something new.
-  get fresh() {
-    return this.swept.tallies.reduce((sum, count, number) => sum + (this.at(number).isNew ? count : 0), 0);
+  count(is) {
+    return this.swept.tallies.reduce((sum, count, number) => sum + (is(number) ? count : 0), 0);
   }
+
+  // How many edits make something new, reach the goal, or have another outcome with nothing new.
+  get fresh() { return this.count((number) => this.at(number).isNew); }
+  get reached() { return this.count((number) => this.reaches(number)); }
+  get changed() { return this.count((number) => number > 0 && !this.at(number).isNew); }
 
   // What is new in an outcome, or how the run ended.
   told(number) {
@@ -79,7 +93,7 @@ export class Outcomes {
 
   // The worst first, and last that of the run itself.
   get inOrder() {
-    const { tallies } = this.swept, bad = (number) => this.at(number).bad;
+    const { tallies } = this.swept, bad = (number) => this.badness(number);
     return this.numbers.sort((a, b) => (a === 0) - (b === 0) || bad(b) - bad(a) || tallies[b] - tallies[a] || this.byFirst(a, b));
   }
 
@@ -89,7 +103,7 @@ export class Outcomes {
     const order = this.numbers.slice(1).sort((a, b) => tallies[b] - tallies[a] || this.byFirst(a, b));
     const found = [UNEDITED[pick]];
     for (const [isNew, colours, other] of [[true, NEW, OTHER_NEW], [false, NOT_NEW, OTHER]]) {
-      order.filter((it) => this.at(it).isNew === isNew).forEach((number, place) => {
+      order.filter((it) => this.isMarked(it) === isNew).forEach((number, place) => {
         found[number] = (colours[place] ?? other)[pick];
       });
     }

@@ -18,9 +18,9 @@ const DARK = matchMedia('(prefers-color-scheme: dark)');
 const within = (at, count) => Math.max(0, Math.min(count - 1, at));
 
 export class Picture {
-  // `make` makes an edit: a kind, a place and a value.
-  constructor({ make }) {
-    Object.assign(this, { make, canvas: $('picture') });
+  // `make` makes an edit: a kind, a place and a value; `otherRun` tells which run the picture is of, where another one is shown.
+  constructor({ make, otherRun }) {
+    Object.assign(this, { make, otherRun, canvas: $('picture') });
     this.legend = new Legend({ make, changed: () => this.draw() });
     this.canvas.addEventListener('pointermove', (event) => this.point(event));
     this.canvas.addEventListener('click', (event) => { this.point(event); this.choose(); });
@@ -39,20 +39,29 @@ export class Picture {
     $('picture-parts').hidden = true;
   }
 
-  // Begins with a sweep. `before` tells what stood at a place.
-  begin(swept, before, lineOf) {
+  // Begins with a sweep. `before` gives the value at a place of the run that is swept; `goal` is the text of a goal, or empty.
+  begin(swept, before, lineOf, goal) {
     this.clear();
     const count = placesOf(swept.asked), rows = swept.asked.values === 'all' ? 256 : valuesOf(swept.asked);
     Object.assign(this, { swept, before, count, rows, columns: Math.min(count, MOST_COLUMNS), taken: new Map() });
-    this.outcomes = new Outcomes(swept, lineOf);
-    this.cells = Array.from({ length: this.columns * rows }, () => null);
+    this.outcomes = new Outcomes(swept, lineOf, goal);
+    this.empty();
     $('picture-parts').hidden = false;
   }
 
-  get isOfBytes() { return this.swept.asked.kind === 'bytes'; }
+  empty() {
+    this.taken.clear();
+    this.cells = Array.from({ length: this.columns * this.rows }, () => null);
+  }
 
-  // How many edits make something new.
-  get fresh() { return this.outcomes.fresh; }
+  // Shows the same edits with another goal.
+  seek(goal) {
+    this.outcomes.goal = goal;
+    this.empty();
+    this.more(true);
+  }
+
+  get isOfBytes() { return this.swept.asked.kind === 'bytes'; }
 
   rowOf(at, value) {
     const { values } = this.swept.asked;
@@ -82,7 +91,7 @@ export class Picture {
 
   take(at, value, number) {
     const index = this.columnOf(at) * this.rows + this.rowOf(at, value), was = this.cells[index];
-    if (!was || this.outcomes.at(number).bad > this.outcomes.at(was.number).bad) this.cells[index] = { at, value, number };
+    if (!was || this.outcomes.badness(number) > this.outcomes.badness(was.number)) this.cells[index] = { at, value, number };
   }
 
   // ---- drawing
@@ -105,7 +114,7 @@ export class Picture {
     this.colours = this.outcomes.colours(DARK.matches);
     this.cells.forEach((cell, index) => {
       if (!cell || this.legend.hidden.has(cell.number)) return;
-      if (this.outcomes.at(cell.number).isNew) fresh.push([cell, index]);
+      if (this.outcomes.isMarked(cell.number)) fresh.push([cell, index]);
       else this.fill(on, cell, index, 0);
     });
     for (const [cell, index] of fresh) this.fill(on, cell, index, LEAST_MARK * scale);
@@ -181,7 +190,7 @@ export class Picture {
   get cell() { return this.cells[this.here.column * this.rows + this.here.row]; }
 
   tell() {
-    if (!this.swept) return;
+    if (!this.swept?.outcomes.length) return;
     const { cell } = this, valueName = this.isOfBytes ? hexByte : hexWord;
     if (!cell) {
       const columns = this.isOfBytes ? 'bytes of the input' : 'words of the function';
@@ -190,8 +199,9 @@ export class Picture {
     }
     const place = this.isOfBytes ? `byte ${cell.at}` : hexWord(cell.at);
     const shares = this.count > this.columns ? ', the worst of its column' : '';
-    const edit = `${place} as ${valueName(cell.value)} (now ${valueName(this.before(cell.at))})`;
-    say('picture-told', `${edit}${shares}: ${this.outcomes.told(cell.number)}`);
+    const other = this.otherRun(), now = other ? 'there' : 'now';
+    const edit = `${place} as ${valueName(cell.value)} (${now} ${valueName(this.before(cell.at))})`;
+    say('picture-told', `${other}${edit}${shares}: ${this.outcomes.told(cell.number)}`);
   }
 
   // What the sweep said of a byte's values, in few words.
@@ -226,13 +236,13 @@ export class Picture {
 
   // A new outcome is drawn larger than its cell, and so it is met beside it.
   snap() {
-    if (this.cell && this.outcomes.at(this.cell.number).isNew) return;
+    if (this.cell && this.outcomes.isMarked(this.cell.number)) return;
     const { column, row } = this.here, least = LEAST_MARK * (devicePixelRatio || 1);
     for (const [x, y] of [[0, 1], [0, -1], [1, 0], [-1, 0]]) {
       const [c, r] = [column + x, row + y], index = c * this.rows + r;
       const cell = c >= 0 && c < this.columns && r >= 0 && r < this.rows && this.cells[index];
       const [, , wide, tall] = this.box(index);
-      if (cell && this.outcomes.at(cell.number).isNew && (x ? wide : tall) < least) this.here = { column: c, row: r };
+      if (cell && this.outcomes.isMarked(cell.number) && (x ? wide : tall) < least) this.here = { column: c, row: r };
     }
   }
 

@@ -22,8 +22,8 @@ export class Reports {
     Object.assign(this, { lineOf, visit, suppress, kinds });
   }
 
-  // `where` tells where in the run the reports are, its own and that of the unedited run.
-  show(report, unedited, { time, where }) {
+  // `where` tells where in the run the reports are, its own and that of the unedited run; `isLast` whether nothing comes after.
+  show(report, unedited, { time, where, isLast }) {
     const groups = this.groups = compared(report, unedited);
     const hidden = groups.length - MOST_GROUPS;
     $('report').replaceChildren(
@@ -38,7 +38,14 @@ export class Reports {
     const [now, before] = [report, unedited].map((it) => this.inShort(it));
     say('verdict', fresh ? `${now} · ${grouped(fresh)} new` : now);
     say('before', before === now ? '' : `unedited: ${before}`);
-    $('verdict').className = report.errors || report.sums['definitely lost'].bytes || stateOf(report).name === 'stopped' ? 'bad' : 'good';
+    $('verdict').className = this.howGood(report, unedited, isLast);
+  }
+
+  // A run that goes on where it should have ended is no good one, whatever it has reported so far.
+  howGood(report, unedited, isLast) {
+    const [now, before] = [report, unedited].map((it) => stateOf(it).name);
+    if (report.errors || report.sums['definitely lost'].bytes || now === 'stopped') return 'bad';
+    return now === 'running' && (isLast || before !== 'running') ? 'open' : 'good';
   }
 
   // How the run stands, in one line.

@@ -11,9 +11,8 @@ export class NoEdit extends Error {}
 
 export class Scenario {
   constructor(base, parts = {}) {
-    this.base = base;
     Object.assign(this, { cut: 0, appended: [], changes: new Map(), patches: new Map(), marks: [], options: new Map(),
-      added: [], switched: new Map(), ...parts });
+      added: [], switched: new Map(), ...parts, base });
   }
 
   with(parts) {
@@ -59,6 +58,16 @@ export class Scenario {
 
   withOption(name, value) {
     return this.with({ options: changed(this.options, name, value === OPTIONS[name] ? null : value) });
+  }
+
+  // The same edits over another input, and over other suppressions where these aren't the same: those that fit, and how many
+  // don't.
+  over(base, areSame) {
+    const changes = new Map([...this.changes].filter(([at, value]) => at < base.length - this.cut && value !== base[at]));
+    const beyond = [...this.changes.keys()].filter((at) => at >= base.length - this.cut).length;
+    const cut = Math.min(this.cut, base.length), switched = areSame ? this.switched : new Map();
+    const left = beyond + this.cut - cut + this.switched.size - switched.size;
+    return { scenario: new Scenario(base, { ...this, changes, cut, switched }), left };
   }
 
   withSuppression(text) { return this.with({ added: [...this.added, text] }); }

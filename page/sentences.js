@@ -36,7 +36,7 @@ function refusedFile(said) {
 
 // What to say of a fault.
 export function sentence(fault, limit) {
-  if (fault instanceof NoEdit) return `“${fault.message}” is no line that edits a run. ${REFUSALS[2]}.`;
+  if (fault instanceof NoEdit) return `“${fault.message}” doesn’t edit a run: ${REFUSALS[2]}.`;
   if (fault instanceof Stopped) return 'Stopped.';
   if (fault instanceof TooManyLines) return 'These are more edits than a session takes. Change the input’s file instead.';
   const memory = `this page takes ${size(limit)} at most. ${NO_MEMORY}`;

@@ -87,10 +87,18 @@ export class Steps {
   }
 
   open(last, follow) {
-    Object.assign(this, { last, follow, landmarks: [] });
+    Object.assign(this, { last, follow, goesOn: false, landmarks: [] });
     $('step').max = last;
     $('step-number').max = this.most;
     this.show(follow);
+    this.draw();
+  }
+
+  // The slider ends where the run that is shown ends, or, where it goes on, at the last step that is looked at.
+  showEnd({ last, goesOn }) {
+    Object.assign(this, { last, goesOn });
+    $('step').max = last;
+    this.show(this.step);
     this.draw();
   }
 
@@ -110,7 +118,8 @@ export class Steps {
     this.step = step;
     $('step').value = this.shown;
     if (document.activeElement !== $('step-number')) $('step-number').value = step === this.follow ? this.last : step;
-    say('step-told', `of ${many(this.last, 'step')}${this.step === this.follow ? ', the end' : ''}`);
+    const end = this.goesOn ? ', still running' : ', the end';
+    say('step-told', `of ${many(this.last, 'step')}${this.step === this.follow ? end : ''}`);
     $('step').setAttribute('aria-valuetext', `step ${grouped(this.shown)} of ${grouped(this.last)}`);
   }
 

@@ -38,8 +38,9 @@ export class SweepPart {
   // `state` gives what is swept: the program, the scenario, the step and the function that is shown; `make` makes an edit;
   // `refuse` takes a sentence, `fail` a fault; `told` is called when more is known of the edits.
   constructor({ state, make, refuse, fail, told, makeWorker, workers }) {
-    Object.assign(this, { state, refuse, fail, told, workers, sweep: null, idle: new Idle(makeWorker) });
-    this.picture = new Picture({ make });
+    Object.assign(this, { state, refuse, fail, told, workers, sweep: null, of: null, ended: null, idle: new Idle(makeWorker) });
+    this.picture = new Picture({ make, otherRun: () => this.otherRun });
+    $('goal').addEventListener('input', () => this.showGoal());
     $('sweep').addEventListener('click', () => this.begin());
     $('stop').addEventListener('click', () => this.sweep?.stop());
     $('sweep-what').addEventListener('change', () => this.offer());
@@ -54,9 +55,10 @@ export class SweepPart {
   // Another program is opened.
   close() {
     this.sweep?.stop();
-    this.sweep = null;
+    Object.assign(this, { sweep: null, of: null });
     this.show(false);
     this.picture.clear();
+    this.showOf();
     say('sweep-told', '');
   }
 
@@ -73,14 +75,50 @@ export class SweepPart {
     return range && { kind, values, step, first: range.begin, last: range.begin + 4 * (range.count - 1) };
   }
 
-  // Makes all edits of a short input at once.
-  beginWhereShort() {
-    const { asked } = this;
-    if (asked?.kind === 'bytes' && mostEditsOf(asked) <= AT_ONCE) this.begin();
+  // ---- of which run the picture is
+
+  // Whether the picture is of another run than the one that is shown, or of another step of it.
+  get isStale() {
+    const { of } = this, { scenario, step } = of ? this.state() : {};
+    return Boolean(of) && (of.step !== step || (of.scenario !== scenario && !isSameRun(of.scenario, scenario)));
   }
 
-  async begin() {
-    const { asked } = this, { program, scenario, lineOf } = this.state();
+  // Which run the picture is of, where that isn't just the one that is shown, as the beginning of a sentence.
+  get otherRun() {
+    const { of, isStale } = this;
+    if (!isStale && !of?.left.length) return '';
+    const edits = editsOf(of.scenario).length, at = of.step === this.state().step || of.isEnd ? '' : ` at step ${grouped(of.step)}`;
+    const run = isStale ? `${edits ? `the run with ${many(edits, 'edit')}` : 'the unedited run'}${at}` : 'this run';
+    return `Of ${run}${of.left.length ? `, without ${of.left.join(', ')}` : ''}: `;
+  }
+
+  // Greys the picture of another run.
+  showOf() {
+    $('picture-parts').classList.toggle('stale', this.isStale);
+    this.picture.tell();
+  }
+
+  // What the edits of a byte do.
+  saidOf(at) {
+    const said = this.picture.saidOf(at);
+    return said && this.otherRun + said;
+  }
+
+  // Makes all edits of the run that is shown, where these are few: those that were made last, or those of the input.
+  follow() {
+    const asked = this.askedNow;
+    if (asked && (!this.of || this.isStale) && mostEditsOf(asked) <= AT_ONCE) this.begin(asked);
+  }
+
+  get askedNow() {
+    if (!this.of) return this.asked?.kind === 'bytes' ? this.asked : null;
+    const { scenario, step } = this.state(), { asked } = this.of;
+    if (asked.kind === 'words') return { ...asked, step };
+    return scenario.length ? { ...asked, step, last: scenario.length - 1 } : null;
+  }
+
+  async begin(asked = this.asked) {
+    const { program, scenario, lineOf, step, isEnd } = this.state();
     this.sweep?.stop();
     if (!asked) return this.refuse('There is nothing to sweep: no input, or no function.');
     this.most = mostEditsOf(asked);
@@ -91,11 +129,13 @@ export class SweepPart {
     const { files, left } = filesOf(scenario, program);
     const sweep = this.sweep = new Sweep(program, files, asked, this.idle, () => this.goesOn(sweep));
     const word = (at) => scenario.patches.get(at) ?? program.elf.loaded(at) ?? 0;
-    this.picture.begin(sweep.swept, asked.kind === 'bytes' ? (at) => scenario.byte(at) : word, lineOf);
+    this.of = { asked, scenario, step, isEnd, left };
+    this.picture.begin(sweep.swept, asked.kind === 'bytes' ? (at) => scenario.byte(at) : word, lineOf, $('goal').value);
+    this.showOf();
     this.show(true);
     try {
       await sweep.run(this.workers);
-      if (sweep === this.sweep) this.end(sweep, scenario, left);
+      if (sweep === this.sweep) this.end(sweep);
     } catch (fault) {
       if (sweep === this.sweep) this.fail(fault);
     }
@@ -110,18 +150,36 @@ export class SweepPart {
     if (!sweep.isStopped) say('sweep-told', `${grouped(sweep.swept.edits)} of ${many(this.most, 'edit')}`);
   }
 
-  end({ swept, memory }, scenario, left) {
+  end({ swept, memory }) {
     this.picture.more(true);
+    this.ended = { swept, memory };
+    this.tellEnd();
+    this.told();
+  }
+
+  // What came of the edits, in a sentence or two.
+  tellEnd() {
+    const { swept, memory } = this.ended, { scenario, left } = this.of, { outcomes } = this.picture;
     const rate = Math.round(swept.edits / Math.max(1, swept.time) * 1000);
     const stood = editsOf(scenario).length;
     const of = stood ? `the run with ${many(stood, 'edit')}` : 'the unedited run';
     const parts = [
       swept.isWhole ? '' : `stopped after ${grouped(swept.edits)} of ${many(this.most, 'edit')}: `,
-      `${many(swept.edits, 'edit')} of ${of} in ${milliseconds(swept.time)} `,
-      `(${grouped(rate)} a second, ${size(memory)} a worker); ${grouped(this.picture.fresh)} of them make something new.`,
+      outcomes.goal ? `${grouped(outcomes.reached)} of them reach the goal “${outcomes.goal}”. ` : '',
+      `${many(swept.edits, 'edit')} of ${of}: ${grouped(outcomes.fresh)} of them make a new error, leak or stop, `,
+      `${grouped(outcomes.changed)} more end in another way.`,
       left.length ? ` Left out: ${left.join(', ')}.` : '',
     ];
     say('sweep-told', parts.join(''));
-    this.told();
+    $('sweep-told').title = `${milliseconds(swept.time)}, ${grouped(rate)} a second, ${size(memory)} a worker`;
+  }
+
+  // Another goal: the edits that are made stay, and what is said of them changes.
+  showGoal() {
+    if (!this.of) return;
+    this.picture.seek($('goal').value);
+    if (this.ended?.swept === this.picture.swept) this.tellEnd();
   }
 }
+
+const isSameRun = (a, b) => a.base === b.base && a.lines.join('\n') === b.lines.join('\n');

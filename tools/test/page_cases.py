@@ -134,6 +134,24 @@ def forms_in_turn(bench):
         same("lines at the end", page.run("replaycheck.scenario.lines"), [])
 
 
+def runs_that_go_on(bench):
+    """A run that doesn't end where the unedited one does isn't shown as a good one, and the slider ends where the run ends."""
+    with bench.open() as page:
+        last = page.run("replaycheck.opened.last")
+        for lines, how, told in (("patch 0x000101e8 0x000000ef", "open", "of {follow} steps, still running"),
+                                 ("input 0 0", "good", "of {end} steps, the end"), ("", "good", "of {last} steps, the end")):
+            page.run(f"replaycheck.use({json.dumps(lines)})")
+            bench.same_report(page, STATION, lines)
+            page.until("replaycheck.marked === replaycheck.scenario && replaycheck.steps.landmarks.length", 20)
+            follow, end = page.run("[replaycheck.opened.follow, replaycheck.steps.last]")
+            same(f"the verdict of {lines!r}", page.run("document.getElementById('verdict').className"), how)
+            same(f"the end of {lines!r}", page.text("step-told"), told.format(last=f"{last:,}", follow=f"{follow:,}", end=f"{end:,}"))
+            states = bench.native(STATION, [*filter(None, [lines]), f"goto {end - 1}", "report", f"goto {end}", "report"])
+            ends = ["running" in it.split("\n")[1] for it in states if "\n" in it]
+            same(f"where {lines!r} ends", ends, [True, how == "open"])
+            same("the slider", page.run("Number(document.getElementById('step').max)"), end)
+
+
 def undone_and_redone(bench):
     """Undo takes back edit by edit, and redo makes them again."""
     lines = ("input 1 8", "patch 0x101e0 0x13", "input append 7", "mark 55 0x20011 2 undefined", "option redzone 64", "input cut",
@@ -238,7 +256,7 @@ def many_edits(bench):
             page.run("replaycheck.travel(-1)" if line == "undo" else edit)
             if turn % 3 == 0:
                 bench.same_report(page, STATION, f"turn {turn}: {line}")
-        expect(page.run("replaycheck.session.sessions") > 2, "no session was begun anew")
+        expect(page.run("replaycheck.opened.session.sessions") > 2, "no session was begun anew")
 
 
 def refused_edits(bench):

@@ -89,6 +89,55 @@ def bad_files(bench):
         expect("suppressions" in page.text("notice").lower(), "suppressions that can't be read aren't told")
 
 
+def kept_work(bench):
+    """A file that can't be used leaves the edits and the undo history; a good one is a step of the history, and edits stay over
+    it where they fit. What is chosen before a program waits for it."""
+    station, given = content_of("station"), content_of("station", "input")
+    lines = "replaycheck.scenario.lines"
+    with bench.page() as page:
+        bench.give(page, {"input": given})
+        expect("will be used with the next program" in page.text("notice"), f"it says {page.text('notice')!r}")
+        bench.give(page, {"program": station})
+        bench.same_report(page, STATION, "an input that was chosen first")
+        for line in ("input 1 8", "patch 0x101e0 0x13", "input 40 9"):
+            page.run(f"replaycheck.edit(replaycheck.scenario.after({json.dumps(line)}))")
+            bench.settle(page)
+        stood = page.run(lines)
+        for files, told in (({"supp": b"{\nno end"}, "suppressions"), ({"input": bytes((1 << 20) + 1)}, "shorter input"),
+                            ({"program": b"hello"}, ".elf file")):
+            bench.give(page, files)
+            expect(told in page.text("notice").lower() or told in page.text("notice"), f"it says {page.text('notice')!r}")
+            bench.same_report(page, STATION, f"after a bad {list(files)[0]}")
+            same("edits then", page.run(lines), stood)
+        bench.give(page, {"input": given[:20]})
+        bench.settle(page)
+        same("edits over a shorter input", page.run(lines), [stood[0], "input 1 8"])
+        expect("1 edit didn’t fit" in page.text("notice"), f"it says {page.text('notice')!r}")
+        bench.give(page, {"program": content_of("packet")})
+        bench.settle(page)
+        same("edits of another program", page.run(lines), [])
+        for want in ([stood[0], "input 1 8"], stood, stood[:-1]):
+            page.press("z", modifiers=2)
+            page.until(f"replaycheck.scenario && {lines}.join() === {json.dumps(','.join(want))}", 20)
+        bench.same_report(page, STATION, "undone to the first files")
+        for _ in range(3):
+            page.press("y", modifiers=2)
+            page.until("replaycheck.scenario && !replaycheck.isBusy")
+            bench.settle(page)
+        expect(page.run("document.title").startswith("program.elf") and page.run(lines) == [], "the other program can't be redone")
+
+
+def refused_lines(bench):
+    """Lines that a session refuses are refused, with the reason, and none of their text is used."""
+    with bench.open() as page:
+        for line, told in (("goto 99999999", "“goto 99999999” was refused: "), ("goto 4194305", "was refused"),
+                           ("frob", "“frob” doesn’t edit a run: no such line")):
+            page.run(f"replaycheck.use({json.dumps('input 1 8' + chr(10) + line)})")
+            bench.settle(page)
+            expect(told in page.text("notice"), f"{line}: it says {page.text('notice')!r}")
+            same(f"lines after {line}", page.run("replaycheck.lines"), [])
+
+
 def damaged(content, turn, chance):
     """A program with some bytes changed, and every other one cut."""
     made = bytearray(content[:chance.randrange(60, len(content))] if turn % 2 else content)
@@ -195,14 +244,14 @@ def report_stopped(bench):
 def no_worker(bench):
     """A worker that can't be started is told, and the next edit has another one."""
     with bench.open() as page:
-        page.run("""(() => { const { program } = replaycheck; globalThis.good = program.makeWorker;
-          program.makeWorker = () => new Worker('nowhere.js'); replaycheck.session.stop(); })()""")
+        page.run("""(() => { const { program } = replaycheck.opened; globalThis.good = program.makeWorker;
+          program.makeWorker = () => new Worker('nowhere.js'); replaycheck.opened.session.stop(); })()""")
         for value in (8, 9):
             page.run(f"replaycheck.use('input 1 {value}')")
             bench.settle(page)
             expect("failed in the browser" in page.text("notice"), f"it says {page.text('notice')!r}")
             same("lines", page.run("replaycheck.lines"), [])
-        page.run("replaycheck.program.makeWorker = globalThis.good")
+        page.run("replaycheck.opened.program.makeWorker = globalThis.good")
         page.run("replaycheck.use('input 1 8')")
         bench.same_report(page, STATION, "with a worker again")
         same("what is told", page.text("notice"), "")

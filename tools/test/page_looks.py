@@ -83,8 +83,8 @@ def source_lines(bench):
     tool = BINUTILS + "addr2line"
     for name in ("station", "kinds", "boot"):
         with bench.open(name) as page:
-            told = page.run("""replaycheck.program.elf.functions.flatMap((it) => Array.from({ length: Math.floor(it.size / 4) },
-              (_, i) => [it.address + 4 * i, replaycheck.lineOf(it.address + 4 * i)]))""")
+            told = page.run("""replaycheck.opened.program.elf.functions.flatMap((it) => Array.from({ length: Math.floor(it.size / 4) },
+              (_, i) => [it.address + 4 * i, replaycheck.opened.lineOf(it.address + 4 * i)]))""")
         path = TOP / "examples/firmware" / f"{name}.elf"
         ran = subprocess.run([tool, "-e", str(path), *(hex(at) for at, _ in told)], capture_output=True, text=True, check=True)
         want = [re.sub(r" \(discriminator.*", "", it).rpartition("/")[2] for it in ran.stdout.splitlines()]
@@ -122,7 +122,7 @@ def instructions(bench):
     for name in ("station", "kinds", "boot"):
         with bench.open(name) as page:
             told = dict(page.run("""(async () => {
-              const { disassembled } = await import('./instructions.js'), { elf } = replaycheck.program;
+              const { disassembled } = await import('./instructions.js'), { elf } = replaycheck.opened.program;
               return elf.functions.flatMap((it) => Array.from({ length: Math.floor(it.size / 4) }, (_, i) => it.address + 4 * i))
                 .map((at) => [at, disassembled(elf.loaded(at), at)]); })()"""))
         path = TOP / "examples/firmware" / f"{name}.elf"

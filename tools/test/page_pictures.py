@@ -68,7 +68,7 @@ def picture_least(bench):
 def picture_of_words(bench):
     """Every bit of a function's words: the program's table."""
     with bench.open("boot") as page:
-        begin, size = page.run("""(() => { const it = replaycheck.program.elf.functions.find((it) => it.name === 'verify');
+        begin, size = page.run("""(() => { const it = replaycheck.opened.program.elf.functions.find((it) => it.name === 'verify');
           replaycheck.code.visit(it.address); return [it.address, it.size]; })()""")
         page.set("sweep-what", "words", "change")
         page.set("sweep-values", "flips")
@@ -104,6 +104,54 @@ def picture_of_edits(bench):
         bench.settle(page)
         page.click_on("#sweep")
         page.until("document.getElementById('sweep-told').textContent.includes('Left out: marks, options of the heap.')", 120)
+
+
+def picture_of_the_run(bench):
+    """After an edit the picture and what is said of a byte are of the run that is shown: greyed, and named as another's, until
+    they are made anew. What a sweep can't have of a run is named too."""
+    with bench.open(words="") as page, tempfile.TemporaryDirectory() as folder:
+        page.until(SWEPT, 120)
+        same("a byte of the unedited run", page.run("replaycheck.byteTold(2)").partition(". ")[2][:8], "Of 255 o")
+        page.run("replaycheck.use('input 0 0')")
+        bench.settle(page)
+        stale = "document.getElementById('picture-parts').classList.contains('stale')"
+        expect(page.run(stale), "the picture of another run isn't greyed")
+        expect("Of the unedited run: " in page.run("replaycheck.byteTold(2)"), "a byte's sentence doesn't say of which run it is")
+        page.until(f"{SWEPT} && !{stale}", 120)
+        given = pathlib.Path(folder, "input")
+        given.write_bytes(b"\0" + (TOP / "examples/firmware/station.input").read_bytes()[1:])
+        words, step = [STATION[0], "--input", str(given)], page.run("replaycheck.step")
+        swept(bench, page, words, [f"--step={step}"], 10455)
+        table = bench.table(words, "--bytes=2", f"--step={step}")
+        alike = sum(text == "exited 1" for text in table.values())
+        told = page.run("replaycheck.byteTold(2)")
+        expect(f"Of 255 other values, {alike} change" in told, f"it says {told!r}, and {alike} values change nothing")
+        expect("of the run with 1 edit" in page.text("sweep-told"), f"it says {page.text('sweep-told')!r}")
+        page.run("replaycheck.go(500)")
+        bench.settle(page)
+        expect("Of the run with 1 edit" in page.run("replaycheck.sweeps.otherRun"), "another step isn't another run")
+        page.until(f"{SWEPT} && !{stale}", 120)
+        page.run("replaycheck.use('mark 55 0x20011 2 undefined')")
+        page.until(f"{SWEPT} && replaycheck.sweeps.of.left.length && !{stale}", 120)
+        same("what is left out", page.run("replaycheck.sweeps.otherRun"), "Of this run, without marks: ")
+
+
+def goal(bench):
+    """The edits that reach a goal are counted, stand first in the legend and are drawn large, as `explore --goal` finds them."""
+    with bench.open("boot", words="") as page:
+        page.until(SWEPT, 120)
+        table = bench.table(words_of("boot"), f"--step={page.run('replaycheck.step')}")
+        reached = [edit for edit, text in table.items() if text.startswith("exited 0")]
+        same("the goal of the example", page.run("document.getElementById('goal').value"), "exited 0")
+        want = f"{len(reached)} of them reach the goal “exited 0”. "
+        page.until("document.getElementById('sweep-told').textContent.includes('edits of the')")
+        expect(len(reached) == 1 and want in page.text("sweep-told"), f"it says {page.text('sweep-told')!r}, not {want!r}")
+        same("the first row of the legend", page.run("document.querySelector('#legend-rows .first').textContent"),
+             "input {} {}".format(*reached[0]))
+        page.set("goal", "exited 7", "input")
+        expect("0 of them reach" in page.text("sweep-told"), f"it says {page.text('sweep-told')!r}")
+        page.set("goal", "", "input")
+        expect("goal" not in page.text("sweep-told"), f"it says {page.text('sweep-told')!r}")
 
 
 def picture_stopped(bench):

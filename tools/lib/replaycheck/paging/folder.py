@@ -43,7 +43,7 @@ def examples():
     """The examples that the page offers, with their files."""
     made = []
     for it in json.loads((SOURCES / "examples.json").read_text()):
-        example = {"name": it["name"], "about": " ".join(it["about"])}
+        example = {"name": it["name"], "about": " ".join(it["about"]), **({"goal": it["goal"]} if "goal" in it else {})}
         for role in ("program", "input"):
             if role in it:
                 path = EXAMPLES / it[role]

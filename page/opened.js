@@ -1,0 +1,72 @@
+// What is opened: files by their roles, the program over them, its sessions, and the reports of its unedited run.
+import { LAST_STEP } from './facts.js';
+import { Elf } from './elf.js';
+import { sourceLines } from './lines.js';
+import { parseReport } from './report.js';
+import { Scenario } from './scenario.js';
+import { Session } from './sessions.js';
+import { endOf } from './steps.js';
+
+const BEYOND = 4096;  // steps after the end of the unedited run, and three times as many as it has
+const MOST_BEFORE = 500;  // reports of the unedited run that are kept
+
+// A run, as far as a page shows it: its last step, and whether it goes on after it.
+const isRunning = (report) => report.state.startsWith('running');
+
+export class Opened {
+  // `base` is the input as it is read, a value of its own for each opening: scenarios over it are of these files.
+  constructor(files, module, base, { limit, again, lines, makeWorker }) {
+    const elf = new Elf(files.program.bytes);
+    const given = Object.fromEntries(Object.entries(files).map(([role, it]) => [role, it.bytes]));
+    this.program = { module, files: given, base, elf, limit, again, makeWorker, loaded: (at) => elf.loaded(at) };
+    Object.assign(this, { files, elf, base, plain: new Scenario(base), before: new Map(), lineOf: remembered(sourceLines(elf)) });
+    this.session = new Session(this.program, lines);
+    this.unedited = new Session(this.program);
+    this.search = new Session(this.program);
+  }
+
+  get sessions() { return [this.session, this.unedited, this.search]; }
+
+  // Runs the unedited program: a file that can't be used, and memory that runs out, are faults here.
+  async run() {
+    await this.session.report(this.plain, 0);
+    this.last = await endOf(async (step) => isRunning(await this.reportBefore(step)), LAST_STEP);
+    this.follow = Math.min(LAST_STEP, 4 * this.last + BEYOND);
+    return this;
+  }
+
+  // Where the run of a scenario ends, and whether it still runs there: one that is longer is shown up to `follow`.
+  async endOf(scenario) {
+    const { last } = this;
+    if (scenario === this.plain) return { last, goesOn: last === LAST_STEP && isRunning(await this.reportBefore(last)) };
+    const runsAt = async (step) => isRunning(parseReport(await this.search.report(scenario, step)));
+    if (await runsAt(this.follow)) return { last: this.follow, goesOn: true };
+    return { last: await endOf(runsAt, this.follow), goesOn: false };
+  }
+
+  async reportBefore(step) {
+    const { before, plain, unedited } = this;
+    if (!before.has(step)) {
+      const report = parseReport(await unedited.report(plain, step));
+      if (before.size >= MOST_BEFORE) before.clear();
+      before.set(step, report);
+    }
+    return before.get(step);
+  }
+
+  stop() {
+    for (const it of [this.session, this.unedited]) it.stop();
+  }
+
+  close() {
+    for (const it of this.sessions) it.close();
+  }
+}
+
+function remembered(tell) {
+  const known = new Map();
+  return (address) => {
+    if (!known.has(address)) known.set(address, tell(address));
+    return known.get(address);
+  };
+}
