@@ -32,7 +32,7 @@ class NotLoaded extends Error {}
 
 class App {
   constructor() {
-    Object.assign(this, { turn: 0, left: 0, opened: null, history: null, sources: new Map() });
+    Object.assign(this, { turn: 0, left: 0, isTravelling: false, opened: null, history: null, sources: new Map() });
     const edit = (scenario, series) => this.edit(scenario, series);
     const refuse = (text, how) => this.notice(text, how);
     const make = (kind, at, value) => this.make(kind, at, value);
@@ -130,7 +130,7 @@ class App {
   replace(opened, example) {
     const { history } = this;
     this.close();
-    Object.assign(this, { opened, judged: null, history });
+    Object.assign(this, { opened, judged: null, history, isTravelling: false });
     this.opening.hold(opened.files, example);
   }
 
@@ -231,11 +231,12 @@ class App {
   // Goes back or on in the history, in which other files may have been open.
   async travel(by) {
     if (!this.history?.travel(by)) return;
-    this.wanted = null;
+    if (this.isTravelling) this.wanted = null;  // to files of before, which are wanted no more
     this.notice('');
     this.bytes.beginSeries();
     const scenario = this.history.now;
-    if (scenario.base === this.opened?.base) this.show(scenario);
+    this.isTravelling = scenario.base !== this.opened?.base;
+    if (!this.isTravelling) this.show(scenario);
     else if (!await this.openAgain(scenario) && this.history?.now === scenario) this.history.travel(-by);
     this.showTravel();
   }

@@ -276,7 +276,7 @@ def refused_edits(bench):
         for line in ("input one 8", "append 7", "cut", "toString 5", "option toString 5", "input  1 8", "mark 1 2 3", "unmark 0"):
             page.run("replaycheck.notice('')")
             page.run(f"replaycheck.use({json.dumps(line)})")
-            expect("no line that edits" in page.text("notice"), f"{line} is taken: {page.run('replaycheck.scenario.lines')}")
+            expect("doesn’t edit a run" in page.text("notice"), f"{line} is taken: {page.run('replaycheck.scenario.lines')}")
 
 
 # ---- links

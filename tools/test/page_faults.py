@@ -66,6 +66,7 @@ def opened_in_turn(bench):
         page.run("(() => { replaycheck.opening.choose('packet'); })()")
         page.press("0")
         page.press("z", modifiers=2)
+        page.until("document.title.startsWith('packet.elf')", 20)
         bench.same_report(page, words_of("packet"), "another program while one types")
         same("complaints", page.complaints(), [])
 
@@ -122,9 +123,8 @@ def kept_work(bench):
         bench.same_report(page, STATION, "undone to the first files")
         for _ in range(3):
             page.press("y", modifiers=2)
-            page.until("replaycheck.scenario && !replaycheck.isBusy")
-            bench.settle(page)
-        expect(page.run("document.title").startswith("program.elf") and page.run(lines) == [], "the other program can't be redone")
+        page.until(f"replaycheck.scenario && document.title === 'program.elf — replaycheck' && !{lines}.length", 20)
+        bench.same_report(page, words_of("packet")[:1], "redone to the other program")
 
 
 def refused_lines(bench):
@@ -330,12 +330,12 @@ def one_file(bench):
     with bench.browser.page(bench.file) as page:
         page.run("replaycheck.opening.choose('station')")
         bench.settle(page)
-        page.focus("bytes")
-        page.press("ArrowRight", "0", "8")
-        bench.same_report(page, STATION, "a byte in the page of one file")
         page.until(SWEPT, 120)
         same("edits", page.run("replaycheck.sweeps.sweep.swept.edits"), 10455)
         page.until("document.getElementById('sweep-told').textContent.includes('287 of them')")
+        page.focus("bytes")
+        page.press("ArrowRight", "0", "8")
+        bench.same_report(page, STATION, "a byte in the page of one file")
         same("complaints", page.complaints(), [])
 
 

@@ -111,7 +111,8 @@ def picture_of_the_run(bench):
     they are made anew. What a sweep can't have of a run is named too."""
     with bench.open(words="") as page, tempfile.TemporaryDirectory() as folder:
         page.until(SWEPT, 120)
-        same("a byte of the unedited run", page.run("replaycheck.byteTold(2)").partition(". ")[2][:8], "Of 255 o")
+        same("a byte of the unedited run", page.run("replaycheck.byteTold(2)"),
+             "byte 2: 0x68. None of 255 other values changes anything.")
         page.run("replaycheck.use('input 0 0')")
         bench.settle(page)
         stale = "document.getElementById('picture-parts').classList.contains('stale')"
