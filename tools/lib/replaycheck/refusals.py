@@ -32,18 +32,20 @@ WORDS = {
     30: "more than 16777216 bytes are loaded",
     31: "a bad table of symbols",
 }
-WHAT = ("image", "input", "suppressions", "bytes", "words")
+REFUSALS = ("refused", *(f"replaycheck: {it} refused" for it in ("image", "input", "suppressions", "bytes", "words")))
+AT_LINE = "replaycheck: suppressions refused 13 at line"
 UNREADABLE = "replaycheck: cannot read "
 
 
 def with_words(line):
-    """A line that refuses something, with what its number means; one that says that a file can't be read, with why; any other line as it
+    """A line that rejects something, with what its number means; one that says that a file can't be read, with why; any other line as it
     is."""
     head, _, number = line.rpartition(" ")
-    if number.isascii() and number.isdigit() and int(number) in WORDS and head in ("refused", *(f"replaycheck: {it} refused" for it in WHAT)):
-        return f"{line}: {WORDS[int(number)]}"
-    if head.startswith("replaycheck: suppressions refused 13 at line") and number.isdigit():
-        return f"{line}: {WORDS[13]}"
+    if number.isascii() and number.isdigit():
+        if head in REFUSALS and int(number) in WORDS:
+            return f"{line}: {WORDS[int(number)]}"
+        if head == AT_LINE:
+            return f"{line}: {WORDS[13]}"
     if line.startswith(UNREADABLE):
         why = why_unreadable(line[len(UNREADABLE):])
         return f"{line}: {why}" if why else line
