@@ -114,7 +114,10 @@ def heap_in(data):
 
 
 def makes_blocks(file, given, step):
-    """Whether a run makes a block of the heap before a step, whatever its code looks like."""
+    """Whether a run makes a block of the heap before a step, whatever its code looks like. It isn't known of an input that can't be read
+    twice."""
+    if given is not None and not os.path.isfile(given):
+        return False
     words = [program(), "look", *(["--input", path_of(given)] if given is not None else []), path_of(file)]
     _, told, _ = outcome(words, f"look next shadow 0x{FIRST_BLOCK:x} 1 {step}\n".encode())
     return told.startswith(b"step ")
@@ -125,8 +128,11 @@ def heap_of_run(file, given, step, has_blocks=False):
     says that the run has made a block, as far as that is known already."""
     if not os.path.isfile(file):
         return None
-    with open(file, "rb") as opened:
-        heap = heap_in(opened.read(LONGEST_FILE + 1))
+    try:
+        with open(file, "rb") as opened:
+            heap = heap_in(opened.read(LONGEST_FILE + 1))
+    except (OSError, struct.error):  # it has changed since it was run
+        return None
     if heap.is_unseen and (has_blocks or makes_blocks(file, given, step)):
         return Heap(BY_NUMBER)
     return heap

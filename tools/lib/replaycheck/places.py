@@ -30,18 +30,26 @@ class Paths:
     """How source files are named: bare, by their full paths, from below a folder, or, below the current one, from there."""
 
     def __init__(self, full=False, prefix: str | None = None, from_here=False):
-        self.full, self.prefix, self.here = full, prefix and prefix.rstrip("/") + "/", None
-        if from_here and not full and prefix is None:
-            self.here = os.path.realpath(".").rstrip("/") + "/"
+        self.full, self.prefix = full, prefix and prefix.rstrip("/") + "/"
+        self.heres = names_of_here() if from_here and not full and prefix is None else []
 
     def name(self, path):
         whole = os.path.normpath(path)
         if self.prefix:
             return whole.removeprefix(self.prefix)
-        if self.here:
-            below = os.path.normpath(self.here + path) if not path.startswith("/") else whole
-            return below[len(self.here):] if below.startswith(self.here) else whole
-        return whole if self.full else os.path.basename(path)
+        for here in self.heres:
+            below = os.path.normpath(here + path) if not path.startswith("/") else whole
+            if below.startswith(here):
+                return below[len(here):]
+        return whole if self.full or self.heres else os.path.basename(path)
+
+
+def names_of_here():
+    """What the current folder is called, in the shell too, where links may lead to it."""
+    names, shells = [os.path.realpath(".")], os.environ.get("PWD", "")
+    if shells.startswith("/") and os.path.realpath(shells) == names[0]:
+        names.append(os.path.normpath(shells))
+    return [it.rstrip("/") + "/" for it in dict.fromkeys(names)]
 
 
 def addr2line():

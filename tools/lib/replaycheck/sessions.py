@@ -1,5 +1,6 @@
 """A session with the program: a line at a time, with its reply."""
 from replaycheck.children import piped
+from replaycheck.endings import children
 from replaycheck.programs import path_of, program
 from replaycheck.refusals import Ended, Refused
 
@@ -70,6 +71,9 @@ class Session:
         """Ends the session, as nothing more is asked."""
         self.child.stdin.close()
         self.child.wait()
+        self.child.stdout.close()
+        self.child.stderr.close()
+        children.remove(self.child)
 
     def ended(self):
         try:
