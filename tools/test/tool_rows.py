@@ -132,7 +132,7 @@ def compare_rows():
     yield Row("compare: a step that is too great", [*compare, "--step", "5000000", "input 0 8"], 2, "",
               "*no number from 0*")
     yield Row("compare: a missing program", ["compare", "missing", "input 0 8"], 2, "",
-              "replaycheck: cannot read missing\n")
+              "replaycheck: cannot read missing: No such file or directory\n")
     yield Row("compare: options behind lines", [*compare, "input 0 8", "--step", "0x3c"], 1, "*--- at step 60\n*")
     yield Row("compare: a script after", [*compare, "--after", "edits"], 1, "*+++ after input 0 8\n*")
     yield Row("compare: a script before, and more after",
@@ -268,7 +268,7 @@ def run_rows():
               "*error 1: Invalid read of size 4\n   at 0x00010050: first_item\n Address*")
     yield Row("run: no room for freed blocks", [*freed, "--freelist-vol=0"], 0,
               "*is not stack'd, malloc'd or (recently) free'd*")
-    yield Row("run: a step", [*freed, "--redzone-size=0x20", "--step=3"], 0, "*step 3\nstate running*")
+    yield Row("run: a step", [*freed, "--redzone-size=0x20", "--step=3"], 0, "*step 3\nstate running*", "*still running at step 3: *")
     yield Row("run: more callers than there are", [*freed, "--num-callers=25"], 2, "", "*no number from 1 to 24*")
     yield Row("run: no kind of leak", [*freed, "--show-leak-kinds=lost"], 2, "", "*no kind of leak: 'lost'*")
     yield Row("run: no format", [*freed, "--format=yaml"], 2, "", "*invalid choice: 'yaml'*")
@@ -283,20 +283,100 @@ def run_rows():
     yield Row("run: no program", ["run", "script", "--error-exitcode=7"], 3, "",
               "replaycheck: image refused 20: no ELF file\n")
     yield Row("run: a missing program", ["run", "missing", "--error-exitcode=7"], 1, "",
-              "replaycheck: cannot read missing\n")
+              "replaycheck: cannot read missing: No such file or directory\n")
+    yield Row("run: a folder for a program", ["run", "few", "--error-exitcode=7"], 1, "",
+              "replaycheck: cannot read few: Is a directory\n")
     yield Row("run: a name in two lines", ["run", "a name\nin two lines.elf", "--error-exitcode=7"], 7, None)
-    yield Row("run: no addr2line", [*freed, "--format=gcc"], 2, "", "*cannot run no-addr2line*",
+    yield Row("run: no addr2line", [*freed, "--format=gcc", "--error-exitcode=7"], 7,
+              "*use-after-free.elf: warning: Invalid read of size 4 in first_item [Addr4]\n*0x00010050: first_item\n*",
+              "*replaycheck run: no source lines: cannot run no-addr2line: No such file or directory; source lines need*",
               environment={"ADDR2LINE": "no-addr2line"})
+    yield Row("run: an addr2line that ends at once", [*freed, "--format=json", "--error-exitcode=7"], 7, '*"place": null*',
+              "*replaycheck run: no source lines: addr2line has ended*", environment={"ADDR2LINE": "false"})
+    yield from running_rows()
+    yield from heap_rows()
+
+
+def running_rows():
+    """A program that hasn't ended where its report is: what it does later isn't checked."""
+    late = ["run", "late.elf", "--error-exitcode=9"]
+    runs_on = "replaycheck run: late.elf: still running at step 3000: what it does after that isn't checked; --step goes up to 4194304\n"
+    yield Row("run: still running", [*late, "--step=3000"], 9, "*step 3000\nstate running *", runs_on)
+    yield Row("run: still running, and no status", ["run", "late.elf", "--error-exitcode=0", "--step=3000"], 0, None, runs_on)
+    yield Row("run: an error after the program's own step", late, 9, "*step 4194304\nstate exited 0\n*error 1: Invalid read of size 4*")
+    yield Row("run: still running at the last step of all", ["run", "endless.elf", "--error-exitcode=9"], 9,
+              "*step 4194304\nstate running *",
+              "replaycheck run: endless.elf: still running at step 4194304: what it does after that isn't checked\n")
+    for name, told in (("json", '*"ended": false,*'), ("sarif", '*{"executionSuccessful": false}*"ruleId": "Running"*"level": "error"*'),
+                       ("valgrind-xml", "*<state>RUNNING</state>\n  <time>step 3000</time>*"),
+                       ("junit", '*tests="1" failures="0" errors="1"*<error type="Running" message="still running at step 3000*'),
+                       ("gcc", "*: warning: still running at step 3000*[Running]\n*"),
+                       ("github", "*::error *title=still running at step 3000*")):
+        yield Row(f"run: still running, as {name}", [*late, "--step=3000", f"--format={name}"], 9, told, runs_on, needs=ADDR2LINE)
+
+
+def heap_rows():
+    """Whether a heap goes unseen is said, and of no file whose heap is known or that has none."""
+    stripped = ["run", "stripped.elf", "--input=long-name.input"]
+    unseen = "*replaycheck run: stripped.elf: errors of the heap can't be found: the file has no symbols, *"
+    other = "*replaycheck run: other.elf: errors of the heap can't be found: *but pvPortMalloc, vPortFree: *"
+    yield Row("run: the error of a file with symbols", ["run", "station.elf", "--input=long-name.input", "--error-exitcode=9"], 9, None)
+    yield Row("run: a stripped file", [*stripped, "--error-exitcode=9"], 0, None, unseen)
+    yield Row("run: a stripped file, and a heap is needed", [*stripped, "--error-exitcode=9", "--require-heap"], 9, None, unseen)
+    yield Row("run: a heap is needed, and no other status is asked for", [*stripped, "--require-heap"], 1, None, unseen)
+    yield Row("run: a heap of other names", ["run", "other.elf", "--error-exitcode=9"], 0, None, other)
+    yield Row("run: a label of the heap's name", ["run", "label.elf", "--error-exitcode=9"], 0, None,
+              "*replaycheck run: label.elf: errors of the heap can't be found: *but malloc (a label, *")
+    for label, words in (("a heap by name", ["station.elf", "--input=station.input"]),
+                         ("a heap by number", ["station-by-number.elf", "--input=station.input"]),
+                         ("a heap by number, stripped", ["stripped-by-number.elf", "--input=station.input"]),
+                         ("a heap by a number in memory, stripped", ["from-table.elf"]), ("no heap", ["two-callers.elf"]),
+                         ("symbols and no heap", ["boot.elf"])):
+        yield Row(f"run: {label} is no cause for a notice", ["run", *words, "--require-heap"], 0, None)
+    for name, told in (("json", '*"heap": {\n  "known": "no symbols",\n  "functions": []\n }*'),
+                       ("sarif", '*{"executionSuccessful": false, "toolExecutionNotifications": [{"level": "error", "message": *'),
+                       ("junit", '*tests="1" failures="0" errors="1"*<error type="Heap"*'),
+                       ("gcc", "*: warning: errors of the heap *[Heap]\n*"),
+                       ("github", "*::error title=The heap goes unseen::stripped.elf: errors of the heap*")):
+        yield Row(f"run: a heap is needed, as {name}", [*stripped, "--require-heap", f"--format={name}"], 1, told, unseen, needs=ADDR2LINE)
+    yield Row("run: the heap of a file, as json", ["run", "station.elf", "--input=station.input", "--format=json"], 0,
+              '*"known": "by name",\n  "functions": ["calloc", "free", "malloc", "realloc"]*', needs=ADDR2LINE)
+    yield Row("run: a stripped file, as sarif", [*stripped, "--format=sarif"], 0,
+              '*{"executionSuccessful": true, "toolExecutionNotifications": [{"level": "warning"*', unseen, needs=ADDR2LINE)
 
 
 def launcher_rows():
-    yield Row("the program's own fault", ["walk"], 2, "", "*unrecognized subcommand 'walk'*")
-    yield Row("the program's own help of run", ["run", "--help"], 0, "*Usage: replaycheck run [OPTIONS] <FILE>*")
-    yield Row("help of the options for CI", ["run", "--error-exitcode=1", "--help"], 0,
-              "*--errors-for-leak-kinds LIST  these kinds*")
-    yield Row("a path is no tool", ["../bin/ls"], 2, "", "*unrecognized subcommand*")
+    yield Row("a command that isn't there", ["walks"], 2, "", "*replaycheck: no such command, tool or file: walks: `replaycheck --help`*")
+    yield Row("a tool that is like it", ["explor"], 2, "", "*replaycheck: no such command, tool or file: explor: did you mean*explore*")
+    yield Row("a command that is like it", ["sesion"], 2, "", "*did you mean `replaycheck session`?*")
+    yield Row("no command: the tools too", [], 2, "", "*  replaycheck explore *  replaycheck word *")
+    yield Row("both helps of run", ["run", "--help"], 0,
+              "*Usage: replaycheck* run [OPTIONS] <FILE>*--errors-for-leak-kinds LIST*--require-heap*Exit status: *")
+    for words in (["run", "--error-exitcode=1", "--help"], ["run", "-h"], ["help", "run"]):
+        yield Row(f"both helps of run, by {' '.join(words)}", words, 0, "*Usage: replaycheck* run *--errors-for-leak-kinds LIST*")
+    yield Row("help of a tool", ["help", "when"], 0, "*usage: replaycheck when FILE*")
+    yield Row("a path that isn't there is no tool", ["../bin/ls"], 2, "", "*no such command, tool or file: ../bin/ls: *")
+    yield Row("a program by its path", ["./use-after-free.elf"], 0, "*step 1048576\nstate exited 0\n*error 1: Invalid read*")
+    yield Row("a program by its name, with options", ["use-after-free.elf", "--error-exitcode=7", "--num-callers=1"], 7,
+              "*error 1: Invalid read*")
+
+
+def error_rows():
+    """Lines of errors: the program, what failed, which thing, and why."""
+    yield Row("errors: a value that is missing", ["when", "three-words.elf", "--last"], 2, "",
+              "*replaycheck when: --last: its value is missing\n*")
+    yield Row("errors: a value that can't be read", ["when", "three-words.elf", "--last=x", "y"], 2, "",
+              "*replaycheck when: --last: 'x' is no number from 0 to 4194304\nusage: *")
+    yield Row("errors: a negative number", ["when", "three-words.elf", "--last", "-1", "y"], 2, "",
+              "*replaycheck when: --last: '-1' is no number*")
+    yield Row("errors: a value of a flag", ["lines", "packet.elf", "--full-paths=yes"], 2, "",
+              "*replaycheck lines: --full-paths: it takes no value: 'yes'\n*")
+    yield Row("errors: a choice", ["run", "packet.elf", "--format", "yaml"], 2, "",
+              "*replaycheck run: --format: invalid choice: 'yaml': choose from text,*")
+    yield Row("errors: a file too many, after --", ["when", "three-words.elf", "x", "--", "-y"], 2, "",
+              "*replaycheck when: unrecognized arguments: -y\nusage: *")
 
 
 ROWS = [row
-        for rows in (talk_rows, when_rows, compare_rows, suppress_rows, word_rows, lines_rows, run_rows, launcher_rows)
+        for rows in (talk_rows, when_rows, compare_rows, suppress_rows, word_rows, lines_rows, run_rows, launcher_rows, error_rows)
         for row in rows()]

@@ -1,9 +1,8 @@
 """How a tool ends: with a status, with a line on standard error where it can't do its work, or of the signal that
 interrupted it. It leaves no process behind. Its children read from pipes that end with it, so that they end where it is
 killed outright."""
+import _signal as signal  # what the module signal has, without its names for numbers, which take longer than a short run
 import os
-import signal
-import subprocess
 import sys
 
 TOLD = {signal.SIGHUP, signal.SIGINT, signal.SIGTERM}
@@ -15,6 +14,20 @@ class Fault(Exception):
 
     said = ""
     status = 2
+
+
+class naming:
+    """Gives a fault of the system in its block the name of a file, where it has none."""
+
+    def __init__(self, name):
+        self.name = name
+
+    def __enter__(self):
+        return self
+
+    def __exit__(self, _, fault, __):
+        if isinstance(fault, OSError) and fault.filename is None and not isinstance(fault, BrokenPipeError):
+            fault.filename = self.name
 
 
 class Interrupted(BaseException):
@@ -54,7 +67,8 @@ def undisturbed(action):
 
 
 def start(words, needs="", **pipes):
-    """Starts a child. Where its program isn't there, what is needed is told."""
+    """Starts a child. Where its program isn't there, the fault says what is needed."""
+    import subprocess
     try:
         undisturbed(lambda: children.append(subprocess.Popen(words, **pipes)))
     except OSError as fault:
@@ -129,10 +143,11 @@ def status_of(main):
     """The status with which a tool's work ends."""
     try:
         status = main()
-    except SystemExit as ended:  # argparse has shown its page
+    except SystemExit as ended:  # the page or the version was shown
         status = ended.code
     except OSError as fault:
-        raise Fault(f"{os.fspath(fault.filename)}: {fault.strerror}" if fault.filename else str(fault)) from None
+        named = f"{os.fspath(fault.filename)}: " if fault.filename else ""
+        raise Fault(f"{named}{fault.strerror or fault}") from None
     flush()
     return status
 
@@ -152,6 +167,9 @@ def end(name, main):
         silence()
         die_of(signalled.number)
     end_children()
+    for number in TOLD:
+        if signal.getsignal(number) is interrupt:  # what Python does now to end itself is not to be interrupted with words
+            signal.signal(number, signal.SIG_DFL)
     sys.exit(status)
 
 

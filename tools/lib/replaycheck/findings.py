@@ -1,10 +1,11 @@
 """What a report finds fault with, as other programs' formats have it: errors, listed leaks, and a stop."""
-from dataclasses import dataclass
-from typing import List, Optional
+from __future__ import annotations
 
 from replaycheck.places import Place
+from replaycheck.records import Record
 from replaycheck.reports import LEAK_KINDS, Frame, Report
 
+RUNNING = "Running"
 STOPS = {
     "jump": "stopped: a jump to where no memory is",
     "break": "stopped: an EBREAK",
@@ -23,27 +24,23 @@ RULES = {
     "Jump": "Jump to an invalid address",
     "Leak": "Blocks of the heap that are lost or were not freed",
     "Stop": "A stop that is no exit",
+    RUNNING: "A program that still runs at the last step, so that what it does later isn't checked",
 }
 
 
-@dataclass(eq=False)
 class Call:
     """A frame with its source line. An inlined call is one of its own, at the address of its caller's. Each is made
     once."""
 
-    address: str
-    function: str
-    place: Optional[Place]
-
-    def __post_init__(self):
-        self.text = f"{self.function} ({self.place or self.address})"
+    def __init__(self, address: str, function: str, place: Place | None):
+        self.address, self.function, self.place = address, function, place
+        self.text = f"{function} ({place or address})"
 
     def __str__(self):
         return self.text
 
 
-@dataclass
-class Finding:
+class Finding(Record):
     """One of the rules, whether it counts as an error, its text and trace, and what is said of an address or
     a block."""
 
@@ -51,9 +48,9 @@ class Finding:
     counts: bool
     text: str
     times: int
-    trace: List[Call]
-    note: Optional[str] = None
-    note_trace: Optional[List[Call]] = None
+    trace: list[Call]
+    note: str | None = None
+    note_trace: list[Call] | None = None
 
     def lead(self):
         """The innermost call that has a source line and isn't the heap's own, or else the innermost one."""
@@ -65,22 +62,32 @@ class Finding:
         return self.text if name == "???" else f"{self.text} in {name}"
 
 
-@dataclass
 class Shown:
-    """A report, the files of its run, and how it is shown: where instructions stand, and which leaks count as
-    errors."""
+    """A report, the files of its run, and how it is shown: where instructions stand, which leaks count as errors, which heap the file has,
+    if that is known, and whether an unseen heap counts as an error."""
 
-    report: Report
-    file: str
-    given: Optional[str]
-    places: object
-    leaks_that_count: frozenset
+    def __init__(self, report: Report, file: str, given: str | None, leaks_that_count, heap=None, needs_heap=False):
+        self.report, self.file, self.given = report, file, given
+        self.leaks_that_count, self.heap, self.needs_heap = leaks_that_count, heap, needs_heap
+        self.made, self.places = {}, None
 
-    def __post_init__(self):
-        self.made = {}
+    def show(self, places):
+        """Finds the places of all addresses."""
         traces = [it for error in self.report.errors for it in (error.trace, error.note.trace if error.note else [])]
         traces += [leak.trace for leak in self.report.leaks]
-        self.places.learn([frame.address for trace in traces for frame in trace])
+        more = [self.report.state.address] if self.report.state.address else []
+        places.learn([frame.address for trace in traces for frame in trace] + more)
+        self.places = places
+
+    @property
+    def heap_notice(self):
+        """What is said of a heap that goes unseen; nothing of any other."""
+        return self.heap.notice(self.file) if self.heap and self.heap.is_unseen else ""
+
+    @property
+    def was_checked(self):
+        """Whether all was checked that was asked for: to the program's end, and with a heap where one is needed."""
+        return self.report.state.name != "running" and not (self.needs_heap and self.heap_notice)
 
     def calls(self, trace):
         """The calls of a trace, with inlined ones."""
@@ -103,12 +110,11 @@ class Shown:
             yield Finding("Leak", LEAK_KINDS[leak.kind] in self.leaks_that_count, text, 1, self.calls(leak.trace))
         state = self.report.state
         if state.name == "stopped":
-            places = self.places.at(state.address)
-            name = places[-1].function if places else "???"
-            yield Finding("Stop", True, STOPS[state.why], 1, self.calls([Frame(state.address, name)]))
+            yield Finding("Stop", True, STOPS[state.why], 1, self.calls([self.frame_at(state.address)]))
+        if state.name == "running":
+            text = f"still running at step {self.report.step}"
+            yield Finding(RUNNING, True, text, 1, self.calls([self.frame_at(state.address)]))
 
-
-def fails(report, leaks_that_count):
-    """Whether a report has an error or a stop, or a leak of kinds that count as errors, listed or not."""
-    lost = any(report.sums[kind].blocks for kind, name in LEAK_KINDS.items() if name in leaks_that_count)
-    return report.happened > 0 or lost or report.state.name == "stopped"
+    def frame_at(self, address):
+        places = self.places.at(address)
+        return Frame(address, places[-1].function if places else "???")

@@ -1,15 +1,13 @@
 """A report in the formats that other programs read."""
 import functools
-import json
 import os
-import re
-import urllib.parse
+from _json import encode_basestring_ascii as quoted  # the module json, and what it imports, take longer than a short run
 
-from replaycheck.findings import RULES
+from replaycheck.findings import RULES, RUNNING
 from replaycheck.reports import LEAK_KINDS, SUMS
 
 JSON_VERSION = 1
-NO_XML = re.compile("[^\t\n -\ud7ff\ue000-\ufffd\U00010000-\U0010ffff]")
+PLAIN = b"ABCDEFGHIJKLMNOPQRSTUVWXYZabcdefghijklmnopqrstuvwxyz0123456789_.-~/"  # bytes of a URI's path that stand for themselves
 XML_KINDS = {"Value4": "UninitValue", "Cond": "UninitCondition", "Param": "SyscallParam", "Free": "InvalidFree",
              "Jump": "InvalidJump"}
 XML_LEAKS = {"definitely lost": "Leak_DefinitelyLost", "indirectly lost": "Leak_IndirectlyLost",
@@ -29,17 +27,30 @@ class Encoded(str):
     """A text that is JSON already. What is in many results is encoded once."""
 
 
+def flat(value):
+    """A value as JSON in one line."""
+    if isinstance(value, Encoded):
+        return value
+    if isinstance(value, str):
+        return quoted(value)
+    if isinstance(value, dict):
+        return "{" + ", ".join(f"{quoted(name)}: {flat(it)}" for name, it in value.items()) + "}"
+    if isinstance(value, (list, tuple)):
+        return "[" + ", ".join(map(flat, value)) + "]"
+    return {None: "null", True: "true", False: "false"}[value] if value is None or isinstance(value, bool) else str(value)
+
+
 def dumped(value, depth, indent=""):
     """A value as JSON, with each part on a line of its own down to a depth."""
     inner = indent + " "
     if isinstance(value, Encoded):
         return value
     if depth and isinstance(value, dict) and value:
-        parts = (f"{inner}{json.dumps(name)}: {dumped(it, depth - 1, inner)}" for name, it in value.items())
+        parts = (f"{inner}{quoted(name)}: {dumped(it, depth - 1, inner)}" for name, it in value.items())
         return "{\n" + ",\n".join(parts) + f"\n{indent}}}"
     if depth and isinstance(value, list) and value:
         return "[\n" + ",\n".join(inner + dumped(it, depth - 1, inner) for it in value) + f"\n{indent}]"
-    return json.dumps(value)
+    return flat(value)
 
 
 def call_object(call):
@@ -66,7 +77,9 @@ def json_text(shown):
         "program": printable(shown.file), "input": shown.given and printable(shown.given), "step": report.step,
         "state": {"name": report.state.name, "why": report.state.why, "address": report.state.address,
                   "status": report.state.status},
+        "ended": report.state.name != "running",
         "read": report.position, "length": report.length, "written": report.written,
+        "heap": shown.heap and {"known": shown.heap.known, "functions": shown.heap.functions},
         "errors": [{"kind": it.kind, "text": it.text, "count": it.count, "trace": trace(it.trace),
                     "note": note_object(it.note, trace(it.note.trace) if it.note else [])} for it in report.errors],
         "leaks": [{"kind": LEAK_KINDS[it.kind], "bytes": it.size, "blocks": it.blocks, "trace": trace(it.trace)}
@@ -82,7 +95,8 @@ def json_text(shown):
 @functools.lru_cache(maxsize=None)
 def uri(path):
     """A path as a URI: absolute, or relative to the root of the sources."""
-    return ("file://" if path.startswith("/") else "") + urllib.parse.quote(os.fsencode(path))
+    text = "".join(chr(it) if it in PLAIN else f"%{it:02X}" for it in os.fsencode(path))
+    return ("file://" if path.startswith("/") else "") + text
 
 
 @functools.lru_cache(maxsize=None)
@@ -96,7 +110,7 @@ def location(program, call, message=None, number=None):
         made["message"] = {"text": printable(message)}
     if number is not None:
         made["id"] = number
-    return json.dumps(made)
+    return flat(made)
 
 
 @functools.lru_cache(maxsize=None)
@@ -104,13 +118,14 @@ def flow_step(program, call, word):
     return f'{{"location": {location(program, call, f"{word} {call}")}}}'
 
 
-def sarif_result(shown, finding, rules):
+def sarif_result(shown, finding, rules, print_of):
     """A result, encoded."""
     text = printable(f"{finding.title()}{'. ' + finding.note if finding.note else ''}")
     made = {"ruleId": finding.rule, "ruleIndex": rules.index(finding.rule),
-            "level": "error" if finding.counts else "note", "message": {"text": text}, "occurrenceCount": finding.times}
+            "level": "error" if finding.counts else "note", "message": {"text": text}, "occurrenceCount": finding.times,
+            "partialFingerprints": {"functionsOfTrace/v1": print_of}}
     steps = [flow_step(shown.file, call, "by" if index else "at") for index, call in enumerate(finding.trace)]
-    parts = [json.dumps(made)[:-1], f'"locations": [{location(shown.file, finding.lead())}]',
+    parts = [flat(made)[:-1], f'"locations": [{location(shown.file, finding.lead())}]',
              f'"codeFlows": [{{"threadFlows": [{{"locations": [{", ".join(steps)}]}}]}}]']
     if finding.note_trace:
         words = [finding.note] + [f"by {call.function}" for call in finding.note_trace[1:]]
@@ -120,12 +135,38 @@ def sarif_result(shown, finding, rules):
     return Encoded(", ".join(parts) + "}")
 
 
+def fingerprint(finding):
+    """What tells a finding from others of its program, whatever moves in the source: its rule, and the functions of its trace."""
+    import hashlib
+    words = [finding.rule, finding.text, *(call.function for call in finding.trace)]
+    return hashlib.sha256("\n".join(words).encode("utf-8", "surrogateescape")).hexdigest()[:32]
+
+
+def sarif_results(shown, rules):
+    """The results. Those with one fingerprint are numbered."""
+    seen = {}
+    for finding in shown.findings():
+        print_of = fingerprint(finding)
+        seen[print_of] = seen.get(print_of, 0) + 1
+        yield sarif_result(shown, finding, rules, f"{print_of}:{seen[print_of]}")
+
+
+def invocation(shown):
+    """Whether the run was checked to its end, and what a reader has to know of it besides."""
+    made = {"executionSuccessful": shown.was_checked}
+    if shown.heap_notice:
+        level = "error" if shown.needs_heap else "warning"
+        made["toolExecutionNotifications"] = [{"level": level, "message": {"text": printable(shown.heap_notice)}}]
+    return made
+
+
 def sarif_text(shown):
     rules = list(RULES)
-    driver = {"name": "replaycheck",
+    driver = {"name": "replaycheck", "version": shown.version,
               "rules": [{"id": rule, "shortDescription": {"text": RULES[rule]}} for rule in rules]}
-    run = {"tool": {"driver": driver}, "invocations": [{"executionSuccessful": True}],
-           "results": [sarif_result(shown, finding, rules) for finding in shown.findings()]}
+    names = [os.path.basename(it) for it in (shown.file, shown.given) if it is not None]
+    run = {"tool": {"driver": driver}, "automationDetails": {"id": "/".join(["replaycheck", *map(printable, names), ""])},
+           "invocations": [invocation(shown)], "results": [*sarif_results(shown, rules)]}
     schema = "https://json.schemastore.org/sarif-2.1.0.json"
     return dumped({"$schema": schema, "version": "2.1.0", "runs": [run]}, 4) + "\n"
 
@@ -133,10 +174,19 @@ def sarif_text(shown):
 # ---- XML
 
 
+@functools.lru_cache(maxsize=None)
+def no_xml():
+    """What XML can't have."""
+    import re
+    return re.compile("[^\t\n -\ud7ff\ue000-\ufffd\U00010000-\U0010ffff]")
+
+
 def xml(text):
     """A text as XML has it, with a mark in place of what XML can't have."""
     escapes = {"&": "&amp;", "<": "&lt;", ">": "&gt;", '"': "&quot;"}
-    return NO_XML.sub("\ufffd", printable(str(text))).translate(str.maketrans(escapes))
+    text = printable(str(text))
+    text = text if text.isascii() and text.isprintable() else no_xml().sub("\ufffd", text)
+    return text.translate(str.maketrans(escapes))
 
 
 @functools.lru_cache(maxsize=None)
@@ -195,7 +245,7 @@ def valgrind_parts(shown):
     yield xml_status("RUNNING", 0)
     for number, error in enumerate(report.errors):
         yield from xml_error(shown, number, error)
-    yield xml_status("FINISHED", report.step)
+    yield xml_status("RUNNING" if report.state.name == "running" else "FINISHED", report.step)
     for record, leak in enumerate(report.leaks, 1):
         yield from xml_leak(shown, len(report.errors) + record - 1, leak, record, len(report.leaks))
     yield "\n<errorcounts>\n"
@@ -223,18 +273,30 @@ def junit_case(suite, number, finding):
     where = f' file="{xml(place.file)}" line="{place.line}"' if place else ""
     yield f'  <testcase classname="{suite}" name="{number}: {xml(finding.title())}"{where}>\n'
     if finding.counts:
-        yield f'    <failure type="{finding.rule}" message="{xml(finding.title())}">{xml(told(finding))}</failure>\n'
+        sort = "error" if finding.rule == RUNNING else "failure"
+        yield f'    <{sort} type="{finding.rule}" message="{xml(finding.title())}">{xml(told(finding))}</{sort}>\n'
     else:
         yield f"    <system-out>{xml(told(finding))}</system-out>\n"
     yield "  </testcase>\n"
 
 
+def junit_heap(suite, shown):
+    """A case of its own for a heap that goes unseen where one is needed."""
+    text = xml(shown.heap_notice)
+    return (f'  <testcase classname="{suite}" name="the heap">\n    <error type="Heap" message="{text}">{text}</error>\n'
+            "  </testcase>\n")
+
+
 def junit_text(shown):
     suite, findings = xml(os.path.basename(shown.file)), list(shown.findings())
     cases = [part for number, finding in enumerate(findings, 1) for part in junit_case(suite, number, finding)]
+    no_heap = bool(shown.needs_heap and shown.heap_notice)
+    cases += [junit_heap(suite, shown)] if no_heap else []
     cases = cases or [f'  <testcase classname="{suite}" name="no error and no leak"/>\n']
-    failures = sum(finding.counts for finding in findings)
-    counts = f'tests="{len(findings) or 1}" failures="{failures}" errors="0" skipped="0"'
+    errors = sum(finding.rule == RUNNING for finding in findings)
+    failures = sum(finding.counts for finding in findings) - errors
+    tests = len(findings) + no_heap or 1
+    counts = f'tests="{tests}" failures="{failures}" errors="{errors + no_heap}" skipped="0"'
     return "".join(['<?xml version="1.0" encoding="UTF-8"?>\n', f'<testsuite name="{suite}" {counts}>\n', *cases,
                     "</testsuite>\n"])
 
@@ -261,6 +323,8 @@ def gcc_parts(shown):
                            if index else f"{finding.note}, in {call.function}")
         if finding.note and not finding.note_trace:
             yield gcc_line(shown, finding.lead(), "note", finding.note)
+    if shown.needs_heap and shown.heap_notice:
+        yield one_line(f"{shown.file}: warning: {shown.heap_notice.partition(': ')[2]} [Heap]") + "\n"
 
 
 def gcc_text(shown):
@@ -280,6 +344,9 @@ def github_parts(shown):
         where = f"file={escaped(place.file, ':,')},line={place.line}," if place else ""
         level = "error" if finding.counts else "notice"
         yield f"::{level} {where}title={escaped(finding.title(), ':,')}::{escaped(told(finding))}\n"
+    if shown.heap_notice:
+        level = "error" if shown.needs_heap else "warning"
+        yield f"::{level} title=The heap goes unseen::{escaped(shown.heap_notice)}\n"
 
 
 def github_text(shown):

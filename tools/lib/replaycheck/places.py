@@ -1,11 +1,11 @@
 """Where in the source an instruction stands, by one addr2line that is kept open."""
-import os
-import shutil
-import subprocess
-from dataclasses import dataclass
-from typing import Optional
+from __future__ import annotations
 
-from replaycheck.endings import Fault, start
+import os
+
+from replaycheck.children import piped
+from replaycheck.endings import Fault
+from replaycheck.records import Record
 
 PROGRAMS = ("riscv64-unknown-elf-addr2line", "riscv64-linux-gnu-addr2line", "addr2line")
 NEEDS = "source lines need addr2line, of Debian's binutils-riscv64-unknown-elf, or the one that ADDR2LINE names"
@@ -13,8 +13,7 @@ NOWHERE = "0xffffffff"  # no function has code there, so that its answer is the 
 AT_ONCE = 1000  # so many questions fit into a pipe
 
 
-@dataclass
-class Place:
+class Place(Record):
     """A function, its file as it is asked for, and a line of it. `path` is what the debug information has for
     the file."""
 
@@ -28,29 +27,58 @@ class Place:
 
 
 class Paths:
-    """How source files are named: bare, by their full paths, or from below a folder."""
+    """How source files are named: bare, by their full paths, from below a folder, or, below the current one, from there."""
 
-    def __init__(self, full=False, prefix: Optional[str] = None):
+    def __init__(self, full=False, prefix: str | None = None, from_here=False):
         self.full, self.prefix = full, prefix and prefix.rstrip("/") + "/"
+        self.heres = names_of_here() if from_here and not full and prefix is None else []
 
     def name(self, path):
+        whole = os.path.normpath(path)
         if self.prefix:
-            whole = os.path.normpath(path)
-            return whole[len(self.prefix):] if whole.startswith(self.prefix) else whole
-        return os.path.normpath(path) if self.full else os.path.basename(path)
+            return whole.removeprefix(self.prefix)
+        for here in self.heres:
+            below = os.path.normpath(here + path) if not path.startswith("/") else whole
+            if below.startswith(here):
+                return below[len(here):]
+        return whole if self.full or self.heres else os.path.basename(path)
+
+
+def names_of_here():
+    """What the current folder is called, in the shell too, where links may lead to it."""
+    names, shells = [os.path.realpath(".")], os.environ.get("PWD", "")
+    if shells.startswith("/") and os.path.realpath(shells) == names[0]:
+        names.append(os.path.normpath(shells))
+    return [it.rstrip("/") + "/" for it in dict.fromkeys(names)]
+
+
+def addr2line():
+    """The addr2line that is named, or else the first that is on the path."""
+    folders = os.environ.get("PATH", os.defpath).split(os.pathsep)
+    there = (it for it in PROGRAMS if any(os.access(os.path.join(folder, it), os.X_OK) for folder in folders))
+    return os.environ.get("ADDR2LINE") or next(there, PROGRAMS[0])
+
+
+class NoPlaces:
+    """Stands for the places of a program where there is no addr2line: no address has one."""
+
+    known: dict = {}
+
+    def learn(self, addresses):
+        self.known = {**self.known, **dict.fromkeys(addresses, ())}
+
+    def at(self, address):
+        return ()
 
 
 class Places:
     """The places of a program's addresses, each of which is asked for once."""
 
     def __init__(self, file, paths):
-        named = os.environ.get("ADDR2LINE")
-        command = named or next(filter(shutil.which, PROGRAMS), PROGRAMS[0])
         self.paths, self.known = paths, {}
         if not os.path.isfile(file):
             raise Fault(f"{file}: no such file")
-        self.child = start([command, "-a", "-f", "-i", "-e", file], NEEDS, stdin=subprocess.PIPE,
-                           stdout=subprocess.PIPE, stderr=subprocess.PIPE)
+        self.child = piped([addr2line(), "-a", "-f", "-i", "-e", file], needs=NEEDS)
 
     def read(self):
         line = self.child.stdout.readline().decode("utf-8", "surrogateescape")
@@ -59,7 +87,8 @@ class Places:
         return line.rstrip("\n")
 
     def ended(self):
-        said = self.child.stderr.read().decode("utf-8", "surrogateescape").strip()
+        self.child.wait()
+        said = self.child.said().decode("utf-8", "surrogateescape").strip()
         raise Fault(f"addr2line has ended{said and ': ' + said}")
 
     def learn(self, addresses):

@@ -1,5 +1,7 @@
 """What the numbers by which the program refuses a line or a file mean, in words."""
-import re
+import os
+
+from replaycheck.endings import Fault
 
 WORDS = {
     1: "out of memory",
@@ -30,15 +32,57 @@ WORDS = {
     30: "more than 16777216 bytes are loaded",
     31: "a bad table of symbols",
 }
-REFUSED = re.compile(r"^(refused|replaycheck: (?:image|input|suppressions|bytes|words) refused) (\d+)$")
-AT_LINE = re.compile(r"^(replaycheck: suppressions refused) 13 (at line \d+)$")
+REFUSALS = ("refused", *(f"replaycheck: {it} refused" for it in ("image", "input", "suppressions", "bytes", "words")))
+AT_LINE = "replaycheck: suppressions refused 13 at line"
+UNREADABLE = "replaycheck: cannot read "
 
 
 def with_words(line):
-    """A line that refuses something, with words beside its number; any other line as it is."""
-    refused, at_line = REFUSED.match(line), AT_LINE.match(line)
-    if at_line:
-        return f"{line}: {WORDS[13]}"
-    if refused and int(refused[2]) in WORDS:
-        return f"{line}: {WORDS[int(refused[2])]}"
+    """A line that rejects something, with what its number means; one that says that a file can't be read, with why; any other line as it
+    is."""
+    head, _, number = line.rpartition(" ")
+    if number.isascii() and number.isdigit():
+        if head in REFUSALS and int(number) in WORDS:
+            return f"{line}: {WORDS[int(number)]}"
+        if head == AT_LINE:
+            return f"{line}: {WORDS[13]}"
+    if line.startswith(UNREADABLE):
+        why = why_unreadable(line[len(UNREADABLE):])
+        return f"{line}: {why}" if why else line
     return line
+
+
+def why_unreadable(path):
+    """Why a file can't be read, as far as another try shows it."""
+    if path == "standard input":
+        return ""
+    try:
+        number = os.open(path, os.O_RDONLY | os.O_NONBLOCK)
+        try:
+            os.read(number, 1)
+        finally:
+            os.close(number)
+    except BlockingIOError:
+        return ""
+    except OSError as fault:
+        return fault.strerror
+    return ""
+
+
+class Ended(Fault):
+    """The program has ended before it replied. `said` is what it said of that, and `status` the one with which a
+    tool ends."""
+
+    def __init__(self, code, said, keeps_status=False):
+        how = f"signal {-code}" if code < 0 else f"status {code}"
+        super().__init__(f"the program has ended before it replied, with {how}")
+        self.said = "".join(with_words(line) + "\n" for line in said.decode("utf-8", "surrogateescape").splitlines())
+        self.status = code if keeps_status and code > 0 else 2
+
+
+class Refused(Fault):
+    """The program has refused a line."""
+
+    def __init__(self, line, reply):
+        super().__init__(f"{line}: {with_words(reply)}")
+        self.number = int(reply.split(" ")[1])

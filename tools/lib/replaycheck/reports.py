@@ -1,15 +1,13 @@
 """A report of the program: read into parts, and printed again as the same bytes."""
+from __future__ import annotations
+
 import functools
 import re
-from dataclasses import dataclass, field
-from typing import Dict, List, Optional
 
 from replaycheck.endings import Fault
+from replaycheck.records import Record
+from replaycheck.verdicts import LEAK_KINDS, SUMS
 
-SUMS = ("definitely lost", "indirectly lost", "possibly lost", "still reachable", "suppressed")
-# What options and suppressions call the leaks of a kind.
-LEAK_KINDS = {"definitely lost": "definite", "indirectly lost": "indirect", "possibly lost": "possible",
-              "still reachable": "reachable"}
 STEP = re.compile(r"step (\d+)")
 STATE = re.compile(r"state (?:(running) (0x[0-9a-f]{8})|(exited) (\d+)|"
                    r"(stopped) (jump|break|illegal|misaligned) (0x[0-9a-f]{8}))")
@@ -47,31 +45,31 @@ def kind_of(text):
     return None
 
 
-@dataclass
-class Frame:
+class Frame(Record):
     address: str
     name: str
 
+    def __init__(self, address, name):
+        self.address, self.name = address, name
 
-@dataclass
-class Note:
+
+class Note(Record):
     """Where a bad address lies. Near a block: how far from it, on which side, its size, and its trace."""
 
     address: str
     place: str
-    offset: Optional[int] = None
-    side: Optional[str] = None
-    size: Optional[int] = None
-    block: Optional[str] = None
-    trace: List[Frame] = field(default_factory=list)
+    offset: int | None = None
+    side: str | None = None
+    size: int | None = None
+    block: str | None = None
+    trace: list[Frame] = ()
 
 
-@dataclass
-class Error:
+class Error(Record):
     count: int
     text: str
-    trace: List[Frame]
-    note: Optional[Note]
+    trace: list[Frame]
+    note: Note | None
 
     @property
     def kind(self):
@@ -84,43 +82,39 @@ class Error:
         return self.text.split(" ")[2]
 
 
-@dataclass
-class Leak:
+class Leak(Record):
     size: int
     blocks: int
     kind: str
-    trace: List[Frame]
+    trace: list[Frame]
 
 
-@dataclass
-class State:
+class State(Record):
     """`running` at an address, `exited` with a status, or `stopped` for a reason at an address."""
 
     name: str
-    address: Optional[str] = None
-    status: Optional[int] = None
-    why: Optional[str] = None
+    address: str | None = None
+    status: int | None = None
+    why: str | None = None
 
     def __str__(self):
         return " ".join(str(it) for it in (self.name, self.why, self.address, self.status) if it is not None)
 
 
-@dataclass
-class Sum:
+class Sum(Record):
     size: int
     blocks: int
 
 
-@dataclass
-class Report:
+class Report(Record):
     step: int
     state: State
     position: int
     length: int
     written: int
-    errors: List[Error]
-    leaks: List[Leak]
-    sums: Dict[str, Sum]
+    errors: list[Error]
+    leaks: list[Leak]
+    sums: dict[str, Sum]
     happened: int
     contexts: int
     suppressed: int

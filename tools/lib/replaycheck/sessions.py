@@ -1,48 +1,8 @@
 """A session with the program: a line at a time, with its reply."""
-import os
-import subprocess
-
-from replaycheck.endings import Fault, start
-from replaycheck.guest_files import TOP
-from replaycheck.refusals import with_words
-
-
-class Ended(Fault):
-    """The program has ended before it replied. `said` is what it said of that, and `status` the one with which a
-    tool ends."""
-
-    def __init__(self, child, keeps_status=False):
-        said = child.stderr.read().decode("utf-8", "surrogateescape") if child.stderr else ""
-        code = child.wait()
-        how = f"signal {-code}" if code < 0 else f"status {code}"
-        super().__init__(f"the program has ended before it replied, with {how}")
-        self.said = "".join(with_words(line) + "\n" for line in said.splitlines())
-        self.status = code if keeps_status and code > 0 else 2
-
-
-class Refused(Fault):
-    """The program has refused a line."""
-
-    def __init__(self, line, reply):
-        super().__init__(f"{line}: {with_words(reply)}")
-        self.number = int(reply.split(" ")[1])
-
-
-def program():
-    """The path of the program that REPLAYCHECK names, or else of this repository's, which is built first where it has
-    to be."""
-    named = os.environ.get("REPLAYCHECK")
-    if named:
-        return named
-    built = start([str(TOP / "tools" / "lib" / "build")]).wait()
-    if built:
-        raise Fault("the program isn't built")
-    return str(TOP / "crates" / "replaycheck" / "out" / "replaycheck")
-
-
-def path_of(path):
-    """A path that the program doesn't take for an option."""
-    return "./" + path if path.startswith("-") else path
+from replaycheck.children import piped
+from replaycheck.endings import children
+from replaycheck.programs import path_of, program
+from replaycheck.refusals import Ended, Refused
 
 
 class Session:
@@ -53,8 +13,7 @@ class Session:
         words += ["--input", path_of(given)] if given is not None else []
         words += ["--supp", path_of(supp)] if supp is not None else []
         self.keeps_status = keeps_status
-        self.child = start([*words, path_of(file)], stdin=subprocess.PIPE, stdout=subprocess.PIPE,
-                           stderr=subprocess.PIPE, pass_fds=lends)
+        self.child = piped([*words, path_of(file)], lends)
 
     def ask(self, line):
         """The reply to a line: one line, or those of a report."""
@@ -112,13 +71,17 @@ class Session:
         """Ends the session, as nothing more is asked."""
         self.child.stdin.close()
         self.child.wait()
+        self.child.stdout.close()
+        self.child.stderr.close()
+        children.remove(self.child)
 
     def ended(self):
         try:
             self.child.stdin.close()
         except OSError:
             pass
-        return Ended(self.child, self.keeps_status)
+        status = self.child.wait()
+        return Ended(status, self.child.said(), self.keeps_status)
 
 
 def script_of(lines):

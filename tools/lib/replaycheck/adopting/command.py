@@ -1,12 +1,11 @@
 """The command line of `replaycheck adopt`: what it takes, and what it reads and writes."""
-import argparse
 import os
 import stat
 import tempfile
 
-from replaycheck.endings import Fault
+from replaycheck.endings import Fault, naming
 from replaycheck.endings import write as say
-from replaycheck.options import Once, Reader
+from replaycheck.options import BadValue, Once, Reader
 
 from . import report
 from .curing import cured
@@ -20,7 +19,7 @@ def heap(text):
     try:
         return heap_of(text)
     except BadHeap as fault:
-        raise argparse.ArgumentTypeError(str(fault)) from None
+        raise BadValue(str(fault)) from None
 
 
 def options_of(page):
@@ -59,7 +58,7 @@ def write(path, content, mode):
     except OSError as fault:
         raise OSError(fault.errno, fault.strerror, path) from None
     try:
-        with open(number, "wb") as file:
+        with naming(path), open(number, "wb") as file:
             file.write(content)
         os.chmod(beside, mode)
         os.replace(beside, target)

@@ -1,6 +1,5 @@
 """Lines of `monitor`: those of Valgrind's gdbserver where it has them (Memcheck's manual, section 4.6), lines of a session, and the
 step."""
-import argparse
 import os
 import re
 import subprocess
@@ -205,5 +204,5 @@ def taken(words, least, most, what):
 def number(text, greatest=(1 << 32) - 1):
     try:
         return options.number(0, greatest)(text)
-    except argparse.ArgumentTypeError as fault:
+    except options.BadValue as fault:
         raise Fault(str(fault)) from None

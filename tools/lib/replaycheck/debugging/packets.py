@@ -6,6 +6,7 @@ from replaycheck.endings import Fault
 from .connections import Closed
 
 MOST = 0x3FFF  # bytes of a packet, which the other side is told
+LONGEST = 1 << 20  # a packet with more ends the connection: it may have no end
 ESCAPE = 0x7D
 DIGITS = re.compile(r"[0-9a-fA-F]{1,16}")
 
@@ -53,6 +54,8 @@ class Packets:
             body += byte
             if length > MOST:
                 body.clear()
+            if length > LONGEST:
+                raise Fault(f"a packet has more than {LONGEST} bytes: gdb was told that {MOST} are the most")
         told = self.byte() + self.byte()
         if not self.acknowledges:
             return body

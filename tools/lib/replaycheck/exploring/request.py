@@ -1,5 +1,4 @@
 """What a sweep is asked for: its files, each read once here, the places and the values."""
-import argparse
 import hashlib
 import os
 import re
@@ -10,6 +9,7 @@ from dataclasses import dataclass
 
 from replaycheck.adopting.elf import Elf, refusals
 from replaycheck.endings import Fault, start
+from replaycheck.options import BadValue
 from replaycheck.reports import READ
 from replaycheck.sessions import path_of, program
 
@@ -32,14 +32,14 @@ def range_of(text):
     first = number_of(found[1]) if found else 0
     last = None if found and text.endswith("..") else number_of(found[2] or found[1]) if found else 0
     if not found or first >= 1 << 32 or last is not None and not first <= last < 1 << 32:
-        raise argparse.ArgumentTypeError(f"no range: {text!r}")
+        raise BadValue(f"no range: {text!r}")
     return first, last
 
 
 def words_of(text):
     first, last = range_of(text)
     if last is None:
-        raise argparse.ArgumentTypeError(f"a range of words has an end: {text!r}")
+        raise BadValue(f"a range of words has an end: {text!r}")
     return first, last
 
 
@@ -50,10 +50,10 @@ def values_reader(names, limit):
             return text
         found = text.split(",")
         if not all(re.fullmatch(NUMBER, it) for it in found):
-            raise argparse.ArgumentTypeError(f"neither {', '.join(names)} nor a list of numbers: {text!r}")
+            raise BadValue(f"neither {', '.join(names)} nor a list of numbers: {text!r}")
         numbers = tuple(map(number_of, found))
         if len(set(numbers)) < len(numbers) or max(numbers) >= limit:
-            raise argparse.ArgumentTypeError(f"a number twice, or one from {limit} on: {text!r}")
+            raise BadValue(f"a number twice, or one from {limit} on: {text!r}")
         return numbers
     return read
 

@@ -5,6 +5,7 @@ import io
 import os
 import re
 import shutil
+import sys
 import tarfile
 
 from replaycheck.packaging.source import output
@@ -28,6 +29,39 @@ Description: Memcheck for static RV32IM programs, and what one edit would change
 """
 
 
+# What is done after the package is installed and before it goes: Python's modules are compiled for the Python that is there.
+SCRIPTS = {
+    "postinst": """\
+#!/bin/sh
+set -e
+if [ "$1" = configure ] && command -v py3compile >/dev/null; then
+  py3compile -p replaycheck /usr/lib/replaycheck
+fi
+""",
+    "prerm": """\
+#!/bin/sh
+set -e
+if command -v py3clean >/dev/null; then
+  py3clean -p replaycheck
+fi
+""",
+}
+# Compiles all modules below a folder, each as the source says by its own sum, which isn't looked at again: in one process whose sets
+# have one order, so that the same sources give the same bytes.
+COMPILE = """\
+import pathlib, py_compile, sys
+for path in sorted(pathlib.Path(sys.argv[1]).rglob("*.py")):
+    shown = str(path.relative_to(sys.argv[1]))
+    py_compile.compile(path, dfile=shown, doraise=True, invalidation_mode=py_compile.PycInvalidationMode.UNCHECKED_HASH)
+"""
+
+
+def compile_modules(tree):
+    """Compiles the modules of an archive, which nobody installs, for the system's Python."""
+    python = "/usr/bin/python3" if os.access("/usr/bin/python3", os.X_OK) else sys.executable
+    output(python, "-S", "-c", COMPILE, tree / "lib/replaycheck/tools/lib", env={**os.environ, "PYTHONHASHSEED": "0"})
+
+
 def digest(path):
     return hashlib.sha256(path.read_bytes()).hexdigest()
 
@@ -49,6 +83,8 @@ def settle(tree, time):
 def make_archive(tree, source, folder):
     """The tree as replaycheck-VERSION.tar.gz, in a folder of that name."""
     name = f"replaycheck-{source.version}"
+    compile_modules(tree)
+    settle(tree, source.time)
     held = io.BytesIO()
     with tarfile.open(fileobj=held, mode="w", format=tarfile.PAX_FORMAT) as archive:
         for path in [tree, *entries(tree)]:
@@ -79,6 +115,9 @@ def make_debian(tree, source, folder):
         version=source.version, size=size, libc=newest_libc(source.program), maintainer=source.maintainer))
     sums = (f"{hashlib.md5(it.read_bytes()).hexdigest()}  {it.relative_to(tree.parent)}\n" for it in files)
     (control / "md5sums").write_text("".join(sums))
+    for name, text in SCRIPTS.items():
+        (control / name).write_text(text)
+        (control / name).chmod(0o755)
     settle(tree.parent, source.time)
     made = folder / f"replaycheck_{source.version}_amd64.deb"
     dated = {**os.environ, "SOURCE_DATE_EPOCH": str(source.time)}

@@ -13,6 +13,10 @@ source: replaycheck {version}
 volume: Memcheck for RV32IM
 
 """
+# Paragraphs of help are filled: lines that are shorter have a meaning each.
+SHORT = 50
+# What Markdown would take for its own.
+MARKS = re.compile(r"[\\*_\[\]<>#|~]")
 STYLE = """\
 <style>
 body { max-width: 60em; margin: 2em auto; padding: 0 1em; font: 1em/1.5 system-ui, sans-serif; }
@@ -28,7 +32,7 @@ td, th { border: 1px solid #8888; padding: .2em .5em; vertical-align: top; text-
 
 def turned(text, to, *words):
     """A page of Markdown as lowdown turns it."""
-    return output("lowdown", "-s", f"-T{to}", *words, given=text.encode()).decode()
+    return output("lowdown", "-s", "--out-no-smarty", f"-T{to}", *words, given=text.encode()).decode()
 
 
 def man_pages(helps, source):
@@ -50,11 +54,27 @@ def page(name, summary, told, tools):
     parts = [f"# NAME\n\n{name} - {summary}\n"]
     for it in told:
         title = "DESCRIPTION" if it is told[0] else f"REPLAYCHECK {it.name.upper()}"
-        parts.append(f"# {title}\n\n```\n{it.text.strip()}\n```\n")
+        parts.append(f"# {title}\n\n{filled(it.text.strip())}\n")
     also = [f"replaycheck-{it.name}" for it in tools] or ["replaycheck"]
     others = ", ".join(f"**{it}**(1)" for it in also)
     parts.append(f"# SEE ALSO\n\n{others}, and the manual, */usr/share/doc/replaycheck/manual.html*\n")
     return "\n".join(parts)
+
+
+def filled(text):
+    """A page of help as Markdown: paragraphs, which a reader fills to the width of a terminal, and all that has a layout of its own as it
+    is."""
+    parts = []
+    for part in text.split("\n\n"):
+        lines = part.split("\n")
+        is_laid_out = any(it.startswith(" ") for it in lines) or part.startswith("usage: ") or any(len(it) < SHORT for it in lines[:-1])
+        parts.append(f"```\n{part}\n```" if is_laid_out else marked(part))
+    return "\n\n".join(parts)
+
+
+def marked(text):
+    """A paragraph that Markdown takes as it is; what stands between backquotes is code in both."""
+    return "`".join(it if index % 2 else MARKS.sub(r"\\\g<0>", it) for index, it in enumerate(text.split("`")))
 
 
 def manual():

@@ -1,0 +1,192 @@
+"""`replaycheck run` with options that the program itself doesn't have: a report by a session, and what it comes to."""
+import os
+import sys
+
+from replaycheck.children import outcome
+from replaycheck.endings import Fault, end, flush, write
+from replaycheck.options import LAST_STEP, BadValue, Reader, number
+from replaycheck.programs import path_of, program
+from replaycheck.refusals import Ended, Refused
+from replaycheck.verdicts import LEAK_KINDS, Verdict
+
+NO_OUTPUT = "the program tells how many bytes were written and not which; qemu-riscv32 prints them"
+FORMATS = ("json", "sarif", "valgrind-xml", "junit", "gcc", "github")
+FROM_HERE = ("sarif", "github")  # whose readers look for source files below the folder where the run begins
+# The session's options, by the names that Valgrind has for them.
+PASSED_ON = {"--num-callers": ("callers", number(1, 24)), "--freelist-vol": ("queue", number(0, 1000000000)),
+             "--redzone-size": ("redzone", number(0, 4096))}
+FLAGS = ("--full-paths", "--require-heap")
+OWN = {*PASSED_ON, *FLAGS, "--error-exitcode", "--errors-for-leak-kinds", "--show-leak-kinds", "--suppressions", "--format",
+       "--strip-prefix", "--output"}
+
+
+def leak_kinds(text):
+    """Reads a list of kinds of leaks."""
+    known = {**{kind: {kind} for kind in LEAK_KINDS.values()}, "all": set(LEAK_KINDS.values()), "none": set()}
+    unknown = [kind for kind in text.split(",") if kind not in known]
+    if unknown:
+        raise BadValue(f"no kind of leak: {unknown[0]!r}")
+    return text, frozenset().union(*(known[kind] for kind in text.split(",")))
+
+
+SHOWN = leak_kinds("definite,possible")
+
+
+def reader_of_options(page):
+    reader = Reader(page)
+    reader.program_options()
+    reader.option("--step", type=number(0, LAST_STEP), default=LAST_STEP)
+    reader.option("--error-exitcode", type=number(0, 255), default=0)
+    for name in ("--errors-for-leak-kinds", "--show-leak-kinds"):
+        reader.option(name, type=leak_kinds, default=SHOWN)
+    for name, (option, kind) in PASSED_ON.items():
+        reader.option(name, dest=option, type=kind)
+    reader.repeated("--suppressions")
+    reader.option("--format", choices=["text", *FORMATS], default="text")
+    for name in FLAGS:
+        reader.option(name, is_flag=True)
+    reader.option("--strip-prefix")
+    return reader
+
+
+def options_of(page, words):
+    """The options, none of which is one that Valgrind alone has."""
+    reader = reader_of_options(page)
+    for name in names_of(words) - OWN:
+        why = elsewhere(name)
+        if why is not None:
+            reader.error(f"{name} is no option here{why and ': ' + why}")
+    if "--output" in names_of(words):
+        reader.error(f"--output: {NO_OUTPUT}")
+    options = reader.read(words)
+    if options.full_paths and options.strip_prefix is not None:
+        reader.error("--full-paths and --strip-prefix at once")
+    if options.format == "text" and (options.full_paths or options.strip_prefix is not None):
+        reader.error("--full-paths and --strip-prefix go with a --format that isn't text, or `replaycheck lines`")
+    return options
+
+
+def elsewhere(name):
+    """What does here the work of an option that Valgrind has, in words; None of any other."""
+    from replaycheck.valgrind_options import HERE
+    return HERE.get(name)
+
+
+def names_of(words):
+    """The names of the options among the arguments before `--`."""
+    before = words[:words.index("--")] if "--" in words else words
+    return {word.partition("=")[0] for word in before if word.startswith("--")}
+
+
+def suppressions_of(options):
+    """The path of one file of all suppressions, and the descriptors that it needs. Each of several files is given to the program by itself
+    first, so that it says what is wrong with which."""
+    paths = ([options.supp] if options.supp is not None else []) + options.suppressions
+    if len(paths) < 2:
+        return (paths[0] if paths else None), []
+    room = os.memfd_create("suppressions")
+    for path in paths:
+        replies(options, ["worked"], path, [])
+        with open(path, "rb") as file:
+            os.write(room, file.read() + b"\n")
+    return f"/dev/fd/{room}", [room]
+
+
+def replies(options, lines, supp, lends):
+    """The lines with which the program answers those of a session, or, where there are none, its report."""
+    words = [program(), "session"] if lines else [program(), "run", "--step", str(options.step)]
+    for name, path in (("--input", options.input), ("--supp", supp)):
+        words += [name, path_of(path)] if path is not None else []
+    given = "".join(line + "\n" for line in lines).encode()
+    status, told, said = outcome([*words, path_of(options.file)], given, lends)
+    if status or not told.endswith(b"\n"):
+        raise Ended(status, said, keeps_status=True)
+    return told.decode("utf-8", "surrogateescape").split("\n")[:-1]
+
+
+def report_of(options):
+    """The lines of the report. The program's own `run` makes it where it has all options: a session to a far step takes longer."""
+    lines = [f"option {option} {getattr(options, option)}" for option, _ in PASSED_ON.values() if getattr(options, option) is not None]
+    lines += [f"option show {options.show_leak_kinds[0]}"] if options.show_leak_kinds != SHOWN else []
+    lines += [f"goto {options.step}", "report"] if lines else []
+    told = replies(options, lines, *suppressions_of(options))
+    if not lines:
+        return told
+    for line, reply in zip(lines, told):
+        if reply.startswith("refused "):
+            refused = Refused(line, reply)
+            refused.status = 4 if refused.number == 1 else 2
+            raise refused
+    return told[len(lines) - 1:]
+
+
+def tell(text):
+    """Says something on standard error besides the report."""
+    try:
+        sys.stderr.buffer.write(f"replaycheck run: {text}\n".encode("utf-8", "surrogateescape"))
+        sys.stderr.flush()
+    except OSError:
+        pass  # nobody reads it
+
+
+def with_places(shown, options):
+    """A report with source lines; without them where addr2line can't tell them, which is said."""
+    from replaycheck.places import NoPlaces, Paths, Places
+    try:
+        shown.show(Places(options.file, Paths(options.full_paths, options.strip_prefix, options.format in FROM_HERE)))
+    except Fault as fault:
+        tell(f"no source lines: {fault}")
+        shown.show(NoPlaces())
+    return shown
+
+
+def version():
+    """The version of the program."""
+    return outcome([program(), "--version"])[1].decode("utf-8", "replace").strip().removeprefix("replaycheck ")
+
+
+def formatted(told, options, heap):
+    """The report in a format for other programs."""
+    from replaycheck import formats
+    from replaycheck.findings import Shown
+    from replaycheck.reports import Lines, read_report
+    shown = Shown(read_report(Lines(told)), options.file, options.input, options.errors_for_leak_kinds[1], heap, options.require_heap)
+    shown.version = version() if options.format == "sarif" else None
+    return formats.FORMATS[options.format](with_places(shown, options))
+
+
+def notices(options, verdict, heap):
+    """What of the run wasn't checked, in lines."""
+    if verdict.runs_on:
+        more = f"; --step goes up to {LAST_STEP}" if verdict.step < LAST_STEP else ""
+        yield f"{options.file}: still running at step {verdict.step}: what it does after that isn't checked{more}"
+    if heap and heap.is_unseen:
+        yield heap.notice(options.file)
+
+
+def checked(options):
+    """Writes the report. Returns the status."""
+    from replaycheck.file_heaps import heap_of_run
+    told = report_of(options)
+    verdict = Verdict(told)
+    heap = heap_of_run(options.file, options.input, verdict.step, verdict.has_blocks())
+    write("".join(line + "\n" for line in told) if options.format == "text" else formatted(told, options, heap))
+    flush()
+    for line in notices(options, verdict, heap):
+        tell(line)
+    if options.require_heap and heap and heap.is_unseen:
+        return options.error_exitcode or 1
+    return options.error_exitcode if verdict.fails(options.errors_for_leak_kinds[1]) else 0
+
+
+def become_program(words):
+    """The program itself has to do with arguments of which no option is another one's."""
+    path = program()
+    os.execvp(path, [path, "run", *words])
+
+
+def run(page):
+    words = sys.argv[1:]
+    names = names_of(words)
+    is_own = names & OWN or "--help" in names or any(elsewhere(it) is not None for it in names)
+    end("run", lambda: checked(options_of(page, words)) if is_own else become_program(words))
