@@ -2,7 +2,7 @@
 const MAGIC = 0x464c457f;
 const HEADER = 52;
 const SYMBOL_TABLE = 2;
-const FUNCTION = 2;
+const LABEL = 0, FUNCTION = 2;
 const LOADED = 1;
 const LONGEST_NAME = 4096, MOST_NAMED = 1 << 26;  // bytes of one name, and of all
 const decoder = new TextDecoder();
@@ -14,6 +14,8 @@ export class Elf {
     this.segments = [];
     this.sections = [];
     this.functions = [];
+    this.functionNames = new Set();
+    this.labelNames = new Set();
     this.left = MOST_NAMED;
     try {
       this.read();
@@ -61,10 +63,14 @@ export class Elf {
     const strings = this.sections[table.link]?.begin ?? this.bytes.length;
     const seen = new Set();
     for (let at = table.begin; at + 16 <= Math.min(table.begin + table.size, this.bytes.length); at += 16) {
-      const [name, address, size] = [this.word(at), this.word(at + 4), this.word(at + 8)];
-      if ((this.bytes[at + 12] & 15) !== FUNCTION || !size || seen.has(address)) continue;
+      const [place, address, size] = [this.word(at), this.word(at + 4), this.word(at + 8)];
+      const kind = this.bytes[at + 12] & 15, isDefined = place > 0 && this.half(at + 14) > 0;
+      if (!isDefined || (kind !== FUNCTION && kind !== LABEL)) continue;
+      const name = this.string(strings + place);
+      (kind === FUNCTION ? this.functionNames : this.labelNames).add(name);
+      if (kind !== FUNCTION || !size || seen.has(address)) continue;
       seen.add(address);
-      this.functions.push({ name: this.string(strings + name), address, size });
+      this.functions.push({ name, address, size });
     }
   }
 
@@ -85,6 +91,15 @@ export class Elf {
 
   segmentAt(address) {
     return this.segments.find((it) => it.address <= address && address < it.address + it.size);
+  }
+
+  // Whether some aligned word that is loaded from the file is one of these.
+  hasWord(words) {
+    return this.segments.some(({ offset, address, inFile }) => {
+      const end = Math.min(offset + inFile, this.bytes.length) - 3;
+      for (let at = offset + (-address & 3); at < end; at += 4) if (words.includes(this.word(at))) return true;
+      return false;
+    });
   }
 
   // Where a loaded word stands in the file, -1 where it isn't in it as a whole.

@@ -164,6 +164,7 @@ class App {
     $('start').hidden = are;
     $('main').inert = false;
     $('example-told').hidden = !are || !this.opening.example;
+    $('heap-told').hidden = !are || !this.opened.heap;
   }
 
   async begin(scenario, lines = []) {
@@ -171,6 +172,7 @@ class App {
     Object.assign(this, { scenario, step: follow, left: 0 });
     say('example-told', this.opening.example?.about ?? '');
     if (this.opening.example) $('goal').value = this.opening.example.goal ?? '';
+    say('heap-told', opened.heap);
     this.showParts(true);
     const title = [files.program, files.input].filter(Boolean).map((it) => it.name).join(' with ');
     document.title = `${title} — replaycheck`;

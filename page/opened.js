@@ -1,6 +1,7 @@
 // What is opened: files by their roles, the program over them, its sessions, and the reports of its unedited run.
 import { LAST_STEP } from './facts.js';
 import { Elf } from './elf.js';
+import { unseenHeap } from './heap.js';
 import { sourceLines } from './lines.js';
 import { parseReport } from './report.js';
 import { Scenario } from './scenario.js';
@@ -32,6 +33,7 @@ export class Opened {
     await this.session.report(this.plain, 0);
     this.last = await endOf(async (step) => isRunning(await this.reportBefore(step)), LAST_STEP);
     this.follow = Math.min(LAST_STEP, 4 * this.last + BEYOND);
+    this.heap = await unseenHeap(this.program, this.last);
     return this;
   }
 

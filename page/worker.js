@@ -86,6 +86,18 @@ class Again {
   }
 }
 
+// Lines that look at a run, all at once.
+function look({ module, files, limit, lines }) {
+  const written = [];
+  let given = text(lines);
+  const ask = () => [given, given = null][0];
+  const tell = (bytes) => { written.push(decoder.decode(bytes)); };
+  const run = new Run(module, { words: ['replaycheck', 'look', ...fileWords(files)], files, limit, ask, tell });
+  const status = run.start();
+  if (status) throw new Fault(status, run.said);
+  return { told: written.join('') };
+}
+
 // A part of a sweep. What comes of edits is posted while it is written.
 function sweep({ id, module, files, limit, words }) {
   const table = new Table();
@@ -112,6 +124,7 @@ const DOES = {
     session = canWait && !asked.again ? new Waiting(asked) : new Again(asked);
   },
   ask: async ({ lines }) => ({ replies: await session.ask(lines), memory: session.memory }),
+  look,
   sweep,
 };
 

@@ -2,6 +2,7 @@
 import json
 import pathlib
 import random
+import struct
 import subprocess
 import tempfile
 import time
@@ -125,6 +126,27 @@ def kept_work(bench):
             page.press("y", modifiers=2)
         page.until(f"replaycheck.scenario && document.title === 'program.elf — replaycheck' && !{lines}.length", 20)
         bench.same_report(page, words_of("packet")[:1], "redone to the other program")
+
+
+def without_sections(content):
+    """A program without its sections, and so without symbols."""
+    made = bytearray(content)
+    struct.pack_into("<I", made, 32, 0)
+    struct.pack_into("<3H", made, 46, 0, 0, 0)
+    return bytes(made)
+
+
+def unseen_heap(bench):
+    """Where errors of the heap can't be found the page says so: of a file without symbols that makes no block by number."""
+    by_number = (TOP / "examples/firmware/station-by-number.elf").read_bytes()
+    with bench.page() as page:
+        for content, is_unseen in ((content_of("station"), False), (without_sections(content_of("station")), True),
+                                   (by_number, False), (without_sections(by_number), False),
+                                   ((TOP / "examples/three-words.elf").read_bytes(), False)):
+            bench.give(page, {"program": content, "input": content_of("station", "input")})
+            bench.settle(page)
+            told = "" if page.run("document.getElementById('heap-told').hidden") else page.text("heap-told")
+            same("what is said of the heap", "has no symbols" in told, is_unseen)
 
 
 def refused_lines(bench):

@@ -4,12 +4,14 @@ import random
 import sys
 
 from replaycheck.endings import Fault, flush, write
+from replaycheck.file_heaps import heap_of_run
 from replaycheck.options import LAST_STEP, Reader, number
 from replaycheck.sessions import program
 
 from . import goals, remote, scripts
 from .heads import MOST_PARTS
 from .keeping import Kept, Room
+from .lines import shown_name
 from .merging import Merged, in_order, sources_in, spooled
 from .outputs import Outputs, check_outputs
 from .picture import Picture
@@ -37,6 +39,7 @@ def options_of(page):
     reader.option("--sample", type=number(1, MOST_PARTS))
     reader.option("--seed", type=number(0, 0xFFFFFFFF))
     reader.option("--script", choices=["slurm"])
+    reader.option("--require-heap", is_flag=True)
     reader.add_argument("--from", dest="tables", nargs="+", action="extend", default=[])
     options = reader.read()
     check(reader, options)
@@ -151,6 +154,16 @@ def anonymous(head):
     return f"a program of {size} bytes ({digest[:12]}..)" + (f" with {length} bytes ({other[:12]}..)" if length else "")
 
 
+def check_heap(options, request):
+    """Says where errors of the heap can't be found in the runs of a sweep."""
+    heap = heap_of_run(request.program.path, request.input.path or None, request.step)
+    if heap and heap.is_unseen:
+        notice = heap.notice(shown_name(request.program.name))
+        if options.require_heap:
+            raise Fault(notice)
+        sys.stderr.write(f"replaycheck explore: {notice}\n")
+
+
 def explore(options):
     check_outputs(options)
     with Room() as room:
@@ -158,6 +171,8 @@ def explore(options):
         if options.script:
             write(scripts.slurm(options, request))
             return 0
+        if request and not options.tables:
+            check_heap(options, request)
         if options.sshlogin is not None and not remote.is_there():
             raise Fault("--sshlogin wants GNU parallel, of Debian's parallel, which isn't there; without it all goes "
                         "on here")
