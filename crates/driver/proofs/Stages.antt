@@ -1,6 +1,6 @@
 -- The stages of a command on a program.
 use Rattle.std.proofs.Common.{◌≡◌, ◌⊎◌, ◌∙◌, ℕ, List, [], Bool, false, Option, Some, Result, Err}
-use Rattle.std.proofs.Common.{ap, inl, inr, sym, subst}
+use Rattle.std.proofs.Common.{ap, inr, sym, subst}
 use Rattle.std.proofs.KnownBytes.{Appends-nil, Consumes-nil}
 use Rattle.std.specs.Io.KnownBytes.{Appends, Consumes}
 use Rattle.command_line.specs.Orders.{input_path, rules_path}
@@ -16,14 +16,13 @@ use Rattle.line_server.specs.Served.{StoppedBy}
 use Rattle.line_server.specs.declared.fault.ServeFault.{ServeFault}
 use Rattle.line_server.specs.declared.fault.ServeFault.TheVariants.{ReadFailed, WriteFailed, Endless}
 use Rattle.line_server.specs.declared.fault.ServeFault.TheVariants.{NoMemory as ServedNoMemory}
-use Rattle.driver.specs.Carried.{Carried, CarriedWithImage, Does, Giving, HasInput, HasRules, IsFront, NoImage, Reports}
+use Rattle.driver.specs.Carried.{Carried, CarriedWithImage, Does, Giving, HasInput, HasRules, IsFront, NoBytes}
+use Rattle.driver.specs.Carried.{NoImage, Reports}
 use Rattle.driver.specs.Carried.{Serves, Streams, Untouched}
 use Rattle.driver.specs.Carried.{most_judged, streams}
 use Rattle.ends.specs.Ends.{end_of_serve}
 use Rattle.driver.specs.Once.{IsReportOnce}
-use Rattle.sweep_plans.specs.Planned.{IsRequestOf}
-use Rattle.driver.specs.Sweeping.{CarriedSweep, SweepsImage}
-use Rattle.sweep_tables.specs.Swept.{Sweeps}
+use Rattle.driver.specs.Sweeping.{SweepsImage, SweepsRequest}
 use Rattle.driver.specs.declared.carrying.Action.{Action}
 use Rattle.driver.specs.declared.carrying.Action.TheVariants.{Report}
 use Rattle.ends.specs.declared.ends.End.{End}
@@ -38,7 +37,6 @@ use Rattle.replay_session.specs.Work.{no_work, work_on}
 use Rattle.replay_session.specs.declared.session.Session.{Session}
 use Rattle.looks.specs.Views.{ViewsLines}
 use Rattle.suppressions.specs.Rules.{Rule}
-use Rattle.suppressions.specs.Texts.{rules}
 
 pub untouched : (left held : Option (List ℕ)) → Untouched (streams left held) (streams left held)
 untouched left held = (Consumes-nil left, Appends-nil held)
@@ -131,30 +129,23 @@ module _ (session : Session) (turn : Turn) (said : turn_of session ≡ turn) (wo
       (subst (λ (stage : Stage). StoppedBy fault (ViewsLines stage) left-old left-new held-old held-new) begins-fresh
       stopped)
 
--- where the words make a request and the file gives a program, what becomes of a sweep of it is what becomes of the
--- command; the bytes as they were read, as the program was read of, and as they are swept
-pub with-texts : (gives : Giving) (order : Order) (words : SweepWords) (request : Request) (front bytes file : List ℕ)
+-- a file that gives no bytes gives no program
+pub no-file : (gives : Giving) (path : List ℕ) (end : End) → NoBytes gives path end → NoImage gives path end
+no-file gives path (Image fault) none = absurd none
+no-file gives path end none = none
+
+-- where the file gives a program, what becomes of a sweep of it is what becomes of the request; the bytes as they were
+-- read, as the program was read of, and as they are swept
+pub with-program : (gives : Giving) (order : Order) (words : SweepWords) (request : Request) (front bytes file : List ℕ)
     (image : ProgramImage) (old : Streams) (held : Option (List ℕ)) (end : End)
-    → IsRequestOf words request → IsFront gives order.file.now most_judged front → bytes ≡ front → IsImageOf bytes image
-    → file ≡ front
+    → IsFront gives order.file.now most_judged front → bytes ≡ front → IsImageOf bytes image → file ≡ front
     → SweepsImage gives order words request file image old held end
-    → CarriedSweep gives order words old held end
-with-texts gives order words request front bytes file image old held end asks read same has_image swept (inl none) =
-    inl (inr (inr (inr none.0)), none.1)
-with-texts gives order words request front bytes file image old held end asks read same has_image swept (inr whole) =
+    → SweepsRequest gives order words request old held end
+with-program gives order words request front bytes file image old held end read same is given swept =
     inr (
-      record {
-        request = request;
-        file = front;
-        image = image;
-        text = whole.0;
-        input = whole.1;
-        asks = asks;
-        reads = read;
-        has_image = subst (λ xs. IsImageOf xs image) same has_image;
-        has_text = whole.2;
-        has_rules = whole.3;
-        has_input = whole.4;
-      },
-      subst (λ xs. Sweeps xs whole.0 image whole.1 (rules whole.0) words request old.held held end) swept whole.5,
+      front,
+      image,
+      read,
+      subst (λ xs. IsImageOf xs image) same is,
+      subst (λ xs. SweepsImage gives order words request xs image old held end) given swept,
     )

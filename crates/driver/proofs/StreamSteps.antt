@@ -1,14 +1,30 @@
 -- What a sweep reads: its input from standard input, and its suppressions.
 use Rattle.std.proofs.Common.{◌≡◌, ℕ, ◌+◌, ◌<◌, ◌≤◌, List, Option, Some, None, IfSome, length, take, refl, ap, sym}
-use Rattle.std.proofs.Common.{arith, subst}
+use Rattle.std.proofs.Common.{arith, subst, Result, Ok, Err, IfOk, IfErr, IsErrAnd}
 use Rattle.driver.specs.Carried.{Giving, NoRules, longest_text}
-use Rattle.driver.specs.Sweeping.{HasText, NoRulesIn, NoText}
+use Rattle.driver.specs.Opened.{end_of_input}
+use Rattle.driver.specs.Sweeping.{HasText, NoRulesIn, NoStream, NoText}
+use Rattle.driver.specs.declared.files.ReadFault.{ReadFault}
+use Rattle.driver.specs.declared.files.ReadFault.TheVariants as Fault
 use Rattle.ends.specs.declared.ends.End.{End}
 use Rattle.ends.specs.declared.ends.End.TheVariants.{Suppressions}
 use Rattle.suppressions.specs.Texts.{faults, IsLeast}
 use Rattle.suppressions.specs.declared.fault.SuppFault.{SuppFault}
 use Rattle.suppressions.specs.declared.fault.SuppFault.TheVariants as Supp
 use Rattle.driver.proofs.Fronts.{long, whole}
+
+-- what holds of the bytes of a read holds of them where they are passed on
+pub read-over : {T E F : Type 0} (read : Result T E) (result : Result T F) (Q : E → F → Type 0) (P : T → Type 0)
+    → IfOk read (λ x. result ≡ Ok x) → IfErr read (λ e. IsErrAnd result (Q e)) → IfOk read P → IfOk result P
+read-over (Ok x) (Ok y) Q P ok err h = let same : y ≡ x = cc in subst P (sym same) h
+read-over (Ok x) (Err f) Q P ok err h = tt
+read-over (Err e) (Ok y) Q P ok err h = absurd err
+read-over (Err e) (Err f) Q P ok err h = tt
+
+-- either fault may be that of standard input
+pub no-stream : (left : Option (List ℕ)) (fault : ReadFault) → NoStream left (end_of_input fault)
+no-stream left Fault.NoMemory = tt
+no-stream left Fault.Unreadable = tt
 
 -- all of it, or more than the limit
 pub whole-stream : (limit : ℕ) (left : Option (List ℕ)) (front : List ℕ)

@@ -1,4 +1,5 @@
--- What becomes of a command for a sweep: its words are read, then the files, each judged before the next.
+-- What becomes of a command for a sweep: its step, its words and its files are read in stages, each judged before the
+-- next, and nothing is written before the last.
 use Rattle.std.specs.Prelude.{◌≡◌, ℕ, ◌<◌, ◌≤◌, ◌⊎◌, Bool, true, false, List, [], Option, Some, None, codes}
 use Rattle.std.specs.Prelude.{IfSome, length}
 use Rattle.std.specs.Str.{bytes_eq}
@@ -67,48 +68,50 @@ NoInputBy false gives named left end = NoInput gives named end
 abbrev pub NoSweepInput : Giving → Option (List ℕ) → Option (List ℕ) → End → Type 0
 NoSweepInput gives named left end = NoInputBy (is_stream named) gives named left end
 
--- all that a sweep needs was read
-pub record HasAll (gives : Giving) (order : Order) (words : SweepWords) (left : Option (List ℕ)) : Type 0 where
-  pub request : Request
-  pub file : List ℕ
-  pub image : ProgramImage
-  pub text : List ℕ
-  pub input : List ℕ
-  pub asks : IsRequestOf words request
-  pub reads : IsFront gives order.file.now most_judged file
-  pub has_image : IsImageOf file image
-  pub has_text : HasText gives (rules_path order) text
-  pub has_rules : faults text ≡ []
-  pub has_input : HasSweepInput gives (input_path order) left input
+-- with a program and the text of its suppressions, which has no fault: the input is read, and the sweep made, or the
+-- input ends the program
+abbrev pub SweepsRules : Giving → Order → SweepWords → Request → List ℕ → ProgramImage → List ℕ → Streams
+    → Option (List ℕ) → End → Type 0
+SweepsRules gives order words request file image text old held end =
+    (NoSweepInput gives (input_path order) old.left end × Appends old.held held [])
+    ⊎ ((input : List ℕ) × HasSweepInput gives (input_path order) old.left input
+    × Sweeps file text image input (rules text) words request old.held held end)
 
--- or the suppressions or the input weren't, and end the program
-abbrev pub HasNoTexts : Giving → Order → Option (List ℕ) → End → Type 0
-HasNoTexts gives order left end =
-    NoText gives (rules_path order) end
-    ⊎ (((text : List ℕ) × HasText gives (rules_path order) text × NoRulesIn text end)
-    ⊎ NoSweepInput gives (input_path order) left end)
+-- with the text: its suppressions are read, and then the input, or they end the program
+abbrev pub SweepsText : Giving → Order → SweepWords → Request → List ℕ → ProgramImage → List ℕ → Streams
+    → Option (List ℕ) → End → Type 0
+SweepsText gives order words request file image text old held end =
+    (NoRulesIn text end × Appends old.held held [])
+    ⊎ ((faults text ≡ []) × SweepsRules gives order words request file image text old held end)
 
--- or it wasn't: the step is too great, the words make no request, or a file ends the program
-abbrev pub HasNotAll : Giving → Order → SweepWords → Option (List ℕ) → End → Type 0
-HasNotAll gives order words left end =
-    ((end ≡ Usage) × (most_steps < words.step))
-    ⊎ (IsNoRequest words end ⊎ (NoImage gives order.file.now end ⊎ HasNoTexts gives order left end))
-
--- a program was swept by what else an order names
+-- with the program: the text of its suppressions is read and judged, and then the input, or the text's file ends the
+-- program
 abbrev pub SweepsImage : Giving → Order → SweepWords → Request → List ℕ → ProgramImage → Streams → Option (List ℕ) → End
     → Type 0
 SweepsImage gives order words request file image old held end =
-    (HasNoTexts gives order old.left end × Appends old.held held [])
-    ⊎ ((text : List ℕ) × (input : List ℕ) × HasText gives (rules_path order) text × (faults text ≡ [])
-    × HasSweepInput gives (input_path order) old.left input
-    × Sweeps file text image input (rules text) words request old.held held end)
+    (NoText gives (rules_path order) end × Appends old.held held [])
+    ⊎ ((text : List ℕ) × HasText gives (rules_path order) text
+    × SweepsText gives order words request file image text old held end)
 
--- a command for a sweep was carried out
+-- with the request: the program is read and judged, and then the suppressions and the input, or the program's file ends
+-- the program
+abbrev pub SweepsRequest : Giving → Order → SweepWords → Request → Streams → Option (List ℕ) → End → Type 0
+SweepsRequest gives order words request old held end =
+    (NoImage gives order.file.now end × Appends old.held held [])
+    ⊎ ((file : List ℕ) × (image : ProgramImage) × IsFront gives order.file.now most_judged file × IsImageOf file image
+    × SweepsImage gives order words request file image old held end)
+
+-- with a step that may be asked for: the words are read, and then the files, or the words make no request
+abbrev pub SweepsNear : Giving → Order → SweepWords → Streams → Option (List ℕ) → End → Type 0
+SweepsNear gives order words old held end =
+    (IsNoRequest words end × Appends old.held held [])
+    ⊎ ((request : Request) × IsRequestOf words request × SweepsRequest gives order words request old held end)
+
+-- a command for a sweep was carried out: its step is judged, and then its words and its files, or the step is too great
 abbrev pub CarriedSweep : Giving → Order → SweepWords → Streams → Option (List ℕ) → End → Type 0
 CarriedSweep gives order words old held end =
-    (HasNotAll gives order words old.left end × Appends old.held held [])
-    ⊎ ((all : HasAll gives order words old.left)
-    × Sweeps all.file all.text all.image all.input (rules all.text) words all.request old.held held end)
+    ((end ≡ Usage) × (most_steps < words.step) × Appends old.held held [])
+    ⊎ ((words.step ≤ most_steps) × SweepsNear gives order words old held end)
 
 -- an order was carried out
 abbrev pub CarriedOut : Giving → Order → Task → Streams → Streams → End → Type 0

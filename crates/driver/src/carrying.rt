@@ -9,9 +9,10 @@ ghost use Rattle.sweep_plans.specs.Planned.{IsPart};
 ghost use Rattle.driver.specs.Sweeping.{CarriedOut, CarriedSweep, SweepsImage, HasStream, HasSweepInput, HasText, is_stream, NoStream, NoSweepInput, NoText};
 ghost use Rattle.ends.specs.Ends.{end_of};
 ghost use Rattle.driver.specs.Once.{IsReportOnce};
+ghost use Rattle.driver.specs.Opened.{end_of_input};
 ghost use Rattle.scenario.specs.Limits.{longest_input, most_steps};
 
-use crate::files::{Files, ReadFault, front_of};
+use crate::files::{Files, ReadFault, front_of, read_or_fault};
 use crate::reporting::run_once;
 use command_line::{Order, SweepWords, Task};
 use ends::End;
@@ -88,22 +89,29 @@ fn read_named_text<'a, F: Files>(
     }
 }
 
+/// How the program ends where standard input gives no bytes.
+fn end_of_input<'a>(fault: ReadFault) -> End<'a>
+    ensures { result ≡ end_of_input fault }
+{
+    match fault {
+        ReadFault::NoMemory => End::NoMemory,
+        ReadFault::Unreadable => End::CannotReadInput,
+    }
+}
+
 /// The bytes of an input from standard input.
 fn read_stream<'a, R: Read>(alloc: Global, reader: &mut R) -> Result<Vec<u8>, End<'a>>
     ensures ok { IfOk result (λ input. HasStream (R.remaining reader.old) input.items) }
     ensures err { IfErr result (NoStream (R.remaining reader.old)) }
 {
-    match front_of(alloc, reader, LONGEST_INPUT + 1) {
+    match read_or_fault(front_of(alloc, reader, LONGEST_INPUT + 1)) {
         Ok(input) => {
             if input.len() > LONGEST_INPUT {
                 return Err(End::InputTooLarge);
             }
             Ok(input)
         }
-        Err(error) => match ReadFault::from(error) {
-            ReadFault::NoMemory => Err(End::NoMemory),
-            ReadFault::Unreadable => Err(End::CannotReadInput),
-        },
+        Err(fault) => Err(end_of_input(fault)),
     }
 }
 

@@ -1,5 +1,5 @@
 //! Where the program finds its files.
-ghost use Rattle.std.specs.Prelude.{◌≡◌, ◌≤◌, ℕ, List, Option, Some, None, Err, IfErr, IfOk, IfSome, IsErrAnd, length, take};
+ghost use Rattle.std.specs.Prelude.{◌≡◌, ◌≤◌, ℕ, List, Option, Some, None, Ok, Err, IfErr, IfOk, IfSome, IsErrAnd, length, take};
 ghost use Rattle.std.specs.IoError.{error_kind};
 ghost use Rattle.driver.specs.Opened.{IsFaultOf};
 
@@ -57,7 +57,15 @@ pub fn read_opened<R: Read + Drop>(
     ensures bytes { IfOk result (λ front. IfOk opened (λ reader. IfSome (R.remaining reader) (λ bytes. front.items ≡ take most bytes))) }
     ensures unopened { IfErr opened (λ error. IsErrAnd result (IsFaultOf (error_kind error))) }
 {
-    Ok(front_of(alloc, opened?, most)?)
+    read_or_fault(front_of(alloc, opened?, most))
+}
+
+/// The bytes that were read, or why the read failed.
+pub(crate) fn read_or_fault(read: io::Result<Vec<u8>>) -> Result<Vec<u8>, ReadFault>
+    ensures ok { IfOk read (λ bytes. result ≡ Ok bytes) }
+    ensures err { IfErr read (λ error. IsErrAnd result (IsFaultOf (error_kind error))) }
+{
+    Ok(read?)
 }
 
 /// The first bytes of a reader, so many at most.

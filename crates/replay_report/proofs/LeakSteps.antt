@@ -21,7 +21,7 @@ use Rattle.replay_report.specs.declared.leaks.LeakKey.{LeakKey}
 use Rattle.replay_report.specs.declared.leaks.BlockSum.{BlockSum}
 use Rattle.replay_report.specs.contracts.leaks.LeakKeyPartialEq.TheImpl.{ghosts}
 
-filter-more : {X : Type 0} (test : X → Bool) (xs : List X) (x : X)
+pub filter-more : {X : Type 0} (test : X → Bool) (xs : List X) (x : X)
     → filter test (xs ++ x ∷ []) ≡ cond (test x) (filter test xs ++ x ∷ []) (filter test xs)
 filter-more test xs x = filter-append test xs (x ∷ []) ∙ go (test x)
   where

@@ -1,4 +1,5 @@
 pub mod Filters
 pub mod LeakSteps
 pub mod OneReport
+pub mod GroupSteps
 pub mod ReportSteps

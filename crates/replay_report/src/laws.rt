@@ -1,5 +1,5 @@
-//! What a report is, and an outline. Each law is the contract of a function that does nothing; a caller has it after the call.
-ghost use Rattle.replay_report.specs.Laws.{OutlineIsOne, ReportIsOne};
+//! What a report is, an outline, and the groups of leaks. Each law is the contract of a function that does nothing; a caller has it after the call.
+ghost use Rattle.replay_report.specs.Laws.{LeaksAreGrouped, OutlineIsOne, ReportIsOne};
 
 use leak_search::laws::records_are_one;
 
@@ -18,3 +18,8 @@ pub fn outline_is_one()
 {
     records_are_one();
 }
+
+/// The groups of leaked blocks have each key once, in order of first occurrence, with the sum of all blocks that have it.
+pub fn leaks_are_grouped()
+    ensures { LeaksAreGrouped }
+{}

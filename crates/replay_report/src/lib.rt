@@ -10,6 +10,7 @@
 //! | [`push_text`], [`push_number`], [`push_address`], [`push_byte`] | append bytes, a number, decimal, an address, and a byte, hexadecimal |
 //! | [`push_state`] | appends the line of a report that tells whether the machine runs |
 //! | [`laws::report_is_one`], [`laws::outline_is_one`] | nothing: their contracts say that a state has one report and one outline |
+//! | [`laws::leaks_are_grouped`] | nothing: its contract says that the groups of leaks are their distinct keys, each with the sum of its blocks |
 //! | [`Options::default`] | what a user has who chooses nothing: 12 addresses of a trace, definite and possible leaks |
 //!
 //! A report's lines, in order, each with a newline:

@@ -1,3 +1,4 @@
 pub mod Plans
 pub mod Requests
 pub mod Planned
+pub mod Laws

@@ -1,17 +1,19 @@
 -- The places that a request means in a program with an input.
-use Rattle.std.specs.Prelude.{◌≡◌, ℕ, ◌+◌, ◌-◌, ◌*◌, ◌/◌, ◌≤◌, ◌&&◌, nat_lt, nat_le, Bool, true, false, if◌then◌else◌}
-use Rattle.std.specs.Prelude.{List, Option, Some, None, is_some}
+use Rattle.std.specs.Prelude.{◌≡◌, ℕ, ◌+◌, ◌-◌, ◌*◌, ◌/◌, ◌≤◌, ◌⊎◌, ◌&&◌, nat_lt, nat_le, Bool, true, false}
+use Rattle.std.specs.Prelude.{if◌then◌else◌, List, Option, Some, None, is_some}
 use Rattle.guest_elf.specs.declared.image.Image.{Image}
 use Rattle.command_line.specs.declared.order.SweepWords.{SweepWords}
 use Rattle.command_line.specs.Orders.{text_of}
 use Rattle.sweep_plans.specs.Plans.{any_word, count, place_count}
+use Rattle.sweep_plans.specs.declared.plan.ByteValues.{ByteValues}
 use Rattle.sweep_plans.specs.declared.plan.Places.{Places}
+use Rattle.sweep_plans.specs.declared.plan.WordValues.{WordValues}
 use Rattle.sweep_plans.specs.declared.plan.Plan.{Plan}
 use Rattle.sweep_plans.specs.Requests.{NamesByteValues, NamesNoByteValues, NamesNoWordValues, NamesWordValues}
 use Rattle.sweep_plans.specs.Requests.{NamesRange}
 use Rattle.sweep_plans.specs.Requests.{closed_range_of, part_of, range_of}
 use Rattle.ends.specs.declared.ends.End.{End}
-use Rattle.ends.specs.declared.ends.End.TheVariants.{BadText, NoMemory}
+use Rattle.ends.specs.declared.ends.End.TheVariants.{BadText, BytesRefused, NoMemory, WordsRefused}
 use Rattle.ends.specs.declared.ends.SweepOption.{SweepOption}
 use Rattle.ends.specs.declared.ends.SweepOption.TheVariants.{Bytes, Values, Words, WordsValues, Part as ThePart}
 use Rattle.sweep_plans.specs.declared.request.Part.{Part}
@@ -26,18 +28,46 @@ pub record IsRequestOf (asked : SweepWords) (request : Request) : Type 0 where
   pub word_values : NamesWordValues asked.word_values.now request.word_values
   pub part : part_of asked.part.now ≡ Some request.part
 
--- an option was given a text that is no range, list or part
-abbrev pub IsBadText : SweepWords → SweepOption → List ℕ → Type 0
-IsBadText asked Bytes text = (text_of asked.bytes ≡ Some text) × (range_of text ≡ None)
-IsBadText asked Values text = (asked.byte_values.now ≡ text) × NamesNoByteValues text
-IsBadText asked Words text = (text_of asked.words ≡ Some text) × (closed_range_of text ≡ None)
-IsBadText asked WordsValues text = (asked.word_values.now ≡ text) × NamesNoWordValues text
-IsBadText asked ThePart text = (asked.part.now ≡ text) × (part_of text ≡ None)
+-- the sweep ends since a text was given for an option
+abbrev pub NamesText : SweepOption → List ℕ → End → Type 0
+NamesText option text (BadText named given) = (named ≡ option) × (given.now ≡ text)
+NamesText option text end = ⊥
 
--- why the words of a sweep make no request: a text, or want of memory
+-- a text that is no range, no values or no part is how the sweep ends; or, where a list may be read, want of memory
+abbrev pub IsBadRange : SweepOption → (List ℕ → Option Range) → Option (List ℕ) → End → Type 0
+IsBadRange option reading None end = ⊥
+IsBadRange option reading (Some text) end = (reading text ≡ None) × NamesText option text end
+
+abbrev pub AreBadByteValues : List ℕ → End → Type 0
+AreBadByteValues text end = (end ≡ NoMemory) ⊎ (NamesNoByteValues text × NamesText Values text end)
+
+abbrev pub AreBadWordValues : List ℕ → End → Type 0
+AreBadWordValues text end = (end ≡ NoMemory) ⊎ (NamesNoWordValues text × NamesText WordsValues text end)
+
+abbrev pub IsBadPart : List ℕ → End → Type 0
+IsBadPart text end = (part_of text ≡ None) × NamesText ThePart text end
+
+-- why the words of a sweep make no request. Its options are read in this order: `--bytes`, `--values`, `--words`,
+-- `--words-values` and `--part`; the first of a text that means nothing is how the sweep ends
+abbrev pub NoWordValues : SweepWords → End → Type 0
+NoWordValues asked end =
+    AreBadWordValues asked.word_values.now end
+    ⊎ ((values : WordValues) × NamesWordValues asked.word_values.now values × IsBadPart asked.part.now end)
+
+abbrev pub NoWords : SweepWords → End → Type 0
+NoWords asked end =
+    IsBadRange Words closed_range_of (text_of asked.words) end
+    ⊎ ((words : Option Range) × NamesRange closed_range_of (text_of asked.words) words × NoWordValues asked end)
+
+abbrev pub NoByteValues : SweepWords → End → Type 0
+NoByteValues asked end =
+    AreBadByteValues asked.byte_values.now end
+    ⊎ ((values : ByteValues) × NamesByteValues asked.byte_values.now values × NoWords asked end)
+
 abbrev pub IsNoRequest : SweepWords → End → Type 0
-IsNoRequest asked (BadText option text) = IsBadText asked option text.now
-IsNoRequest asked end = end ≡ NoMemory
+IsNoRequest asked end =
+    IsBadRange Bytes range_of (text_of asked.bytes) end
+    ⊎ ((bytes : Option Range) × NamesRange range_of (text_of asked.bytes) bytes × NoByteValues asked end)
 
 abbrev pub nowhere : Places
 nowhere = record { first = 0; end = 0 }
@@ -69,6 +99,13 @@ abbrev pub words_by : Image → Option Range → Option Places
 words_by image (Some range) =
     loaded_places image (record { first = (range.first + 3) / 4; end = (end_behind range.last 4294967296 + 3) / 4 })
 words_by image None = Some nowhere
+
+-- why a request has no plan: its bytes are judged first, and then its words
+abbrev pub HasNoPlan : Request → Image → ℕ → End → Type 0
+HasNoPlan request image len end =
+    ((end ≡ BytesRefused) × (bytes_meant request len ≡ None))
+    ⊎ ((bytes : Places) × (bytes_meant request len ≡ Some bytes) × (end ≡ WordsRefused)
+    × (words_by image request.words ≡ None))
 
 -- the plan of a request for a program and an input of so many bytes
 pub record IsPlanOf (request : Request) (image : Image) (len : ℕ) (plan : Plan) : Type 0 where

@@ -8,12 +8,14 @@
 //! | [`Places::count`] | how many bytes or words one after another are |
 //! | [`Change::edit`], [`Change::to`] | the edit that a [`Change`] is, and the change at the same place to another value |
 //! | [`has_word`] | whether one of some words is loaded whole |
+//! | [`laws::parts_make_the_whole`] | nothing: its contract says that the places of the parts 1 to N are all places, in order |
 //!
 //! In `specs/`: `Requests`, what words ask for; `Planned`, the places that a request means; `Plans`, the places by their numbers and the values at
-//! each.
+//! each; `Laws`, the places of the parts.
 #![tactic(auto)]
 
 mod change;
+pub mod laws;
 mod loaded;
 mod plan;
 mod planning;

@@ -1,6 +1,6 @@
 //! The places of a sweep of a program with an input.
-ghost use Rattle.std.specs.Prelude.{◌≡◌, ◌⊎◌, ◌≤◌, ◌+◌, ◌/◌, ◌^◌, IfErr, IfOk, None, Some};
-ghost use Rattle.sweep_plans.specs.Planned.{IsPlanOf, bytes_by, bytes_meant, end_behind, words_by};
+ghost use Rattle.std.specs.Prelude.{◌≡◌, ◌≤◌, ◌+◌, ◌/◌, ◌^◌, IfErr, IfOk, None, Some};
+ghost use Rattle.sweep_plans.specs.Planned.{HasNoPlan, IsPlanOf, bytes_by, bytes_meant, end_behind, words_by};
 ghost use Rattle.ends.specs.declared.ends.End.TheVariants.{BytesRefused, WordsRefused};
 
 use crate::loaded::has_word;
@@ -78,8 +78,7 @@ fn words_of<'a>(named: Option<Range>, image: &Image) -> Result<Places, End<'a>>
 #[tactic(auto, unfolding(crate::specs::Planned::bytes_meant))]
 pub fn plan_of<'a>(request: Request, image: &Image, len: u32) -> Result<Plan, End<'a>>
     ensures ok { IfOk result (λ plan. IsPlanOf request image.now len plan) }
-    ensures err { IfErr result (λ end. ((end ≡ BytesRefused) × (bytes_meant request len ≡ None))
-        ⊎ ((end ≡ WordsRefused) × (words_by image.now request.words ≡ None))) }
+    ensures err { IfErr result (HasNoPlan request image.now len) }
 {
     let bytes = bytes_of(request.bytes, request.words.is_some(), len)?;
     let words = words_of(request.words, image)?;

@@ -1,11 +1,9 @@
 //! The words of a sweep, read.
-ghost use Rattle.std.specs.Prelude.{◌≡◌, ◌⊎◌, IfErr, IfOk, IfSome, IsSomeAnd, MatchOption, None, Some, option_map};
+ghost use Rattle.std.specs.Prelude.{◌≡◌, IfErr, IfOk, IfSome, MatchOption, Some, option_map};
 ghost use Rattle.command_line.specs.Orders.{text_of};
-ghost use Rattle.sweep_plans.specs.Planned.{IsNoRequest, IsPart, IsRequestOf};
+ghost use Rattle.sweep_plans.specs.Planned.{AreBadByteValues, AreBadWordValues, IsBadPart, IsBadRange, IsNoRequest, IsPart, IsRequestOf};
 ghost use Rattle.sweep_plans.specs.Requests.{NamesByteValues, NamesNoByteValues, NamesNoWordValues, NamesRange, NamesWordValues, closed_range_of, joined_by, list_of, listed_words, part_in, part_of, range_in, range_of, up_to};
-ghost use Rattle.ends.specs.declared.ends.End.TheVariants.{BadText, NoMemory};
-ghost use Rattle.ends.specs.declared.ends.SweepOption.TheVariants.{Bytes, Values, Words, WordsValues};
-ghost use Rattle.ends.specs.declared.ends.SweepOption.TheVariants as Named;
+ghost use Rattle.ends.specs.declared.ends.SweepOption.TheVariants.{Bytes, Words};
 
 use crate::plan::{ByteValues, WordValues};
 use command_line::SweepWords;
@@ -207,7 +205,7 @@ fn word_values(alloc: Global, text: &[u8]) -> Result<Option<WordValues>, AllocEr
 /// The range of bytes that is named, if one is.
 fn named_bytes<'a>(text: Option<&'a str>) -> Result<Option<Range>, End<'a>>
     ensures ok { IfOk result (NamesRange range_of (text_of text.entry)) }
-    ensures err { IfErr result (λ end. IsSomeAnd text.entry (λ given. (end ≡ BadText Bytes given) × (range_of given.now ≡ None))) }
+    ensures err { IfErr result (IsBadRange Bytes range_of (text_of text.entry)) }
 {
     let Some(text) = text else {
         return Ok(None);
@@ -224,7 +222,7 @@ fn named_bytes<'a>(text: Option<&'a str>) -> Result<Option<Range>, End<'a>>
 /// The range of words that is named, if one is.
 fn named_words<'a>(text: Option<&'a str>) -> Result<Option<Range>, End<'a>>
     ensures ok { IfOk result (NamesRange closed_range_of (text_of text.entry)) }
-    ensures err { IfErr result (λ end. IsSomeAnd text.entry (λ given. (end ≡ BadText Words given) × (closed_range_of given.now ≡ None))) }
+    ensures err { IfErr result (IsBadRange Words closed_range_of (text_of text.entry)) }
 {
     let Some(text) = text else {
         return Ok(None);
@@ -241,7 +239,7 @@ fn named_words<'a>(text: Option<&'a str>) -> Result<Option<Range>, End<'a>>
 /// The values that are named for bytes.
 fn named_byte_values<'a>(alloc: Global, text: &'a str) -> Result<ByteValues, End<'a>>
     ensures ok { IfOk result (NamesByteValues text.entry.now) }
-    ensures err { IfErr result (λ end. (end ≡ NoMemory) ⊎ ((end ≡ BadText Values text.entry) × NamesNoByteValues text.entry.now)) }
+    ensures err { IfErr result (AreBadByteValues text.entry.now) }
 {
     match byte_values(alloc, text.as_bytes()) {
         Ok(Some(values)) => Ok(values),
@@ -256,7 +254,7 @@ fn named_byte_values<'a>(alloc: Global, text: &'a str) -> Result<ByteValues, End
 /// The values that are named for words.
 fn named_word_values<'a>(alloc: Global, text: &'a str) -> Result<WordValues, End<'a>>
     ensures ok { IfOk result (NamesWordValues text.entry.now) }
-    ensures err { IfErr result (λ end. (end ≡ NoMemory) ⊎ ((end ≡ BadText WordsValues text.entry) × NamesNoWordValues text.entry.now)) }
+    ensures err { IfErr result (AreBadWordValues text.entry.now) }
 {
     match word_values(alloc, text.as_bytes()) {
         Ok(Some(values)) => Ok(values),
@@ -272,7 +270,7 @@ fn named_word_values<'a>(alloc: Global, text: &'a str) -> Result<WordValues, End
 fn named_part<'a>(text: &'a str) -> Result<Part, End<'a>>
     ensures ok { IfOk result (λ part. part_of text.entry.now ≡ Some part) }
     ensures right { IfOk result IsPart }
-    ensures err { IfErr result (λ end. (end ≡ BadText Named.Part text.entry) × (part_of text.entry.now ≡ None)) }
+    ensures err { IfErr result (IsBadPart text.entry.now) }
 {
     match part_in(Parts::new(text.as_bytes(), b'/')) {
         Some(part) => Ok(part),
@@ -284,7 +282,7 @@ fn named_part<'a>(text: &'a str) -> Result<Part, End<'a>>
 }
 
 impl Request {
-    /// What the words of a sweep ask for.
+    /// What the words of a sweep ask for. Their texts are read in the order of the fields of [`SweepWords`]: the first that means nothing is how the sweep ends.
     pub fn of<'a>(alloc: Global, words: &SweepWords<'a>) -> Result<Request, End<'a>>
         ensures ok { IfOk result (λ request. IsRequestOf words.now request) }
         ensures part { IfOk result (λ request. IsPart request.part) }

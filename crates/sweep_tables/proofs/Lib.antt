@@ -1,1 +1,2 @@
 pub mod TableSteps
+pub mod OneTable

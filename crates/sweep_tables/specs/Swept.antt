@@ -19,11 +19,11 @@ use Rattle.sweep_plans.specs.declared.plan.Plan.{Plan}
 use Rattle.sweeps.specs.declared.sweep.Sweep.{Sweep}
 use Rattle.ends.specs.declared.ends.End.{End}
 use Rattle.ends.specs.Ends.{AppendsFront}
-use Rattle.ends.specs.declared.ends.End.TheVariants.{BytesRefused, CannotWrite, Done, NoMemory, WordsRefused}
+use Rattle.ends.specs.declared.ends.End.TheVariants.{CannotWrite, Done, NoMemory}
 use Rattle.sweep_plans.specs.declared.request.Part.{Part}
 use Rattle.sweep_plans.specs.declared.request.Range.{Range}
 use Rattle.sweep_plans.specs.declared.request.Request.{Request}
-use Rattle.sweep_plans.specs.Planned.{IsPlanOf, bytes_meant, part_from, part_to, words_by}
+use Rattle.sweep_plans.specs.Planned.{HasNoPlan, IsPlanOf, part_from, part_to}
 
 -- ---- the head
 
@@ -137,12 +137,12 @@ abbrev pub case_of : List ℕ → List ℕ → ProgramImage → List ℕ → Lis
 case_of file text image input list words request plan =
     case_with file text image input list words request.words request.part plan
 
--- the places that are meant are refused, and nothing is written; or the table of those of the part is
+-- the places that are meant are refused, the bytes before the words, and nothing is written; or the table of those of
+-- the part is
 abbrev pub Sweeps : List ℕ → List ℕ → ProgramImage → List ℕ → List Rule → SweepWords → Request → Option (List ℕ)
     → Option (List ℕ) → End → Type 0
 Sweeps file text image input list words request old new end =
-    ((end ≡ BytesRefused) × (bytes_meant request (length input) ≡ None) × Appends old new [])
-    ⊎ (((end ≡ WordsRefused) × (words_by image request.words ≡ None) × Appends old new [])
+    (HasNoPlan request image (length input) end × Appends old new [])
     ⊎ ((plan : Plan) × IsPlanOf request image (length input) plan
     × Writes (case_of file text image input list words request plan)
-    (part_to plan request.part - part_from plan request.part) old new end))
+    (part_to plan request.part - part_from plan request.part) old new end)

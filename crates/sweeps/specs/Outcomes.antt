@@ -1,5 +1,4 @@
--- What an edit comes to: the outcome of one run from step zero with that edit alone, and how many steps were made for
--- it.
+-- What an edit comes to: the outcome of one run from step zero with only that edit, and how many steps the edit takes.
 use Rattle.std.specs.Prelude.{◌≡◌, ℕ, ◌-◌, Bool, List, [], ◌∷◌, fold, min, sum_by}
 use Rattle.checkpoints.specs.Forks.{IsLastUnshown}
 use Rattle.scenario.specs.Edits.{row}
@@ -12,12 +11,13 @@ use Rattle.sweep_plans.specs.declared.change.Change.{Change}
 unfoldable pub IsOutcome : Bool → Scenario → Change → List ℕ → Type 0
 IsOutcome with_output sc change text = IsOutlineOf with_output (row sc (edit_of change)).after text
 
--- so many steps are made for a change: those from the last one on at which it doesn't show yet, up to the chosen one
+-- a change takes this many steps: those from the last one at which it doesn't show yet, up to the chosen one. The
+-- number follows from the run, and doesn't say how many steps a sweep executes, which may be fewer
 unfoldable pub TakesSteps : Scenario → Change → ℕ → Type 0
 TakesSteps sc change steps =
     (from : ℕ) × IsLastUnshown (row sc (edit_of change)).effect (run_of sc) sc.step from × (steps ≡ sc.step - from)
 
--- a change, its outcome, and the steps that were made for it
+-- a change, its outcome, and the steps that it takes
 pub record Met : Type 0 where
   pub change : Change
   pub outcome : List ℕ
@@ -38,6 +38,6 @@ tallied first met = fold (λ entries (m : Met). with_text entries m.outcome) ((f
 abbrev pub standing : ℕ → ℕ
 standing n = min n 18446744073709551615
 
--- how many steps were made for all of them
+-- how many steps all of them take
 abbrev pub steps_of : List Met → ℕ
 steps_of met = sum_by (λ (m : Met). m.steps) met

@@ -55,7 +55,7 @@ unfoldable pub end_line : ℕ → ℕ → ℕ → List ℕ
 end_line edits outcomes steps =
     codes "end " ++ decimal edits ++ codes " " ++ decimal outcomes ++ codes " " ++ decimal steps ++ newline
 
--- what ends a table of so many edits, for which so many steps were made
+-- what ends a table of so many edits that take so many steps
 unfoldable pub total_lines : List (List ℕ × ℕ) → ℕ → ℕ → List ℕ
 total_lines entries edits steps = tally_lines 0 (counts_of entries) ++ end_line edits (length entries) steps
 

@@ -1,4 +1,4 @@
-//! What was met so far: how many edits lead to each outcome, and how many edits and steps were made.
+//! What a sweep has met so far: how many edits lead to each outcome, how many edits there are, and how many steps they take by definition.
 ghost use Rattle.std.specs.Prelude.{◌≡◌, ◌+◌, ◌++◌, OnOk};
 ghost use Rattle.tallies.specs.Tallied.{entries_of, with_text};
 ghost use Rattle.sweeps.specs.Outcomes.{standing};
@@ -9,7 +9,8 @@ use std::alloc::{AllocError, Global};
 use sweep_plans::Change;
 use tallies::{Found, Tallies};
 
-/// The outcomes, and how many edits and steps were made. The numbers stand still at 2^64 - 1.
+/// The outcomes, the number of edits, and the number of steps that the edits take by definition (`TakesSteps`): a sweep may execute fewer. Both
+/// numbers stop at 2^64 - 1.
 #[derive(Drop)]
 pub(crate) struct Counts {
     pub(crate) tallies: Tallies,
@@ -34,7 +35,7 @@ fn push_met(
 }
 
 impl Counts {
-    /// Counts a change with its outcome and the steps that were made for it, and appends its row.
+    /// Counts a change with its outcome and the steps that it takes, and appends its row.
     #[tactic(auto, unfolding(crate::specs::Tables::met_text))]
     pub(crate) fn count(
         &mut self,

@@ -9,7 +9,8 @@
 //! |---|---|
 //! | [`Sweep::begin`] | makes the unedited run, and appends its outcome |
 //! | [`Sweep::visit`] | makes each edit of a place, and appends its row, after what its outcome is where that is new |
-//! | [`Sweep::finish`] | appends how many edits lead to each outcome, and how many edits, outcomes and steps there were |
+//! | [`Sweep::finish`] | appends the number of edits that lead to each outcome, and then the number of edits, of outcomes and of steps |
+//! | [`laws::outcomes_are_counted`], [`laws::steps_are_one`], [`laws::outcomes_are_one`], [`laws::parts_have_all_changes`] | nothing: their contracts are laws of the table |
 //!
 //! # What a caller relies on
 //!
@@ -21,11 +22,12 @@
 //! # Where the definitions stand
 //!
 //! In `specs/`: `Standing` (what stands at a place, and the changes there), `Outcomes` (what a change comes to), `Tables` (the text), `Sweeps`
-//! (what a sweep has met). The places of a plan are defined in the crate `sweep_plans`.
+//! (what a sweep has met), `Laws` (what the numbers of a table say). The places of a plan are defined in the crate `sweep_plans`.
 #![tactic(auto)]
 
 mod beginning;
 mod counting;
+pub mod laws;
 mod meeting;
 mod outcomes;
 mod rows;

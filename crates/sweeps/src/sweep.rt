@@ -19,7 +19,8 @@ use std::alloc::{AllocError, Global};
 use suppressions::Suppression;
 use sweep_plans::{Change, Place, Plan};
 
-/// A run whose edits are made one after another, each alone; what they have come to so far; and how many edits and steps were made.
+/// A run whose edits are tried individually, one after another; their outcomes so far; the number of edits; and the number of steps that they
+/// take by definition.
 #[derive(Drop)]
 pub struct Sweep<'a> {
     alloc: Global,
@@ -152,7 +153,8 @@ impl<'a> Sweep<'a> {
         meet_each(&mut self.scenario, &mut self.counts, &spot, &values, out)
     }
 
-    /// Appends how many edits lead to each outcome, and how many edits, outcomes and steps there were.
+    /// Appends the number of edits that lead to each outcome, and then the number of edits, of outcomes and of steps. The steps are those that the
+    /// edits take by definition (`TakesSteps`); a sweep may execute fewer.
     #[tactic(auto, unfolding(crate::specs::Tables::table_text, crate::specs::Sweeps::HasMet))]
     pub fn finish(&self, out: &mut Vec<u8>) -> Result<(), AllocError>
         ensures { OnOk result ((first : List ℕ) (met : List Met) → HasMet self.now first met

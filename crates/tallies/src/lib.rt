@@ -5,12 +5,16 @@
 //! | [`Tallies::begin`] | a first text, of number 0, which is counted no time yet |
 //! | [`Tallies::meet`] | one more of a text: its number, and whether it was met before |
 //! | [`Tallies::counts`] | how often each text was met, in their order |
+//! | [`laws::texts_are_counted`] | nothing: its contract says that the entries are the distinct texts with how often each was met |
 //!
 //! A text that was met before costs one look-up of it, and no memory. Of a new one a copy is kept. Where memory is wanting, the texts
 //! and their counts stay as they were. Counts stand still at 2^64 - 1.
 //!
-//! Contracts speak of `entries_of`, the list of the texts with their counts. The definitions stand in `specs/Tallied`.
+//! Contracts speak of `entries_of`, the list of the texts with their counts. In `specs/`: `Tallied` has the definitions, `Distinct` the distinct items
+//! of a list, and `Laws` what the entries are.
 #![tactic(auto)]
+
+pub mod laws;
 
 ghost use Rattle.std.specs.Prelude.{◌≡◌, ◌<◌, ◌∷◌, [], List, ℕ, true, false, IfOk, OnOk, OnErr, length};
 ghost use Rattle.tallies.specs.Tallied.{entries_of, counts_of, with_text, number_of, is_met, next_count, keyed};

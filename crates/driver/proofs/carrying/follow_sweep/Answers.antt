@@ -1,19 +1,42 @@
-use Rattle.std.proofs.Common.{inl, inr}
+use Rattle.std.proofs.Common.{◌≤◌, inl, inr, rules}
 use Rattle.std.proofs.KnownBytes.{Appends-nil}
 use Rattle.ends.proofs.EndSteps.{passed-on}
-use Rattle.driver.proofs.Stages.{no-image, with-texts}
+use Rattle.scenario.specs.Limits.{most_steps}
+use Rattle.driver.proofs.Stages.{no-file, no-image, with-program}
 use Rattle.driver.proofs.carrying.follow_sweep.Goals as goal
+
+pub returns-in_err-request : goal.returns-in_err-request
+returns-in_err-request g c =
+    let near : c.args.words.now.step ≤ most_steps = search rules in
+    rw (passed-on c.from_residual.result _ c.from_residual.ensures.1)
+    (inr (near, inl (c.in_err-request.ensures.err, Appends-nil _)))
+
+pub returns-in_err-file : goal.returns-in_err-file
+returns-in_err-file g c =
+    let near : c.args.words.now.step ≤ most_steps = search rules in
+    let none = no-file (g.F.Files.gives c.args.files.now) c.args.order.now.file.now c.in_err-file.field-0.0
+    c.in_err-file.ensures.err in
+    rw (passed-on c.from_residual-in_err-file.result _ c.from_residual-in_err-file.ensures.1)
+    (inr (near, inr (c.in_ok-request.request, c.in_ok-request.ensures.ok, inl (none, Appends-nil _))))
 
 pub returns-in_err-image : goal.returns-in_err-image
 returns-in_err-image g c =
-    rw (passed-on c.from_residual-in_err-image.result _ c.from_residual-in_err-image.ensures.1) (inl (
-      inr (inr (inl (no-image (g.F.Files.gives c.args.files.now) _ _ _ c.in_err-image.field-0.0 c.in_ok-file.ensures.ok
-          c.deref.ensures.value c.in_err-image.ensures.refused c.in_err-image.ensures.least))),
-      Appends-nil _,
-    ))
+    let near : c.args.words.now.step ≤ most_steps = search rules in
+    let none = no-image (g.F.Files.gives c.args.files.now) c.args.order.now.file.now _ _ c.in_err-image.field-0.0
+    c.in_ok-file.ensures.ok c.deref.ensures.value c.in_err-image.ensures.refused c.in_err-image.ensures.least in
+    rw (passed-on c.from_residual-in_err-image.result _ c.from_residual-in_err-image.ensures.1)
+    (inr (near, inr (c.in_ok-request.request, c.in_ok-request.ensures.ok, inl (none, Appends-nil _))))
 
 pub returns : goal.returns
 returns g c =
-    with-texts (g.F.Files.gives c.args.files.now) c.args.order.now c.args.words.now c.in_ok-request.request _ _ _ _ _ _
-    _ c.in_ok-request.ensures.ok c.in_ok-file.ensures.ok c.deref.ensures.value c.in_ok-image.ensures.image
-    c.deref-2.ensures.value c.sweep_image.ensures
+    let near : c.args.words.now.step ≤ most_steps = search rules in
+    inr (
+      near,
+      inr (
+        c.in_ok-request.request,
+        c.in_ok-request.ensures.ok,
+        with-program (g.F.Files.gives c.args.files.now) c.args.order.now c.args.words.now c.in_ok-request.request _ _ _
+            _ _ _ _ c.in_ok-file.ensures.ok c.deref.ensures.value c.in_ok-image.ensures.image c.deref-2.ensures.value
+            c.sweep_image.ensures,
+      ),
+    )

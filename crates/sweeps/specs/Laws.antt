@@ -1,0 +1,61 @@
+-- What a sweep's table says of its edits: how its outcomes are numbered and counted; that each edit has one outcome and
+-- one number of steps; and that the parts of a sweep have the edits of the whole.
+use Rattle.std.specs.Prelude.{◌≡◌, ℕ, ◌+◌, ◌-◌, ◌≤◌, Bool, List, [], ◌∷◌, ◌++◌, Some, count_by, map, slice_get}
+use Rattle.std.specs.List.{flat_map}
+use Rattle.std.specs.Str.{bytes_eq}
+use Rattle.scenario.specs.Scenario.{Scenario, IsOutlineOf}
+use Rattle.tallies.specs.Distinct.{distinct}
+use Rattle.tallies.specs.Tallied.{number_of}
+use Rattle.sweeps.specs.Outcomes.{Met, AreMet, TakesSteps, standing, tallied}
+use Rattle.sweeps.specs.Standing.{changes_from}
+use Rattle.sweeps.specs.Tables.{met_text, rows_text}
+use Rattle.sweep_plans.specs.Planned.{part_from, part_to}
+use Rattle.sweep_plans.specs.Plans.{below, place_count}
+use Rattle.sweep_plans.specs.declared.change.Change.{Change}
+use Rattle.sweep_plans.specs.declared.plan.Plan.{Plan}
+use Rattle.sweep_plans.specs.declared.request.Part.{Part}
+
+-- the distinct outcomes, in order of first occurrence from the unedited run's on
+abbrev pub outcomes_of : List ℕ → List Met → List (List ℕ)
+outcomes_of first met = distinct bytes_eq (first ∷ map (λ (m : Met). m.outcome) met)
+
+-- they are what is tallied, each with the number of edits that lead to it
+abbrev pub TalliesCount : Type 0
+TalliesCount = (first : List ℕ) (met : List Met) → tallied first met
+    ≡ map (λ outcome. (outcome, standing (count_by (λ (m : Met). bytes_eq m.outcome outcome) met)))
+    (outcomes_of first met)
+
+-- the row of an edit has a number by what was tallied before it; that is the place of the edit's outcome among them,
+-- whatever comes after it
+abbrev pub RowsHaveNumbers : Type 0
+RowsHaveNumbers = (first : List ℕ) (before : List Met) (m : Met) → rows_text first (before ++ m ∷ [])
+    ≡ rows_text first before ++ met_text (tallied first before) m.change m.outcome
+
+abbrev pub NumbersArePlaces : Type 0
+NumbersArePlaces = (first : List ℕ) (before : List Met) (m : Met) (after : List Met)
+    → slice_get (outcomes_of first (before ++ m ∷ after)) (number_of (tallied first before) m.outcome) ≡ Some m.outcome
+
+-- an edit takes one number of steps
+abbrev pub StepsAreOne : Type 0
+StepsAreOne = (sc : Scenario) (change : Change) (m n : ℕ) → TakesSteps sc change m → TakesSteps sc change n → m ≡ n
+
+-- a scenario has one outline
+abbrev pub OutlineIsOne : Type 0
+OutlineIsOne = (with_output : Bool) (sc : Scenario) (xs ys : List ℕ) → IsOutlineOf with_output sc xs
+    → IsOutlineOf with_output sc ys → xs ≡ ys
+
+-- edits of one scenario have one list of outcomes and steps
+abbrev pub MetAreOne : Type 0
+MetAreOne = (with_output : Bool) (sc : Scenario) (ms ns : List Met)
+    → map (λ (m : Met). m.change) ms ≡ map (λ (m : Met). m.change) ns → AreMet with_output sc ms
+    → AreMet with_output sc ns → ms ≡ ns
+
+-- the changes at the places of a part
+abbrev pub changes_in : Scenario → Plan → Part → List Change
+changes_in sc plan part = changes_from sc plan (part_from plan part) (part_to plan part - part_from plan part)
+
+-- those of the parts 1 to N, one part after another, are the changes at all places
+abbrev pub PartsHaveAllChanges : Type 0
+PartsHaveAllChanges = (sc : Scenario) (plan : Plan) (parts : ℕ) → 1 ≤ parts
+    → flat_map (λ before. changes_in sc plan (record { index = before + 1; count = parts })) (below parts)
+    ≡ changes_from sc plan 0 (place_count plan)
