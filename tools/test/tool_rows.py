@@ -262,7 +262,7 @@ def run_rows():
               "*--leak-check is no option here: leaks are searched for*")
     yield Row("run: another option of Valgrind", [*freed, "--xml=yes"], 2, "",
               "*--xml is no option here: --format valgrind-xml*")
-    yield Row("run: the output", [*freed, "--output=x"], 2, "", "*how many bytes were written and not which*")
+    yield Row("run: the output", [*freed, "--output=x"], 2, "", "*counts the bytes that were written and doesn't keep them*")
     yield Row("run: an option that nobody has", [*freed, "--depth=3"], 2, "", "*unexpected argument '--depth' found*")
     yield Row("run: no program", ["run", "script", "--error-exitcode=7"], 3, "",
               "replaycheck: image refused 20: no ELF file\n")

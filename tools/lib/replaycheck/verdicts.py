@@ -1,4 +1,4 @@
-"""What a report comes to, by its first lines and its last ones alone: enough for an exit status, without a parser."""
+"""What a report comes to, by its first lines and its last ones: enough for an exit status, without a parser."""
 
 SUMS = ("definitely lost", "indirectly lost", "possibly lost", "still reachable", "suppressed")
 # What options and suppressions call the leaks of a kind.
