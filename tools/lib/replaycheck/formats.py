@@ -3,6 +3,7 @@ import functools
 import os
 from _json import encode_basestring_ascii as quoted  # the module json, and what it imports, take longer than a short run
 
+from replaycheck.endings import Fault
 from replaycheck.findings import RULES, RUNNING
 from replaycheck.reports import LEAK_KINDS, SUMS
 
@@ -137,9 +138,19 @@ def sarif_result(shown, finding, rules, print_of):
 
 def fingerprint(finding):
     """What tells a finding from others of its program, whatever moves in the source: its rule, and the functions of its trace."""
-    import hashlib
     words = [finding.rule, finding.text, *(call.function for call in finding.trace)]
-    return hashlib.sha256("\n".join(words).encode("utf-8", "surrogateescape")).hexdigest()[:32]
+    return sha256()("\n".join(words).encode("utf-8", "surrogateescape")).hexdigest()[:32]
+
+
+@functools.lru_cache(maxsize=None)
+def sha256():
+    """SHA-256 by Python's own module of it, which has another name from version 3.12 on; hashlib takes ten times as long to be imported."""
+    for name in ("_sha2", "_sha256", "hashlib"):
+        try:
+            return __import__(name).sha256
+        except ImportError:
+            pass
+    raise Fault("Python has no SHA-256")
 
 
 def sarif_results(shown, rules):
@@ -185,7 +196,8 @@ def xml(text):
     """A text as XML has it, with a mark in place of what XML can't have."""
     escapes = {"&": "&amp;", "<": "&lt;", ">": "&gt;", '"': "&quot;"}
     text = printable(str(text))
-    text = text if text.isascii() and text.isprintable() else no_xml().sub("\ufffd", text)
+    is_plain = text.isascii() and text.replace("\n", "").replace("\t", "").isprintable()
+    text = text if is_plain else no_xml().sub("\ufffd", text)
     return text.translate(str.maketrans(escapes))
 
 
