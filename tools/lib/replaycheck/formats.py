@@ -1,11 +1,11 @@
 """A report in the formats that other programs read."""
-import functools
 import os
 from _json import encode_basestring_ascii as quoted  # the module json, and what it imports, take longer than a short run
 
 from replaycheck.endings import Fault
 from replaycheck.findings import RULES, RUNNING
-from replaycheck.reports import LEAK_KINDS, SUMS
+from replaycheck.records import kept
+from replaycheck.verdicts import LEAK_KINDS, SUMS
 
 JSON_VERSION = 1
 PLAIN = b"ABCDEFGHIJKLMNOPQRSTUVWXYZabcdefghijklmnopqrstuvwxyz0123456789_.-~/"  # bytes of a URI's path that stand for themselves
@@ -93,14 +93,14 @@ def json_text(shown):
     return dumped(whole, 2) + "\n"
 
 
-@functools.lru_cache(maxsize=None)
+@kept
 def uri(path):
     """A path as a URI: absolute, or relative to the root of the sources."""
     text = "".join(chr(it) if it in PLAIN else f"%{it:02X}" for it in os.fsencode(path))
     return ("file://" if path.startswith("/") else "") + text
 
 
-@functools.lru_cache(maxsize=None)
+@kept
 def location(program, call, message=None, number=None):
     """A SARIF location, encoded: that of a call's source line, or else the program's file."""
     region = {"region": {"startLine": call.place.line}} if call.place else {}
@@ -114,7 +114,7 @@ def location(program, call, message=None, number=None):
     return flat(made)
 
 
-@functools.lru_cache(maxsize=None)
+@kept
 def flow_step(program, call, word):
     return f'{{"location": {location(program, call, f"{word} {call}")}}}'
 
@@ -142,7 +142,7 @@ def fingerprint(finding):
     return sha256()("\n".join(words).encode("utf-8", "surrogateescape")).hexdigest()[:32]
 
 
-@functools.lru_cache(maxsize=None)
+@kept
 def sha256():
     """SHA-256 by Python's own module of it, which has another name from version 3.12 on; hashlib takes ten times as long to be imported."""
     for name in ("_sha2", "_sha256", "hashlib"):
@@ -185,7 +185,7 @@ def sarif_text(shown):
 # ---- XML
 
 
-@functools.lru_cache(maxsize=None)
+@kept
 def no_xml():
     """What XML can't have."""
     import re
@@ -201,7 +201,7 @@ def xml(text):
     return text.translate(str.maketrans(escapes))
 
 
-@functools.lru_cache(maxsize=None)
+@kept
 def xml_frame(program, call):
     parts = [f"    <frame>\n      <ip>{int(call.address, 16):#x}</ip>\n      <obj>{xml(program)}</obj>\n"]
     if call.function != "???":
