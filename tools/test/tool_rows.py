@@ -277,6 +277,8 @@ def run_rows():
               environment={"ADDR2LINE": "no-addr2line"})
     yield Row("run: an addr2line that ends at once", [*freed, "--format=json", "--error-exitcode=7"], 7, '*"place": null*',
               "*replaycheck run: no source lines: addr2line has ended*", environment={"ADDR2LINE": "false"})
+    yield Row("run: a program that answers no report", [*freed, "--error-exitcode=7"], 2, "",
+              "*replaycheck run: echo: its answer is no report: 'run --step*", environment={"REPLAYCHECK": "echo"})
     yield from running_rows()
     yield from heap_rows()
 

@@ -168,7 +168,10 @@ def checked(options):
     """Writes the report. Returns the status."""
     from replaycheck.file_heaps import heap_of_run
     told = report_of(options)
-    verdict = Verdict(told)
+    try:
+        verdict = Verdict(told)
+    except (IndexError, KeyError, ValueError):
+        raise Fault(f"{program()}: its answer is no report: {told[0][:80]!r}") from None
     heap = heap_of_run(options.file, options.input, verdict.step, verdict.has_blocks())
     write("".join(line + "\n" for line in told) if options.format == "text" else formatted(told, options, heap))
     flush()
