@@ -278,7 +278,7 @@ def run_rows():
               "*--leak-check is no option here: leaks are searched for*")
     yield Row("run: another option of Valgrind", [*freed, "--xml=yes"], 2, "",
               "*--xml is no option here: --format valgrind-xml*")
-    yield Row("run: the output", [*freed, "--output=x"], 2, "", "*how many bytes were written and not which*")
+    yield Row("run: the output", [*freed, "--output=x"], 2, "", "*counts the bytes that were written and doesn't keep them*")
     yield Row("run: an option that nobody has", [*freed, "--depth=3"], 2, "", "*unexpected argument '--depth' found*")
     yield Row("run: no program", ["run", "script", "--error-exitcode=7"], 3, "",
               "replaycheck: image refused 20: no ELF file\n")
@@ -293,6 +293,8 @@ def run_rows():
               environment={"ADDR2LINE": "no-addr2line"})
     yield Row("run: an addr2line that ends at once", [*freed, "--format=json", "--error-exitcode=7"], 7, '*"place": null*',
               "*replaycheck run: no source lines: addr2line has ended*", environment={"ADDR2LINE": "false"})
+    yield Row("run: a program that answers no report", [*freed, "--error-exitcode=7"], 2, "",
+              "*replaycheck run: echo: its answer is no report: 'run --step*", environment={"REPLAYCHECK": "echo"})
     yield from running_rows()
     yield from heap_rows()
 

@@ -9,7 +9,7 @@ from replaycheck.programs import path_of, program
 from replaycheck.refusals import Ended, Refused
 from replaycheck.verdicts import LEAK_KINDS, Verdict
 
-NO_OUTPUT = "the program tells how many bytes were written and not which; qemu-riscv32 prints them"
+NO_OUTPUT = "the program counts the bytes that were written and doesn't keep them; qemu-riscv32 prints them"
 FORMATS = ("json", "sarif", "valgrind-xml", "junit", "gcc", "github")
 FROM_HERE = ("sarif", "github")  # whose readers look for source files below the folder where the run begins
 # The session's options, by the names that Valgrind has for them.
@@ -50,7 +50,7 @@ def reader_of_options(page):
 
 
 def options_of(page, words):
-    """The options, none of which is one that Valgrind alone has."""
+    """The options. One that only Valgrind has is an error."""
     reader = reader_of_options(page)
     for name in names_of(words) - OWN:
         why = elsewhere(name)
@@ -130,7 +130,7 @@ def tell(text):
 
 
 def with_places(shown, options):
-    """A report with source lines; without them where addr2line can't tell them, which is said."""
+    """A report with source lines; without them, and with a line on standard error, where addr2line can't find them."""
     from replaycheck.places import NoPlaces, Paths, Places
     try:
         shown.show(Places(options.file, Paths(options.full_paths, options.strip_prefix, options.format in FROM_HERE)))
@@ -168,7 +168,10 @@ def checked(options):
     """Writes the report. Returns the status."""
     from replaycheck.file_heaps import heap_of_run
     told = report_of(options)
-    verdict = Verdict(told)
+    try:
+        verdict = Verdict(told)
+    except (IndexError, KeyError, ValueError):
+        raise Fault(f"{program()}: its answer is no report: {told[0][:80]!r}") from None
     heap = heap_of_run(options.file, options.input, verdict.step, verdict.has_blocks())
     write("".join(line + "\n" for line in told) if options.format == "text" else formatted(told, options, heap))
     flush()

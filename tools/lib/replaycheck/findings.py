@@ -81,7 +81,7 @@ class Shown:
 
     @property
     def heap_notice(self):
-        """What is said of a heap that goes unseen; nothing of any other."""
+        """What a user has to know of a heap that goes unseen; nothing of any other."""
         return self.heap.notice(self.file) if self.heap and self.heap.is_unseen else ""
 
     @property

@@ -1,10 +1,11 @@
 """A report in the formats that other programs read."""
-import functools
 import os
 from _json import encode_basestring_ascii as quoted  # the module json, and what it imports, take longer than a short run
 
+from replaycheck.endings import Fault
 from replaycheck.findings import RULES, RUNNING
-from replaycheck.reports import LEAK_KINDS, SUMS
+from replaycheck.records import kept
+from replaycheck.verdicts import LEAK_KINDS, SUMS
 
 JSON_VERSION = 1
 PLAIN = b"ABCDEFGHIJKLMNOPQRSTUVWXYZabcdefghijklmnopqrstuvwxyz0123456789_.-~/"  # bytes of a URI's path that stand for themselves
@@ -92,14 +93,14 @@ def json_text(shown):
     return dumped(whole, 2) + "\n"
 
 
-@functools.lru_cache(maxsize=None)
+@kept
 def uri(path):
     """A path as a URI: absolute, or relative to the root of the sources."""
     text = "".join(chr(it) if it in PLAIN else f"%{it:02X}" for it in os.fsencode(path))
     return ("file://" if path.startswith("/") else "") + text
 
 
-@functools.lru_cache(maxsize=None)
+@kept
 def location(program, call, message=None, number=None):
     """A SARIF location, encoded: that of a call's source line, or else the program's file."""
     region = {"region": {"startLine": call.place.line}} if call.place else {}
@@ -113,7 +114,7 @@ def location(program, call, message=None, number=None):
     return flat(made)
 
 
-@functools.lru_cache(maxsize=None)
+@kept
 def flow_step(program, call, word):
     return f'{{"location": {location(program, call, f"{word} {call}")}}}'
 
@@ -137,9 +138,19 @@ def sarif_result(shown, finding, rules, print_of):
 
 def fingerprint(finding):
     """What tells a finding from others of its program, whatever moves in the source: its rule, and the functions of its trace."""
-    import hashlib
     words = [finding.rule, finding.text, *(call.function for call in finding.trace)]
-    return hashlib.sha256("\n".join(words).encode("utf-8", "surrogateescape")).hexdigest()[:32]
+    return sha256()("\n".join(words).encode("utf-8", "surrogateescape")).hexdigest()[:32]
+
+
+@kept
+def sha256():
+    """SHA-256 by Python's own module of it, which has another name from version 3.12 on; hashlib takes ten times as long to be imported."""
+    for name in ("_sha2", "_sha256", "hashlib"):
+        try:
+            return __import__(name).sha256
+        except ImportError:
+            pass
+    raise Fault("Python has no SHA-256")
 
 
 def sarif_results(shown, rules):
@@ -174,7 +185,7 @@ def sarif_text(shown):
 # ---- XML
 
 
-@functools.lru_cache(maxsize=None)
+@kept
 def no_xml():
     """What XML can't have."""
     import re
@@ -185,11 +196,12 @@ def xml(text):
     """A text as XML has it, with a mark in place of what XML can't have."""
     escapes = {"&": "&amp;", "<": "&lt;", ">": "&gt;", '"': "&quot;"}
     text = printable(str(text))
-    text = text if text.isascii() and text.isprintable() else no_xml().sub("\ufffd", text)
+    is_plain = text.isascii() and text.replace("\n", "").replace("\t", "").isprintable()
+    text = text if is_plain else no_xml().sub("\ufffd", text)
     return text.translate(str.maketrans(escapes))
 
 
-@functools.lru_cache(maxsize=None)
+@kept
 def xml_frame(program, call):
     parts = [f"    <frame>\n      <ip>{int(call.address, 16):#x}</ip>\n      <obj>{xml(program)}</obj>\n"]
     if call.function != "???":

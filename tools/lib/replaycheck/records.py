@@ -1,4 +1,5 @@
-"""Classes that are their fields, as those of the module dataclasses are: its import takes longer than a short run."""
+"""Classes that are their fields, and functions that are asked once, as the modules dataclasses and functools have them: their import takes
+longer than a short run."""
 
 
 class Record:
@@ -20,3 +21,14 @@ class Record:
 
     def __repr__(self):
         return f"{type(self).__name__}({', '.join(f'{name}={getattr(self, name)!r}' for name in self.fields)})"
+
+
+def kept(function):
+    """A function that remembers what it has returned for the same arguments."""
+    known = {}
+
+    def ask(*arguments):
+        if arguments not in known:
+            known[arguments] = function(*arguments)
+        return known[arguments]
+    return ask

@@ -1,48 +1,67 @@
 """A report of the program: read into parts, and printed again as the same bytes."""
 from __future__ import annotations
 
-import functools
-import re
-
 from replaycheck.endings import Fault
 from replaycheck.records import Record
+from replaycheck.shapes import Shape, address, name, number, one_of, rest, up_to
 from replaycheck.verdicts import LEAK_KINDS, SUMS
 
-STEP = re.compile(r"step (\d+)")
-STATE = re.compile(r"state (?:(running) (0x[0-9a-f]{8})|(exited) (\d+)|"
-                   r"(stopped) (jump|break|illegal|misaligned) (0x[0-9a-f]{8}))")
-READ = re.compile(r"input (\d+) of (\d+)")
-WRITTEN = re.compile(r"output (\d+)")
-ERROR = re.compile(r"error (\d+): (.+)")
-LEAK = re.compile(r"leak (\d+) bytes in (\d+) blocks are (.+)")
-FRAME = re.compile(r"   (at|by) (0x[0-9a-f]{8}): ([!-~]+)")
-NOTE = re.compile(r" Address (0x[0-9a-f]{8}) is (.+)")
-BLOCK = re.compile(r"(\d+) bytes (inside|before|after) a block of size (\d+) (alloc'd|free'd)")
+STEP = Shape("step ", number)
+RUNNING = Shape("state running ", address)
+EXITED = Shape("state exited ", number)
+STOPPED = Shape("state stopped ", one_of("jump", "break", "illegal", "misaligned"), " ", address)
+READ = Shape("input ", number, " of ", number)
+WRITTEN = Shape("output ", number)
+ERROR = Shape("error ", number, ": ", rest)
+LEAK = Shape("leak ", number, " bytes in ", number, " blocks are ", rest)
+NOTE = Shape(" Address ", address, " is ", rest)
+BLOCK = Shape(number, " bytes ", one_of("inside", "before", "after"), " a block of size ", number, " ", one_of("alloc'd", "free'd"))
 PLACES = ("in the stack region", "not stack'd, malloc'd or (recently) free'd")
-SUM = re.compile(r"([a-z ]+): (\d+) bytes in (\d+) blocks")
-SUMMARY = re.compile(r"ERROR SUMMARY: (\d+) errors from (\d+) contexts \(suppressed: (\d+) from (\d+)\)")
-TEXTS = (
-    (re.compile(r"Invalid (?:read|write) of size ([124])"), "Addr"),
-    (re.compile(r"Use of uninitialised value of size 4"), "Value4"),
-    (re.compile(r"Conditional jump or move depends on uninitialised value\(s\)"), "Cond"),
-    (re.compile(r"Syscall param (\S+) (?:contains|points to) (?:uninitialised|unaddressable) byte\(s\)"), "Param"),
-    (re.compile(r"Invalid free\(\) / realloc\(\)"), "Free"),
-    (re.compile(r"Jump to the invalid address stated on the next line"), "Jump"),
-)
+SUM = Shape(up_to(": "), ": ", number, " bytes in ", number, " blocks")
+SUMMARY = Shape("ERROR SUMMARY: ", number, " errors from ", number, " contexts (suppressed: ", number, " from ", number, ")")
+# The texts of errors, with what suppressions call each. That of a bad access ends with the size, and that of a call has its parameter.
+ACCESSES, SIZES = ("Invalid read of size ", "Invalid write of size "), "124"
+CALL = "Syscall param "
+CALLS = tuple(f" {how} {what} byte(s)" for how in ("contains", "points to") for what in ("uninitialised", "unaddressable"))
+KINDS = {"Use of uninitialised value of size 4": "Value4", "Conditional jump or move depends on uninitialised value(s)": "Cond",
+         "Invalid free() / realloc()": "Free", "Jump to the invalid address stated on the next line": "Jump"}
+
+
+def __getattr__(asked):
+    """TEXTS: the same as patterns, for the page, whose code can't call this."""
+    if asked != "TEXTS":
+        raise AttributeError(asked)
+    import re
+
+    def either(*texts):
+        return "|".join(it.replace("(", r"\(").replace(")", r"\)") for it in texts)
+    patterns = [(f"(?:{either(*ACCESSES)})([{SIZES}])", "Addr"), (f"{CALL}(\\S+)(?:{either(*CALLS)})", "Param"),
+                *((either(text), kind) for text, kind in KINDS.items())]
+    return tuple((re.compile(text), kind) for text, kind in patterns)
+
+
+class OfFrame:
+    """The shape of a frame: `   at ADDRESS: NAME`. Most lines of a long report are frames, so it looks at fixed places."""
+
+    @staticmethod
+    def fullmatch(line):
+        is_one = line[:6] in ("   at ", "   by ") and address(line, 6) == 16 and line[16:18] == ": " and len(line) > 18
+        return (line, line[3:5], line[6:16], line[18:]) if is_one and name(line, 18) == len(line) else None
 
 
 class NoReport(Fault):
     """A line isn't the one that a report has there."""
 
 
-@functools.lru_cache(maxsize=None)
 def kind_of(text):
     """What suppressions call an error with this text; None where no error has it."""
-    for pattern, name in TEXTS:
-        found = pattern.fullmatch(text)
-        if found:
-            return name + found[1] if name == "Addr" else name
-    return None
+    if text[:-1] in ACCESSES and text[-1] in SIZES:
+        return "Addr" + text[-1]
+    if text.startswith(CALL):
+        end = next((it for it in CALLS if text.endswith(it)), None)
+        parameter = text[len(CALL):-len(end)] if end else ""
+        return "Param" if parameter.split() == [parameter] else None
+    return KINDS.get(text)
 
 
 class Frame(Record):
@@ -167,16 +186,16 @@ class Lines:
     def go_on(self):
         self.next, self.number = next(self.lines, None), self.number + 1
 
-    def take(self, pattern):
-        """What a pattern finds in the next line, which is taken then; None where the line is another one."""
-        found = pattern.fullmatch(self.next) if self.next is not None else None
+    def take(self, shape):
+        """The fields of the next line, which is taken then; None where the line has another shape."""
+        found = shape.fullmatch(self.next) if self.next is not None else None
         if found:
             self.go_on()
         return found
 
-    def must(self, pattern, what):
+    def must(self, shape, what):
         """The same of a line that a report must have here."""
-        return self.take(pattern) or self.fault(what)
+        return self.take(shape) or self.fault(what)
 
     def fault(self, what):
         came = "the end" if self.next is None else repr(self.next[:80])
@@ -186,7 +205,7 @@ class Lines:
 def read_trace(lines):
     trace = []
     while lines.next is not None and lines.next.startswith("   "):
-        found = lines.must(FRAME, "a frame")
+        found = lines.must(OfFrame, "a frame")
         if found[1] != ("by" if trace else "at"):
             raise NoReport(f"no report: line {lines.number - 1} is out of turn: {found[0]!r}")
         trace.append(Frame(found[2], found[3]))
@@ -235,18 +254,21 @@ def read_sums(lines):
     return sums
 
 
-def read_state(found):
-    if found[1]:
-        return State("running", address=found[2])
-    if found[3]:
-        return State("exited", status=int(found[4]))
-    return State("stopped", why=found[6], address=found[7])
+def read_state(lines):
+    found = lines.take(RUNNING)
+    if found:
+        return State("running", address=found[1])
+    found = lines.take(EXITED)
+    if found:
+        return State("exited", status=int(found[1]))
+    found = lines.must(STOPPED, "`state ..`")
+    return State("stopped", why=found[1], address=found[2])
 
 
 def read_report(lines):
     """The report that the next lines are."""
     step = int(lines.must(STEP, "`step N`")[1])
-    state = read_state(lines.must(STATE, "`state ..`"))
+    state = read_state(lines)
     given, written = lines.must(READ, "`input P of L`"), lines.must(WRITTEN, "`output W`")
     errors, leaks, sums = read_errors(lines), read_leaks(lines), read_sums(lines)
     last = lines.must(SUMMARY, "the summary of errors")

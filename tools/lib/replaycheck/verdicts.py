@@ -1,4 +1,4 @@
-"""What a report comes to, by its first lines and its last ones alone: enough for an exit status, without a parser."""
+"""What a report comes to, by its first lines and its last ones: enough for an exit status, without a parser."""
 
 SUMS = ("definitely lost", "indirectly lost", "possibly lost", "still reachable", "suppressed")
 # What options and suppressions call the leaks of a kind.
@@ -10,10 +10,12 @@ class Verdict:
     """The step and the state of a report, how many errors there are, and of each kind of leak how many blocks."""
 
     def __init__(self, lines):
+        """Reads them off the lines of a report. Raises IndexError, KeyError or ValueError where the lines are none."""
         self.step, self.state = int(lines[0].split(" ")[1]), lines[1].split(" ")[1]
         self.errors = int(lines[-1].split(" ")[2])
         sums = (line.partition(": ") for line in lines[-1 - len(SUMS):-1])
-        self.blocks = {name: int(told.split(" ")[3]) for name, _, told in sums}
+        blocks = {name: int(told.split(" ")[3]) for name, _, told in sums}
+        self.blocks = {name: blocks[name] for name in SUMS}
 
     @property
     def runs_on(self):
