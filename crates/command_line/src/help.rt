@@ -3,7 +3,7 @@
 /// What the program is for.
 pub(crate) const ABOUT: &str = "\
 Finds memory errors in static RV32IM programs, and shows what an edit of the run would change.
-It is this program that was proved, not each of its reports";
+Its source is proved: each report is that of one complete run of the edited program";
 
 /// What `run` does.
 pub(crate) const RUN: &str = "Prints the report of a program at a step";
@@ -20,19 +20,27 @@ pub(crate) const LOOK: &str =
 pub(crate) const SWEEP: &str =
     "Makes each edit of an input or of code alone, and writes a table of what each comes to";
 
-/// A text with what ends the help of each command: statuses and refusals.
-macro_rules! with_refusals {
-    ($text:literal) => {
+/// What `certify` does.
+pub(crate) const CERTIFY: &str =
+    "Says whether what undefined or inaccessible memory holds can change the run";
+
+/// A text with what ends the help of each command: statuses, of which these are done and these come last, and refusals.
+macro_rules! with_statuses {
+    ($text:literal, $done:literal, $last:literal) => {
         concat!(
             $text,
             "
 Exit status:
-  0  the report, the replies or the table was written, or help or the version was asked for
+  0  ",
+            $done,
+            ", or help or the version was asked for
   1  a file or standard input can't be read, or standard output can't be written
   2  a fault of the command line
   3  the program, the suppressions, the input, or what is to be edited is refused, as below
   4  out of memory
-
+",
+            $last,
+            "
 `replaycheck: image refused N`, by the least N that holds:
   20 no ELF file, 21 not of 32 bits, 22 not little-endian, 23 bad version, 24 no executable,
   25 not RISC-V, 26 bad table, 27 asks for an interpreter, 28 bad segment, 29 overlap,
@@ -42,6 +50,13 @@ Exit status:
 `replaycheck: input refused 14`:
   more than 1048576 bytes"
         )
+    };
+}
+
+/// The same, of a command that ends well where it has written what it was asked for.
+macro_rules! with_refusals {
+    ($text:literal) => {
+        with_statuses!($text, "the report, the replies or the table was written", "")
     };
 }
 
@@ -150,5 +165,25 @@ Two more refusals:
 
 Example, each other value of the first four bytes:
   replaycheck sweep program.elf --input bytes --bytes 0..3
+"
+);
+
+/// What ends the help of `certify`: what its line says.
+pub(crate) const AFTER_CERTIFY: &str = with_statuses!(
+    "\
+Prints one line on the run up to the step. Where it is
+  clean to step N: ..
+nothing that uninitialised, freed or unmapped memory holds, at power-on or put there between any
+two steps, changes the run: its status, output, errors, heap and reports are the same. Else it is
+  not clean: first use at step N: ..
+with the first error that reads inaccessible bytes or uses undefined ones, as a report names it,
+and its trace. Invalid writes, bad frees and jumps are no uses. Suppressions don't count here.
+Other inputs, later steps, devices and timing are not part of what the line says.
+
+Example:
+  replaycheck certify program.elf --input bytes --step 5000
+",
+    "the run is clean",
+    "  5  the run isn't clean
 "
 );
