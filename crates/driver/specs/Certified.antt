@@ -31,8 +31,8 @@ end_of_verdict Clean = Done
 end_of_verdict (ByMark index mark) = NotClean
 end_of_verdict (Use found) = NotClean
 
--- the line of a clean run was written, and the run is certified; or that of the first use; or a front of the line, after
--- which a write failed; or nothing, for want of memory
+-- the line of a clean run was written, and the run is certified; or the line of the first use; or a front of the line,
+-- after which a write failed; or nothing, for want of memory
 abbrev pub Certifies : Image → List ℕ → ℕ → Option (List ℕ) → Option (List ℕ) → End → Type 0
 Certifies image input n old new Done = WritesVerdict image input n old new Clean × IsCertifiedOnce image input n
 Certifies image input n old new NotClean = (found : FirstUse) × WritesVerdict image input n old new (Use found)
