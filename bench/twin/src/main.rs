@@ -1,10 +1,11 @@
 //! A plain interpreter of RV32IM with accessible and undefined bits: what a step costs where nothing is proved. It runs the loop
 //! that `bench/run` gives the program too, and prints where it leads; or a program of words from a file, and prints where it is after them,
-//! or answers looks at its run.
+//! or answers looks at its run, or tells whether noise changes it.
 
 mod looks;
 mod machine;
 mod memory;
+mod noise;
 #[cfg(test)]
 mod tests;
 
@@ -27,12 +28,16 @@ fn main() {
             Ok(bytes) => look(memory as u32, &bytes),
             Err(fault) => println!("twin: {fault}"),
         },
+        (4, None, Some(steps)) if words[0] == "clean" => match (number(2), std::fs::read(&words[3])) {
+            (Some(memory), Ok(bytes)) => compare_with_noise(steps, memory as u32, &bytes),
+            _ => println!("twin: no such file"),
+        },
         (1, Some(steps), _) => time(steps),
         (3, Some(steps), Some(memory)) => match std::fs::read(&words[2]) {
             Ok(bytes) => tell(steps, memory as u32, &bytes),
             Err(fault) => println!("twin: {fault}"),
         },
-        _ => println!("usage: twin STEPS | twin STEPS MEMORY FILE | twin looks MEMORY FILE"),
+        _ => println!("usage: twin STEPS | twin STEPS MEMORY FILE | twin looks MEMORY FILE | twin clean STEPS MEMORY FILE"),
     }
 }
 
@@ -65,6 +70,28 @@ fn tell(steps: u64, memory: u32, bytes: &[u8]) {
     for (error, count) in &machine.errors {
         let address = machine.addresses.get(error).map_or(String::new(), |address| format!(" {address:#010x}"));
         println!("{:?} {:#010x} {count}{address}", error.0, error.1);
+    }
+}
+
+/// The steps at which runs with noise are compared with the one without, beside the last clean one.
+const COMPARED: [u64; 6] = [3, 10, 30, 100, 400, 2000];
+const SEEDS: [u64; 3] = [1, 77, 0xDEAD_BEEF];
+
+/// Prints up to which step such a program is clean; whether its run is the same under noise at that step and at some before it, with how many
+/// errors; and the same of its whole run, where that has a use.
+fn compare_with_noise(steps: u64, memory: u32, bytes: &[u8]) {
+    let words = words_of(bytes);
+    let start = || Machine::start(PROGRAM_START, &words, memory);
+    let told = |steps| {
+        let (is_same, errors) = noise::is_same(&start, steps, &SEEDS);
+        format!("{} {errors}", if is_same { "same" } else { "differs" })
+    };
+    let (clean, first_use) = noise::clean_steps(&start, steps);
+    for step in COMPARED.into_iter().filter(|step| *step < clean).chain([clean]) {
+        println!("clean {step} {}", told(step));
+    }
+    if let Some(kind) = first_use {
+        println!("use {kind:?} {}", told(steps));
     }
 }
 

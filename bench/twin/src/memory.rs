@@ -131,6 +131,14 @@ impl Memory {
         bad
     }
 
+    /// Turns bits of a byte that are undefined, or, of one that is inaccessible, any bits.
+    pub fn disturb(&mut self, addr: u32, noise: u8) {
+        let (number, at) = place(addr);
+        let page = self.page(number);
+        let free = if page.accessible[at] == ACCESSIBLE { page.undef[at] } else { 0xFF };
+        page.bytes[at] ^= noise & free;
+    }
+
     /// Makes the `len` bytes from an address on (modulo 2^32) inaccessible, undefined or defined.
     pub fn set_range(&mut self, start: u32, len: u32, kind: RangeKind) {
         let (accessible, undef) = match kind {

@@ -12,7 +12,7 @@ use Rattle.clap.specs.declared.builder.action.ArgAction.TheVariants.{SetTrue}
 use Rattle.command_line.specs.declared.order.Order.{Order}
 use Rattle.command_line.specs.declared.order.SweepWords.{SweepWords}
 use Rattle.command_line.specs.declared.order.Task.{Task}
-use Rattle.command_line.specs.declared.order.Task.TheVariants.{Report, Session, Look, Sweep}
+use Rattle.command_line.specs.declared.order.Task.TheVariants.{Report, Session, Look, Sweep, Certify}
 
 -- the greatest step of a report (this project's limit)
 abbrev pub greatest_step : ℕ
@@ -33,10 +33,13 @@ option name = record (new_rule name) { long = Some name; value_names = 1 }
 abbrev pub file_argument : Rule
 file_argument = record (new_rule (codes "FILE")) { required = true }
 
--- a command on a program: its file and two options
+-- a command on a program with an input: its file and an option
+abbrev pub input_command : Text → App
+input_command name = with_rule (with_rule (new_app name) file_argument) (option (codes "input"))
+
+-- and one with suppressions too
 abbrev pub program_command : Text → App
-program_command name =
-    with_rule (with_rule (with_rule (new_app name) file_argument) (option (codes "input"))) (option (codes "supp"))
+program_command name = with_rule (input_command name) (option (codes "supp"))
 
 -- `--step`, from 0 to 4,194,304, and 1,048,576 where it isn't given
 abbrev pub step_option : Rule
@@ -84,9 +87,17 @@ sweep_command =
     (default_option (codes "words-values") (codes "skip"))) output_flag)
     (default_option (codes "part") (codes "1/1"))
 
--- the command line: `run`, `session`, `look` and `sweep`
+-- with `sweep`
+abbrev pub with_sweep : App
+with_sweep = with_subcommand with_look sweep_command.top
+
+-- `certify`, which takes no suppressions: a suppressed error counts as any other
+abbrev pub certify_command : App
+certify_command = with_rule (input_command (codes "certify")) step_option
+
+-- the command line: `run`, `session`, `look`, `sweep` and `certify`
 abbrev pub command_line : App
-command_line = with_subcommand with_look sweep_command.top
+command_line = with_subcommand with_sweep certify_command.top
 
 -- a number is the one that was given for `--step`, in decimal digits
 abbrev pub IsStepOf : List Row → ℕ → Type 0
@@ -115,10 +126,11 @@ pub record IsSweepOf (rows : List Row) (asked : SweepWords) : Type 0 where
 abbrev pub IsTaskOf : Text → List Row → Task → Type 0
 IsTaskOf name rows (Report n) = (bytes_eq name (codes "run") ≡ true) × IsStepOf rows n
 IsTaskOf name rows (Sweep words) = (bytes_eq name (codes "sweep") ≡ true) × IsSweepOf rows words
+IsTaskOf name rows (Certify n) = (bytes_eq name (codes "certify") ≡ true) × IsStepOf rows n
 IsTaskOf name rows Look = bytes_eq name (codes "look") ≡ true
 IsTaskOf name rows Session =
     (bytes_eq name (codes "run") ≡ false) × (bytes_eq name (codes "sweep") ≡ false)
-    × (bytes_eq name (codes "look") ≡ false)
+    × (bytes_eq name (codes "look") ≡ false) × (bytes_eq name (codes "certify") ≡ false)
 
 -- the order of what was found for a command's arguments
 pub record IsOrderOf (name : Text) (rows : List Row) (order : Order) : Type 0 where

@@ -2,10 +2,11 @@
 ghost use Rattle.std.specs.Prelude.{◌≡◌, IfErr, IfOk, IfSome, IsSomeAnd, false, map, string_bytes, true};
 ghost use Rattle.clap.specs.Words.{FailsBy, app_of, fault_of, found_of, kind_of, rows_of, rule_of, subcommand_rows_of, takes};
 ghost use Rattle.clap.specs.declared.builder.command.Command.TheViews.{out-Command};
-ghost use Rattle.command_line.specs.Orders.{IsOrderFor, IsOrderOf, IsStepOf, IsSweepOf, IsTaskOf, command_line, default_option, file_argument, option, output_flag, program_command, run_command, step_option, sweep_command, sweep_of_bytes, with_look, with_run, with_session};
+ghost use Rattle.command_line.specs.Orders.{IsOrderFor, IsOrderOf, IsStepOf, IsSweepOf, IsTaskOf, certify_command, command_line, default_option, file_argument, input_command, option, output_flag, program_command, run_command, step_option, sweep_command, sweep_of_bytes, with_look, with_run, with_session, with_sweep};
 
 use crate::help::{
-    ABOUT, AFTER_LOOK, AFTER_RUN, AFTER_SESSION, AFTER_SWEEP, LOOK, RUN, SESSION, SWEEP,
+    ABOUT, AFTER_CERTIFY, AFTER_LOOK, AFTER_RUN, AFTER_SESSION, AFTER_SWEEP, CERTIFY, LOOK, RUN,
+    SESSION, SWEEP,
 };
 use crate::order::{Order, SweepWords, Task};
 use clap::error::ErrorKind;
@@ -36,6 +37,22 @@ fn option<'a>(alloc: Global, name: &'a str, value: &'a str, help: &'a str) -> Ar
         .help(help)
 }
 
+/// A command on a program, with an input.
+fn input_command<'a>(
+    alloc: Global,
+    name: &'a str,
+    about: &'a str,
+    after: &'a str,
+) -> Result<Command<'a>, AllocError>
+    ensures shape { IfOk result (λ command. app_of command ≡ input_command name.entry.now) }
+    ensures globals { IfOk result (λ command. (out-Command command).has_globals ≡ false) }
+{
+    let command = Command::new(alloc, name).about(about).after_help(after);
+    let command = command.arg(file_argument(alloc))?;
+    let bytes = "A file with the bytes that the program can read; none without it";
+    command.arg(option(alloc, "input", "F", bytes))
+}
+
 /// A command on a program, with an input and suppressions.
 fn program_command<'a>(
     alloc: Global,
@@ -46,15 +63,12 @@ fn program_command<'a>(
     ensures shape { IfOk result (λ command. app_of command ≡ program_command name.entry.now) }
     ensures globals { IfOk result (λ command. (out-Command command).has_globals ≡ false) }
 {
-    let command = Command::new(alloc, name).about(about).after_help(after);
-    let command = command.arg(file_argument(alloc))?;
-    let bytes = "A file with the bytes that the program can read; none without it";
-    let command = command.arg(option(alloc, "input", "F", bytes))?;
+    let command = input_command(alloc, name, about, after)?;
     let rules = "A file of suppressions, in Valgrind's form";
     command.arg(option(alloc, "supp", "F", rules))
 }
 
-/// The step of `run`.
+/// The step of `run`, `sweep` and `certify`.
 fn step_argument<'a>(alloc: Global) -> Arg<'a>
     ensures rule { rule_of result ≡ step_option }
     ensures local { result.global ≡ false }
@@ -153,12 +167,28 @@ fn sweep_command<'a>(alloc: Global) -> Result<Command<'a>, AllocError>
     command.arg(default_option(alloc, "part", "I/N", "1/1", part))
 }
 
+/// The command line with `run`, `session`, `look` and `sweep`.
+fn with_sweep<'a>(alloc: Global) -> Result<Command<'a>, AllocError>
+    ensures { IfOk result (λ command. app_of command ≡ with_sweep) }
+{
+    let sweep = sweep_command(alloc)?;
+    with_look(alloc)?.subcommand(sweep)
+}
+
+/// The command `certify`.
+fn certify_command<'a>(alloc: Global) -> Result<Command<'a>, AllocError>
+    ensures shape { IfOk result (λ command. app_of command ≡ certify_command) }
+    ensures globals { IfOk result (λ command. (out-Command command).has_globals ≡ false) }
+{
+    input_command(alloc, "certify", CERTIFY, AFTER_CERTIFY)?.arg(step_argument(alloc))
+}
+
 /// The whole command line.
 fn make_command<'a>(alloc: Global) -> Result<Command<'a>, AllocError>
     ensures { IfOk result (λ command. app_of command ≡ command_line) }
 {
-    let sweep = sweep_command(alloc)?;
-    with_look(alloc)?.subcommand(sweep)
+    let certify = certify_command(alloc)?;
+    with_sweep(alloc)?.subcommand(certify)
 }
 
 /// Reads the words of a command line, the program's name first. Help and the version are errors whose text goes to standard output.
@@ -211,6 +241,8 @@ fn task_of<'a>(name: &str, chosen: &ArgMatches<'a>) -> Option<Task<'a>>
         Some(Task::Sweep(sweep_of(chosen)?))
     } else if name == "look" {
         Some(Task::Look)
+    } else if name == "certify" {
+        Some(Task::Certify(step_of(chosen)?))
     } else {
         Some(Task::Session)
     }

@@ -3,7 +3,7 @@
 /// What the program is for.
 pub(crate) const ABOUT: &str = "\
 Finds memory errors in static RV32IM programs, and shows what an edit of the run would change.
-It is this program that was proved, not each of its reports";
+Its source is proved: each report is that of one complete run of the edited program";
 
 /// What `run` does.
 pub(crate) const RUN: &str = "Prints the report of a program at a step";
@@ -18,21 +18,29 @@ pub(crate) const LOOK: &str =
 
 /// What `sweep` does.
 pub(crate) const SWEEP: &str =
-    "Makes each edit of an input or of code alone, and writes a table of what each comes to";
+    "Tries every edit of an input or of code, one at a time, and writes a table of the outcomes";
 
-/// A text with what ends the help of each command: statuses and refusals.
-macro_rules! with_refusals {
-    ($text:literal) => {
+/// What `certify` does.
+pub(crate) const CERTIFY: &str =
+    "Says whether what undefined or inaccessible memory holds can change the run";
+
+/// A text with what ends the help of each command: statuses, of which these are done and these come last, and refusals.
+macro_rules! with_statuses {
+    ($text:literal, $done:literal, $last:literal) => {
         concat!(
             $text,
             "
 Exit status:
-  0  the report, the replies or the table was written, or help or the version was asked for
+  0  ",
+            $done,
+            ", or help or the version was asked for
   1  a file or standard input can't be read, or standard output can't be written
   2  a fault of the command line
   3  the program, the suppressions, the input, or what is to be edited is refused, as below
   4  out of memory
-
+",
+            $last,
+            "
 `replaycheck: image refused N`, by the least N that holds:
   20 no ELF file, 21 not of 32 bits, 22 not little-endian, 23 bad version, 24 no executable,
   25 not RISC-V, 26 bad table, 27 asks for an interpreter, 28 bad segment, 29 overlap,
@@ -42,6 +50,13 @@ Exit status:
 `replaycheck: input refused 14`:
   more than 1048576 bytes"
         )
+    };
+}
+
+/// The same, of a command that ends well where it has written what it was asked for.
+macro_rules! with_refusals {
+    ($text:literal) => {
+        with_statuses!($text, "the report, the replies or the table was written", "")
     };
 }
 
@@ -60,19 +75,19 @@ Lines, with one space between fields; a number is decimal, or hexadecimal after 
   goto N                   chooses step N: 0 to 4194304, 0 at first
   report                   answers the report at the chosen step
   input OFFSET BYTE        replaces a byte of the input
-  input append BYTE        puts a byte at the end of the input
-  input cut                takes the last byte off the input
+  input append BYTE        appends a byte to the input
+  input cut                removes the last byte of the input
   patch ADDR WORD          replaces a loaded word, the lowest byte first
   mark STEP ADDR LEN KIND  makes a range defined, undefined or noaccess just before a step
-  unmark I                 takes mark I out, counted from 0; later ones move down
+  unmark I                 removes mark I, counted from 0; later ones move down
   supp on I, supp off I    switches suppression I, counted from 0
-  supp add KIND WORDS..    adds one: a kind, what Param and Leak take, and frame lines as words
+  supp add KIND WORDS..    adds one: its kind, its extra line (for Param and Leak), its frames
   option callers N         shows and groups by N addresses of a trace: 1 to 24, 12 at first
   option redzone N         inaccessible bytes beside each block: 0 to 4096, 16 at first
-  option queue N           bytes of freed blocks that are kept: 0 to 1000000000, 20000000 at first
+  option queue N           bytes of freed blocks that stay: 0 to 1000000000, 20000000 at first
   option show LIST         leak kinds that are shown, between commas: definite, indirect, possible,
                            reachable, all, none; definite,possible at first
-  worked                   answers how many steps were made so far
+  worked                   answers how many steps were executed so far
 
 Each is answered `ok`, the report, `worked N` or `refused N`. A refused line changes nothing but
 the count of lines:
@@ -84,7 +99,7 @@ the count of lines:
   6   a mark of 0 or of more than 1048576 bytes, or one that ends above 2^32
   7   no such mark
   8   no such suppression
-  9   an option that isn't there, or whose value is out of range
+  9   an unknown option, or a value out of range
   10  there are 4096 marks already
   11  a line of more than 4096 bytes
   12  the 100001st line; it ends the session
@@ -105,6 +120,7 @@ and don't count. Each is answered for the chosen step of the run with all edits:
   look registers                the state as in a report, and of x1 to x31 value and undefined bits
   look memory ADDR LEN          LEN bytes, up to 4096, and in a second line their undefined bits;
                                 __ below a byte that may not be accessed
+  look certify                  the line of `replaycheck certify`; here the marks count, too
   look next KIND ADDR LEN END   the first step, from the chosen one on and below END, that does it
   look last KIND ADDR LEN FROM  the last step, before the chosen one and not before FROM, that does
 
@@ -112,7 +128,7 @@ KIND is what a step does with the LEN bytes at ADDR: `run` where its pc is among
 program runs, `error` where it then raises an error, `read` where it reads some of them beside its
 own word, `write` where it writes some, `shadow` where it changes the undefined bits of some or
 whether they may be accessed. A mark is no step.
-The answer is `step N`, or `none`. Refused are, beside want of memory (1):
+The answer is `step N`, or `none`. Refusals, besides out of memory (1):
   2   no look, or a field that is missing, too many, empty or of the wrong form
   5   END or FROM above 4194304
   6   a range of 0 bytes, one that ends above 2^32, or above 4096 bytes for memory or `shadow`
@@ -127,12 +143,12 @@ pub(crate) const AFTER_SWEEP: &str = with_refusals!(
     "\
 With neither --bytes nor --words, all bytes of the input are edited; `--input -` is standard input.
 Numbers are decimal, or hexadecimal after 0x. The places are the bytes, then the words, each at a
-multiple of 4; a table has one part of them. What each gets, but for the value that stands there:
+multiple of 4; a table has one part of them. Each place gets these values, except its own:
   all      each other byte
   flips    each value that differs in one bit
-  edges    0, 1, 0x7f, 0x80, 0xff, one more and one less
+  edges    0, 1, 0x7f, 0x80, 0xff, its own plus 1 and minus 1
   skip     the instruction that does nothing, 0x00000013
-  N,N,..   these numbers, of which none comes twice
+  N,N,..   these numbers, each at most once
 
 The table, which `replaycheck explore` reads:
   sweep 1                   its format; then the lengths and SHA-256 of the files, and what is asked
@@ -150,5 +166,25 @@ Two more refusals:
 
 Example, each other value of the first four bytes:
   replaycheck sweep program.elf --input bytes --bytes 0..3
+"
+);
+
+/// What ends the help of `certify`: what its line says.
+pub(crate) const AFTER_CERTIFY: &str = with_statuses!(
+    "\
+Prints one line on the run up to the step. Where it is
+  clean to step N: ..
+nothing that uninitialised, freed or unmapped memory holds, at power-on or put there between any
+two steps, changes the run: its status, output, errors, heap and reports are the same. Else it is
+  not clean: first use at step N: ..
+with the first error that reads inaccessible bytes or uses undefined ones, as a report names it,
+and its trace. Invalid writes, bad frees and jumps are no uses. Suppressions don't count here.
+Other inputs, later steps, devices and timing are not part of what the line says.
+
+Example:
+  replaycheck certify program.elf --input bytes --step 5000
+",
+    "the run is clean",
+    "  5  the run isn't clean
 "
 );

@@ -24,6 +24,8 @@ pub enum Task<'a> {
     Look,
     /// Every edit alone.
     Sweep(SweepWords<'a>),
+    /// Whether the run is clean up to a step.
+    Certify(u32),
 }
 
 /// The words that say which edits are made, as they were given.

@@ -7,3 +7,4 @@ pub mod Hexadecimals
 pub mod LineFields
 pub mod RowLines
 pub mod StreamSteps
+pub mod VerdictSteps

@@ -21,10 +21,11 @@ use Rattle.driver.specs.Carried.{NoImage, Reports}
 use Rattle.driver.specs.Carried.{Serves, Streams, Untouched}
 use Rattle.driver.specs.Carried.{most_judged, streams}
 use Rattle.ends.specs.Ends.{end_of_serve}
+use Rattle.driver.specs.Certified.{Certifies}
 use Rattle.driver.specs.Once.{IsReportOnce}
 use Rattle.driver.specs.Sweeping.{SweepsImage, SweepsRequest}
 use Rattle.driver.specs.declared.carrying.Action.{Action}
-use Rattle.driver.specs.declared.carrying.Action.TheVariants.{Report}
+use Rattle.driver.specs.declared.carrying.Action.TheVariants.{Report, Certify}
 use Rattle.ends.specs.declared.ends.End.{End}
 use Rattle.ends.specs.declared.ends.End.TheVariants.{Image}
 use Rattle.sweep_plans.specs.declared.request.Request.{Request}
@@ -80,6 +81,14 @@ pub does-report : (action : Action) (step : ℕ) (image : ProgramImage) (list : 
 does-report action step image list input left held-old held-new end is reports =
     subst (λ (done : Action). Does done image list input (streams left held-old) (streams left held-new) end) (sym is)
     (Consumes-nil left, reports)
+
+pub does-certify : (action : Action) (step : ℕ) (image : ProgramImage) (list : List Rule) (input : List ℕ)
+    (left held-old held-new : Option (List ℕ)) (end : End) → action ≡ Certify step
+    → Certifies image input step held-old held-new end
+    → Does action image list input (streams left held-old) (streams left held-new) end
+does-certify action step image list input left held-old held-new end is certifies =
+    subst (λ (done : Action). Does done image list input (streams left held-old) (streams left held-new) end) (sym is)
+    (Consumes-nil left, certifies)
 
 pub does-same : (action other : Action) (image : ProgramImage) (list : List Rule) (input : List ℕ) (old new : Streams)
     (end : End) → action ≡ other

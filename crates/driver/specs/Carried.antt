@@ -16,9 +16,10 @@ use Rattle.replay_session.specs.Stages.{fresh}
 use Rattle.replay_session.specs.Turns.{opening}
 use Rattle.line_server.specs.declared.fault.ServeFault.TheVariants.{ReadFailed, WriteFailed}
 use Rattle.looks.specs.Views.{ViewsLines}
+use Rattle.driver.specs.Certified.{Certifies}
 use Rattle.driver.specs.Once.{IsReportOnce, WritesReport, StopsBy}
 use Rattle.driver.specs.declared.carrying.Action.{Action}
-use Rattle.driver.specs.declared.carrying.Action.TheVariants.{Report, Session, Look}
+use Rattle.driver.specs.declared.carrying.Action.TheVariants.{Report, Session, Look, Certify}
 use Rattle.ends.specs.declared.ends.End.{End}
 use Rattle.ends.specs.declared.ends.End.TheVariants.{Done, CannotRead, CannotReadInput, CannotWrite, Image}
 use Rattle.ends.specs.declared.ends.End.TheVariants.{Suppressions, SuppressionsTooLong, InputTooLarge, NoMemory}
@@ -120,13 +121,15 @@ Serves AreReplies old new CannotWrite =
 Serves AreReplies old new NoMemory = Untouched old new
 Serves AreReplies old new end = ⊥
 
--- what is asked for was done with a program, its suppressions and its input: the report of a step, a session, or one
--- that can be looked at
+-- what is asked for was done with a program, its suppressions and its input: the report of a step, a session, one that
+-- can be looked at, or the verdict up to a step, on which suppressions have no say
 abbrev pub Does : Action → ProgramImage → List Rule → List ℕ → Streams → Streams → End → Type 0
 Does (Report step) image list input old new end =
     Consumes old.left new.left [] × Reports (IsReportOnce image input list step) old.held new.held end
 Does Session image list input old new end = Serves (Answers (fresh (opening image input list))) old new end
 Does Look image list input old new end = Serves (ViewsLines (fresh (opening image input list))) old new end
+Does (Certify step) image list input old new end =
+    Consumes old.left new.left [] × Certifies image input step old.held new.held end
 
 -- with the program and its suppressions: the input is read, and what is asked for done, or the input ends the program
 abbrev pub CarriedWithRules : Giving → Order → Action → ProgramImage → List Rule → Streams → Streams → End → Type 0

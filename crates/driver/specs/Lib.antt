@@ -1,4 +1,5 @@
 pub mod Once
+pub mod Certified
 pub mod Opened
 pub mod Carried
 pub mod Sweeping

@@ -8,7 +8,7 @@ use Rattle.command_line.specs.Orders.{input_path, rules_path}
 use Rattle.command_line.specs.declared.order.Order.{Order}
 use Rattle.command_line.specs.declared.order.SweepWords.{SweepWords}
 use Rattle.command_line.specs.declared.order.Task.{Task}
-use Rattle.command_line.specs.declared.order.Task.TheVariants.{Report, Session, Look, Sweep}
+use Rattle.command_line.specs.declared.order.Task.TheVariants.{Report, Session, Look, Sweep, Certify}
 use Rattle.guest_elf.specs.File.{IsImageOf}
 use Rattle.guest_elf.specs.declared.image.Image.{Image as ProgramImage}
 use Rattle.scenario.specs.Limits.{longest_input, most_steps}
@@ -119,3 +119,4 @@ CarriedOut gives order (Report step) old new end = Carried gives order (Action.R
 CarriedOut gives order Session old new end = Carried gives order Action.Session old new end
 CarriedOut gives order Look old new end = Carried gives order Action.Look old new end
 CarriedOut gives order (Sweep words) old new end = CarriedSweep gives order words old new.held end
+CarriedOut gives order (Certify step) old new end = Carried gives order (Action.Certify step) old new end

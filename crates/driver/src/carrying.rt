@@ -12,6 +12,7 @@ ghost use Rattle.driver.specs.Once.{IsReportOnce};
 ghost use Rattle.driver.specs.Opened.{end_of_input};
 ghost use Rattle.scenario.specs.Limits.{longest_input, most_steps};
 
+use crate::certifying::print_verdict;
 use crate::files::{Files, ReadFault, front_of, read_or_fault};
 use crate::reporting::run_once;
 use command_line::{Order, SweepWords, Task};
@@ -221,9 +222,11 @@ pub(crate) enum Action {
     Session,
     /// A session is served that can also be looked at.
     Look,
+    /// The verdict up to a step is printed.
+    Certify(u32),
 }
 
-/// Follows an order for the report of a step, or for a session: the program is read, then the suppressions, then the input, each judged before the next is read.
+/// Follows an order for the report or the verdict of a step, or for a session: the program is read, then the suppressions, then the input, each judged before the next is read.
 fn follow_order<'a, F: Files, R: Read, W: Write>(
     alloc: Global,
     order: &Order<'a>,
@@ -243,6 +246,7 @@ fn follow_order<'a, F: Files, R: Read, W: Write>(
         Action::Report(step) => print_report(alloc, &image, input, &suppressions, step, writer),
         Action::Session => serve_session(alloc, image, input, suppressions, reader, writer),
         Action::Look => serve_looks(alloc, image, input, suppressions, reader, writer),
+        Action::Certify(step) => print_verdict(alloc, &image, input, step, writer),
     }
 }
 
@@ -329,5 +333,8 @@ pub fn run_order<'a, F: Files, R: Read, W: Write>(
         Task::Session => ended(follow_order(alloc, order, Action::Session, files, reader, writer)),
         Task::Look => ended(follow_order(alloc, order, Action::Look, files, reader, writer)),
         Task::Sweep(words) => ended(follow_sweep(alloc, order, &words, files, reader, writer)),
+        Task::Certify(step) => {
+            ended(follow_order(alloc, order, Action::Certify(step), files, reader, writer))
+        }
     }
 }

@@ -1,4 +1,5 @@
-//! What the program does with an order: files are read, and a report is printed or a session served, over any files, reader and writer.
+//! What the program does with an order: files are read, and a report or a verdict is printed or a session served, over any files, reader
+//! and writer.
 //!
 //! | Call | What it does |
 //! |---|---|
@@ -18,11 +19,12 @@
 //! - [`tell`]: the exit status is that of the end (`status_of`), and what was written is its line (`line_of`), or a front of it.
 //!
 //! A program's file is judged by its first 67,108,865 bytes, and so whole up to 67,108,864: the number of its refusal is the least that
-//! holds of the file. The definitions stand in `specs/`: `Once`, `Opened`, `Carried`, `Sweeping` and `Laws`; how the program ends in those of the crate
+//! holds of the file. The definitions stand in `specs/`: `Once`, `Certified`, `Opened`, `Carried`, `Sweeping` and `Laws`; how the program ends in those of the crate
 //! `ends`, and what a sweep writes in those of `sweep_tables`.
 #![tactic(auto)]
 
 mod carrying;
+mod certifying;
 mod files;
 pub mod laws;
 mod reporting;

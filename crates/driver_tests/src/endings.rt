@@ -120,8 +120,9 @@ fn assert_told(rt: &impl Abort, alloc: Global, rows: &[Told]) {
     }
 }
 
-const ENDS: [Told; 6] = [
+const ENDS: [Told; 7] = [
     (End::Done, 0, b""),
+    (End::NotClean, 5, b""),
     (
         End::CannotRead("a file"),
         1,
@@ -211,6 +212,8 @@ enum Written {
     Around(&'static [u8], &'static [u8]),
     /// A table with this end.
     Table(&'static [u8]),
+    /// A line with this front.
+    Line(&'static [u8]),
 }
 
 /// Whether a text is that.
@@ -219,6 +222,7 @@ fn is_written(text: &[u8], want: &Written) -> bool {
         Written::Nothing => text.is_empty(),
         Written::Around(before, after) => is_around(text, before, after),
         Written::Table(end) => text.ends_with(end),
+        Written::Line(front) => text.starts_with(front) && text.ends_with(b"\n"),
     }
 }
 
@@ -309,8 +313,8 @@ const GOOD_RULES: &[u8] = b"{\n  any\n  Memcheck:Cond\n  fun:*\n}\n";
 
 const BAD_RULES: &[u8] = b"# an empty block\n{\n}\n";
 
-/// A report, a session and one that looks.
-const ORDERS: [Case; 4] = [
+/// A report, a session, one that looks and a verdict.
+const ORDERS: [Case; 5] = [
     (
         "a report",
         ("program", false, Asked::Task(Task::Report(3))),
@@ -338,6 +342,13 @@ const ORDERS: [Case; 4] = [
         b"",
         0,
         Written::Around(b"ok\n", b"step 2\n"),
+    ),
+    (
+        "a verdict",
+        ("program", false, Asked::Task(Task::Certify(3))),
+        b"",
+        0,
+        Written::Line(b"clean to step 3: "),
     ),
 ];
 

@@ -41,6 +41,7 @@ fn is_task(asked: &Task<'_>, want: &Task<'_>) -> bool {
         (Task::Session, Task::Session) => true,
         (Task::Look, Task::Look) => true,
         (Task::Sweep(asked), Task::Sweep(want)) => is_sweep(asked, want),
+        (Task::Certify(step), Task::Certify(at)) => step == at,
         _ => false,
     }
 }
@@ -77,7 +78,7 @@ fn assert_given(rt: &impl Abort, alloc: Global, lines: &[Line]) {
     }
 }
 
-const REPORTS: [Line; 3] = [
+const REPORTS: [Line; 4] = [
     (
         "the usual step",
         &["run", "program"],
@@ -106,6 +107,16 @@ const REPORTS: [Line; 3] = [
             input: None,
             suppressions: None,
             task: Task::Report(0),
+        },
+    ),
+    (
+        "a verdict",
+        &["certify", "f", "--input", "i", "--step", "7"],
+        Order {
+            file: "f",
+            input: Some("i"),
+            suppressions: None,
+            task: Task::Certify(7),
         },
     ),
 ];

@@ -7,7 +7,7 @@ use Rattle.guest_elf.specs.declared.fault.ElfFault.TheVariants.{Memory}
 use Rattle.ends.specs.declared.ends.End.{End}
 use Rattle.ends.specs.declared.ends.End.TheVariants.{Done, CannotRead, CannotReadInput, CannotWrite, Usage, NotText}
 use Rattle.ends.specs.declared.ends.End.TheVariants.{BadText, BytesRefused, WordsRefused, Image, Suppressions}
-use Rattle.ends.specs.declared.ends.End.TheVariants.{SuppressionsTooLong, InputTooLarge, NoMemory}
+use Rattle.ends.specs.declared.ends.End.TheVariants.{SuppressionsTooLong, InputTooLarge, NoMemory, NotClean}
 use Rattle.ends.specs.declared.ends.SweepOption.{SweepOption}
 use Rattle.ends.specs.declared.ends.SweepOption.TheVariants as Sweep
 use Rattle.commands.specs.declared.fault.BeginFault.{BeginFault}
@@ -17,7 +17,7 @@ use Rattle.line_server.specs.declared.fault.ServeFault.TheVariants as Serve
 use Rattle.suppressions.specs.declared.fault.SuppFault.TheVariants as Supp
 
 -- 0: done, 1: a file or standard input cannot be read, or the output written, 2: the command line, 3: the program, the
--- suppressions or the input is refused, 4: no memory
+-- suppressions or the input is refused, 4: no memory, 5: the run isn't clean
 abbrev pub status_of : End → ℕ
 status_of Done = 0
 status_of (CannotRead path) = 1
@@ -35,6 +35,7 @@ status_of (Suppressions (Supp.BadSuppression line)) = 3
 status_of SuppressionsTooLong = 3
 status_of InputTooLarge = 3
 status_of NoMemory = 4
+status_of NotClean = 5
 
 -- a word, what follows it, and a newline
 abbrev pub line_with : List ℕ → List ℕ → List ℕ
@@ -56,7 +57,8 @@ complaint Sweep.Words = codes "replaycheck: no range, list or part: --words "
 complaint Sweep.WordsValues = codes "replaycheck: no range, list or part: --words-values "
 complaint Sweep.Part = codes "replaycheck: no range, list or part: --part "
 
--- the line on standard error: none where all is done, and none for the command line, whose parser has written it
+-- the line on standard error: none where all is done, none for the command line, whose parser has written it, and none
+-- where the run isn't clean, as standard output says why
 abbrev pub line_of : End → List ℕ
 line_of Done = []
 line_of (CannotRead path) = line_with (codes "replaycheck: cannot read ") path.now
@@ -74,6 +76,7 @@ line_of (Suppressions (Supp.BadSuppression line)) =
 line_of SuppressionsTooLong = line_with (codes "replaycheck: suppressions refused 15") []
 line_of InputTooLarge = line_with (codes "replaycheck: input refused 14") []
 line_of NoMemory = no_memory_line
+line_of NotClean = []
 
 -- a line was written, or a front of it
 abbrev pub AppendsFront : Option (List ℕ) → Option (List ℕ) → List ℕ → Type 0

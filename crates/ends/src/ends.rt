@@ -66,6 +66,8 @@ pub enum End<'a> {
     /// An input of more than 1,048,576 bytes.
     InputTooLarge,
     NoMemory,
+    /// The run isn't clean: the line on standard output says why.
+    NotClean,
 }
 
 impl From<ElfFault> for End<'_> {
@@ -124,6 +126,7 @@ pub fn tell<W: Write>(end: &End, writer: &mut W) -> u8
         | End::InputTooLarge
         | End::BytesRefused
         | End::WordsRefused => 3,
+        End::NotClean => 5,
     }
 }
 
@@ -144,7 +147,7 @@ fn pieces_of<'a>(end: End<'a>, digits: &'a mut Buffer) -> Option<(&'a str, &'a [
     ensures { MatchOption result (line_of end.entry ≡ []) (λ pieces. line_of end.entry ≡ line_with pieces.0.now pieces.1.now) }
 {
     let pieces = match end {
-        End::Done | End::Usage => return None,
+        End::Done | End::Usage | End::NotClean => return None,
         End::CannotRead(path) => ("replaycheck: cannot read ", path.as_bytes()),
         End::CannotReadInput => ("replaycheck: cannot read standard input", NOTHING),
         End::CannotWrite => ("replaycheck: cannot write", NOTHING),

@@ -12,7 +12,7 @@ use Rattle.commands.specs.declared.fault.Fault.{Fault}
 use Rattle.commands.specs.declared.fault.Fault.TheVariants.{BadCommand, BadRange, StepLimit}
 use Rattle.look_lines.specs.declared.look.Look.{Look}
 use Rattle.look_lines.specs.declared.look.Search.{Search}
-use Rattle.look_lines.specs.declared.look.Look.TheVariants.{Registers, Memory, Next, Last}
+use Rattle.look_lines.specs.declared.look.Look.TheVariants.{Registers, Memory, Next, Last, Certify}
 
 -- how many bytes a look at memory may show, and a search for a change of what is known of them may watch
 abbrev pub longest_view : ℕ
@@ -45,6 +45,11 @@ unfoldable pub registers_of : List (List ℕ) → Option Look
 registers_of [] = Some Registers
 registers_of (field ∷ more) = None
 
+-- `certify`
+unfoldable pub certify_of : List (List ℕ) → Option Look
+certify_of [] = Some Certify
+certify_of (field ∷ more) = None
+
 -- `memory ADDR LEN`
 unfoldable pub memory_of : List (List ℕ) → Option Look
 memory_of (addr ∷ len ∷ []) = option_map (λ range. Memory range) (span_with (number addr) (number len))
@@ -68,6 +73,7 @@ look_of word more =
     else if bytes_eq word (codes "memory") then memory_of more
     else if bytes_eq word (codes "next") then option_map (λ search. Next search) (search_of more)
     else if bytes_eq word (codes "last") then option_map (λ search. Last search) (search_of more)
+    else if bytes_eq word (codes "certify") then certify_of more
     else None
 
 -- the look of a line's fields, of which the first is `look`
@@ -105,6 +111,7 @@ look_refusal Registers = None
 look_refusal (Memory range) = if is_view range then None else Some BadRange
 look_refusal (Next search) = search_refusal search
 look_refusal (Last search) = search_refusal search
+look_refusal Certify = None
 
 abbrev pub unless : Option Fault → Look → Result Look Fault
 unless None look = Ok look

@@ -3,7 +3,7 @@
 //! | Item | What it is |
 //! |---|---|
 //! | [`asked`] | reads a line as a [`Look`], or says why it is refused |
-//! | [`Look`], [`Search`] | what is asked: registers, memory, the next or the last step that does something |
+//! | [`Look`], [`Search`] | what is asked: registers, memory, the next or the last step that does something, whether the run is clean |
 //! | [`push_registers`], [`push_memory`], [`push_step`] | append what is told: of a machine, or of a step that was found |
 //!
 //! They stand apart from `looks`, which lists the lines and serves them over a session. In `specs/`: `Looks`, the lines; `Texts`, what they are

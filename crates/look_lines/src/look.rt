@@ -22,4 +22,6 @@ pub enum Look {
     Next(Search),
     /// The last step, before the chosen one, that does what is sought.
     Last(Search),
+    /// Whether the run is clean up to the step.
+    Certify,
 }

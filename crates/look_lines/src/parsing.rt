@@ -1,7 +1,7 @@
 //! A line read as a look.
 ghost use Rattle.std.specs.Prelude.{◌≡◌, IfOk, None};
 ghost use Rattle.commands.specs.Commands.{number as number_of};
-ghost use Rattle.look_lines.specs.Looks.{watch_of, asked, is_range, is_view, look_among, look_of, look_refusal, may_watch, memory_of, registers_of, search_of, search_refusal, span_with};
+ghost use Rattle.look_lines.specs.Looks.{watch_of, asked, certify_of, is_range, is_view, look_among, look_of, look_refusal, may_watch, memory_of, registers_of, search_of, search_refusal, span_with};
 
 use crate::look::{Look, Search};
 use checkpoints::{Sought, Watch};
@@ -27,6 +27,8 @@ const MEMORY: &[u8] = b"memory";
 const NEXT: &[u8] = b"next";
 
 const LAST: &[u8] = b"last";
+
+const CERTIFY: &[u8] = b"certify";
 
 /// How many bytes a look at memory may show, and a search for a change of what is known of them may watch.
 const LONGEST_VIEW: u32 = 4096;
@@ -67,6 +69,17 @@ fn registers_of(mut fields: Parts<'_>) -> Option<Look>
 {
     match fields.next() {
         None => Some(Look::Registers),
+        Some(_) => None,
+    }
+}
+
+/// `certify`.
+#[tactic(auto, unfolding(crate::specs::Looks::certify_of))]
+fn certify_of(mut fields: Parts<'_>) -> Option<Look>
+    ensures { result ≡ certify_of fields.entry }
+{
+    match fields.next() {
+        None => Some(Look::Certify),
         Some(_) => None,
     }
 }
@@ -118,6 +131,8 @@ fn look_of(word: &[u8], fields: Parts<'_>) -> Option<Look>
         Some(Look::Next(search_of(fields)?))
     } else if word == LAST {
         Some(Look::Last(search_of(fields)?))
+    } else if word == CERTIFY {
+        certify_of(fields)
     } else {
         None
     }
@@ -174,7 +189,7 @@ fn look_refusal(look: Look) -> Option<Fault>
     ensures { result ≡ look_refusal look }
 {
     match look {
-        Look::Registers => None,
+        Look::Registers | Look::Certify => None,
         Look::Memory(range) => {
             if is_view(range) {
                 None

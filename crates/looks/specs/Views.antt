@@ -3,12 +3,12 @@ use Rattle.std.specs.Prelude.{◌≡◌, ◌⊎◌, ◌&&◌, ℕ, nat_eq, nat_l
 use Rattle.std.specs.Prelude.{Result, Ok, Err, codes, length}
 use Rattle.std.specs.List.{starts_with}
 use Rattle.checkpoints.specs.Searches.{IsNext, IsLast}
-use Rattle.checkpoints.specs.Work.{ReportMoves}
+use Rattle.checkpoints.specs.Work.{ReportMoves, Work, reached}
 use Rattle.line_server.specs.Answers.{AnswersBy}
 use Rattle.line_server.specs.Lines.{longest_line}
 use Rattle.replay_session.specs.Replies.{Replies, is_over, refused_line}
 use Rattle.replay_session.specs.Stages.{Stage}
-use Rattle.replay_session.specs.Session.{Finds}
+use Rattle.replay_session.specs.Session.{Finds, IsVerdictOf}
 use Rattle.replay_session.specs.Texts.{last_text}
 use Rattle.replay_session.specs.Turns.{Turn}
 use Rattle.scenario.specs.Scenario.{Scenario, chosen_state}
@@ -17,15 +17,15 @@ use Rattle.commands.specs.declared.fault.Fault.TheVariants.{Memory}
 use Rattle.look_lines.specs.Looks.{asked}
 use Rattle.look_lines.specs.Texts.{memory_text, registers_text, step_text}
 use Rattle.look_lines.specs.declared.look.Look.{Look}
-use Rattle.look_lines.specs.declared.look.Look.TheVariants.{Registers, Memory, Next, Last}
+use Rattle.look_lines.specs.declared.look.Look.TheVariants.{Registers, Memory, Next, Last, Certify}
 use Rattle.looks.specs.declared.viewer.Viewer.{Viewer}
 
 -- does a line look? One that is too long doesn't, and none does once all lines were given that are answered
 unfoldable pub looks : Turn → List ℕ → Bool
 looks turn line = starts_with nat_eq line (codes "look ") && not (is_over turn) && nat_le (length line) longest_line
 
--- a text is what a look tells at the chosen step of one run from step zero: of its state; or which step from it on is
--- the first, or before it the last, that does what is sought
+-- a text is what a look tells at the chosen step of one run from step zero: of its state; which step from it on is the
+-- first, or before it the last, that does what is sought; or the verdict on the run up to it
 abbrev pub Tells : Scenario → Look → List ℕ → Type 0
 Tells sc Registers text = text ≡ registers_text (chosen_state sc)
 Tells sc (Memory range) text = text ≡ memory_text (chosen_state sc) range
@@ -33,16 +33,22 @@ Tells sc (Next search) text =
     (found : Option ℕ) × IsNext (Finds sc search.sought) sc.step search.bound found × (text ≡ step_text found)
 Tells sc (Last search) text =
     (found : Option ℕ) × IsLast (Finds sc search.sought) search.bound sc.step found × (text ≡ step_text found)
+Tells sc Certify text = IsVerdictOf sc text
+
+-- how a look at a step moves the work: as a report there does. A verdict makes further steps to find the first use
+abbrev pub LookMoves : Look → ℕ → Work → Work → Type 0
+LookMoves Certify n old new = new.last ≡ reached old.last n
+LookMoves look n old new = ReportMoves n old new
 
 -- a look changes nothing that was said, nor whether the trail is short
 pub record Leaves (old new : Stage) : Type 0 where
   pub turn : new.turn ≡ old.turn
   pub short : new.short ≡ old.short
 
--- the reply to a look: what it tells, and the work is moved as by a report at that step; or memory was wanting
+-- the reply to a look: what it tells, and how the work is moved; or memory was wanting
 abbrev pub Told : Stage → Look → List ℕ → Stage → Type 0
 Told old look text new =
-    (Tells old.turn.scenario look text × ReportMoves old.turn.scenario.step old.work new.work)
+    (Tells old.turn.scenario look text × LookMoves look old.turn.scenario.step old.work new.work)
     ⊎ (text ≡ refused_line Memory)
 
 -- the reply to a line that looks, or would but is refused

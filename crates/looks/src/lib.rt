@@ -14,6 +14,7 @@
 //! | `look memory ADDR LEN` | `bytes` and 1 to 4,096 bytes; `undef` and below each its undefined bits, `__` where there is no access |
 //! | `look next KIND ADDR LEN END` | `step N`, the first from the chosen one on and below END that does it, or `none` |
 //! | `look last KIND ADDR LEN FROM` | `step N`, the last before the chosen one and from FROM on that does it, or `none` |
+//! | `look certify` | `clean to step N: ..`, or `not clean: ..` with the first mark or error that stands in the way |
 //!
 //! KIND: `run`, the program runs and pc is in the range; `read`, a byte of it is read, beside the step's own word; `write`, one is written;
 //! `shadow`, the step changes the undefined bits of one, or whether it may be accessed, from its state after its marks to the one before the
@@ -26,7 +27,7 @@
 //!
 //! [`serve`]: what was written is the replies to the lines of all bytes read (`ViewsLines`). A line that looks is told what holds at the
 //! chosen step of **one run from step zero of the edited program** (`Tells`), and leaves what was said as it is; the work is moved as by a
-//! report there. Any other line is answered as in a session (`Replies`).
+//! report there, but that a verdict makes further steps. Any other line is answered as in a session (`Replies`).
 //!
 //! In `specs/`: `Views`, what a look tells, and the reply to any line, over `Looks` and `Texts` of the crate `look_lines`.
 #![tactic(auto)]

@@ -1,11 +1,10 @@
 //! A session that lines are given to one after another, of which some look at its run.
 ghost use Rattle.std.specs.Prelude.{◌≡◌, [], None, OnOk, true};
 ghost use Rattle.checkpoints.specs.Trails.{is_short};
-ghost use Rattle.checkpoints.specs.Work.{ReportMoves};
 ghost use Rattle.replay_session.specs.Session.{scenario_of, trail_of, turn_of};
 ghost use Rattle.replay_session.specs.Work.{work_on};
 ghost use Rattle.look_lines.specs.Looks.{look_refusal};
-ghost use Rattle.looks.specs.Views.{looks, Tells};
+ghost use Rattle.looks.specs.Views.{LookMoves, looks, Tells};
 
 use line_server::{LONGEST_LINE, Listener};
 use look_lines::{Look, asked, push_memory, push_registers, push_step};
@@ -26,7 +25,7 @@ fn show(session: &mut Session<'_>, look: Look, text: &mut Vec<u8>) -> Result<(),
     requires empty { text.old.items ≡ [] }
     ensures tells { OnOk result (Tells (scenario_of session.old) look text.new.items) }
     ensures turn { turn_of session.new ≡ turn_of session.old }
-    ensures work { OnOk result (ReportMoves (scenario_of session.old).step (work_on (trail_of session.old)) (work_on (trail_of session.new))) }
+    ensures work { OnOk result (LookMoves look (scenario_of session.old).step (work_on (trail_of session.old)) (work_on (trail_of session.new))) }
     ensures short { is_short (trail_of session.new) ≡ is_short (trail_of session.old) }
 {
     match look {
@@ -46,6 +45,7 @@ fn show(session: &mut Session<'_>, look: Look, text: &mut Vec<u8>) -> Result<(),
             let found = session.last(search.sought, search.bound)?;
             push_step(text, found)
         }
+        Look::Certify => session.certify(text),
     }
 }
 

@@ -5,3 +5,4 @@ pub mod WorkSteps
 pub mod LeastSteps
 pub mod LawSteps
 pub mod ToldSteps
+pub mod VerdictSteps

@@ -7,6 +7,7 @@ use Rattle.checkpoints.specs.declared.trail.Trail.{Trail}
 use Rattle.replay_report.specs.Report.{AppendsReport}
 use Rattle.scenario.specs.Edits.{row}
 use Rattle.scenario.specs.Scenario.{Scenario, IsReportOf, first_state}
+use Rattle.clean_reports.specs.Lines.{IsVerdictLine}
 use Rattle.replay_session.specs.Turns.{Turn, accepted, applied, changed, passed}
 use Rattle.replay_session.specs.declared.session.Session.{Session}
 use Rattle.commands.specs.declared.fault.Fault.{Fault}
@@ -35,6 +36,10 @@ work_of session = meter_of session.trail
 -- the steps of a scenario's run that do what is sought
 abbrev pub Finds : Scenario → Sought → ℕ → Type 0
 Finds sc sought = Hits sought (first_state sc) sc.setup sc.marks
+
+-- a text is the line of the verdict on a scenario's run up to the chosen step
+abbrev pub IsVerdictOf : Scenario → List ℕ → Type 0
+IsVerdictOf sc text = IsVerdictLine sc.image (first_state sc) sc.setup sc.marks sc.step text
 
 -- memory may be wanting at a report, and at an edit whose row says so
 abbrev pub TakesMemory : Scenario → Command → Type 0

@@ -11,6 +11,7 @@
 //! | [`Session::command`] | answers one line: a [`Reply`], or a [`Fault`] with its number; appends the bytes of a report |
 //! | [`Session::is_over`] | whether all lines were given that are answered |
 //! | [`Session::allocator`] | where its memory comes from |
+//! | [`Session::certify`] | appends the line of the verdict on the run up to the chosen step |
 //! | [`Session::trail`] | the machines that are held, on whose meter each step of a report was made |
 //! | [`serve`] | answers each line of any reader to any writer, or stops with a [`ServeFault`] |
 //! | [`Texts`] | the texts of a session's replies: answers a line of it by one |

@@ -8,6 +8,7 @@ ghost use Rattle.scenario.specs.Scenario.{run_of};
 use crate::reply::Reply;
 use checkpoints::laws::keeps_lower;
 use checkpoints::{Sought, Trail};
+use clean_reports::{certify, push_verdict};
 use commands::{BeginFault, Command, Edit, Fault, parse};
 use guest_elf::Image;
 use guest_machine::{Machine, Meter};
@@ -35,6 +36,7 @@ impl<'a> Session<'a> {
     ghost use Rattle.std.specs.Prelude.{◌≡◌, ◌<◌, ◌↔◌, false, true, IfOk, IfErr, IfNone, OnOk, OnErr, length};
     ghost use Rattle.checkpoints.specs.Searches.{IsLast, IsNext};
     ghost use Rattle.checkpoints.specs.Trails.{is_short};
+    ghost use Rattle.checkpoints.specs.Work.{reached};
     ghost use Rattle.replay_report.specs.Report.{AppendsReport};
     ghost use Rattle.scenario.specs.Edits.{row, IsTaken};
     ghost use Rattle.scenario.specs.Limits.{longest_input};
@@ -42,7 +44,7 @@ impl<'a> Session<'a> {
     ghost use Rattle.scenario.specs.Scenario.{IsReportOf, chosen_state};
     ghost use Rattle.commands.specs.Commands.{Reads};
     ghost use Rattle.replay_session.specs.Replies.{is_over};
-    ghost use Rattle.replay_session.specs.Session.{Carried, Finds, Meets, scenario_of, turn_of, trail_of, work_of};
+    ghost use Rattle.replay_session.specs.Session.{Carried, Finds, IsVerdictOf, Meets, scenario_of, turn_of, trail_of, work_of};
     ghost use Rattle.replay_session.specs.Turns.{accepted, changed, command_refusal, counted, opening, passed};
     ghost use Rattle.replay_session.specs.Work.{MayShorten, MovesWork, Works, WorksLine, work_on, no_work};
 
@@ -231,6 +233,24 @@ impl<'a> Session<'a> {
             self.scenario.marks(),
             &mut Meter::new(),
         )
+    }
+
+    /// Appends the line of the verdict on the run up to the chosen step. The trail holds machines as after a report. The steps that find the
+    /// first use are made on its meter too.
+    #[tactic(auto, unfolding(crate::specs::Session::turn_of, crate::specs::Session::trail_of))]
+    pub fn certify(&mut self, out: &mut Vec<u8>) -> Result<(), AllocError>
+        ensures turn { turn_of self.new ≡ turn_of self.old }
+        ensures tells { OnOk result (AppendsReport (IsVerdictOf (scenario_of self.old)) out.old.items out.new.items) }
+        ensures work { OnOk result ((work_on (trail_of self.new)).last ≡ reached (work_on (trail_of self.old)).last (scenario_of self.old).step) }
+        ensures short { is_short (trail_of self.new) ≡ is_short (trail_of self.old) }
+    {
+        let verdict = certify(
+            &mut self.trail,
+            self.scenario.setup(),
+            self.scenario.marks(),
+            self.scenario.step(),
+        )?;
+        push_verdict(out, self.scenario.image(), self.scenario.step(), &verdict)
     }
 
     /// Appends the report at the chosen step.

@@ -55,6 +55,36 @@ fn read_answers_100_000(alloc: Global, file: &[u8], out: &mut Vec<u8>) -> bool {
     }
 }
 
+/// Whether a session tells that its run is clean up to step 3.
+fn tells_clean(session: &mut Session<'_>, out: &mut Vec<u8>) -> bool {
+    session.command(b"goto 3", out) == Ok(Reply::Done)
+        && session.certify(out).is_ok()
+        && out.as_slice().starts_with(b"clean to step 3: ")
+}
+
+/// Whether a session on an image does.
+fn begun_tells_clean(alloc: Global, image: Image<'_>, out: &mut Vec<u8>) -> bool {
+    match Session::begin(alloc, image, Vec::new(alloc), Vec::new(alloc)) {
+        Ok(mut session) => tells_clean(&mut session, out),
+        Err(_) => false,
+    }
+}
+
+/// The same on a new file.
+fn tells_clean_anew(alloc: Global) -> Result<bool, AllocError> {
+    let file = program(alloc, &EXITS)?;
+    let mut out = Vec::new(alloc);
+    match read(alloc, &file) {
+        Ok(image) => Ok(begun_tells_clean(alloc, image, &mut out)),
+        Err(_) => Ok(false),
+    }
+}
+
+#[test]
+fn a_clean_run(rt: HostRuntime) {
+    assert!(rt; matches!(tells_clean_anew(rt.alloc()), Ok(true)));
+}
+
 /// The same on a new file.
 fn answers_100_000_anew(alloc: Global) -> Result<bool, AllocError> {
     let file = program(alloc, &EXITS)?;

@@ -140,6 +140,17 @@ def with_places(shown, options):
     return shown
 
 
+def verdict_line(options):
+    """The line of `look certify` on the run, by a look with its options of the heap; nothing where the files can't be read twice."""
+    if not all(os.path.isfile(it) for it in (options.file, options.input) if it is not None):
+        return ""
+    lines = [f"option {name} {getattr(options, name)}" for name in ("redzone", "queue") if getattr(options, name) is not None]
+    words = [program(), "look", *(["--input", path_of(options.input)] if options.input is not None else []), path_of(options.file)]
+    given = "".join(f"{line}\n" for line in [*lines, f"goto {options.step}", "look certify"]).encode()
+    _, told, _ = outcome(words, given)
+    return told.decode("utf-8", "surrogateescape").rstrip("\n").rpartition("\n")[2]
+
+
 def version():
     """The version of the program."""
     return outcome([program(), "--version"])[1].decode("utf-8", "replace").strip().removeprefix("replaycheck ")
@@ -152,6 +163,7 @@ def formatted(told, options, heap):
     from replaycheck.reports import Lines, read_report
     shown = Shown(read_report(Lines(told)), options.file, options.input, options.errors_for_leak_kinds[1], heap, options.require_heap)
     shown.version = version() if options.format == "sarif" else None
+    shown.verdict = verdict_line(options) if options.format == "json" else ""
     return formats.FORMATS[options.format](with_places(shown, options))
 
 

@@ -69,7 +69,7 @@ class Shown:
     def __init__(self, report: Report, file: str, given: str | None, leaks_that_count, heap=None, needs_heap=False):
         self.report, self.file, self.given = report, file, given
         self.leaks_that_count, self.heap, self.needs_heap = leaks_that_count, heap, needs_heap
-        self.made, self.places = {}, None
+        self.made, self.places, self.verdict = {}, None, ""
 
     def show(self, places):
         """Finds the places of all addresses."""

@@ -5,6 +5,7 @@ from _json import encode_basestring_ascii as quoted  # the module json, and what
 from replaycheck.endings import Fault
 from replaycheck.findings import RULES, RUNNING
 from replaycheck.records import kept
+from replaycheck.reports import Frame
 from replaycheck.verdicts import LEAK_KINDS, SUMS
 
 JSON_VERSION = 1
@@ -67,6 +68,19 @@ def note_object(note, trace):
     return {"address": note.address, "text": note.place, "block": block}
 
 
+def verdict_object(line, trace):
+    """What a line of `look certify` says, with the source lines of a first use; None of any other line."""
+    front, _, told = line.partition(": ")
+    if front.startswith("clean to step "):
+        return {"clean": True, "first_use": None}
+    first, is_use, rest = told.partition(": ")
+    if front != "not clean" or not is_use:
+        return None
+    frames = [frame.partition(": ") for frame in rest.rpartition(" at ")[2].split(", by ")]
+    frames = [Frame(address, name) for address, _, name in frames]
+    return {"clean": False, "first_use": {"step": int(first.rpartition(" ")[2]), "text": rest.rpartition(" at ")[0], "trace": trace(frames)}}
+
+
 def json_text(shown):
     report = shown.report
 
@@ -80,6 +94,7 @@ def json_text(shown):
                   "status": report.state.status},
         "ended": report.state.name != "running",
         "read": report.position, "length": report.length, "written": report.written,
+        "certify": verdict_object(shown.verdict, trace),
         "heap": shown.heap and {"known": shown.heap.known, "functions": shown.heap.functions},
         "errors": [{"kind": it.kind, "text": it.text, "count": it.count, "trace": trace(it.trace),
                     "note": note_object(it.note, trace(it.note.trace) if it.note else [])} for it in report.errors],

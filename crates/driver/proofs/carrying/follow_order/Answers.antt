@@ -1,6 +1,6 @@
 use Rattle.std.proofs.Common.{inl, inr, List, subst}
 use Rattle.ends.proofs.EndSteps.{passed-on}
-use Rattle.driver.proofs.Stages.{does-report, does-same, no-image, untouched, with-all, with-image}
+use Rattle.driver.proofs.Stages.{does-certify, does-report, does-same, no-image, untouched, with-all, with-image}
 use Rattle.driver.specs.Carried.{Reports}
 use Rattle.ends.specs.Ends.{end_of}
 use Rattle.driver.specs.Once.{IsReportOnce}
@@ -53,9 +53,16 @@ returns-in-Session g c =
     c.in_ok-suppressions.ensures.ok c.in_ok-input.ensures.ok
     (does-same _ Session _ _ _ _ _ _ c.in-Session.is c.serve_session.ensures)
 
+pub returns-in-Look : goal.returns-in-Look
+returns-in-Look g c =
+    with-all (g.F.Files.gives c.args.files.now) c.args.order.now c.args.action _ _ _ _ _ _ _ _ c.in_ok-file.ensures.ok
+    c.deref.ensures.value c.in_ok-image.ensures.image
+    c.in_ok-suppressions.ensures.ok c.in_ok-input.ensures.ok
+    (does-same _ Look _ _ _ _ _ _ c.in-Look.is c.serve_looks.ensures)
+
 pub returns : goal.returns
 returns g c =
     with-all (g.F.Files.gives c.args.files.now) c.args.order.now c.args.action _ _ _ _ _ _ _ _ c.in_ok-file.ensures.ok
     c.deref.ensures.value c.in_ok-image.ensures.image
     c.in_ok-suppressions.ensures.ok c.in_ok-input.ensures.ok
-    (does-same _ Look _ _ _ _ _ _ c.in-Look.is c.serve_looks.ensures)
+    (does-certify _ c.in-Certify.step _ _ _ _ _ _ _ c.in-Certify.is c.print_verdict.ensures)

@@ -11,3 +11,6 @@ returns-in-Look g c = rw (c.in-Look.is, c.ended-in-Look.ensures) c.follow_order-
 
 pub returns-in-Sweep : goal.returns-in-Sweep
 returns-in-Sweep g c = rw (c.in-Sweep.is, c.ended-in-Sweep.ensures) c.follow_sweep.ensures
+
+pub returns-in-Certify : goal.returns-in-Certify
+returns-in-Certify g c = rw (c.in-Certify.is, c.ended-in-Certify.ensures) c.follow_order-in-Certify.ensures

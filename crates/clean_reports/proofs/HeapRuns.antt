@@ -1,0 +1,160 @@
+-- The heap stays open and closed, by induction over the steps of a run.
+use Rattle.std.proofs.Common.{◌≡◌, ℕ, zero, suc, ◌+◌, ◌<◌, ◌≤◌, ◌∷◌, ◌==◌, Bool, true, false, cond, refl, sym, ◌⊎◌, inr}
+use Rattle.std.proofs.Common.{ap, ◌∙◌, subst, arith, List, [], filter, fold, inl, Option, Some, None}
+use Rattle.std.specs.Prelude.{is_some}
+use Rattle.std.proofs.lemmas.Bool.{false≢true}
+use Rattle.shadow_memory.specs.Ranges.{above, is_in, changed_in}
+use Rattle.shadow_memory.specs.Shadows.{Shadow, shadow_of, made_so, first_inaccessible}
+use Rattle.shadow_memory.specs.declared.cells.RangeKind.{RangeKind}
+use Rattle.shadow_memory.specs.declared.cells.RangeKind.TheVariants.{NoAccess, Undefined, Defined}
+use Rattle.memory_map.specs.Regions.{heap_begin, heap_end}
+use Rattle.guest_heap.proofs.LawSteps.{keeps-region}
+use Rattle.guest_heap.proofs.ApartLaws.{keeps-apart}
+use Rattle.guest_elf.specs.declared.image.Image.{Image}
+use Rattle.guest_elf.specs.Images.{loaded_at}
+use Rattle.run_values.specs.declared.mark.Mark.{Mark}
+use Rattle.guest_machine.specs.State.{Core, State}
+use Rattle.guest_machine.specs.Errors.{event_about, here}
+use Rattle.guest_machine.specs.Run.{marked, after_marks, pre, post, start_state, stack_start, image_shadows}
+use Rattle.guest_machine.specs.declared.setup.Setup.{Setup}
+use Rattle.clean_reports.specs.Disturbed.{IsStartOf}
+use Rattle.clean_reports.specs.Heap.{BlocksAreOpen, HeapIsOpen, HeapIsClosed}
+use Rattle.clean_reports.specs.Marks.{HideNothing, MissTheHeap, MissesHeap, hides}
+use Rattle.clean_reports.specs.Laws.{HeapStaysOpen, HeapStaysClosed, AccessesAreLive}
+use Rattle.clean_reports.proofs.Memory.{accessible-from}
+use Rattle.clean_reports.proofs.Blocks.{made-outside, is-outside}
+use Rattle.clean_reports.proofs.HeapSteps.{Stands, LeavesHeap, on, steps}
+use Rattle.clean_reports.proofs.Programs.{none-in-heap}
+
+-- marks --
+
+-- a mark that hides nothing leaves bytes accessible
+seen-same : (kind : RangeKind) → hides kind ≡ false → (shadow_of kind).accessible ≡ true
+seen-same NoAccess e = absurd (false≢true (sym e))
+seen-same Undefined e = refl
+seen-same Defined e = refl
+
+-- a mark outside of the heap region leaves it as it is
+missed-marked : (s : State) (mark : Mark) → MissesHeap mark → LeavesHeap s.core (marked s mark).core
+unfolding marked
+missed-marked s mark miss = record {
+  blocks = refl;
+  same = λ a low high. ap (λ (x : Shadow). x.accessible) (made-outside s.core.shadow mark.addr mark.len a mark.kind
+      (miss a low high));
+}
+
+seen-marked : (s : State) (mark : Mark) → hides mark.kind ≡ false → HeapIsOpen s.core → HeapIsOpen (marked s mark).core
+unfolding marked made_so changed_in
+seen-marked s mark seen h = record {
+  region = h.region;
+  apart = h.apart;
+  fits = h.fits;
+  opened = λ p b there i k. go (is_in mark.addr mark.len (p + i)) (h.opened p b there i k);
+}
+  where
+    go : {a : ℕ} (t : Bool) → (s.core.shadow a).accessible ≡ true
+        → (cond t (shadow_of mark.kind) (s.core.shadow a)).accessible ≡ true
+    go true was = seen-same mark.kind seen
+    go false was = was
+
+open-marked : (s : State) (mark : Mark) → (hides mark.kind ≡ false) ⊎ MissesHeap mark → HeapIsOpen s.core
+    → HeapIsOpen (marked s mark).core
+open-marked s mark (inl seen) h = seen-marked s mark seen h
+open-marked s mark (inr miss) h = (on false s.core (marked s mark).core (missed-marked s mark miss) (h, tt)).0
+
+open-marks : (k : ℕ) (marks : List Mark) (s : State) → HideNothing marks → HeapIsOpen s.core
+    → HeapIsOpen (fold marked s (filter (λ m. m.step == k) marks)).core
+open-marks k [] s hide h = h
+open-marks k (m ∷ ms) s hide h = go (m.step == k) (λ t g. open-marks k ms t hide.1 g)
+  where
+    go : (b : Bool)
+        → ((t : State) → HeapIsOpen t.core → HeapIsOpen (fold marked t (filter (λ m. m.step == k) ms)).core)
+        → HeapIsOpen (fold marked s (cond b (m ∷ filter (λ m. m.step == k) ms) (filter (λ m. m.step == k) ms))).core
+    go true rest = rest (marked s m) (open-marked s m hide.0 h)
+    go false rest = rest s h
+
+missed-marks : (k : ℕ) (marks : List Mark) (s : State) → MissTheHeap marks → Stands true s.core
+    → Stands true (fold marked s (filter (λ m. m.step == k) marks)).core
+missed-marks k [] s miss h = h
+missed-marks k (m ∷ ms) s miss h = go (m.step == k) (λ t g. missed-marks k ms t miss.1 g)
+  where
+    go : (b : Bool)
+        → ((t : State) → Stands true t.core → Stands true (fold marked t (filter (λ m. m.step == k) ms)).core)
+        → Stands true (fold marked s (cond b (m ∷ filter (λ m. m.step == k) ms) (filter (λ m. m.step == k) ms))).core
+    go true rest = rest (marked s m) (on true s.core (marked s m).core (missed-marked s m miss.0) h)
+    go false rest = rest s h
+
+-- the start --
+
+-- no block is live at the start
+image-open : (image : Image) → HeapIsOpen (start_state image).core
+unfolding start_state
+image-open image = record {
+  region = keeps-region.none;
+  apart = keeps-apart.none;
+  fits = λ p b there. cc;
+  opened = λ p b there i k. cc;
+}
+
+-- and no byte of the heap region is loaded
+image-closed : (image : Image) → ((a : ℕ) → heap_begin ≤ a → a < heap_end → loaded_at image a ≡ None)
+    → HeapIsClosed (start_state image).core
+unfolding start_state
+image-closed image none a low high can =
+    let out = made-outside (image_shadows image) stack_start 16 a Defined
+    (is-outside stack_start 16 a (inl (omega arith)) (omega arith)) in
+    let hidden : (image_shadows image a).accessible ≡ false =
+    ap (λ o. (cond (is_some o) (shadow_of Defined) (shadow_of NoAccess)).accessible) (none a low high) in
+    absurd (false≢true (sym (ap (λ (s : Shadow). s.accessible) out ∙ hidden) ∙ can))
+
+-- runs --
+
+module _ (start : State) (setup : Setup) (marks : List Mark) where
+  runs-open : HideNothing marks → HeapIsOpen start.core → (k : ℕ) → HeapIsOpen (post start setup marks k).core
+  unfolding post after_marks pre
+  runs-open hide begins k = open-marks k marks (pre start setup marks k) hide (before k)
+    where
+      before : (k : ℕ) → HeapIsOpen (pre start setup marks k).core
+      before zero = begins
+      before (suc k) =
+          (steps false setup (after_marks k marks (pre start setup marks k))
+          (open-marks k marks (pre start setup marks k) hide (before k), tt)).0
+
+  runs-closed : MissTheHeap marks → Stands true start.core → (k : ℕ) → Stands true (post start setup marks k).core
+  unfolding post after_marks pre
+  runs-closed miss begins k = missed-marks k marks (pre start setup marks k) miss (before k)
+    where
+      before : (k : ℕ) → Stands true (pre start setup marks k).core
+      before zero = begins
+      before (suc k) =
+          steps true setup (after_marks k marks (pre start setup marks k))
+          (missed-marks k marks (pre start setup marks k) miss (before k))
+
+pub heap-stays-open : HeapStaysOpen
+heap-stays-open image start setup marks begins hide =
+    runs-open start setup marks hide (subst HeapIsOpen (sym begins.core) (image-open image))
+
+pub heap-stays-closed : HeapStaysClosed
+heap-stays-closed file image start setup marks is begins miss =
+    runs-closed start setup marks miss (subst (Stands true) (sym begins.core)
+    (image-open image, image-closed image (none-in-heap file image is)))
+
+pub accesses-are-live : AccessesAreLive
+unfolding event_about
+accesses-are-live core kind start n closed none i h low high =
+    closed (above start i) low high
+    (accessible-from core.shadow start n (go (first_inaccessible core.shadow start n) none) i h)
+  where
+    go : (o : Option ℕ) → event_about core.blocks (here core) kind o ≡ [] → o ≡ None
+    go None e = refl
+    go (Some a) e = cc
+
+-- the blocks of an open heap are open
+pub blocks-open : (c : Core) → HeapIsOpen c → BlocksAreOpen c
+blocks-open c h = record {
+  region = h.region;
+  opened = λ p b there i k.
+      (let fits = h.fits p b there in
+      let flat : above p i ≡ p + i = omega arith in
+      ap (λ a. (c.shadow a).accessible) flat ∙ h.opened p b there i k);
+}

@@ -1,0 +1,181 @@
+-- Runs agree, by induction over their steps.
+use Rattle.std.proofs.Common.{◌≡◌, ℕ, zero, suc, ◌<◌, Bool, true, false, cond, refl, sym, ap, ◌∙◌, subst}
+use Rattle.std.proofs.Common.{arith, List, [], ◌∷◌, filter, fold, ◌==◌}
+use Rattle.std.proofs.lemmas.Bool.{false≢true}
+use Rattle.std.specs.Int.{bit_at}
+use Rattle.definedness.specs.declared.Bits.{Bits}
+use Rattle.shadow_memory.specs.Shadows.{Shadow, made_so}
+use Rattle.shadow_memory.specs.declared.cells.RangeKind.{RangeKind}
+use Rattle.shadow_memory.specs.declared.cells.RangeKind.TheVariants.{Defined}
+use Rattle.run_values.specs.declared.mark.Mark.{Mark}
+use Rattle.guest_machine.specs.State.{State}
+use Rattle.guest_machine.specs.Exec.{exec}
+use Rattle.guest_machine.specs.Run.{marked, marks_at, after_marks, pre, post}
+use Rattle.guest_machine.specs.declared.setup.Setup.{Setup}
+use Rattle.clean_reports.specs.Agreement.{ValuesAgree, MemoriesAgree, StatesAgree}
+use Rattle.clean_reports.specs.Uses.{NoUse}
+use Rattle.clean_reports.specs.Heap.{BlocksAreOpen}
+use Rattle.clean_reports.specs.Disturbed.{IsDisturbed}
+use Rattle.clean_reports.specs.Marks.{DefineNothing, defines}
+use Rattle.clean_reports.proofs.Memory.{made-agrees}
+use Rattle.clean_reports.proofs.Registers.{left-none}
+use Rattle.clean_reports.proofs.Steps.{StepAgrees}
+
+-- agreement is transitive and symmetric --
+
+values-trans : (x y z : Bits) → ValuesAgree x y → ValuesAgree y z → ValuesAgree x z
+values-trans x y z p q = record {
+  undef = p.undef ∙ q.undef;
+  value = λ i h clear. p.value i h clear ∙ q.value i h (ap (λ n. bit_at n i) (sym p.undef) ∙ clear);
+  one = p.one;
+  other = q.other;
+}
+
+memories-trans : (shadows : ℕ → Shadow) (f g h : ℕ → ℕ) → MemoriesAgree shadows f g → MemoriesAgree shadows g h
+    → MemoriesAgree shadows f h
+memories-trans shadows f g h p q = record {
+  each = λ a opened i l clear. p.each a opened i l clear ∙ q.each a opened i l clear;
+  bits = p.bits;
+  one = p.one;
+  other = q.other;
+}
+
+pub states-trans : (s t u : State) → StatesAgree s t → StatesAgree t u → StatesAgree s u
+states-trans s t u p q = record {
+  memory = memories-trans s.core.shadow s.bytes t.bytes u.bytes p.memory
+      (subst (λ x. MemoriesAgree x t.bytes u.bytes) (sym p.shadow) q.memory);
+  registers = record {
+    count = p.registers.count ∙ q.registers.count;
+    each = λ r. values-trans _ _ _ (p.registers.each r) (q.registers.each r);
+  };
+  shadow = p.shadow ∙ q.shadow;
+  pc = p.pc ∙ q.pc;
+  status = p.status ∙ q.status;
+  frames = p.frames ∙ q.frames;
+  blocks = p.blocks ∙ q.blocks;
+  position = p.position ∙ q.position;
+  end_seen = p.end_seen ∙ q.end_seen;
+  output = p.output ∙ q.output;
+  heap_calls = p.heap_calls ∙ q.heap_calls;
+  events = p.events ∙ q.events;
+}
+
+-- symmetric
+values-sym : (x y : Bits) → ValuesAgree x y → ValuesAgree y x
+values-sym x y v = record {
+  undef = sym v.undef;
+  value = λ i h clear. sym (v.value i h (ap (λ n. bit_at n i) v.undef ∙ clear));
+  one = v.other;
+  other = v.one;
+}
+
+pub states-sym : (s t : State) → StatesAgree s t → StatesAgree t s
+states-sym s t d = record {
+  memory = subst (λ x. MemoriesAgree x t.bytes s.bytes) d.shadow (record {
+    each = λ a can i h clear. sym (d.memory.each a can i h clear);
+    bits = d.memory.bits;
+    one = d.memory.other;
+    other = d.memory.one;
+  });
+  registers = record { count = sym d.registers.count; each = λ r. values-sym _ _ (d.registers.each r) };
+  shadow = sym d.shadow;
+  pc = sym d.pc;
+  status = sym d.status;
+  frames = sym d.frames;
+  blocks = sym d.blocks;
+  position = sym d.position;
+  end_seen = sym d.end_seen;
+  output = sym d.output;
+  heap_calls = sym d.heap_calls;
+  events = sym d.events;
+}
+
+-- marks that define nothing keep agreement --
+
+loose-kind : (kind : RangeKind) → defines kind ≡ false → kind ≡ Defined → ⊥
+loose-kind kind e is = false≢true (sym e ∙ ap defines is)
+
+mark-agrees : (s t : State) (mark : Mark) → defines mark.kind ≡ false → StatesAgree s t
+    → StatesAgree (marked s mark) (marked t mark)
+unfolding marked
+mark-agrees s t mark loose d = record {
+  memory = made-agrees s.core.shadow s.bytes t.bytes d.memory mark.addr mark.len mark.kind (loose-kind mark.kind loose);
+  registers = d.registers;
+  shadow = ap (λ x. made_so x mark.addr mark.len mark.kind) d.shadow;
+  pc = d.pc;
+  status = d.status;
+  frames = d.frames;
+  blocks = d.blocks;
+  position = d.position;
+  end_seen = d.end_seen;
+  output = d.output;
+  heap_calls = d.heap_calls;
+  events = d.events;
+}
+
+-- the marks of step k, in order
+marks-agree : (k : ℕ) (marks : List Mark) (s t : State) → DefineNothing marks → StatesAgree s t
+    → StatesAgree (fold marked s (filter (λ m. m.step == k) marks)) (fold marked t (filter (λ m. m.step == k) marks))
+marks-agree k [] s t loose d = d
+marks-agree k (m ∷ ms) s t loose d =
+    go (m.step == k) (λ s t d. marks-agree k ms s t loose.1 d)
+  where
+    go : (b : Bool)
+        → ((s t : State) → StatesAgree s t
+        → StatesAgree (fold marked s (filter (λ m. m.step == k) ms)) (fold marked t (filter (λ m. m.step == k) ms)))
+        → StatesAgree (fold marked s (cond b (m ∷ filter (λ m. m.step == k) ms) (filter (λ m. m.step == k) ms)))
+        (fold marked t (cond b (m ∷ filter (λ m. m.step == k) ms) (filter (λ m. m.step == k) ms)))
+    go true rest = rest (marked s m) (marked t m) (mark-agrees s t m loose.0 d)
+    go false rest = rest s t d
+
+pub after-agree : (k : ℕ) (marks : List Mark) (s t : State) → DefineNothing marks → StatesAgree s t
+    → StatesAgree (after_marks k marks s) (after_marks k marks t)
+unfolding after_marks
+after-agree k marks s t loose d = marks-agree k marks s t loose d
+
+-- marks raise no errors
+fold-events : (marks : List Mark) (s : State) → (fold marked s marks).events ≡ s.events
+unfolding marked
+fold-events [] s = refl
+fold-events (m ∷ ms) s = fold-events ms (marked s m)
+
+pub marks-events : (k : ℕ) (marks : List Mark) (s : State) → (after_marks k marks s).events ≡ s.events
+unfolding after_marks
+marks-events k marks s = fold-events (marks_at k marks) s
+
+-- a use before a step is one after it
+pub fewer : (s : State) (setup : Setup) → NoUse (exec s setup).events → NoUse s.events
+unfolding exec
+fewer s setup none = left-none s.events _ none
+
+module _ (start : State) (setup : Setup) (law : StepAgrees setup) (marks : List Mark) (states : ℕ → State)
+    (loose : DefineNothing marks) where
+  -- a disturbed run agrees at each step up to its last
+  pub runs-agree : (n : ℕ) → IsDisturbed start setup marks n states
+      → ((k : ℕ) → k < n → BlocksAreOpen (post start setup marks k).core)
+      → NoUse (pre start setup marks n).events → StatesAgree (pre start setup marks n) (states n)
+  unfolding pre post
+  runs-agree zero run opened none = run.first
+  runs-agree (suc k) run opened none =
+      let before = fewer (after_marks k marks (pre start setup marks k)) setup none in
+      let earlier = subst NoUse (marks-events k marks (pre start setup marks k)) before in
+      let shorter : IsDisturbed start setup marks k states =
+      record { first = run.first; next = λ j h. run.next j (omega arith) } in
+      let here = runs-agree k shorter (λ j h. opened j (omega arith)) earlier in
+      let stepped = law (after_marks k marks (pre start setup marks k)) (after_marks k marks (states k))
+      (opened k (omega arith)) (after-agree k marks (pre start setup marks k) (states k) loose here) none in
+      states-trans _ _ _ stepped (run.next k (omega arith))
+
+-- a run from another start, with nothing disturbed between steps
+module _ (start other : State) (setup : Setup) (law : StepAgrees setup) (marks : List Mark)
+    (loose : DefineNothing marks) (first : StatesAgree start other) where
+  pub begun : (n : ℕ) → ((k : ℕ) → k < n → BlocksAreOpen (post start setup marks k).core)
+      → NoUse (pre start setup marks n).events → StatesAgree (pre start setup marks n) (pre other setup marks n)
+  unfolding pre post
+  begun zero opened none = first
+  begun (suc k) opened none =
+      let before = fewer (after_marks k marks (pre start setup marks k)) setup none in
+      let earlier = subst NoUse (marks-events k marks (pre start setup marks k)) before in
+      let here = begun k (λ j h. opened j (omega arith)) earlier in
+      law (after_marks k marks (pre start setup marks k)) (after_marks k marks (pre other setup marks k))
+      (opened k (omega arith)) (after-agree k marks (pre start setup marks k) (pre other setup marks k) loose here) none

@@ -1,0 +1,120 @@
+-- Verdicts: what marks do, and what is certified.
+use Rattle.std.proofs.Common.{◌≡◌, ℕ, ◌+◌, ◌-◌, ◌^◌, ◌<◌, ◌≤◌, ◌⊎◌, ◌||◌, ◌&&◌, Bool, true, false, cond, refl, sym, ap}
+use Rattle.std.proofs.Common.{◌∙◌}
+use Rattle.std.proofs.Common.{arith, subst, List, [], ◌∷◌, Option, Some, None, inl, inr, nat_lt, find}
+use Rattle.std.specs.List.{list_any}
+use Rattle.std.specs.Option.{option_map}
+use Rattle.std.proofs.lemmas.Bool.{or_parts}
+use Rattle.std.proofs.lemmas.Bool.Decides.{nat_tests}
+use Rattle.error_events.specs.Groups.{group_of, grouped}
+use Rattle.error_events.specs.declared.event.Event.{Event}
+use Rattle.error_events.specs.declared.event.Group.{Group}
+use Rattle.guest_elf.specs.declared.image.Image.{Image}
+use Rattle.memory_map.specs.Regions.{heap_begin, heap_end}
+use Rattle.shadow_memory.specs.Ranges.{is_in, offset}
+use Rattle.run_values.specs.declared.mark.Mark.{Mark}
+use Rattle.guest_machine.specs.State.{State}
+use Rattle.guest_machine.specs.Run.{post, pre}
+use Rattle.guest_machine.specs.declared.setup.Setup.{Setup}
+use Rattle.clean_reports.specs.Disturbed.{HasBytes, IsStartOf}
+use Rattle.clean_reports.specs.Marks.{DefineNothing, HideNothing, MissesHeap, defines, hides, is_in_the_way, meets_heap}
+use Rattle.clean_reports.specs.Uses.{NoUse, first_use, is_use}
+use Rattle.clean_reports.specs.Verdicts.{IsCertified, IsFirstUse, NoneInTheWay, RaisesFirstUse}
+use Rattle.clean_reports.specs.declared.verdict.FirstUse.{FirstUse}
+use Rattle.clean_reports.proofs.Clean.{run-agrees}
+use Rattle.clean_reports.proofs.Groups.{first-group, none-is-use}
+use Rattle.clean_reports.proofs.Halving.{marked-events}
+use Rattle.clean_reports.proofs.Reports.{reports-agree}
+use Rattle.clean_reports.proofs.Runs.{states-sym}
+use Rattle.clean_reports.proofs.Steps.{step-agrees}
+
+-- marks none of which stands in the way --
+
+misses : (addr len a : ℕ) → is_in addr len heap_begin ≡ false
+    → (nat_lt 0 len && is_in heap_begin (heap_end - heap_begin) addr) ≡ false → heap_begin ≤ a → a < heap_end
+    → is_in addr len a ≡ false
+misses addr len a one other low high = grind (arith, nat_tests)
+
+misses-heap : (mark : Mark) → meets_heap mark ≡ false → MissesHeap mark
+misses-heap mark e a low high =
+    let parts = or_parts (is_in mark.addr mark.len heap_begin) _ e in
+    misses mark.addr mark.len a parts.0 parts.1 low high
+
+either : (b : Bool) (mark : Mark) → hides mark.kind ≡ b → (b && meets_heap mark) ≡ false
+    → (hides mark.kind ≡ false) ⊎ MissesHeap mark
+either false mark is e = inl is
+either true mark is e = inr (misses-heap mark e)
+
+pub define-nothing : (marks : List Mark) → NoneInTheWay marks → DefineNothing marks
+define-nothing [] none = tt
+define-nothing (m ∷ ms) none =
+    let parts = or_parts (is_in_the_way m) (list_any is_in_the_way ms) none in
+    ((or_parts (defines m.kind) (hides m.kind && meets_heap m) parts.0).0, define-nothing ms parts.1)
+
+pub hide-nothing : (marks : List Mark) → NoneInTheWay marks → HideNothing marks
+hide-nothing [] none = tt
+hide-nothing (m ∷ ms) none =
+    let parts = or_parts (is_in_the_way m) (list_any is_in_the_way ms) none in (
+      either (hides m.kind) m refl (or_parts (defines m.kind) (hides m.kind && meets_heap m) parts.0).1,
+      hide-nothing ms parts.1,
+    )
+
+-- what is certified --
+
+pub certified : (image : Image) (start : State) (setup : Setup) (marks : List Mark) (n : ℕ) → IsStartOf image start
+    → HasBytes setup → NoneInTheWay marks → NoUse (post start setup marks n).events
+    → IsCertified image start setup marks n
+certified image start setup marks n begins bytes clear none =
+    let before = subst NoUse (marked-events start setup marks n) none in
+    let agree = run-agrees image start setup (step-agrees setup bytes) marks n begins (define-nothing marks clear)
+    (hide-nothing marks clear) before in
+    record {
+      runs = agree;
+      reports = λ states run rules options step input_len text. (
+        reports-agree _ _ image rules options step input_len text (agree states run),
+        reports-agree _ _ image rules options step input_len text (states-sym _ _ (agree states run)),
+      );
+    }
+
+-- the first use, from the first group that is one --
+
+pub no-use : (gs : List Group) (es : List Event) → gs ≡ grouped es → None ≡ find (λ g. is_use g.kind) gs → NoUse es
+no-use gs es is none = (none-is-use gs es is None none).0 refl
+
+pub some-use : (es : List Event) (group : Group) → Some group ≡ find (λ g. is_use g.kind) (grouped es)
+    → NoUse es → ⊥
+some-use es group is none =
+    let e : ◌≡◌ {A = Option Group} (Some group) (option_map (group_of es) (first_use es)) = is ∙ first-group es in
+    go (first_use es) refl e
+  where
+    go : (o : Option Event) → first_use es ≡ o → ◌≡◌ {A = Option Group} (Some group) (option_map (group_of es) o) → ⊥
+    go None at e = cc
+    go (Some x) at e = used es x at none
+      where
+        used : (es : List Event) (x : Event) → first_use es ≡ Some x → NoUse es → ⊥
+        used [] x at none = cc
+        used (y ∷ ys) x at none =
+            used ys x (sym (ap (λ u. cond u (Some y) (first_use ys)) none.0) ∙ at) none.1
+
+pub found-use : (start : State) (setup : Setup) (marks : List Mark) (n : ℕ) (step : ℕ) (group : Group)
+    → Some group ≡ find (λ g. is_use g.kind) (grouped (post start setup marks n).events) → step < n
+    → RaisesFirstUse start setup marks step → (found : FirstUse) → found.step ≡ step → found.kind ≡ group.kind
+    → found.trace ≡ group.trace → IsFirstUse start setup marks n found
+unfolding group_of
+found-use start setup marks n step group is below raises found at kind same =
+    go (first_use (post start setup marks n).events) refl (is ∙ first-group (post start setup marks n).events)
+  where
+    go : (o : Option Event) → first_use (post start setup marks n).events ≡ o
+        → ◌≡◌ {A = Option Group} (Some group) (option_map (group_of (post start setup marks n).events) o)
+        → IsFirstUse start setup marks n found
+    go None first e = cc
+    go (Some x) first e =
+        let one : group ≡ group_of (post start setup marks n).events x = cc in
+        record {
+          event = x;
+          first = first;
+          kind = kind ∙ ap (λ (g : Group). g.kind) one;
+          trace = same ∙ ap (λ (g : Group). g.trace) one;
+          below = subst (λ k. k < n) (sym at) below;
+          raises = subst (λ k. RaisesFirstUse start setup marks k) (sym at) raises;
+        }

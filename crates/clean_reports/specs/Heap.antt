@@ -1,0 +1,34 @@
+-- What may be accessed in the heap region: the bytes of the live blocks, and no others.
+use Rattle.std.specs.Prelude.{◌≡◌, ℕ, ◌+◌, ◌<◌, ◌≤◌, Some, true}
+use Rattle.heap_blocks.specs.declared.block.Block.{Block}
+use Rattle.guest_heap.specs.Steps.{AreInRegion, AreApart}
+use Rattle.memory_map.specs.Regions.{heap_begin, heap_end}
+use Rattle.shadow_memory.specs.Ranges.{above}
+use Rattle.guest_machine.specs.State.{Core}
+
+-- live blocks lie in the heap region, and each of their bytes may be accessed
+pub record BlocksAreOpen (core : Core) : Type 0 where
+  pub region : AreInRegion core.blocks
+  pub opened : (p : ℕ) (b : Block) → core.blocks.live p ≡ Some b → (i : ℕ) → i < b.size
+      → (core.shadow (above p i)).accessible ≡ true
+
+-- the same, and blocks lie apart from each other and end in the region
+pub record HeapIsOpen (core : Core) : Type 0 where
+  pub region : AreInRegion core.blocks
+  pub apart : AreApart core.blocks
+  pub fits : (p : ℕ) (b : Block) → core.blocks.live p ≡ Some b → p + b.size ≤ heap_end
+  pub opened : (p : ℕ) (b : Block) → core.blocks.live p ≡ Some b → (i : ℕ) → i < b.size
+      → (core.shadow (p + i)).accessible ≡ true
+
+-- an address is one of a live block
+pub record IsInLive (core : Core) (a : ℕ) : Type 0 where
+  pub start : ℕ
+  pub block : Block
+  pub live : core.blocks.live start ≡ Some block
+  pub low : start ≤ a
+  pub high : a < start + block.size
+
+-- no byte of the heap region may be accessed but those of live blocks
+abbrev pub HeapIsClosed : Core → Type 0
+HeapIsClosed core =
+    (a : ℕ) → heap_begin ≤ a → a < heap_end → (core.shadow a).accessible ≡ true → IsInLive core a

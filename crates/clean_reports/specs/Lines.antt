@@ -1,0 +1,73 @@
+-- The line that tells a verdict.
+use Rattle.std.specs.Prelude.{◌≡◌, ℕ, List, [], ◌∷◌, ◌++◌, codes}
+use Rattle.std.specs.Fmt.{decimal}
+use Rattle.std.specs.List.{flat_map}
+use Rattle.guest_elf.specs.declared.image.Image.{Image}
+use Rattle.guest_elf.specs.Images.{name_at}
+use Rattle.guest_machine.specs.State.{State}
+use Rattle.guest_machine.specs.declared.setup.Setup.{Setup}
+use Rattle.report_lines.specs.Lines.{kind_text}
+use Rattle.report_lines.specs.Text.{address_text, newline, shown_name}
+use Rattle.run_values.specs.declared.mark.Mark.{Mark}
+use Rattle.shadow_memory.specs.declared.cells.RangeKind.{RangeKind}
+use Rattle.shadow_memory.specs.declared.cells.RangeKind.TheVariants.{NoAccess, Undefined, Defined}
+use Rattle.clean_reports.specs.Verdicts.{IsVerdict}
+use Rattle.clean_reports.specs.declared.verdict.FirstUse.{FirstUse}
+use Rattle.clean_reports.specs.declared.verdict.Verdict.{Verdict}
+use Rattle.clean_reports.specs.declared.verdict.Verdict.TheVariants.{Clean, Mark as ByMark, Use}
+
+-- `clean to step N: ..`
+unfoldable pub clean_line : ℕ → List ℕ
+clean_line n =
+    codes "clean to step " ++ decimal n
+    ++ codes ": nothing that uninitialised, freed or unmapped memory holds has any influence on this run\n"
+
+-- what a mark makes bytes, as the line of a session says it
+abbrev pub range_kind_text : RangeKind → List ℕ
+range_kind_text NoAccess = codes "noaccess"
+range_kind_text Undefined = codes "undefined"
+range_kind_text Defined = codes "defined"
+
+-- `L bytes at A KIND`
+unfoldable pub range_text : Mark → List ℕ
+range_text mark =
+    decimal mark.len ++ codes " bytes at " ++ address_text mark.addr ++ codes " " ++ range_kind_text mark.kind
+
+-- `not clean: mark I makes L bytes at A KIND at step N`
+unfoldable pub mark_front : ℕ → List ℕ
+mark_front index = codes "not clean: mark " ++ decimal index ++ codes " makes "
+
+unfoldable pub mark_line : ℕ → Mark → List ℕ
+mark_line index mark =
+    mark_front index ++ range_text mark ++ codes " at step "
+    ++ decimal mark.step ++ newline
+
+-- ` at A: NAME` or `, by A: NAME`
+unfoldable pub caller_text : List ℕ → Image → ℕ → List ℕ
+caller_text word image a = word ++ address_text a ++ codes ": " ++ shown_name (name_at image a)
+
+-- a whole trace, on one line
+unfoldable pub trace_text : Image → List ℕ → List ℕ
+trace_text image [] = []
+trace_text image (a ∷ callers) =
+    caller_text (codes " at ") image a ++ flat_map (caller_text (codes ", by ") image) callers
+
+-- `not clean: first use at step N: TEXT at A: NAME, by A: NAME`
+unfoldable pub use_front : ℕ → List ℕ
+use_front step = codes "not clean: first use at step " ++ decimal step ++ codes ": "
+
+unfoldable pub use_line : Image → FirstUse → List ℕ
+use_line image found =
+    use_front found.step ++ kind_text found.kind
+    ++ trace_text image found.trace ++ newline
+
+-- the line of a verdict up to step n
+abbrev pub verdict_line : Image → ℕ → Verdict → List ℕ
+verdict_line image n Clean = clean_line n
+verdict_line image n (ByMark index mark) = mark_line index mark
+verdict_line image n (Use found) = use_line image found
+
+-- a text is the line of the verdict on a run up to step n
+abbrev pub IsVerdictLine : Image → State → Setup → List Mark → ℕ → List ℕ → Type 0
+IsVerdictLine image start setup marks n text =
+    (verdict : Verdict) × IsVerdict start setup marks n verdict × (text ≡ verdict_line image n verdict)

@@ -1,0 +1,26 @@
+//! The verdict on a run: whether it is clean up to a step.
+use call_stacks::Trace;
+use error_events::Kind;
+use guest_machine::Mark;
+
+/// The first use of a run.
+#[derive(Clone, Copy)]
+pub struct FirstUse {
+    /// The step that raises the error.
+    pub step: u32,
+    /// What the error is.
+    pub kind: Kind,
+    /// Where the error was met.
+    pub trace: Trace,
+}
+
+/// Whether a run is clean up to a step, or what comes first that stands in the way.
+#[derive(Clone, Copy)]
+pub enum Verdict {
+    /// The run is clean: nothing that undefined or inaccessible memory holds has an influence on it up to the step.
+    Clean,
+    /// A mark makes bytes defined, or bytes of the heap inaccessible. It is the first such mark, with its index.
+    Mark(usize, Mark),
+    /// An error is a use.
+    Use(FirstUse),
+}

@@ -1,0 +1,56 @@
+-- The verdict on a run that nothing was done to.
+use Rattle.std.proofs.Common.{◌≡◌, ℕ, ◌^◌, ◌<◌, List, [], All, Option, refl, subst, sym}
+use Rattle.std.specs.Io.KnownBytes.{Appends}
+use Rattle.checkpoints.specs.Trails.{IsRightFor}
+use Rattle.checkpoints.specs.declared.trail.Trail.{Trail}
+use Rattle.guest_elf.specs.declared.image.Image.{Image}
+use Rattle.guest_machine.specs.Run.{start_state}
+use Rattle.guest_machine.specs.State.{State}
+use Rattle.guest_machine.specs.declared.setup.Setup.{Setup}
+use Rattle.run_values.specs.declared.mark.Mark.{Mark}
+use Rattle.scenario.specs.Setups.{setup_with}
+use Rattle.clean_reports.specs.Disturbed.{HasBytes, IsStartOf}
+use Rattle.clean_reports.specs.Lines.{verdict_line}
+use Rattle.clean_reports.specs.Uses.{NoUse}
+use Rattle.clean_reports.specs.Verdicts.{IsCertified, IsVerdict}
+use Rattle.clean_reports.specs.declared.verdict.Verdict.{Verdict}
+use Rattle.clean_reports.specs.declared.verdict.Verdict.TheVariants.{Clean, Use, Mark as ByMark}
+use Rattle.driver.specs.Certified.{Certifies, IsCertifiedOnce, IsVerdictOnce, end_of_verdict}
+
+-- a program begins with no errors
+none-yet : (image : Image) → NoUse (start_state image).events
+unfolding start_state
+none-yet image = tt
+
+begins : (image : Image) → IsStartOf image (start_state image)
+unfolding start_state
+begins image = record { core = refl; events = refl }
+
+module _ (image : Image) (input : List ℕ) (step : ℕ) (setup : Setup) (plain : setup ≡ setup_with image input)
+    (trail : Trail) (right : (setup : Setup) (marks : List Mark) → IsRightFor trail (start_state image) setup marks)
+  where
+    pub verdict-once : (verdict : Verdict)
+        → ((start : State) → IsRightFor trail start setup [] → NoUse start.events
+        → IsVerdict start setup [] step verdict)
+        → IsVerdictOnce image input step verdict
+    verdict-once verdict tells =
+        subst (λ (s : Setup). IsVerdict (start_state image) s [] step verdict) plain
+        (tells (start_state image) (right setup []) (none-yet image))
+
+    pub certified-once : All (λ byte. byte < 2 ^ 8) input
+        → ((image : Image) (start : State) → IsRightFor trail start setup [] → IsStartOf image start → HasBytes setup
+        → IsCertified image start setup [] step)
+        → IsCertifiedOnce image input step
+    certified-once bytes certified =
+        subst (λ (s : Setup). IsCertified image (start_state image) s [] step) plain
+        (certified image (start_state image) (right setup []) (begins image)
+        (subst (λ (s : Setup). HasBytes s) (sym plain) bytes))
+
+-- what was written for a verdict
+pub certifies : (image : Image) (input : List ℕ) (step : ℕ) (old new : Option (List ℕ)) (verdict : Verdict)
+    → IsVerdictOnce image input step verdict → (verdict ≡ Clean → IsCertifiedOnce image input step)
+    → Appends old new (verdict_line image step verdict)
+    → Certifies image input step old new (end_of_verdict verdict)
+certifies image input step old new Clean is certified appended = ((is, appended), certified refl)
+certifies image input step old new (ByMark index mark) is certified appended = let at = is.at in cc
+certifies image input step old new (Use found) is certified appended = (found, (is, appended))

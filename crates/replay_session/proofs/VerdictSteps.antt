@@ -1,0 +1,17 @@
+-- A scenario's run begins with no errors, and so with no use.
+use Rattle.std.proofs.Common.{◌≡◌, List, [], ◌∷◌, refl, subst, sym}
+use Rattle.clean_reports.specs.Uses.{NoUse}
+use Rattle.guest_machine.specs.Run.{poked, start_state}
+use Rattle.guest_machine.specs.State.{State}
+use Rattle.scenario.specs.Scenario.{Scenario, first_state, with_words}
+use Rattle.scenario.specs.declared.word.Word.{Word}
+
+-- words that are written raise no errors
+words-events : (words : List Word) (s : State) → (with_words s words).events ≡ s.events
+unfolding poked
+words-events [] s = refl
+words-events (w ∷ ws) s = words-events ws (poked s w.addr w.word)
+
+pub first-none : (sc : Scenario) → NoUse (first_state sc).events
+unfolding first_state start_state
+first-none sc = subst NoUse (sym (words-events sc.words (start_state sc.image))) tt
