@@ -341,6 +341,9 @@ def heap_rows():
                        ("gcc", "*: warning: errors of the heap *[Heap]\n*"),
                        ("github", "*::error title=The heap goes unseen::stripped.elf: errors of the heap*")):
         yield Row(f"run: a heap is needed, as {name}", [*stripped, "--require-heap", f"--format={name}"], 1, told, unseen, needs=ADDR2LINE)
+    yield Row("run: a clean run, as json", ["run", *PACKET, "--format=json"], 0, '*"certify": {\n  "clean": true,\n*')
+    yield Row("run: the first use of a run, as json", ["run", "use-after-free.elf", "--format=json"], 0,
+              '*"clean": false,\n  "first_use": {"step": 14, "text": "Invalid read of size 4", "trace": [{"address": "0x00010050"*')
     yield Row("run: the heap of a file, as json", ["run", "station.elf", "--input=station.input", "--format=json"], 0,
               '*"known": "by name",\n  "functions": ["calloc", "free", "malloc", "realloc"]*', needs=ADDR2LINE)
     yield Row("run: a stripped file, as sarif", [*stripped, "--format=sarif"], 0,

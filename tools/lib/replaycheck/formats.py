@@ -76,9 +76,9 @@ def verdict_object(line, trace):
     first, is_use, rest = told.partition(": ")
     if front != "not clean" or not is_use:
         return None
-    frames = [frame.partition(": ") for frame in rest.rpartition(" at ")[2].split(", by ")]
-    frames = [Frame(address, name) for address, _, name in frames]
-    return {"clean": False, "first_use": {"step": int(first.rpartition(" ")[2]), "text": rest.rpartition(" at ")[0], "trace": trace(frames)}}
+    text, _, calls = rest.rpartition(" at ")
+    frames = [Frame(*call.split(": ", 1)) for call in calls.split(", by ")]
+    return {"clean": False, "first_use": {"step": int(first.rpartition(" ")[2]), "text": text, "trace": trace(frames)}}
 
 
 def json_text(shown):
