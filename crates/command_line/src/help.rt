@@ -123,7 +123,6 @@ and don't count. Each is answered for the chosen step of the run with all edits:
   look certify                  the line of `replaycheck certify`; here the marks count, too
   look next KIND ADDR LEN END   the first step, from the chosen one on and below END, that does it
   look last KIND ADDR LEN FROM  the last step, before the chosen one and not before FROM, that does
-  look certify                  whether the run is clean up to the step, as `replaycheck certify`
 
 KIND is what a step does with the LEN bytes at ADDR: `run` where its pc is among them and the
 program runs, `error` where it then raises an error, `read` where it reads some of them beside its

@@ -3,6 +3,8 @@ import re
 from dataclasses import dataclass
 from typing import List
 
+from replaycheck.reports import kind_of
+
 FRAME = re.compile(r"   (?:at|by) (0x[0-9a-f]{8}): (.*)")
 FRAMES_TOLD = 3
 RUNNING = 20  # a run that goes on, where the unedited one ends
@@ -38,6 +40,11 @@ class Outcome:
             part = part_of(self.lines[start], self.lines[start + 1:end])
             if part.text not in {it.text for it in self.parts}:
                 self.parts.append(part)
+
+    @property
+    def has_errors(self):
+        """Whether there is any error, which a leak or a stop alone isn't."""
+        return any(kind_of(line) for line in self.lines)
 
     @property
     def told(self):

@@ -10,6 +10,7 @@ from .lines import shown_name
 from .outcomes import Outcome
 
 INDENT = " " * 13
+SUPPRESSIONS = 2  # the place of the suppressions among the files of a table's head
 WIDTHS = 26, 44  # the least and the greatest width of the column of first edits
 
 
@@ -94,11 +95,21 @@ class Summary:
         new = counted(len(finds), "new error, leak or stop", "new errors, leaks and stops")
         others = counted(len(self.outcomes) - 1, "outcome")
         yield f"{new}, by {counted(bad, 'edit')}; {others} other than the unedited"
+        yield from self.clean_lines()
         if finds:
             yield ""
             yield f"   {'edits':>8}  {'first edit':<{self.width}} new error, leak or stop"
         for part, edits, number in finds:
             yield f"   {edits:8}  {self.edit(number):<{self.width}} {self.sources.told(part)}"
+
+    def clean_lines(self):
+        """How many runs have no error: with no suppressions an outline lists each, so these are runs without a use of undefined or
+        inaccessible memory."""
+        edits = sum(self.merged.tallies[it.number] for it in self.outcomes if not it.has_errors)
+        if edits and not self.merged.head.files[SUPPRESSIONS][0]:
+            too = "" if self.unedited.has_errors else " and the unedited run"
+            yield (f"no error by {counted(edits, 'edit')}{too}: nothing that uninitialised, freed or unmapped memory holds can change "
+                   f"these runs up to step {self.merged.head.step}")
 
     # ---- outcomes
 
