@@ -12,7 +12,7 @@ use Rattle.error_events.specs.declared.event.Group.{Group}
 use Rattle.error_events.specs.Groups.{firsts_after, grouped}
 use Rattle.suppressions.specs.Rules.{Rule}
 use Rattle.guest_machine.specs.State.{State}
-use Rattle.guest_machine.specs.Run.{start_state}
+use Rattle.guest_machine.specs.Run.{poked, start_state}
 use Rattle.report_lines.specs.Lines.{error_total, group_lines, hidden_summary, kind_text, output_line, shown_summary}
 use Rattle.report_lines.specs.Lines.{stop_word, summary_line}
 use Rattle.report_lines.specs.Text.{newline}
@@ -21,11 +21,13 @@ use Rattle.replay_report.specs.LeakLines.{leak_section}
 use Rattle.replay_report.specs.Outlines.{IsOutline, end_line, error_outline, leak_outlines, outline_head}
 use Rattle.replay_report.specs.Outlines.{outline_text, stop_place}
 use Rattle.replay_report.specs.Report.{IsReport, head_lines, report_text}
+use Rattle.scenario.specs.Scenario.{IsReportOf, at_step, begun, chosen_state, first_state, with_words}
+use Rattle.scenario.specs.declared.word.Word.{Word}
 use Rattle.clean_reports.specs.Disturbed.{IsStartOf}
 use Rattle.clean_reports.specs.Uses.{NoUse}
 use Rattle.clean_reports.proofs.Inputs.{has-bytes}
 use Rattle.clean_reports.proofs.Verdicts.{certified}
-use Rattle.clean_texts.specs.Laws.{CleanOutlines, CleanTexts, NoErrorsMeansNone, PrintedTexts}
+use Rattle.clean_texts.specs.Laws.{CleanOutlines, CleanTexts, NoErrorsMeansNone, PrintedTexts, RunTexts}
 use Rattle.clean_texts.specs.Texts.{EndsWithNoErrors, HasErrorLine, IsOfLines, no_errors_line}
 use Rattle.clean_texts.proofs.Endings.{peeled}
 use Rattle.clean_texts.proofs.Events.{no-events, none-shown}
@@ -130,6 +132,17 @@ no-errors-means-none s image rules options step input_len text report = (to, bac
 
 -- the run of such a report --
 
+begins : (image : Image) → IsStartOf image (start_state image)
+unfolding start_state
+begins image = record { core = refl; events = refl }
+
+-- words that are written change only bytes
+words-begin : (image : Image) (s : State) (words : List Word) → IsStartOf image s → IsStartOf image (with_words s words)
+unfolding poked
+words-begin image s [] h = h
+words-begin image s (w ∷ words) h =
+    words-begin image (poked s w.addr w.word) words (record { core = h.core; events = h.events })
+
 module _ (input : List ℕ) (fits : (k : ℕ) → slice_index input k < 2 ^ 8) where
   pub clean-texts : CleanTexts input
   clean-texts image start setup marks n rules options step input_len text begins is clear report ends =
@@ -137,10 +150,16 @@ module _ (input : List ℕ) (fits : (k : ℕ) → slice_index input k < 2 ^ 8) w
       certified image start setup marks n begins (has-bytes input fits setup is) clear (subst NoUse (sym none) tt)
 
   pub printed-texts : PrintedTexts input
-  unfolding start_state
-  printed-texts image setup n rules options step input_len text is report ends =
-      let begins : IsStartOf image (start_state image) = record { core = refl; events = refl } in
-      clean-texts image (start_state image) setup [] n rules options step input_len text begins is refl report ends
+  unfolding IsReportOf chosen_state first_state
+  printed-texts sc text is clear report ends =
+      clean-texts sc.image (first_state sc) sc.setup sc.marks sc.step sc.rules sc.options sc.step
+      (length sc.setup.input) text (words-begin sc.image (start_state sc.image) sc.words (begins sc.image)) is clear
+      report ends
+
+  pub run-texts : RunTexts input
+  unfolding first_state
+  run-texts image rules n text report ends =
+      printed-texts (at_step (begun image input rules) n) text refl refl report ends
 
 -- outlines --
 

@@ -10,6 +10,8 @@ use Rattle.replay_report.specs.declared.options.Options.{Options}
 use Rattle.guest_machine.specs.State.{State}
 use Rattle.guest_machine.specs.Run.{post, start_state}
 use Rattle.guest_machine.specs.declared.setup.Setup.{Setup}
+use Rattle.scenario.specs.Scenario.{IsReportOf, Scenario, at_step, begun, first_state}
+use Rattle.scenario.specs.Setups.{setup_with}
 use Rattle.clean_reports.specs.Disturbed.{IsStartOf}
 use Rattle.clean_reports.specs.Verdicts.{IsCertified, NoneInTheWay}
 use Rattle.clean_texts.specs.Texts.{EndsWithNoErrors, HasErrorLine}
@@ -29,12 +31,19 @@ CleanTexts input =
     → IsReport (post start setup marks n) image rules options step input_len text → EndsWithNoErrors text
     → IsCertified image start setup marks n
 
--- the plain case: the run from the start of the program, without marks, for any options of the heap
+-- in particular by each such report of a scenario, as a session writes it
 abbrev pub PrintedTexts : List ℕ → Type 0
 PrintedTexts input =
-    (image : Image) (setup : Setup) (n : ℕ) (rules : List Rule) (options : Options) (step input_len : ℕ) (text : List ℕ)
-    → setup.input ≡ input → IsReport (post (start_state image) setup [] n) image rules options step input_len text
-    → EndsWithNoErrors text → IsCertified image (start_state image) setup [] n
+    (sc : Scenario) (text : List ℕ)
+    → sc.setup.input ≡ input → NoneInTheWay sc.marks → IsReportOf sc text → EndsWithNoErrors text
+    → IsCertified sc.image (first_state sc) sc.setup sc.marks sc.step
+
+-- and by each such report that `replaycheck run` writes: from the start of the program, without marks
+abbrev pub RunTexts : List ℕ → Type 0
+RunTexts input =
+    (image : Image) (rules : List Rule) (n : ℕ) (text : List ℕ)
+    → IsReportOf (at_step (begun image input rules) n) text → EndsWithNoErrors text
+    → IsCertified image (start_state image) (setup_with image input) [] n
 
 -- an outline without suppressions, no line of which is what an error is called, is that of a state without errors
 abbrev pub CleanOutlines : Type 0
