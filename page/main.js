@@ -179,7 +179,8 @@ class App {
     this.steps.open(last, follow);
     this.code.open(opened.elf, opened.lineOf, scenario);
     if (lines.length) this.use(lines.join('\n'));
-    if (left) this.notice(`${many(left, 'edit')} didn’t fit and ${left === 1 ? 'was' : 'were'} left out. Undo brings back what was open.`);
+    const were = left === 1 ? 'was' : 'were';
+    if (left) this.notice(`${many(left, 'edit')} didn’t fit and ${were} left out. Undo brings back what was open.`);
     await this.refresh();
   }
 

@@ -77,8 +77,8 @@ fn tell(steps: u64, memory: u32, bytes: &[u8]) {
 const COMPARED: [u64; 6] = [3, 10, 30, 100, 400, 2000];
 const SEEDS: [u64; 3] = [1, 77, 0xDEAD_BEEF];
 
-/// Prints up to which step such a program is clean; whether its run is the same under noise at that step and at some before it, with how many
-/// errors; and the same of its whole run, where that has a use.
+/// Prints up to which step such a program is clean; whether its run is the same under noise at that step and at some before it, with how
+/// many errors; and the same of its whole run, where that has a use.
 fn compare_with_noise(steps: u64, memory: u32, bytes: &[u8]) {
     let words = words_of(bytes);
     let start = || Machine::start(PROGRAM_START, &words, memory);
