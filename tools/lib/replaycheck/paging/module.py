@@ -17,6 +17,7 @@ from . import kit as kits
 
 NAME = "replaycheck"
 PROGRAM = TOP / "crates" / NAME / "out" / NAME
+CHECKED = TOP / "out" / "build" / "checked"  # the first build keeps here what its check of the program's crate proved
 SHIM = TOP / "page" / "shim.c"
 KEPT = pathlib.Path(os.environ.get("XDG_CACHE_HOME") or pathlib.Path.home() / ".cache") / "replaycheck" / "page-modules"
 MOST_KEPT = 4
@@ -63,8 +64,8 @@ class Crates:
     def are_built(self):
         return all((self.library(it) / "format").is_file() for it in self.below)
 
-    def words(self, kit):
-        """The words with which the program's crate is built over its libraries."""
+    def words(self, kit, checked):
+        """The words with which the program's crate is built over its libraries: from what a check has proved, or else by a proof."""
         used = self.libraries[NAME]
         words = ["--crate-name", NAME, "src/main.rt"]
         for name in ["std", *(it for it in used if it not in self.libraries)]:
@@ -74,8 +75,9 @@ class Crates:
             words += ["--extern", f"{name}={self.library(name)}"]
         for name in self.below:
             words += ["-L", f"dependency={self.library(name).parent}"]
-        return [*words, "--antt-project", f"{kit}/rattle/logic/antt-project.json", "--logic-built", f"{kit}/logic_built",
-                "--links", f"{NAME}=", "--jobs", "1"]
+        words += ["--antt-project", f"{kit}/rattle/logic/antt-project.json", "--links", f"{NAME}="]
+        proof = ["--logic-built", f"{kit}/logic_built", "--jobs", "1"]
+        return [*words, *(["--crate-checked", checked] if checked else proof)]
 
 
 def copy_of_crates(room):
@@ -101,11 +103,13 @@ def copy_of_crates(room):
     return Crates(top)
 
 
-def built_again(kit, tools, room, crates):
+def built_again(kit, tools, room, crates, checked=None):
     """Whether the program, built once more over libraries, is the proved one, byte for byte."""
-    tell("proves the program's crate over its libraries, and takes its intermediate text")
+    tell("takes the program's intermediate text" if checked else
+         "proves the program's crate over its libraries, which takes some minutes, and takes its intermediate text")
     words = ["--toolchain", tools.folder, "--backend", "llvm", "-o", room / "native.o"]
-    kits.run([kit / "bin/rattle", "build", *crates.words(kit), *words], crates.top / "crates" / NAME, "building the program's crate")
+    folder = crates.top / "crates" / NAME
+    kits.run([kit / "bin/rattle", "build", *crates.words(kit, checked), *words], folder, "building the program's crate")
     tools.must_have(kits.IR)
     words = ["--target", kits.NATIVE, "--toolchain", kit / "toolchain", "-o", room / "native", room / "native.o"]
     kits.run([kit / "bin/rattle-link", *words, kit / "c/libos_c.a", kit / "c/liblibc_c.a"], room, "linking the program")
@@ -114,14 +118,22 @@ def built_again(kit, tools, room, crates):
 
 def take_text(kit, tools, room):
     """Has the program built once more, so that the compiler is given its text: over the libraries that the gate has left, if
-    there are such and they are of this program, or else over a copy's."""
-    crates = Crates(TOP)
-    try:
-        if crates.are_built() and built_again(kit, tools, room, crates):
-            return
-    except Fault:
-        pass  # what was left is of other sources
-    if not built_again(kit, tools, room, copy_of_crates(room)):
+    there are such and they are of this program, or else over a copy's. It is proved again only where the first build's check
+    isn't kept, or is of other sources."""
+
+    def is_taken(crates, *checked):
+        try:
+            return built_again(kit, tools, room, crates, *checked)
+        except Fault:
+            return False  # what was left is of other sources
+
+    left = Crates(TOP)
+    if left.are_built() and is_taken(left):
+        return
+    crates = copy_of_crates(room)
+    if CHECKED.is_dir() and is_taken(crates, CHECKED):
+        return
+    if not built_again(kit, tools, room, crates):
         raise Fault(f"what was built isn't {PROGRAM.relative_to(TOP)}, byte for byte, so the page would have another program")
 
 
