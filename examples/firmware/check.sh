@@ -39,6 +39,19 @@ explored() {
   ../../tools/bin/replaycheck-explore station.elf --input station.input --svg "$room/station.svg" | sed -E 's/ \([^()]+:[0-9]+\)//'
 }
 
+# verdicts FILE..: which runs are clean, each with the input of its name, if there is one.
+verdicts() {
+  local program name input
+  for program; do
+    name=${program##*/}
+    for input in "${name%.elf}.input" "../${name%.elf}.input"; do
+      [ -e "$input" ] && break || input=''
+    done
+    [ "$name" != station-by-number.elf ] || input=station.input
+    echo "$name: $("$REPLAYCHECK" certify "$program" ${input:+--input "$input"})"
+  done
+}
+
 # The remarks of a session are those of the cases in the program.
 same_cases() {
   diff <(sed -nE 's|^    case ([0-9]+): .* /\* (.*) \*/$|\1: \2|p' "$1.c") <(sed -nE 's/^# ([0-9]+: .*)$/\1/p' "$1.session")
@@ -49,6 +62,7 @@ for program in kinds differences; do
   check "each case of $program.c" same $program ../../tools/bin/replaycheck-talk $program.elf --input $program.input $program.session
   check "the remarks of $program.session" same_cases $program
 done
+check 'which runs are clean' same clean verdicts ../*.elf *.elf
 check 'each byte of station.input' same sweep explored
 if command -v riscv64-unknown-elf-addr2line riscv64-linux-gnu-addr2line addr2line >"$room/found"; then
   check 'its picture' cmp station.svg "$room/station.svg"
@@ -70,6 +84,8 @@ compiled_by() { strings -a "$1" | grep -E '^(GCC: |GNU AS )' | sort -u; }
 from_picolibc() {
   "$REPLAYCHECK" run "$room/$1.elf" "${@:2}" | sed -E 's/ 0x0001[0-9a-f]{4}: / /'
 }
+
+verdicts_of_picolibc() { verdicts "$room"/{average,labels,library}.elf | sed -E 's/ 0x0001[0-9a-f]{4}: / /g'; }
 
 # made NAME WORD..: builds a wrong program. symptom TEXT COMMAND..: whether a command says what the manual's last section explains.
 made() {
@@ -135,6 +151,7 @@ else
       check "the same bytes of $program" cmp "$program" "$room/${program##*/}"
     done
     check 'picolibc without a false error' same library from_picolibc library
+    check 'which runs with picolibc are clean' same clean-picolibc verdicts_of_picolibc
     check 'printf and scanf' same average from_picolibc average --input average.input
     check 'fast string functions' same labels from_picolibc labels --input labels.input
     check 'fast string functions, suppressed' same labels-suppressed \
