@@ -92,7 +92,7 @@ class App {
     return true;
   }
 
-  // Runs files before anything is given up for them: null where they can't be used, which is told, or are wanted no more.
+  // Runs files before anything is given up for them: null where they can't be used, which a line says, or are no longer wanted.
   async judge(files, base) {
     const wanted = this.wanted = Symbol('wanted');
     this.judged?.close();
@@ -117,7 +117,7 @@ class App {
     else this.failed(text);
   }
 
-  // The edits that stand, over other files of the same program: those that don't fit are left out, which is told.
+  // The edits that stand, over other files of the same program: those that don't fit are left out, and a line says so.
   keptOver(opened) {
     if (this.opened?.files.program !== opened.files.program) return opened.plain;
     const isSame = this.opened.files.supp === opened.files.supp;
