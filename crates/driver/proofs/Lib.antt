@@ -1,10 +1,8 @@
 pub mod RunSteps
-pub mod Fronts
 pub mod Stages
 pub mod Numerals
 pub mod Decimals
 pub mod Hexadecimals
 pub mod LineFields
 pub mod RowLines
-pub mod StreamSteps
 pub mod VerdictSteps

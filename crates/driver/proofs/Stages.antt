@@ -16,10 +16,9 @@ use Rattle.line_server.specs.Served.{StoppedBy}
 use Rattle.line_server.specs.declared.fault.ServeFault.{ServeFault}
 use Rattle.line_server.specs.declared.fault.ServeFault.TheVariants.{ReadFailed, WriteFailed, Endless}
 use Rattle.line_server.specs.declared.fault.ServeFault.TheVariants.{NoMemory as ServedNoMemory}
-use Rattle.driver.specs.Carried.{Carried, CarriedWithImage, Does, Giving, HasInput, HasRules, IsFront, NoBytes}
-use Rattle.driver.specs.Carried.{NoImage, Reports}
-use Rattle.driver.specs.Carried.{Serves, Streams, Untouched}
-use Rattle.driver.specs.Carried.{most_judged, streams}
+use Rattle.driver.specs.Carried.{Carried, CarriedWithImage, Does, Reports, Serves}
+use Rattle.program_files.specs.Files.{Giving, HasInput, HasRules, IsFront, NoBytes, NoImage, Streams, Untouched}
+use Rattle.program_files.specs.Files.{most_judged, streams}
 use Rattle.ends.specs.Ends.{end_of_serve}
 use Rattle.driver.specs.Certified.{Certifies}
 use Rattle.driver.specs.Once.{IsReportOnce}

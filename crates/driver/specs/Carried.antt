@@ -3,6 +3,7 @@
 use Rattle.std.specs.Prelude.{ℕ, ◌≡◌, ◌+◌, ◌<◌, ◌≤◌, ◌⊎◌, List, [], Option, Some, None, length, take}
 use Rattle.std.specs.Io.KnownBytes.{Appends, Consumes}
 use Rattle.command_line.specs.Orders.{input_path, rules_path}
+use Rattle.program_files.specs.Files.{Giving, HasImage, HasInput, HasRules, NoImage, NoInput, NoRules, Streams, Untouched}
 use Rattle.command_line.specs.declared.order.Order.{Order}
 use Rattle.guest_elf.specs.File.{IsImageOf, refusal, early_refusal}
 use Rattle.guest_elf.specs.declared.fault.ElfFault.{ElfFault}
@@ -27,80 +28,6 @@ use Rattle.driver.specs.declared.reporting.RunFault.TheVariants.{WriteFailed as 
 use Rattle.suppressions.specs.Rules.{Rule}
 use Rattle.suppressions.specs.Texts.{faults, rules, IsLeast}
 use Rattle.suppressions.specs.declared.fault.SuppFault.TheVariants as Supp
-
--- what files give: a path's bytes, or none where it can't be read
-abbrev pub Giving : Type 1
-Giving = List ℕ → Option (List ℕ) → Type 0
-
--- how many bytes of a program's file are judged, and one more; and the most bytes of a text of suppressions (this
--- project's limits)
-abbrev pub most_judged : ℕ
-most_judged = 67108864
-
-abbrev pub longest_text : ℕ
-longest_text = 1048576
-
--- what standard input still has, and what standard output was given, where they tell it
-pub record Streams : Type 0 where
-  pub left : Option (List ℕ)
-  pub held : Option (List ℕ)
-
-abbrev pub streams : Option (List ℕ) → Option (List ℕ) → Streams
-streams left held = record { left = left; held = held }
-
--- nothing was read of standard input, and nothing written
-abbrev pub Untouched : Streams → Streams → Type 0
-Untouched old new = Consumes old.left new.left [] × Appends old.held new.held []
-
--- a file's bytes up to a limit, and one more where it has more
-abbrev pub IsFront : Giving → List ℕ → ℕ → List ℕ → Type 0
-IsFront gives path limit front = (bytes : List ℕ) × gives path (Some bytes) × (front ≡ take (limit + 1) bytes)
-
--- a file gave no bytes: it can't be read, and the end names it as the order does; or memory was wanting
-abbrev pub NoBytes : Giving → List ℕ → End → Type 0
-NoBytes gives path (CannotRead named) = (named.now ≡ path) × gives path None
-NoBytes gives path NoMemory = Unit {0}
-NoBytes gives path end = ⊥
-
--- why a program is refused: the first of the reasons, or want of memory, which hides none of those that are found
--- without memory
-abbrev pub IsRefusedBy : ElfFault → List ℕ → Type 0
-IsRefusedBy fault front =
-    ((fault ≡ Elf.Memory) ⊎ (refusal front ≡ Some fault)) × ((early : ElfFault) → early_refusal front ≡ Some early
-    → fault ≡ early)
-
--- the program of a file
-abbrev pub HasImage : Giving → List ℕ → ProgramImage → Type 0
-HasImage gives path image = (front : List ℕ) × IsFront gives path most_judged front × IsImageOf front image
-
-abbrev pub NoImage : Giving → List ℕ → End → Type 0
-NoImage gives path (Image fault) = (front : List ℕ) × IsFront gives path most_judged front × IsRefusedBy fault front
-NoImage gives path end = NoBytes gives path end
-
--- the suppressions of a file's text, or none where no file is named
-abbrev pub HasRules : Giving → Option (List ℕ) → List Rule → Type 0
-HasRules gives None list = list ≡ []
-HasRules gives (Some path) list =
-    (text : List ℕ) × gives path (Some text) × (length text ≤ longest_text) × (faults text ≡ []) × (list ≡ rules text)
-
-abbrev pub NoRules : Giving → Option (List ℕ) → End → Type 0
-NoRules gives None end = ⊥
-NoRules gives (Some path) SuppressionsTooLong = (text : List ℕ) × gives path (Some text) × (longest_text < length text)
-NoRules gives (Some path) (Suppressions (Supp.BadSuppression line)) =
-    (text : List ℕ) × gives path (Some text) × (length text ≤ longest_text) × IsLeast line (faults text)
-NoRules gives (Some path) (Suppressions Supp.Memory) =
-    (text : List ℕ) × gives path (Some text) × (length text ≤ longest_text)
-NoRules gives (Some path) end = NoBytes gives path end
-
--- the bytes of an input's file, or none where no file is named
-abbrev pub HasInput : Giving → Option (List ℕ) → List ℕ → Type 0
-HasInput gives None input = input ≡ []
-HasInput gives (Some path) input = gives path (Some input) × (length input ≤ longest_input)
-
-abbrev pub NoInput : Giving → Option (List ℕ) → End → Type 0
-NoInput gives None end = ⊥
-NoInput gives (Some path) InputTooLarge = (input : List ℕ) × gives path (Some input) × (longest_input < length input)
-NoInput gives (Some path) end = NoBytes gives path end
 
 -- a report was printed; or a front of one, after which a write failed; or nothing, for want of memory
 abbrev pub Reports : (List ℕ → Type 0) → Option (List ℕ) → Option (List ℕ) → End → Type 0

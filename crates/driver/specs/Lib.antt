@@ -1,6 +1,0 @@
-pub mod Once
-pub mod Certified
-pub mod Opened
-pub mod Carried
-pub mod Sweeping
-pub mod Laws

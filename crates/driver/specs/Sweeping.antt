@@ -15,58 +15,15 @@ use Rattle.scenario.specs.Limits.{longest_input, most_steps}
 use Rattle.suppressions.specs.Texts.{faults, rules, IsLeast}
 use Rattle.suppressions.specs.declared.fault.SuppFault.TheVariants as Supp
 use Rattle.driver.specs.declared.carrying.Action.TheVariants as Action
-use Rattle.driver.specs.Carried.{Carried, Giving, HasInput, IsFront, NoBytes, NoImage, NoInput, Streams, longest_text}
-use Rattle.driver.specs.Carried.{most_judged}
+use Rattle.driver.specs.Carried.{Carried}
+use Rattle.program_files.specs.Files.{Giving, HasSweepInput, HasText, IsFront, NoImage, NoRulesIn, NoSweepInput, NoText}
+use Rattle.program_files.specs.Files.{Streams, most_judged}
 use Rattle.sweep_plans.specs.Planned.{IsNoRequest, IsRequestOf}
 use Rattle.sweep_tables.specs.Swept.{Sweeps}
 use Rattle.ends.specs.declared.ends.End.{End}
 use Rattle.ends.specs.declared.ends.End.TheVariants.{CannotReadInput, InputTooLarge, NoMemory}
 use Rattle.ends.specs.declared.ends.End.TheVariants.{Suppressions, SuppressionsTooLong, Usage}
 use Rattle.sweep_plans.specs.declared.request.Request.{Request}
-
--- the text of suppressions, or none where no file is named
-abbrev pub HasText : Giving → Option (List ℕ) → List ℕ → Type 0
-HasText gives None text = text ≡ []
-HasText gives (Some path) text = gives path (Some text) × (length text ≤ longest_text)
-
-abbrev pub NoText : Giving → Option (List ℕ) → End → Type 0
-NoText gives None end = ⊥
-NoText gives (Some path) SuppressionsTooLong = (text : List ℕ) × gives path (Some text) × (longest_text < length text)
-NoText gives (Some path) end = NoBytes gives path end
-
--- the rules of a text, or why it has none
-abbrev pub NoRulesIn : List ℕ → End → Type 0
-NoRulesIn text (Suppressions (Supp.BadSuppression line)) = IsLeast line (faults text)
-NoRulesIn text (Suppressions Supp.Memory) = Unit {0}
-NoRulesIn text end = ⊥
-
--- the input of a sweep: for `-` what standard input had, where that tells it, and else that of a file
-abbrev pub HasStream : Option (List ℕ) → List ℕ → Type 0
-HasStream left input = IfSome left (λ bytes. input ≡ bytes) × (length input ≤ longest_input)
-
-abbrev pub NoStream : Option (List ℕ) → End → Type 0
-NoStream left CannotReadInput = Unit {0}
-NoStream left InputTooLarge = IfSome left (λ bytes. longest_input < length bytes)
-NoStream left NoMemory = Unit {0}
-NoStream left end = ⊥
-
-abbrev pub is_stream : Option (List ℕ) → Bool
-is_stream None = false
-is_stream (Some path) = bytes_eq path (codes "-")
-
-abbrev pub HasInputBy : Bool → Giving → Option (List ℕ) → Option (List ℕ) → List ℕ → Type 0
-HasInputBy true gives named left input = HasStream left input
-HasInputBy false gives named left input = HasInput gives named input
-
-abbrev pub HasSweepInput : Giving → Option (List ℕ) → Option (List ℕ) → List ℕ → Type 0
-HasSweepInput gives named left input = HasInputBy (is_stream named) gives named left input
-
-abbrev pub NoInputBy : Bool → Giving → Option (List ℕ) → Option (List ℕ) → End → Type 0
-NoInputBy true gives named left end = NoStream left end
-NoInputBy false gives named left end = NoInput gives named end
-
-abbrev pub NoSweepInput : Giving → Option (List ℕ) → Option (List ℕ) → End → Type 0
-NoSweepInput gives named left end = NoInputBy (is_stream named) gives named left end
 
 -- with a program and the text of its suppressions, which has no fault: the input is read, and the sweep made, or the
 -- input ends the program

@@ -1,168 +1,31 @@
 //! A command on a program is carried out: its files are read, and a report printed or a session served.
-ghost use Rattle.std.specs.Prelude.{◌≡◌, ◌≤◌, ◌<◌, ◌^◌, Some, IfOk, IfErr, length, option_map};
+ghost use Rattle.std.specs.Prelude.{◌≡◌, ◌≤◌, length};
 ghost use Rattle.replay_session.specs.Replies.{Answers};
 ghost use Rattle.replay_session.specs.Stages.{fresh};
 ghost use Rattle.replay_session.specs.Turns.{opening};
 ghost use Rattle.looks.specs.Views.{ViewsLines};
-ghost use Rattle.driver.specs.Carried.{Carried, HasInput, HasRules, IsFront, NoBytes, NoInput, NoRules, Reports, Serves, streams};
+ghost use Rattle.driver.specs.Carried.{Carried, Reports, Serves};
+ghost use Rattle.program_files.specs.Files.{streams};
 ghost use Rattle.sweep_plans.specs.Planned.{IsPart};
-ghost use Rattle.driver.specs.Sweeping.{CarriedOut, CarriedSweep, SweepsImage, HasStream, HasSweepInput, HasText, is_stream, NoStream, NoSweepInput, NoText};
+ghost use Rattle.driver.specs.Sweeping.{CarriedOut, CarriedSweep, SweepsImage};
 ghost use Rattle.ends.specs.Ends.{end_of};
 ghost use Rattle.driver.specs.Once.{IsReportOnce};
-ghost use Rattle.driver.specs.Opened.{end_of_input};
 ghost use Rattle.scenario.specs.Limits.{longest_input, most_steps};
 
 use crate::certifying::print_verdict;
-use crate::files::{Files, ReadFault, front_of, read_or_fault};
 use crate::reporting::run_once;
 use command_line::{Order, SweepWords, Task};
 use ends::End;
 use guest_elf::{Image, read};
-use replay_session::{LONGEST_INPUT, MOST_STEPS, Session, serve};
+use program_files::{
+    Files, MOST_READ, read_front, read_input, read_named_text, read_suppressions, read_sweep_input,
+};
+use replay_session::{MOST_STEPS, Session, serve};
 use std::alloc::Global;
 use std::io::{Read, Write};
-use suppressions::{Suppression, TEXT_LIMIT, parse};
+use suppressions::{Suppression, parse};
 use sweep_plans::Request;
 use sweep_tables::sweep_program;
-
-/// How many bytes of a program's file are judged, and one more where it has more. A file is refused for its size at fewer; of one that has
-/// more still, the refusal is that of this front.
-pub const MOST_READ: usize = 67_108_864;
-
-/// The bytes of a file up to a limit, and one more where it has more.
-fn read_front<'a, F: Files>(
-    alloc: Global,
-    files: &F,
-    path: &'a str,
-    limit: usize,
-) -> Result<Vec<u8>, End<'a>>
-    requires { limit < 2 ^ 32 }
-    ensures ok { IfOk result (λ bytes. IsFront (F.gives files.now) path.entry.now limit bytes.items) }
-    ensures err { IfErr result (NoBytes (F.gives files.now) path.entry.now) }
-{
-    match files.read(alloc, path, limit + 1) {
-        Ok(bytes) => Ok(bytes),
-        Err(ReadFault::NoMemory) => Err(End::NoMemory),
-        Err(ReadFault::Unreadable) => Err(End::CannotRead(path)),
-    }
-}
-
-/// The text of a file of suppressions.
-fn read_text<'a, F: Files>(alloc: Global, files: &F, path: &'a str) -> Result<Vec<u8>, End<'a>>
-    ensures ok { IfOk result (λ text. HasText (F.gives files.now) (Some path.entry.now) text.items) }
-    ensures err { IfErr result (NoText (F.gives files.now) (Some path.entry.now)) }
-{
-    let text = read_front(alloc, files, path, TEXT_LIMIT)?;
-    if text.len() > TEXT_LIMIT {
-        return Err(End::SuppressionsTooLong);
-    }
-    Ok(text)
-}
-
-/// The suppressions of a file, if one is named.
-fn read_suppressions<'a, F: Files>(
-    alloc: Global,
-    files: &F,
-    path: Option<&'a str>,
-) -> Result<Vec<Suppression>, End<'a>>
-    ensures ok { IfOk result (λ list. HasRules (F.gives files.now) (option_map (λ path. path.now) path.entry) list.items) }
-    ensures err { IfErr result (NoRules (F.gives files.now) (option_map (λ path. path.now) path.entry)) }
-{
-    let Some(path) = path else {
-        return Ok(Vec::new(alloc));
-    };
-    let text = read_text(alloc, files, path)?;
-    Ok(parse(alloc, &text)?)
-}
-
-/// The text of a file of suppressions, or none where no file is named.
-fn read_named_text<'a, F: Files>(
-    alloc: Global,
-    files: &F,
-    path: Option<&'a str>,
-) -> Result<Vec<u8>, End<'a>>
-    ensures ok { IfOk result (λ text. HasText (F.gives files.now) (option_map (λ path. path.now) path.entry) text.items) }
-    ensures err { IfErr result (NoText (F.gives files.now) (option_map (λ path. path.now) path.entry)) }
-{
-    match path {
-        Some(path) => read_text(alloc, files, path),
-        None => Ok(Vec::new(alloc)),
-    }
-}
-
-/// How the program ends where standard input gives no bytes.
-fn end_of_input<'a>(fault: ReadFault) -> End<'a>
-    ensures { result ≡ end_of_input fault }
-{
-    match fault {
-        ReadFault::NoMemory => End::NoMemory,
-        ReadFault::Unreadable => End::CannotReadInput,
-    }
-}
-
-/// The bytes of an input from standard input.
-fn read_stream<'a, R: Read>(alloc: Global, reader: &mut R) -> Result<Vec<u8>, End<'a>>
-    ensures ok { IfOk result (λ input. HasStream (R.remaining reader.old) input.items) }
-    ensures err { IfErr result (NoStream (R.remaining reader.old)) }
-{
-    match read_or_fault(front_of(alloc, reader, LONGEST_INPUT + 1)) {
-        Ok(input) => {
-            if input.len() > LONGEST_INPUT {
-                return Err(End::InputTooLarge);
-            }
-            Ok(input)
-        }
-        Err(fault) => Err(end_of_input(fault)),
-    }
-}
-
-/// The bytes of the input, if a file is named.
-fn read_input<'a, F: Files>(
-    alloc: Global,
-    files: &F,
-    path: Option<&'a str>,
-) -> Result<Vec<u8>, End<'a>>
-    ensures ok { IfOk result (λ input. HasInput (F.gives files.now) (option_map (λ path. path.now) path.entry) input.items) }
-    ensures short { IfOk result (λ input. length input.items ≤ longest_input) }
-    ensures err { IfErr result (NoInput (F.gives files.now) (option_map (λ path. path.now) path.entry)) }
-{
-    let Some(path) = path else {
-        return Ok(Vec::new(alloc));
-    };
-    let input = read_front(alloc, files, path, LONGEST_INPUT)?;
-    if input.len() > LONGEST_INPUT {
-        return Err(End::InputTooLarge);
-    }
-    Ok(input)
-}
-
-/// Whether an input is that of standard input, `-`.
-fn is_stream(path: Option<&str>) -> bool
-    ensures { result ≡ is_stream (option_map (λ path. path.now) path.entry) }
-{
-    match path {
-        Some(path) => path == "-",
-        None => false,
-    }
-}
-
-/// The bytes of the input of a sweep: for `-` those of standard input.
-fn read_sweep_input<'a, F: Files, R: Read>(
-    alloc: Global,
-    files: &F,
-    reader: &mut R,
-    path: Option<&'a str>,
-) -> Result<Vec<u8>, End<'a>>
-    ensures ok { IfOk result (λ input. HasSweepInput (F.gives files.now) (option_map (λ path. path.now) path.entry) (R.remaining reader.old) input.items) }
-    ensures short { IfOk result (λ input. length input.items ≤ longest_input) }
-    ensures err { IfErr result (NoSweepInput (F.gives files.now) (option_map (λ path. path.now) path.entry) (R.remaining reader.old)) }
-{
-    if is_stream(path) {
-        read_stream(alloc, reader)
-    } else {
-        read_input(alloc, files, path)
-    }
-}
 
 /// Prints the report of a program at a step.
 fn print_report<'a, W: Write>(

@@ -19,19 +19,18 @@
 //! - [`tell`]: the exit status is that of the end (`status_of`), and what was written is its line (`line_of`), or a front of it.
 //!
 //! A program's file is judged by its first 67,108,865 bytes, and so whole up to 67,108,864: the number of its refusal is the least that
-//! holds of the file. The definitions stand in `specs/`: `Once`, `Certified`, `Opened`, `Carried`, `Sweeping` and `Laws`; how the program ends in those of the crate
+//! holds of the file. The definitions stand in `specs/`: `Once`, `Certified`, `Carried`, `Sweeping` and `Laws`; what files give in those of `program_files`, how the program ends in those of the crate
 //! `ends`, and what a sweep writes in those of `sweep_tables`.
 #![tactic(auto)]
 
 mod carrying;
 mod certifying;
-mod files;
 pub mod laws;
 mod reporting;
 
-pub use carrying::{MOST_READ, run_order};
+pub use carrying::run_order;
 pub use ends::{End, SweepOption, tell};
-pub use files::{Files, ReadFault, read_opened};
+pub use program_files::{Files, MOST_READ, ReadFault, read_opened};
 pub use reporting::{RunFault, run_once};
 
 // The command line takes the steps that a session takes.

@@ -131,7 +131,7 @@ pub fn tell<W: Write>(end: &End, writer: &mut W) -> u8
 }
 
 /// Writes the error line, if the end has one, and tells whether all of it was taken.
-fn write_line<W: Write>(end: &End, writer: &mut W) -> bool
+pub(crate) fn write_line<W: Write>(end: &End, writer: &mut W) -> bool
     ensures line { AppendsFront (W.contents writer.old) (W.contents writer.new) (line_of end.now) }
     ensures whole { IsTrue result → Appends (W.contents writer.old) (W.contents writer.new) (line_of end.now) }
 {

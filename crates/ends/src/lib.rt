@@ -7,6 +7,8 @@
 #![tactic(auto)]
 
 mod ends;
+mod exec_ends;
 mod lines;
 
 pub use ends::{End, SweepOption, tell};
+pub use exec_ends::{Codes, ExecEnd, Outcome, tell_exec};

@@ -16,7 +16,7 @@ use Rattle.guest_machine.specs.Laws.{StaysHalted}
 use Rattle.run_values.specs.declared.status.Stop.TheVariants.{Misaligned}
 use Rattle.guest_machine.specs.declared.setup.Setup.{Setup}
 
-halts : (core : Core) (bytes : ℕ → ℕ) (hooks : List (ℕ × Hook)) → is_running core.status ≡ false
+pub halts : (core : Core) (bytes : ℕ → ℕ) (hooks : List (ℕ × Hook)) → is_running core.status ≡ false
     → deed_at core bytes hooks ≡ Deed.Halts
 unfolding called_here fetched fetches
 halts core bytes hooks h =

@@ -14,3 +14,6 @@ pub mod Altering
 pub mod AtOnce
 pub mod SameWords
 pub mod Fetching
+pub mod StreamLaw
+pub mod IdleLaw
+pub mod StreamSteps

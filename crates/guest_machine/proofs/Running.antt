@@ -8,15 +8,15 @@ use Rattle.guest_machine.specs.declared.machine.Guest.{Guest}
 use Rattle.guest_machine.specs.declared.setup.Setup.{Setup}
 use Rattle.guest_machine.proofs.Halted.{stays-halted}
 
-none-yet : (s : State) (setup : Setup) → pre s setup [] 0 ≡ s
+pub none-yet : (s : State) (setup : Setup) → pre s setup [] 0 ≡ s
 unfolding pre
 none-yet s setup = refl
 
-one-more : (s : State) (setup : Setup) (n : ℕ) → pre s setup [] (suc n) ≡ exec (pre s setup [] n) setup
+pub one-more : (s : State) (setup : Setup) (n : ℕ) → pre s setup [] (suc n) ≡ exec (pre s setup [] n) setup
 unfolding pre after_marks
 one-more s setup n = refl
 
-stays-for : (s : State) (setup : Setup) (n d : ℕ) → is_running (pre s setup [] n).core.status ≡ false
+pub stays-for : (s : State) (setup : Setup) (n d : ℕ) → is_running (pre s setup [] n).core.status ≡ false
     → pre s setup [] (n + d) ≡ pre s setup [] n
 stays-for s setup n zero h = ap (pre s setup []) (omega arith)
 stays-for s setup n (suc d) h =

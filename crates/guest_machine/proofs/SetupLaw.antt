@@ -10,7 +10,10 @@ use Rattle.guest_machine.specs.Exec.{uses_at, effect_at, touches, touched_at}
 use Rattle.guest_machine.specs.Exec.{has_touched, deed_at, deed_asks, deed_terms, is_heap_deed, given_at, taken_from}
 use Rattle.guest_machine.specs.Exec.{written_to, counted, fetch_span}
 use Rattle.guest_machine.specs.Laws.{KeepsInput, KeepsHeap, KeepsEnd, EndStays, Extends, is_heap_step}
+use Rattle.guest_machine.specs.Run.{pre}
+use Rattle.guest_machine.specs.Streams.{HasMore, KeepsFront}
 use Rattle.guest_machine.specs.declared.setup.Setup.{Setup}
+use Rattle.guest_machine.proofs.Running.{none-yet, one-more}
 
 -- what a step sees of a setup
 seen : State → Setup → Terms
@@ -132,11 +135,11 @@ keeps-heap = record { same = heap-same; counts = λ setup s. refl }
 -- the end of the input --
 
 -- a part of a list that a longer one has too
-front-part : (xs : List ℕ) (byte p n : ℕ) → n ≤ length xs - p → take n (drop p xs) ≡ take n (drop p (xs ++ byte ∷ []))
-front-part xs byte p zero h = refl
-front-part [] byte p (suc n) h = absurd (omega arith)
-front-part (x ∷ xs) byte zero (suc n) h = ap (λ rest. x ∷ rest) (front-part xs byte zero n (omega arith))
-front-part (x ∷ xs) byte (suc p) (suc n) h = front-part xs byte p (suc n) (omega arith)
+front-part : (xs more : List ℕ) (p n : ℕ) → n ≤ length xs - p → take n (drop p xs) ≡ take n (drop p (xs ++ more))
+front-part xs more p zero h = refl
+front-part [] more p (suc n) h = absurd (omega arith)
+front-part (x ∷ xs) more zero (suc n) h = ap (λ rest. x ∷ rest) (front-part xs more zero n (omega arith))
+front-part (x ∷ xs) more (suc p) (suc n) h = front-part xs more p (suc n) (omega arith)
 
 -- what is given where no more is asked for than is left, and where one byte more is left
 pub record Alike (asks : Option ℕ) (less more : ℕ) : Type 0 where
@@ -163,9 +166,9 @@ seen-true : (seen ends : Bool) → seen ≡ true → seen_also seen ends ≡ tru
 seen-true seen true h = refl
 seen-true seen false h = h
 
-module _ (one other : Setup) (s : State) (x : Extends one other) where
-  longer : length other.input ≡ length one.input + 1
-  longer = ap length x.input.1 ∙ length-append one.input (x.input.0 ∷ [])
+module _ (one other : Setup) (more : List ℕ) (s : State) (x : HasMore one other more) where
+  longer : length other.input ≡ length one.input + length more
+  longer = ap length x.input ∙ length-append one.input more
 
   -- the step goes the same way where it doesn't see the end of the shorter input
   end-same : (taken-under s one).ends ≡ false → (touches s one ≡ touches s other) × (exec s one ≡ exec s other)
@@ -175,9 +178,9 @@ module _ (one other : Setup) (s : State) (x : Extends one other) where
       ≡ deed_asks s.core (deed_at s.core s.bytes other.hooks) = ap
       (λ hooks. deed_asks s.core (deed_at s.core s.bytes hooks)) x.hooks in
       let l = longer in
-      let more : left_at s.position one ≤ left_at s.position other = omega arith in
+      let more-left : left_at s.position one ≤ left_at s.position other = omega arith in
       let a = unended (deed_asks s.core (deed_at s.core s.bytes one.hooks)) (left_at s.position one)
-      (left_at s.position other) more e in
+      (left_at s.position other) more-left e in
       let same : taken-under s one ≡ taken-under s other = a.same
       ∙ ap (λ o. intake_of o (left_at s.position other)) asks in
       let t : seen s one ≡ seen s other =
@@ -189,13 +192,43 @@ module _ (one other : Setup) (s : State) (x : Extends one other) where
         volume = cond heap (x.volume i) 0;
       } in
       let n = (taken-under s one).count in
-      same-step one other s x.hooks t (front-part one.input x.input.0 s.position n a.within
-      ∙ ap (λ xs. take n (drop s.position xs)) (sym x.input.1))
+      same-step one other s x.hooks t (front-part one.input more s.position n a.within
+      ∙ ap (λ xs. take n (drop s.position xs)) (sym x.input))
+
+-- a step that leaves the end unseen
+unseen-step : (one other : Setup) (more : List ℕ) (s : State) → HasMore one other more
+    → (exec s one).end_seen ≡ false → (touches s one ≡ touches s other) × (exec s one ≡ exec s other)
+unfolding exec taken-under
+unseen-step one other more s x h =
+    end-same one other more s x (seen-false s.end_seen (taken-under s one).ends h)
 
 pub keeps-end : KeepsEnd
-unfolding exec taken-under
-keeps-end one other s x h = end-same one other s x (seen-false s.end_seen (taken-under s one).ends h)
+keeps-end one other s x h =
+    unseen-step one other (x.input.0 ∷ []) s (record {
+      redzone = x.redzone;
+      volume = x.volume;
+      hooks = x.hooks;
+      input = x.input.1;
+    }) h
 
 pub end-stays : EndStays
 unfolding exec
 end-stays setup s h = seen-true s.end_seen (intake_at s.core s.bytes s.position setup).ends h
+
+-- it was unseen before the step
+unseen-before : (s : State) (setup : Setup) → (exec s setup).end_seen ≡ false → s.end_seen ≡ false
+unfolding exec
+unseen-before s setup h = was-false s.end_seen (intake_at s.core s.bytes s.position setup).ends h
+  where
+    was-false : (seen ends : Bool) → seen_also seen ends ≡ false → seen ≡ false
+    was-false seen true h = cc
+    was-false seen false h = h
+
+pub keeps-front : KeepsFront
+keeps-front one other more start zero x h = none-yet start one ∙ sym (none-yet start other)
+keeps-front one other more start (suc n) x h =
+    let last = one-more start one n in
+    let unseen : (exec (pre start one [] n) one).end_seen ≡ false = sym (ap (λ t. t.end_seen) last) ∙ h in
+    let before = keeps-front one other more start n x (unseen-before (pre start one [] n) one unseen) in
+    last ∙ (unseen-step one other more (pre start one [] n) x unseen).1 ∙ ap (λ t. exec t other) before
+    ∙ sym (one-more start other n)

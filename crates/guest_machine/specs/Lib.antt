@@ -14,4 +14,5 @@ pub mod Run
 pub mod Shows
 pub mod Doing
 pub mod DecodeCaches
+pub mod Streams
 pub mod Laws

@@ -13,6 +13,7 @@ mod observers;
 mod registers;
 mod stack;
 mod step;
+mod streams;
 
 use crate::cached_memory::CachedMemory;
 use call_stacks::CallStack;

@@ -7,6 +7,7 @@
 //! |---|---|
 //! | [`render`] | appends a report to a vector of bytes, or refuses for want of memory |
 //! | [`outline`] | makes an outline, or refuses for want of memory |
+//! | [`has_findings`] | returns whether there is an error, or a leak of some kinds, that no suppression matches |
 //! | [`push_text`], [`push_number`], [`push_address`], [`push_byte`] | append bytes, a number, decimal, an address, and a byte, hexadecimal |
 //! | [`push_state`] | appends the line of a report that tells whether the machine runs |
 //! | [`laws::report_is_one`], [`laws::outline_is_one`] | nothing: their contracts say that a state has one report and one outline |
@@ -58,6 +59,7 @@
 //!
 //! - `Report`: the whole report (`IsReport`, `report_text`). `Outlines`: the outline (`IsOutline`, `outline_text`).
 //! - `Filtering`: which groups of errors are shown, and which only counted.
+//! - `Findings`: whether a report lists an error or a leak.
 //! - `Leaks`: the same of leaked blocks, with their groups and sums.
 //! - `LeakLines`: the lines of leaks; the others are those of the crate `report_lines`.
 //! - `Laws`: a state has one report and one outline.
@@ -66,6 +68,7 @@
 #![tactic(auto)]
 
 mod filtering;
+mod findings;
 pub mod laws;
 mod leak_lines;
 mod leaks;
@@ -73,6 +76,7 @@ mod options;
 mod outlining;
 mod rendering;
 
+pub use findings::has_findings;
 pub use options::Options;
 pub use outlining::outline;
 pub use rendering::render;

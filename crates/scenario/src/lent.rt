@@ -104,7 +104,7 @@ impl<'a> ScenarioRef<'a> {
 
     /// The machine before step 0, with the words written.
     #[tactic(auto, unfolding(crate::specs::Scenario::first_state))]
-    fn start(&self, alloc: Global) -> Result<Machine, AllocError>
+    pub(crate) fn start(&self, alloc: Global) -> Result<Machine, AllocError>
         ensures { IfOk result (λ machine. Shows machine (first_state (lent self.now))) }
     {
         let start = Machine::start(alloc, self.image)?;

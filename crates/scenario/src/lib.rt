@@ -13,11 +13,13 @@
 //! | [`Scenario::effect`] | where an edit shows in the run |
 //! | [`Scenario::edit`] | makes an edit that isn't refused |
 //! | [`Scenario::drop_word`] | takes the word off again that was written last |
+//! | [`Scenario::give`] | gives the run another input |
+//! | [`Scenario::start`] | returns the machine before step 0 |
 //! | [`Scenario::report`] | appends the report at the chosen step, by one run from step zero |
 //! | [`Scenario::render`] | the same of a machine that is at the chosen step already |
 //! | [`Scenario::outline`] | the outline of such a machine |
 //! | [`ScenarioRef::report`] | the report of a scenario whose parts are lent, by one run from step zero |
-//! | [`Scenario::image`], [`Scenario::setup`], [`Scenario::marks`], [`Scenario::step`] | the program, what the run is given, the marks, the chosen step |
+//! | [`Scenario::image`], [`Scenario::setup`], [`Scenario::marks`], [`Scenario::suppressions`], [`Scenario::options`], [`Scenario::step`] | its parts |
 //! | [`setup_with`] | an input, Memcheck's settings of the heap, and the functions of the heap that a program has by name |
 //! | [`laws::edits_follow`] | nothing: its contract says that each edit leads from run to run by its effect |
 //! | [`laws::edits_go_back`] | nothing: its contract says that what takes an edit back leaves the scenario as it was |

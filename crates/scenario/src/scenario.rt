@@ -4,13 +4,14 @@ ghost use Rattle.guest_machine.specs.Shows.{Shows};
 ghost use Rattle.replay_report.specs.Report.{AppendsReport};
 ghost use Rattle.scenario.specs.Lent.{lent};
 ghost use Rattle.scenario.specs.Limits.{longest_input, most_callers};
-ghost use Rattle.scenario.specs.Scenario.{IsOutlineOf, IsReportOf, begun, at_step, chosen_state};
+ghost use Rattle.scenario.specs.Scenario.{IsOutlineOf, IsReportOf, begun, at_step, chosen_state, first_state};
+ghost use Rattle.scenario.specs.Edits.{with_input};
 
 use crate::lent::ScenarioRef;
 use crate::setups::setup_with;
 use crate::word::Word;
 use guest_elf::Image;
-use guest_machine::{Machine, Mark, Meter, Setup};
+use guest_machine::{Input, Machine, Mark, Meter, Setup};
 use replay_report::Options;
 use std::alloc::{AllocError, Global};
 use std::marker::Model;
@@ -87,6 +88,21 @@ impl<'a> Scenario<'a> {
         &self.marks
     }
 
+    /// The suppressions, in their order.
+    pub fn suppressions(&self) -> &[Suppression]
+        ensures { result.now ≡ self.now.rules }
+    {
+        &self.suppressions
+    }
+
+    /// The options of the report, whose `callers` are from 1 to 24.
+    pub fn options(&self) -> &Options
+        ensures options { result.now ≡ self.now.options }
+        ensures some { 1 ≤ result.now.callers }
+    {
+        &self.options
+    }
+
     /// The chosen step.
     pub fn step(&self) -> u32
         ensures { result ≡ self.now.step }
@@ -116,6 +132,21 @@ impl<'a> Scenario<'a> {
             options: &self.options,
             step: self.step,
         }
+    }
+
+    /// Gives the run another input.
+    pub fn give(&mut self, input: Vec<u8>)
+        requires { length input.items ≤ longest_input }
+        ensures { self.new ≡ with_input self.old input.items }
+    {
+        self.setup.input = Input::new(input);
+    }
+
+    /// Returns the machine before step 0.
+    pub fn start(&self) -> Result<Machine, AllocError>
+        ensures { IfOk result (λ machine. Shows machine (first_state self.now)) }
+    {
+        self.lent().start(self.alloc)
     }
 
     /// Appends the report at the chosen step, by one run from step zero, whose steps are made on a meter.

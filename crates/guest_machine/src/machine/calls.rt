@@ -26,7 +26,7 @@ pub(super) const A1: u8 = 11;
 /// The register of a call's third argument.
 const A2: u8 = 12;
 /// The register of a call's number.
-const A7: u8 = 17;
+pub(super) const A7: u8 = 17;
 
 /// The most bytes that one call moves.
 const MOST_MOVED: u32 = 4096;
@@ -49,7 +49,7 @@ impl Guest {
 
     /// How many bytes a call moves at most.
     #[tactic(auto, unfolding(crate::specs::Calls::moved_len))]
-    fn moved_len(&self) -> u32
+    pub(super) fn moved_len(&self) -> u32
         ensures value { result ≡ moved_len (core_of self.now) }
         ensures few { result ≤ most_moved }
     {

@@ -183,7 +183,7 @@ impl Guest {
 
     /// Whether it runs.
     #[inline(always)]
-    fn runs(&self) -> bool
+    pub(super) fn runs(&self) -> bool
         ensures { result ≡ is_running (core_of self.now).status }
     {
         matches!(self.status, Status::Running)
@@ -200,7 +200,7 @@ impl Guest {
     /// The function of the heap that is called by name.
     #[inline(always)]
     #[tactic(auto, unfolding(crate::specs::Exec::called_here))]
-    fn called_here(&self, hooks: &Hooks) -> Option<Hook>
+    pub(super) fn called_here(&self, hooks: &Hooks) -> Option<Hook>
         ensures { result ≡ called_here (core_of self.now) hooks.now }
     {
         if self.is_ready() {
@@ -213,7 +213,7 @@ impl Guest {
     /// The word at pc with its undefined bits, where it may be taken.
     #[inline(always)]
     #[tactic(auto, unfolding(crate::specs::Exec::fetches))]
-    fn fetch(&self) -> Option<Bits>
+    pub(super) fn fetch(&self) -> Option<Bits>
         ensures none { IfNone result (fetches (core_of self.now) ≡ false) }
         ensures some { IfSome result (λ word. IsFetched (core_of self.now) (bytes_of self.now) word) }
     {
@@ -264,7 +264,7 @@ impl Guest {
     /// The instruction at pc, where it runs and the word there was decoded lately.
     #[inline(always)]
     #[tactic(auto, unfolding(crate::specs::Exec::fetches))]
-    fn decoded(&self) -> Option<Instruction>
+    pub(super) fn decoded(&self) -> Option<Instruction>
         ensures { IfSome result (λ row. IsDecoded (core_of self.now) (bytes_of self.now) row) }
     {
         if !self.is_ready() {
@@ -437,7 +437,7 @@ impl Guest {
 
     /// What [`Guest::perform`] does, said of each state that is held.
     #[inline(always)]
-    fn step_on(&mut self, setup: &Setup) -> Result<Touched, AllocError>
+    pub(super) fn step_on(&mut self, setup: &Setup) -> Result<Touched, AllocError>
         ensures holds { OnOk result ((s : State) → Holds self.old s → Holds self.new (exec s setup.now)) }
         ensures touched { IfOk result (λ t. (s : State) → Holds self.old s → t ≡ touched_of s setup.now) }
         ensures word { IfOk result (λ t. IfSome t.fetch IsWord) }

@@ -7,7 +7,7 @@ use Rattle.driver.specs.Carried.{longest_text}
 use Rattle.ends.specs.Ends.{end_of}
 use Rattle.sweep_tables.specs.Swept.{Sweeps}
 use Rattle.ends.proofs.EndSteps.{passed-on}
-use Rattle.driver.proofs.StreamSteps.{refused-rules, short-text}
+use Rattle.program_files.proofs.StreamSteps.{refused-rules, short-text}
 use Rattle.driver.proofs.carrying.sweep_image.Goals as goal
 
 pub parse-requires : goal.parse-requires

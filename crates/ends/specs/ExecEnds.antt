@@ -1,0 +1,102 @@
+-- How `exec` ends: its exit statuses leave those of programs to the program that it runs, and are those of a shell and of
+-- env(1) and timeout(1) else.
+use Rattle.std.specs.Prelude.{ℕ, ◌+◌, ◌%◌, ◌==◌, ◌&&◌, Bool, true, false, if◌then◌else◌, List, [], ◌++◌, Option, Some, None}
+use Rattle.std.specs.Prelude.{codes, decimal, is_some, nat_lt}
+use Rattle.guest_elf.specs.declared.fault.ElfFault.TheVariants.{Memory}
+use Rattle.run_values.specs.declared.status.Status.{Status}
+use Rattle.run_values.specs.declared.status.Status.TheVariants.{Running, Exited, Stopped}
+use Rattle.run_values.specs.declared.status.Stop.{Stop}
+use Rattle.run_values.specs.declared.status.Stop.TheVariants.{Jump, Break, Illegal, Misaligned}
+use Rattle.ends.specs.Ends.{line_of, line_with}
+use Rattle.ends.specs.declared.ends.End.{End}
+use Rattle.ends.specs.declared.ends.End.TheVariants.{Done, CannotRead, CannotReadInput, Image, Suppressions}
+use Rattle.ends.specs.declared.ends.End.TheVariants.{SuppressionsTooLong, InputTooLarge}
+use Rattle.ends.specs.declared.exec_ends.ExecEnd.{ExecEnd}
+use Rattle.ends.specs.declared.exec_ends.ExecEnd.TheVariants.{Early, BadPatch, PatchRefused, BadKinds, ReportInPlace}
+use Rattle.ends.specs.declared.exec_ends.ExecEnd.TheVariants.{Ran}
+use Rattle.ends.specs.declared.exec_ends.Outcome.{Outcome}
+use Rattle.ends.specs.declared.exec_ends.Codes.{Codes}
+use Rattle.suppressions.specs.declared.fault.SuppFault.TheVariants as Supp
+
+-- ---- a run
+
+-- a program that stops has the status that a shell gives for the signal (signal(7) of Linux): SIGILL 4, SIGTRAP 5, SIGBUS
+-- 7, SIGSEGV 11
+abbrev pub stop_status : Stop → ℕ
+stop_status Illegal = 128 + 4
+stop_status Break = 128 + 5
+stop_status Misaligned = 128 + 7
+stop_status Jump = 128 + 11
+
+-- one that still runs that of timeout(1), unless it rests in a jump to itself and a status was chosen for that
+abbrev pub running_status : Option ℕ → Bool → ℕ
+running_status (Some chosen) true = chosen
+running_status _ _ = 124
+
+-- one that exits its own, unless it has errors and a status was chosen for them
+abbrev pub exited_status : Option ℕ → Bool → ℕ → ℕ
+exited_status (Some chosen) true code = chosen
+exited_status _ _ code = code
+
+abbrev pub standing_status : Codes → Outcome → Status → ℕ
+standing_status codes outcome Running = running_status codes.idle outcome.idles
+standing_status codes outcome (Exited code) = exited_status codes.errors outcome.has_errors code
+standing_status codes outcome (Stopped stop) = stop_status stop
+
+-- a run that would end with 0 though output was lost ends with this
+abbrev pub lost_status : ℕ
+lost_status = 123
+
+abbrev pub unless_lost : ℕ → ℕ → ℕ
+unless_lost lost status = if (status == 0) && nat_lt 0 lost then lost_status else status
+
+-- the exit status of a run, of which the system keeps eight bits (exit(3))
+abbrev pub run_status : Codes → Outcome → ℕ
+run_status codes outcome = unless_lost outcome.lost (standing_status codes outcome outcome.status % 256)
+
+-- ---- all ends
+
+-- 125: the command line, memory, or a write; 126: what is run is refused; 127: it can't be read
+abbrev pub early_status : End → ℕ
+early_status Done = 0
+early_status (CannotRead path) = 127
+early_status CannotReadInput = 127
+early_status (Image Memory) = 125
+early_status (Image fault) = 126
+early_status (Suppressions Supp.Memory) = 125
+early_status (Suppressions (Supp.BadSuppression line)) = 126
+early_status SuppressionsTooLong = 126
+early_status InputTooLarge = 126
+early_status _ = 125
+
+abbrev pub exec_status : ExecEnd → ℕ
+exec_status (Early end) = early_status end
+exec_status (BadPatch text) = 125
+exec_status (BadKinds text) = 125
+exec_status (ReportInPlace path) = 125
+exec_status (PatchRefused text) = 126
+exec_status (Ran codes outcome) = run_status codes outcome
+
+-- what is said on standard error of a run: that it still runs, unless a status was chosen for where it rests; and how many
+-- `write`s found no room
+abbrev pub running_line : ℕ → List ℕ
+running_line step = line_with (codes "replaycheck exec: still running at step ") (decimal step)
+
+abbrev pub lost_line : ℕ → List ℕ
+lost_line lost = line_with (codes "replaycheck exec: 65536 bytes of output are all there is room for; writes refused: ") (decimal lost)
+
+abbrev pub standing_lines : Option ℕ → Outcome → Status → List ℕ
+standing_lines idle outcome Running = if is_some idle && outcome.idles then [] else running_line outcome.step
+standing_lines idle outcome _ = []
+
+abbrev pub run_lines : Codes → Outcome → List ℕ
+run_lines codes outcome =
+    standing_lines codes.idle outcome outcome.status ++ (if nat_lt 0 outcome.lost then lost_line outcome.lost else [])
+
+abbrev pub exec_lines : ExecEnd → List ℕ
+exec_lines (Early end) = line_of end
+exec_lines (BadPatch text) = line_with (codes "replaycheck exec: not ADDR=WORD: --patch ") text.now
+exec_lines (BadKinds text) = line_with (codes "replaycheck exec: no list of leak kinds: ") text.now
+exec_lines (ReportInPlace path) = line_with (codes "replaycheck exec: the report would replace a file that is read: ") path.now
+exec_lines (PatchRefused text) = line_with (codes "replaycheck exec: patch refused 4: ") text.now
+exec_lines (Ran codes outcome) = run_lines codes outcome

@@ -1,0 +1,221 @@
+//! How `exec` ends: its exit status, which is the program's where it has one, and what is said on standard error.
+ghost use Rattle.std.specs.Prelude.{◌≡◌, [], IsTrue, decimal, if◌then◌else◌, nat_lt};
+ghost use Rattle.std.specs.Io.KnownBytes.{Appends};
+ghost use Rattle.ends.specs.Ends.{AppendsFront, line_with};
+ghost use Rattle.ends.specs.ExecEnds.{early_status, exec_lines, exec_status, lost_line, run_lines, run_status, running_line, standing_lines, standing_status, stop_status};
+ghost use Rattle.ends.specs.declared.exec_ends.ExecEnd.TheVariants.{Early};
+
+use crate::ends::{End, write_line};
+use crate::lines::send_line;
+use guest_elf::ElfFault;
+use itoa::Buffer;
+use run_values::{Status, Stop};
+use std::io::Write;
+use suppressions::SuppFault;
+
+/// The exit status of a run that ended with 0 though some of its output was lost.
+const LOST: u8 = 123;
+/// The exit status of a run that goes on.
+const RUNNING: u32 = 124;
+/// The exit status of a fault of the command line, of memory, or of a write.
+const FAILED: u8 = 125;
+/// The exit status where what is to be run is refused.
+const REFUSED: u8 = 126;
+/// The exit status where it can't be read.
+const UNREADABLE: u8 = 127;
+
+/// The exit statuses that a user chose in place of others; of each the system keeps eight bits.
+#[derive(Clone, Copy)]
+pub struct Codes {
+    /// Of a program that exits and has errors or leaks that count.
+    pub errors: Option<u32>,
+    /// Of one that rests in a jump to itself.
+    pub idle: Option<u32>,
+}
+
+/// How a run stands at its last step.
+#[derive(Clone, Copy)]
+pub struct Outcome {
+    /// The step.
+    pub step: u32,
+    /// Whether it runs.
+    pub status: Status,
+    /// Whether it rests in a jump to itself.
+    pub idles: bool,
+    /// Whether it has errors or leaks that count.
+    pub has_errors: bool,
+    /// The number of its `write`s that found no room.
+    pub lost: u32,
+}
+
+/// How `exec` ends.
+#[derive(Clone, Copy)]
+pub enum ExecEnd<'a> {
+    /// As another command would: before the run, or where reading or writing failed.
+    Early(End<'a>),
+    /// A patch isn't of the form `ADDR=WORD`.
+    BadPatch(&'a str),
+    /// A list of leak kinds is none.
+    BadKinds(&'a str),
+    /// The report would replace a file that is read.
+    ReportInPlace(&'a str),
+    /// A patch's address is that of no loaded word.
+    PatchRefused(&'a str),
+    /// The run was made, and its report written.
+    Ran(Codes, Outcome),
+}
+
+impl<'a> From<End<'a>> for ExecEnd<'a> {
+    ghost from_gives = { λ end exec. exec ≡ Early end };
+
+    fn from(end: End<'a>) -> Self {
+        ExecEnd::Early(end)
+    }
+}
+
+/// Returns the exit status of a program that stopped: that of a shell for the signal.
+fn stop_status(stop: Stop) -> u32
+    ensures { result ≡ stop_status stop }
+{
+    match stop {
+        Stop::Illegal => 132,
+        Stop::Break => 133,
+        Stop::Misaligned => 135,
+        Stop::Jump => 139,
+    }
+}
+
+/// Returns the exit status of a run but for lost output.
+fn standing_status(codes: Codes, outcome: Outcome) -> u32
+    ensures { result ≡ standing_status codes outcome outcome.status }
+{
+    match outcome.status {
+        Status::Running => match codes.idle {
+            Some(chosen) if outcome.idles => chosen,
+            _ => RUNNING,
+        },
+        Status::Exited(code) => match codes.errors {
+            Some(chosen) if outcome.has_errors => chosen,
+            _ => u32::from(code),
+        },
+        Status::Stopped(stop) => stop_status(stop),
+    }
+}
+
+/// Returns the exit status of a run.
+fn run_status(codes: Codes, outcome: Outcome) -> u8
+    ensures { result ≡ run_status codes outcome }
+{
+    let status = (standing_status(codes, outcome) % 256) as u8;
+    if status == 0 && outcome.lost > 0 {
+        LOST
+    } else {
+        status
+    }
+}
+
+/// Returns the exit status of an end that other commands have too.
+fn early_status(end: End) -> u8
+    ensures { result ≡ early_status end.entry }
+{
+    match end {
+        End::Done => 0,
+        End::CannotRead(_) | End::CannotReadInput => UNREADABLE,
+        End::Image(ElfFault::Memory) | End::Suppressions(SuppFault::Memory) => FAILED,
+        End::Image(_)
+        | End::Suppressions(SuppFault::BadSuppression(_))
+        | End::SuppressionsTooLong
+        | End::InputTooLarge => REFUSED,
+        _ => FAILED,
+    }
+}
+
+/// Writes a line that ends with a number, if a test holds. Returns whether all of it was taken.
+fn write_number<W: Write>(writer: &mut W, word: &str, number: u32) -> bool
+    ensures line { AppendsFront (W.contents writer.old) (W.contents writer.new) (line_with word.now (decimal number)) }
+    ensures whole { IsTrue result → Appends (W.contents writer.old) (W.contents writer.new) (line_with word.now (decimal number)) }
+{
+    let mut digits = Buffer::new();
+    let number = digits.format(number);
+    send_line(writer, word, number.as_bytes())
+}
+
+/// Writes that a run goes on, unless a status was chosen for where it rests. Returns whether all of it was taken.
+fn write_standing<W: Write>(codes: Codes, outcome: Outcome, writer: &mut W) -> bool
+    ensures line { AppendsFront (W.contents writer.old) (W.contents writer.new) (standing_lines codes.idle outcome outcome.status) }
+    ensures whole { IsTrue result → Appends (W.contents writer.old) (W.contents writer.new) (standing_lines codes.idle outcome outcome.status) }
+{
+    match outcome.status {
+        Status::Running => {
+            if codes.idle.is_some() && outcome.idles {
+                return true;
+            }
+            write_number(writer, "replaycheck exec: still running at step ", outcome.step)
+        }
+        Status::Exited(_) | Status::Stopped(_) => true,
+    }
+}
+
+/// Writes how many `write`s found no room, if some did. Returns whether all of it was taken.
+fn write_lost<W: Write>(lost: u32, writer: &mut W) -> bool
+    ensures line { AppendsFront (W.contents writer.old) (W.contents writer.new) (if nat_lt 0 lost then lost_line lost else []) }
+    ensures whole { IsTrue result → Appends (W.contents writer.old) (W.contents writer.new) (if nat_lt 0 lost then lost_line lost else []) }
+{
+    if lost == 0 {
+        return true;
+    }
+    let word = "replaycheck exec: 65536 bytes of output are all there is room for; writes refused: ";
+    write_number(writer, word, lost)
+}
+
+/// Writes what is said of a run. Returns whether all of it was taken.
+fn write_run<W: Write>(codes: Codes, outcome: Outcome, writer: &mut W) -> bool
+    ensures line { AppendsFront (W.contents writer.old) (W.contents writer.new) (run_lines codes outcome) }
+    ensures whole { IsTrue result → Appends (W.contents writer.old) (W.contents writer.new) (run_lines codes outcome) }
+{
+    if !write_standing(codes, outcome, writer) {
+        return false;
+    }
+    write_lost(outcome.lost, writer)
+}
+
+/// Writes what is said of an end. Returns whether all of it was taken.
+fn write_lines<W: Write>(end: ExecEnd, writer: &mut W) -> bool
+    ensures line { AppendsFront (W.contents writer.old) (W.contents writer.new) (exec_lines end.entry) }
+    ensures whole { IsTrue result → Appends (W.contents writer.old) (W.contents writer.new) (exec_lines end.entry) }
+{
+    match end {
+        ExecEnd::Early(end) => write_line(&end, writer),
+        ExecEnd::BadPatch(text) => {
+            let word = "replaycheck exec: not ADDR=WORD: --patch ";
+            send_line(writer, word, text.as_bytes())
+        }
+        ExecEnd::BadKinds(text) => {
+            let word = "replaycheck exec: no list of leak kinds: ";
+            send_line(writer, word, text.as_bytes())
+        }
+        ExecEnd::ReportInPlace(path) => {
+            let word = "replaycheck exec: the report would replace a file that is read: ";
+            send_line(writer, word, path.as_bytes())
+        }
+        ExecEnd::PatchRefused(text) => {
+            let word = "replaycheck exec: patch refused 4: ";
+            send_line(writer, word, text.as_bytes())
+        }
+        ExecEnd::Ran(codes, outcome) => write_run(codes, outcome, writer),
+    }
+}
+
+/// Writes what is said of an end of `exec` on standard error, and returns the exit status, whatever becomes of the write.
+pub fn tell_exec<W: Write>(end: ExecEnd, writer: &mut W) -> u8
+    ensures status { result ≡ exec_status end.entry }
+    ensures lines { AppendsFront (W.contents writer.old) (W.contents writer.new) (exec_lines end.entry) }
+{
+    let _is_whole = write_lines(end, writer);
+    match end {
+        ExecEnd::Early(end) => early_status(end),
+        ExecEnd::BadPatch(_) | ExecEnd::BadKinds(_) | ExecEnd::ReportInPlace(_) => FAILED,
+        ExecEnd::PatchRefused(_) => REFUSED,
+        ExecEnd::Ran(codes, outcome) => run_status(codes, outcome),
+    }
+}

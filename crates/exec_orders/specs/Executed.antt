@@ -1,0 +1,154 @@
+-- What becomes of `exec`: its options are judged, then its files, then the run is made, and then its report is written.
+use Rattle.std.specs.Prelude.{◌≡◌, ◌≤◌, ◌⊎◌, ◌||◌, ℕ, Bool, true, false, List, [], Option, Some, None, is_none, length}
+use Rattle.std.specs.Prelude.{take}
+use Rattle.std.specs.Str.{bytes_eq}
+use denote.Ref.{Bor}
+use Rattle.std.specs.Io.KnownBytes.{Appends, Consumes}
+use Rattle.command_line.specs.Orders.{input_path, rules_path}
+use Rattle.command_line.specs.declared.order.Order.{Order}
+use Rattle.command_line.specs.declared.order.ExecWords.{ExecWords}
+use Rattle.ends.specs.declared.ends.End.{End}
+use Rattle.ends.specs.declared.ends.End.TheVariants.{CannotWrite, NoMemory}
+use Rattle.ends.specs.declared.exec_ends.Codes.{Codes}
+use Rattle.ends.specs.declared.exec_ends.ExecEnd.{ExecEnd}
+use Rattle.ends.specs.declared.exec_ends.ExecEnd.TheVariants.{BadKinds, Early, Ran, ReportInPlace}
+use Rattle.ends.specs.declared.exec_ends.Outcome.{Outcome}
+use Rattle.executions.specs.Executions.{refused_at}
+use Rattle.guest_elf.specs.declared.image.Image.{Image}
+use Rattle.guest_machine.specs.Streams.{is_idle}
+use Rattle.program_files.specs.Files.{Giving, HasImage, HasStream, NoImage, NoStream}
+use Rattle.replay_report.specs.Findings.{HasFindings}
+use Rattle.run_values.specs.declared.status.Status.{Status}
+use Rattle.run_values.specs.declared.status.Status.TheVariants.{Stopped}
+use Rattle.scenario.specs.Edits.{shown, with_input}
+use Rattle.scenario.specs.Scenario.{Scenario, chosen_state, IsReportOf}
+use Rattle.suppressions.specs.Words.{leak_kinds}
+use Rattle.suppressions.specs.declared.leak_kinds.LeakKinds.{LeakKinds}
+use Rattle.exec_orders.specs.Prepared.{Makes, MakesNone}
+
+-- what standard input still has, and what standard output and the report's file were given, where they tell it
+pub record Pipes : Type 0 where
+  pub left : Option (List ℕ)
+  pub held : Option (List ℕ)
+  pub logged : Option (List ℕ)
+
+-- ---- a run
+
+-- how a run stands at its last step; of the kinds of leak these count as errors
+pub record IsOutcome (sc : Scenario) (count : LeakKinds) (outcome : Outcome) : Type 0 where
+  pub step : outcome.step ≡ sc.step
+  pub status : outcome.status ≡ (chosen_state sc).core.status
+  pub idles : outcome.idles ≡ is_idle (chosen_state sc) sc.setup
+  pub has_errors : HasFindings (chosen_state sc) sc.image sc.rules sc.options.callers (shown count) outcome.has_errors
+  pub lost : outcome.lost ≡ refused_at sc sc.step
+
+-- has the program stopped?
+abbrev pub is_stopped : Status → Bool
+is_stopped (Stopped stop) = true
+is_stopped _ = false
+
+-- a report tells something: a stop, an error, or a leak that is listed
+abbrev pub Tells : Scenario → Bool → Type 0
+Tells sc told =
+    (found : Bool) × HasFindings (chosen_state sc) sc.image sc.rules sc.options.callers sc.options.show found
+    × (told ≡ (is_stopped (chosen_state sc).core.status || found))
+
+-- the report was written; or nothing, where only one that tells something is asked for, and it doesn't
+abbrev pub WritesReport : Bool → Scenario → Option (List ℕ) → Option (List ℕ) → Type 0
+WritesReport quiet sc old new =
+    ((text : List ℕ) × IsReportOf sc text × Appends old new text) ⊎ ((quiet ≡ true) × Tells sc false × Appends old new [])
+
+-- a front of the report was, before a write failed
+abbrev pub CutsReport : Scenario → Option (List ℕ) → Option (List ℕ) → Type 0
+CutsReport sc old new =
+    (text : List ℕ) × (sent : ℕ) × IsReportOf sc text × (sent ≤ length text) × Appends old new (take sent text)
+
+-- a front of the program's output was written, and nothing of the report
+abbrev pub CutsOutput : Scenario → Pipes → Pipes → Type 0
+CutsOutput sc old new =
+    (sent : ℕ) × (sent ≤ length (chosen_state sc).output)
+    × Appends old.held new.held (take sent (chosen_state sc).output) × Appends old.logged new.logged []
+
+-- the whole output was written
+abbrev pub WritesOutput : Scenario → Pipes → Pipes → Type 0
+WritesOutput sc old new = Appends old.held new.held (chosen_state sc).output
+
+-- the run was made: its output was written, and then its report; or a write failed; or memory ran out
+abbrev pub Ends : Bool → Codes → LeakKinds → Scenario → Pipes → Pipes → ExecEnd → Type 0
+Ends quiet codes count sc old new (Ran chosen outcome) =
+    (chosen ≡ codes) × IsOutcome sc count outcome × WritesOutput sc old new
+    × WritesReport quiet sc old.logged new.logged
+Ends quiet codes count sc old new (Early CannotWrite) =
+    CutsOutput sc old new ⊎ (WritesOutput sc old new × CutsReport sc old.logged new.logged)
+Ends quiet codes count sc old new (Early NoMemory) = CutsOutput sc old new
+Ends quiet codes count sc old new end = ⊥
+
+-- ---- its input
+
+-- the run of a scenario with an empty input never asks for a byte of it
+abbrev pub NeverAsks : Scenario → Type 0
+NeverAsks sc = (chosen_state sc).end_seen ≡ false
+
+-- with the input that was given; or, where none was, with an empty one if it is never asked for, and else with all of
+-- standard input, which ends the program if it can't be read
+abbrev pub Executes : Bool → Bool → Codes → LeakKinds → Scenario → Pipes → Pipes → ExecEnd → Type 0
+Executes waits quiet codes count sc old new end =
+    (Consumes old.left new.left [] × Ends quiet codes count sc old new end)
+    ⊎ ((waits ≡ true) × (input : List ℕ) × HasStream old.left input
+    × Ends quiet codes count (with_input sc input) old new end)
+    ⊎ ((waits ≡ true) × (why : End) × (end ≡ Early why) × NoStream old.left why × CutsOutput sc old new)
+
+-- ---- all of it
+
+abbrev pub IsUntouched : Pipes → Pipes → Type 0
+IsUntouched old new =
+    Consumes old.left new.left [] × Appends old.held new.held [] × Appends old.logged new.logged []
+
+-- a list of leak kinds is none
+abbrev pub NoKinds : Bor (List ℕ) → ExecEnd → Type 0
+NoKinds text end = (leak_kinds text.now ≡ None) × (end ≡ BadKinds text)
+
+-- the file of the report is one of those that are read
+abbrev pub is_path : List ℕ → Option (List ℕ) → Bool
+is_path path None = false
+is_path path (Some other) = bytes_eq path other
+
+abbrev pub is_read : Order → List ℕ → Bool
+is_read order path =
+    bytes_eq path order.file.now || (is_path path (input_path order) || is_path path (rules_path order))
+
+abbrev pub InPlace : Order → Option (Bor (List ℕ)) → ExecEnd → Type 0
+InPlace order None end = ⊥
+InPlace order (Some path) end = (is_read order path.now ≡ true) × (end ≡ ReportInPlace path)
+
+-- is no file of an input named?
+abbrev pub waits_for : Order → Bool
+waits_for order = is_none (input_path order)
+
+abbrev pub codes_of : ExecWords → Codes
+codes_of asked = record { errors = asked.error_exitcode; idle = asked.idle_exitcode }
+
+-- with a scenario: the file of the report is opened, and then the run made
+abbrev pub WithScenario : Order → ExecWords → LeakKinds → Scenario → Pipes → Pipes → ExecEnd → Type 0
+WithScenario order asked count sc old new end =
+    ((end ≡ Early CannotWrite) × IsUntouched old new)
+    ⊎ Executes (waits_for order) asked.quiet (codes_of asked) count sc old new end
+
+-- with a program: the other files are read, and the edits made
+abbrev pub WithImage : Giving → Order → ExecWords → LeakKinds → LeakKinds → Image → Pipes → Pipes → ExecEnd → Type 0
+WithImage gives order asked show count image old new end =
+    (MakesNone gives order asked show image end × IsUntouched old new)
+    ⊎ ((sc : Scenario) × Makes gives order asked show image sc × WithScenario order asked count sc old new end)
+
+-- with options that are none that end it: the program's file is read
+abbrev pub WithKinds : Giving → Order → ExecWords → LeakKinds → LeakKinds → Pipes → Pipes → ExecEnd → Type 0
+WithKinds gives order asked show count old new end =
+    ((why : End) × (end ≡ Early why) × NoImage gives order.file.now why × IsUntouched old new)
+    ⊎ ((image : Image) × HasImage gives order.file.now image × WithImage gives order asked show count image old new end)
+
+-- an order for `exec` was carried out
+abbrev pub Executed : Giving → Order → ExecWords → Pipes → Pipes → ExecEnd → Type 0
+Executed gives order asked old new end =
+    ((NoKinds asked.show end ⊎ NoKinds asked.count end ⊎ InPlace order asked.report end) × IsUntouched old new)
+    ⊎ ((show : LeakKinds) × (count : LeakKinds) × (leak_kinds asked.show.now ≡ Some show)
+    × (leak_kinds asked.count.now ≡ Some count) × WithKinds gives order asked show count old new end)

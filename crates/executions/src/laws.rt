@@ -1,0 +1,7 @@
+//! What joins runs with different inputs. The law is the contract of a function that does nothing; a caller has it after the call.
+ghost use Rattle.executions.specs.Executions.{MovesOn};
+
+/// An execution that hasn't seen the end of an empty input is one of the scenario with any input, at the same step.
+pub fn moves_on()
+    ensures { MovesOn }
+{}

@@ -1,0 +1,210 @@
+-- What a step has to do with input and output follows from its instruction.
+use Rattle.std.proofs.Common.{◌≡◌, ◌⊎◌, inl, inr, ℕ, zero, suc, ◌+◌, ◌&&◌, ◌==◌, nat_eq, nat_le, Bool, true, false}
+use Rattle.std.proofs.Common.{cond, not, List, [], ◌∷◌, ◌++◌, length, append-nil, append_assoc, Option, Some, None}
+use Rattle.std.proofs.Common.{refl, ap, sym, subst, ◌∙◌, arith, add-zero}
+use Rattle.guest_elf.specs.declared.hook.Hook.{Hook}
+use Rattle.guest_elf.specs.declared.hook.Hook.TheVariants.{Malloc, Free, Calloc, Realloc}
+use Rattle.shadow_memory.specs.Ranges.{window}
+use Rattle.run_values.specs.declared.span.Span.{Span}
+use Rattle.instructions.specs.Instructions.{row_of}
+use Rattle.instructions.specs.declared.instruction.Instruction.{Instruction}
+use Rattle.instructions.specs.declared.instruction.Instruction.TheVariants.{LoadUpper, AddUpper, Jump, JumpRegister}
+use Rattle.instructions.specs.declared.instruction.Instruction.TheVariants.{Branch, Load, Store, Immediate, Registers}
+use Rattle.instructions.specs.declared.instruction.Instruction.TheVariants.{Fence, CallEnvironment, Breakpoint}
+use Rattle.guest_machine.specs.State.{Core, State}
+use Rattle.guest_machine.specs.Effects.{Effect, quiet, stops}
+use Rattle.guest_machine.specs.Calls.{argument, answers, appends, bytes_taken, call_at, is_output, moved_len, failure}
+use Rattle.guest_machine.specs.Calls.{read_call, write_call, output_room}
+use Rattle.guest_machine.specs.HeapCalls.{heap_work}
+use Rattle.guest_machine.specs.NamedCalls.{named_by, returns}
+use Rattle.guest_machine.specs.Exec.{Deed, Takes, CallsByName, Halts, Terms, Uses}
+use Rattle.guest_machine.specs.Exec.{call_effect, call_uses, row_asks, row_effect, row_uses, exec}
+use Rattle.guest_machine.specs.Exec.{deed_at, deed_asks, deed_terms, effect_at, uses_at, intake_at, intake_of, left_at}
+use Rattle.guest_machine.specs.Exec.{given_at, outcome, plan, taken_from, written_to, touched_at, touched_of, unfetched}
+use Rattle.guest_machine.specs.Exec.{jump_fault, named_uses_by, seen_also, write_uses}
+use Rattle.guest_machine.specs.Run.{pre}
+use Rattle.guest_machine.specs.Streams.{row_in, row_at, calls_out, refuses_row, refuses_write, SameStreams, bytes_over}
+use Rattle.guest_machine.specs.Streams.{OnlyCallsSpeak, WritesWhatItReads, OutputGrows}
+use Rattle.guest_machine.specs.declared.environment_call.EnvironmentCall.{EnvironmentCall}
+use Rattle.guest_machine.specs.declared.environment_call.EnvironmentCall.TheVariants.{Read, Write, Exit, ExitGroup}
+use Rattle.guest_machine.specs.declared.environment_call.EnvironmentCall.TheVariants.{Heap, Unknown}
+use Rattle.guest_machine.specs.declared.setup.Setup.{Setup}
+use Rattle.guest_machine.proofs.Running.{one-more}
+
+-- ---- instructions that are no ECALL
+
+-- such an instruction asks for no input, writes nothing out, and refuses nothing
+record Silent (core : Core) (row : Option Instruction) (terms : Terms) (given : List ℕ) (taken : ℕ → ℕ) : Type 0 where
+  asks : row_asks core row ≡ None
+  output : (row_effect core row terms given taken).output ≡ []
+  fits : (written : ℕ) → refuses_row core row written ≡ false
+
+silent : (core : Core) (row : Option Instruction) (terms : Terms) (given : List ℕ) (taken : ℕ → ℕ)
+    → calls_out row ≡ false → Silent core row terms given taken
+unfolding calls_out row_asks row_effect refuses_row
+silent core None terms given taken h = record { asks = refl; output = refl; fits = λ n. refl }
+silent core (Some (LoadUpper rd imm)) terms given taken h = record { asks = refl; output = refl; fits = λ n. refl }
+silent core (Some (AddUpper rd imm)) terms given taken h = record { asks = refl; output = refl; fits = λ n. refl }
+silent core (Some (Jump rd imm)) terms given taken h = record { asks = refl; output = refl; fits = λ n. refl }
+silent core (Some (JumpRegister rd rs1 imm)) terms given taken h =
+    record { asks = refl; output = refl; fits = λ n. refl }
+silent core (Some (Branch test rs1 rs2 imm)) terms given taken h =
+    record { asks = refl; output = refl; fits = λ n. refl }
+silent core (Some (Load width signed rd rs1 imm)) terms given taken h =
+    record { asks = refl; output = refl; fits = λ n. refl }
+silent core (Some (Store width rs1 rs2 imm)) terms given taken h =
+    record { asks = refl; output = refl; fits = λ n. refl }
+silent core (Some (Immediate operation rd rs1 imm)) terms given taken h =
+    record { asks = refl; output = refl; fits = λ n. refl }
+silent core (Some (Registers operation rd rs1 rs2)) terms given taken h =
+    record { asks = refl; output = refl; fits = λ n. refl }
+silent core (Some Fence) terms given taken h = record { asks = refl; output = refl; fits = λ n. refl }
+silent core (Some CallEnvironment) terms given taken h = cc
+silent core (Some Breakpoint) terms given taken h = record { asks = refl; output = refl; fits = λ n. refl }
+
+-- ---- calls of the heap, and steps that carry nothing out
+
+heap-silent : (function : Hook) (core : Core) (x y redzone volume : ℕ) (taken : ℕ → ℕ)
+    → (heap_work function core x y redzone volume taken).output ≡ []
+unfolding heap_work
+heap-silent Malloc core x y redzone volume taken = refl
+heap-silent Free core x y redzone volume taken = refl
+heap-silent Calloc core x y redzone volume taken = refl
+heap-silent Realloc core x y redzone volume taken = refl
+
+named-silent : (b : Bool) (function : Hook) (core : Core) (redzone volume : ℕ) (taken : ℕ → ℕ)
+    → (named_by b function core redzone volume taken).output ≡ []
+unfolding named_by
+named-silent true function core redzone volume taken = heap-silent function _ _ _ redzone volume taken
+named-silent false function core redzone volume taken = refl
+
+fault-silent : (core : Core) (fault : Option ℕ) → (jump_fault core fault).output ≡ []
+fault-silent core None = refl
+fault-silent core (Some a) = refl
+
+-- of two effects that write nothing out either does so
+of-two : (b : Bool) (one other : Effect) → one.output ≡ [] → other.output ≡ [] → (cond b one other).output ≡ []
+of-two true one other h k = h
+of-two false one other h k = k
+
+halt-silent : (core : Core) → (unfetched core).output ≡ []
+unfolding unfetched
+halt-silent core = of-two _ _ (quiet core) (of-two _ _ _ (fault-silent core _) refl) refl
+
+-- ---- ECALL
+
+-- an effect writes nothing out; or the bytes of a range that was read, and it writes none
+Spoken : (ℕ → ℕ) → Uses → List ℕ → Type 0
+Spoken bytes uses output = (output ≡ []) ⊎ ((output ≡ bytes_over bytes uses.reads) × (uses.writes ≡ None))
+
+-- of `write`, by whether the descriptor is the output, and whether there is room
+write-spoken : (open fits : Bool) (bytes : ℕ → ℕ) (range : Span) (full : (ℕ → ℕ) → Effect) (other closed : Effect)
+    → ((taken : ℕ → ℕ) → (full taken).output ≡ bytes_taken taken range.len) → other.output ≡ [] → closed.output ≡ []
+    → Spoken bytes (record { reads = cond (open && fits) (Some range) None; writes = None })
+    (cond open (cond fits (full (taken_from bytes (cond (open && fits) (Some range) None))) other) closed).output
+unfolding Spoken bytes_over
+write-spoken true true bytes range full other closed f h k = inr (f (window bytes range.start range.len), refl)
+write-spoken true false bytes range full other closed f h k = inl h
+write-spoken false fits bytes range full other closed f h k = inl k
+
+call-spoken : (core : Core) (call : EnvironmentCall) (terms : Terms) (given : List ℕ) (bytes : ℕ → ℕ)
+    → Spoken bytes (call_uses core call terms)
+    (call_effect core call terms given (taken_from bytes (call_uses core call terms).reads)).output
+unfolding call_effect call_uses Spoken read_call write_call appends
+call-spoken core Read terms given bytes = inl (of-two (argument core 10 == 0) _ _ refl refl)
+call-spoken core Write terms given bytes =
+    write-spoken (is_output (argument core 10)) (nat_le (terms.written + moved_len core) output_room) bytes
+    (record { start = argument core 11; len = moved_len core }) _ _ _ (λ taken. refl) refl refl
+call-spoken core Exit terms given bytes = inl refl
+call-spoken core ExitGroup terms given bytes = inl refl
+call-spoken core (Heap function) terms given bytes = inl (heap-silent function _ _ _ _ _ _)
+call-spoken core Unknown terms given bytes = inl refl
+
+-- ---- a step
+
+row-spoken : (core : Core) (row : Option Instruction) (terms : Terms) (given : List ℕ) (bytes : ℕ → ℕ)
+    → Spoken bytes (row_uses core row terms)
+    (row_effect core row terms given (taken_from bytes (row_uses core row terms).reads)).output
+unfolding Spoken row_uses row_effect calls_out
+row-spoken core (Some CallEnvironment) terms given bytes = call-spoken core (call_at core) terms given bytes
+row-spoken core None terms given bytes = inl refl
+row-spoken core (Some (LoadUpper rd imm)) terms given bytes = inl refl
+row-spoken core (Some (AddUpper rd imm)) terms given bytes = inl refl
+row-spoken core (Some (Jump rd imm)) terms given bytes = inl refl
+row-spoken core (Some (JumpRegister rd rs1 imm)) terms given bytes = inl refl
+row-spoken core (Some (Branch test rs1 rs2 imm)) terms given bytes = inl refl
+row-spoken core (Some (Load width signed rd rs1 imm)) terms given bytes = inl refl
+row-spoken core (Some (Store width rs1 rs2 imm)) terms given bytes = inl refl
+row-spoken core (Some (Immediate operation rd rs1 imm)) terms given bytes = inl refl
+row-spoken core (Some (Registers operation rd rs1 rs2)) terms given bytes = inl refl
+row-spoken core (Some Fence) terms given bytes = inl refl
+row-spoken core (Some Breakpoint) terms given bytes = inl refl
+
+deed-spoken : (core : Core) (deed : Deed) (terms : Terms) (given : List ℕ) (bytes : ℕ → ℕ)
+    → Spoken bytes (plan core terms deed)
+    (outcome core terms deed given (taken_from bytes (plan core terms deed).reads)).output
+unfolding Spoken
+deed-spoken core (Takes word) terms given bytes = row-spoken core (row_of word) terms given bytes
+deed-spoken core (CallsByName function) terms given bytes =
+    inl (named-silent (returns core) function core terms.redzone terms.volume _)
+deed-spoken core Halts terms given bytes = inl (halt-silent core)
+
+pub writes-what-it-reads : WritesWhatItReads
+unfolding Spoken exec uses_at effect_at touched_of touched_at
+writes-what-it-reads setup s =
+    let deed = deed_at s.core s.bytes setup.hooks in
+    let terms = deed_terms s.core deed s.position (length s.output) setup in
+    let uses = plan s.core terms deed in
+    let effect = outcome s.core terms deed (given_at s.position terms.intake.count setup)
+    (taken_from s.bytes uses.reads) in
+    elim (deed-spoken s.core deed terms (given_at s.position terms.intake.count setup) s.bytes) [
+      inl none → inl (ap (λ xs. s.output ++ xs) none ∙ append-nil s.output),
+      inr some → inr (ap (λ xs. s.output ++ xs) some.0, ap (λ range. written_to s.bytes range effect.made) some.1),
+    ]
+
+deed-quiet : (core : Core) (deed : Deed) (terms : Terms) (given : List ℕ) (taken : ℕ → ℕ)
+    → calls_out (row_in deed) ≡ false
+    → (deed_asks core deed ≡ None) × ((outcome core terms deed given taken).output ≡ [])
+    × ((written : ℕ) → refuses_row core (row_in deed) written ≡ false)
+unfolding row_in refuses_row
+deed-quiet core (Takes word) terms given taken h =
+    let q = silent core (row_of word) terms given taken h in (q.asks, q.output, q.fits)
+deed-quiet core (CallsByName function) terms given taken h =
+    (refl, named-silent (returns core) function core terms.redzone terms.volume taken, λ n. refl)
+deed-quiet core Halts terms given taken h = (refl, halt-silent core, λ n. refl)
+
+pub only-calls-speak : OnlyCallsSpeak
+unfolding exec uses_at effect_at intake_at row_at refuses_write
+only-calls-speak setup s h =
+    let deed = deed_at s.core s.bytes setup.hooks in
+    let terms = deed_terms s.core deed s.position (length s.output) setup in
+    let uses = plan s.core terms deed in
+    let q = deed-quiet s.core deed terms (given_at s.position terms.intake.count setup)
+    (taken_from s.bytes uses.reads) h in
+    let left = left_at s.position setup in (
+      record {
+        position = sym (ap (λ asks. s.position + (intake_of asks left).count) q.0 ∙ add-zero s.position);
+        end_seen = sym (ap (λ asks. seen_also s.end_seen (intake_of asks left).ends) q.0);
+        output = sym (ap (λ xs. s.output ++ xs) q.1 ∙ append-nil s.output);
+      },
+      q.2 (length s.output),
+    )
+
+-- ---- a run
+
+pub output-grows : OutputGrows
+output-grows start setup n zero =
+    ([], ap (λ k. (pre start setup [] k).output) (omega arith) ∙ sym (append-nil (pre start setup [] n).output))
+output-grows start setup n (suc d) =
+    let before = output-grows start setup n d in
+    let last = exec-adds (pre start setup [] (n + d)) setup in
+    let next : n + suc d ≡ suc (n + d) = omega arith in (
+      before.0 ++ last.0,
+      ap (λ k. (pre start setup [] k).output) next
+      ∙ ap (λ t. t.output) (one-more start setup (n + d)) ∙ last.1
+      ∙ ap (λ xs. xs ++ last.0) before.1 ∙ append_assoc (pre start setup [] n).output before.0 last.0,
+    )
+  where
+    exec-adds : (s : State) (setup : Setup) → (more : List ℕ) × ((exec s setup).output ≡ s.output ++ more)
+    unfolding exec
+    exec-adds s setup = ((effect_at s.core s.bytes s.position (length s.output) setup).output, refl)

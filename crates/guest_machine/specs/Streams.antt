@@ -1,0 +1,127 @@
+-- What a step has to do with the program's input and output, and the laws of it, which follow from the form of a step.
+use Rattle.std.specs.Prelude.{◌≡◌, ℕ, zero, suc, ◌+◌, ◌^◌, ◌<◌, ◌==◌, ◌&&◌, ◌⊎◌, Bool, true, false, not, if◌then◌else◌}
+use Rattle.std.specs.Prelude.{List, [], ◌++◌, length, Option, Some, None}
+use Rattle.shadow_memory.specs.Ranges.{window}
+use Rattle.guest_machine.specs.State.{Core, State}
+use Rattle.guest_machine.specs.Calls.{argument, appends, bytes_taken, call_at, is_output}
+use Rattle.guest_machine.specs.Errors.{fetch_undef}
+use Rattle.guest_machine.specs.Exec.{Deed, Takes, CallsByName, Halts, deed_at, exec, intake_at, is_running, touched_of}
+use Rattle.guest_machine.specs.Run.{pre}
+use Rattle.instructions.specs.Instructions.{row_of}
+use Rattle.instructions.specs.declared.instruction.Instruction.{Instruction}
+use Rattle.instructions.specs.declared.instruction.Instruction.TheVariants.{CallEnvironment as CallRow, Jump}
+use Rattle.guest_machine.specs.declared.environment_call.EnvironmentCall.{EnvironmentCall}
+use Rattle.guest_machine.specs.declared.environment_call.EnvironmentCall.TheVariants.{Write as WriteCall}
+use Rattle.run_values.specs.declared.span.Span.{Span}
+use Rattle.guest_machine.specs.declared.setup.Setup.{Setup}
+
+-- ---- the instruction of a step
+
+-- the instruction that is carried out, if one is
+unfoldable pub row_in : Deed → Option Instruction
+row_in (Takes word) = row_of word
+row_in (CallsByName function) = None
+row_in Halts = None
+
+unfoldable pub row_at : State → Setup → Option Instruction
+row_at s setup = row_in (deed_at s.core s.bytes setup.hooks)
+
+-- is it ECALL?
+unfoldable pub calls_out : Option Instruction → Bool
+calls_out (Some CallRow) = true
+calls_out _ = false
+
+-- is it a jump to itself that leaves no link, `jal x0, 0`?
+unfoldable pub jumps_to_itself : Option Instruction → Bool
+jumps_to_itself (Some (Jump rd imm)) = (rd == 0) && (imm == 0)
+jumps_to_itself _ = false
+
+-- ---- what a step does
+
+-- does it ask for more of the input than is left?
+unfoldable pub sees_end : State → Setup → Bool
+sees_end s setup = (intake_at s.core s.bytes s.position setup).ends
+
+-- is a call a `write` to the output without room for its bytes, where there are so many already?
+unfoldable pub is_refused : Core → EnvironmentCall → ℕ → Bool
+is_refused core WriteCall written = is_output (argument core 10) && not (appends core written)
+is_refused core _ written = false
+
+unfoldable pub refuses_row : Core → Option Instruction → ℕ → Bool
+refuses_row core (Some CallRow) written = is_refused core (call_at core) written
+refuses_row core _ written = false
+
+unfoldable pub refuses_write : State → Setup → Bool
+refuses_write s setup = refuses_row s.core (row_at s setup) (length s.output)
+
+-- how many `write`s found no room in the first n steps of a run without marks
+unfoldable pub refused_writes : State → Setup → ℕ → ℕ
+refused_writes start setup zero = 0
+refused_writes start setup (suc n) =
+    refused_writes start setup n + (if refuses_write (pre start setup [] n) setup then 1 else 0)
+
+-- is a state in a jump to itself, whose word is defined?
+abbrev pub idles_in : Core → Option Instruction → Bool
+idles_in core row = jumps_to_itself row && (fetch_undef core == 0)
+
+unfoldable pub is_idle : State → Setup → Bool
+is_idle s setup = idles_in s.core (row_at s setup)
+
+-- the first n steps of a run without marks are no ECALLs
+abbrev pub IsQuietFor : State → Setup → ℕ → Type 0
+IsQuietFor start setup n = (k : ℕ) → k < n → calls_out (row_at (pre start setup [] k) setup) ≡ false
+
+-- ---- laws
+
+-- the input that was read and the output are the same
+pub record SameStreams (s t : State) : Type 0 where
+  pub position : s.position ≡ t.position
+  pub end_seen : s.end_seen ≡ t.end_seen
+  pub output : s.output ≡ t.output
+
+-- a step that is no ECALL reads no input and writes no output, and no `write` is refused
+abbrev pub OnlyCallsSpeak : Type 0
+OnlyCallsSpeak =
+    (setup : Setup) (s : State) → calls_out (row_at s setup) ≡ false
+    → SameStreams s (exec s setup) × (refuses_write s setup ≡ false)
+
+-- the bytes of a range, in order, if there is one
+unfoldable pub bytes_over : (ℕ → ℕ) → Option Span → List ℕ
+bytes_over bytes None = []
+bytes_over bytes (Some span) = bytes_taken (window bytes span.start span.len) span.len
+
+-- from one state to another nothing was written out, or the bytes of a range, which stay
+abbrev pub WritesOut : State → State → Option Span → Type 0
+WritesOut s t range = (t.output ≡ s.output) ⊎ ((t.output ≡ s.output ++ bytes_over s.bytes range) × (t.bytes ≡ s.bytes))
+
+-- a step writes out nothing, or the bytes that it reads, in order
+abbrev pub WritesWhatItReads : Type 0
+WritesWhatItReads = (setup : Setup) (s : State) → WritesOut s (exec s setup) (touched_of s setup).reads
+
+-- a run only adds to its output
+abbrev pub OutputGrows : Type 0
+OutputGrows =
+    (start : State) (setup : Setup) (n d : ℕ)
+    → (more : List ℕ) × ((pre start setup [] (n + d)).output ≡ (pre start setup [] n).output ++ more)
+
+-- the other setup has more input at its end
+pub record HasMore (one other : Setup) (more : List ℕ) : Type 0 where
+  pub redzone : one.redzone ≡ other.redzone
+  pub volume : one.volume ≡ other.volume
+  pub hooks : one.hooks ≡ other.hooks
+  pub input : other.input ≡ one.input ++ more
+
+-- a run that hasn't seen the end of its input is that of each longer input
+abbrev pub KeepsFront : Type 0
+KeepsFront =
+    (one other : Setup) (more : List ℕ) (start : State) (n : ℕ) → HasMore one other more
+    → (pre start one [] n).end_seen ≡ false → pre start one [] n ≡ pre start other [] n
+
+-- a state rests: it doesn't run, or it is in a jump to itself
+abbrev pub Rests : State → Setup → Type 0
+Rests s setup = (is_running s.core.status ≡ false) ⊎ ((s.core.pc < 2 ^ 32) × (is_idle s setup ≡ true))
+
+-- a state that rests stays as it is, and its step is no ECALL
+abbrev pub StaysAtRest : Type 0
+StaysAtRest =
+    (setup : Setup) (s : State) → Rests s setup → (exec s setup ≡ s) × (calls_out (row_at s setup) ≡ false)

@@ -1,0 +1,209 @@
+//! What the next step has to do with the program's input and output, and steps up to one that may have.
+ghost use Rattle.std.specs.Prelude.{◌≡◌, ◌≤◌, ◌==◌, ℕ, List, [], false, IfOk, IsTrue};
+ghost use Rattle.guest_elf.specs.declared.hook.Hook.{Hook as HookOf};
+ghost use Rattle.guest_machine.specs.State.{State};
+ghost use Rattle.guest_machine.specs.Calls.{call_at};
+ghost use Rattle.guest_machine.specs.Errors.{fetch_undef};
+ghost use Rattle.guest_machine.specs.Exec.{call_asks, deed_at, intake_at, row_asks};
+ghost use Rattle.guest_machine.specs.Run.{pre};
+ghost use Rattle.guest_machine.specs.Shows.{core_of, bytes_of, Holds, Shows};
+ghost use Rattle.guest_machine.specs.Streams.{calls_out, idles_in, is_idle, is_refused, jumps_to_itself, refuses_row, refuses_write, IsQuietFor, Rests, row_in, sees_end};
+
+use crate::environment_call::EnvironmentCall;
+use crate::hooks::Hooks;
+use crate::machine::calls::{A0, A7};
+use crate::machine::{Guest, Machine};
+use crate::setup::Setup;
+use instructions::{Instruction, Register, row_of};
+use std::alloc::AllocError;
+
+/// Whether a register is x0.
+fn is_zero(register: Register) -> bool
+    ensures { result ≡ (register == 0) }
+{
+    register.number() == 0
+}
+
+/// Whether an instruction is `jal x0, 0`.
+#[tactic(auto, unfolding(crate::specs::Streams::jumps_to_itself))]
+fn jumps_to_itself(row: Option<Instruction>) -> bool
+    ensures { result ≡ jumps_to_itself row }
+{
+    let Some(instruction) = row else {
+        return false;
+    };
+    match instruction {
+        Instruction::Jump { rd, imm } => is_zero(rd) && imm == 0,
+        _ => false,
+    }
+}
+
+impl Guest {
+    /// The instruction that the next step carries out, if it carries one out.
+    #[tactic(auto, unfolding(crate::specs::Exec::fetched, crate::specs::Streams::row_in))]
+    fn row_here(&self, hooks: &Hooks) -> Option<Instruction>
+        ensures { result ≡ row_in (deed_at (core_of self.now) (bytes_of self.now) hooks.now) }
+    {
+        if self.called_here(hooks).is_some() {
+            return None;
+        }
+        match self.fetch() {
+            Some(word) => row_of(word.value),
+            None => None,
+        }
+    }
+
+    /// Whether the next step may be an ECALL. It is none where the instruction at pc was decoded lately and is another one.
+    #[inline(always)]
+    fn may_call(&self) -> bool
+        ensures { result ≡ false → (hooks : List (ℕ × HookOf)) → calls_out (row_in (deed_at (core_of self.now) (bytes_of self.now) hooks)) ≡ false }
+    {
+        match self.decoded() {
+            None | Some(Instruction::CallEnvironment) => true,
+            Some(_) => false,
+        }
+    }
+
+    /// The number of bytes of the input that an ECALL asks for, if it asks for some.
+    #[tactic(auto, unfolding(crate::specs::Calls::call_at, crate::specs::Exec::call_asks))]
+    fn call_asks(&self) -> Option<u32>
+        ensures { result ≡ call_asks (core_of self.now) (call_at (core_of self.now)) }
+    {
+        match EnvironmentCall::of(self.argument(A7)) {
+            EnvironmentCall::Read => {
+                if self.argument(A0) == 0 {
+                    Some(self.moved_len())
+                } else {
+                    None
+                }
+            }
+            _ => None,
+        }
+    }
+
+    /// The number of bytes of the input that the next step asks for, if it asks for some.
+    #[tactic(auto, unfolding(crate::specs::Exec::row_asks))]
+    fn asks(&self, hooks: &Hooks) -> Option<u32>
+        ensures { result ≡ row_asks (core_of self.now) (row_in (deed_at (core_of self.now) (bytes_of self.now) hooks.now)) }
+    {
+        match self.row_here(hooks) {
+            Some(Instruction::CallEnvironment) => self.call_asks(),
+            _ => None,
+        }
+    }
+
+    /// Whether the next step asks for more of the input than is left.
+    #[tactic(auto, unfolding(crate::specs::Exec::intake_at), using(crate::proofs::StreamSteps::asks_by_row))]
+    fn sees_end(&self, setup: &Setup) -> bool
+        ensures { result ≡ (intake_at (core_of self.now) (bytes_of self.now) self.now.progress.position setup.now).ends }
+    {
+        let len = setup.input.len() as u64;
+        let left = len.saturating_sub(self.progress.position);
+        match self.asks(&setup.hooks) {
+            Some(asked) => left < u64::from(asked),
+            None => false,
+        }
+    }
+
+    /// Whether an ECALL is a `write` that finds no room.
+    #[tactic(auto, unfolding(crate::specs::Calls::call_at, crate::specs::Calls::appends, crate::specs::Streams::is_refused))]
+    fn is_refused(&self) -> bool
+        ensures { result ≡ is_refused (core_of self.now) (call_at (core_of self.now)) self.now.progress.output_len }
+    {
+        match EnvironmentCall::of(self.argument(A7)) {
+            EnvironmentCall::Write => {
+                let descriptor = self.argument(A0);
+                (descriptor == 1 || descriptor == 2) && !self.progress.has_room(self.moved_len())
+            }
+            _ => false,
+        }
+    }
+
+    /// Whether the next step is a `write` that finds no room.
+    #[tactic(auto, unfolding(crate::specs::Streams::refuses_row))]
+    fn refuses_write(&self, hooks: &Hooks) -> bool
+        ensures { result ≡ refuses_row (core_of self.now) (row_in (deed_at (core_of self.now) (bytes_of self.now) hooks.now)) self.now.progress.output_len }
+    {
+        match self.row_here(hooks) {
+            Some(Instruction::CallEnvironment) => self.is_refused(),
+            _ => false,
+        }
+    }
+
+    /// The undefined bits of the word at pc.
+    fn fetch_undef(&self) -> u32
+        ensures { result ≡ fetch_undef (core_of self.now) }
+    {
+        self.memory.load(self.pc, 4).undef
+    }
+
+    /// Whether the next step is a jump to itself, whose word is defined.
+    fn is_idle(&self, hooks: &Hooks) -> bool
+        ensures { result ≡ idles_in (core_of self.now) (row_in (deed_at (core_of self.now) (bytes_of self.now) hooks.now)) }
+    {
+        jumps_to_itself(self.row_here(hooks)) && self.fetch_undef() == 0
+    }
+
+    /// Steps up to the first that may be an ECALL, so many at most; none once it is halted.
+    fn run_quietly(&mut self, setup: &Setup, steps: u32) -> Result<u32, AllocError>
+        ensures within { IfOk result (λ made. made ≤ steps) }
+        ensures holds { IfOk result (λ made. (s : State) → Holds self.old s → Holds self.new (pre s setup.now [] made)) }
+        ensures quiet { IfOk result (λ made. (s : State) → Holds self.old s → IsQuietFor s setup.now made) }
+    {
+        for step in 0..steps {
+            if !self.runs() || self.may_call() {
+                return Ok(step);
+            }
+            let _touched = self.step_on(setup)?;
+        }
+        Ok(steps)
+    }
+}
+
+#[tactic(auto, unfolding(crate::specs::Shows::Shows))]
+impl Machine {
+    /// Whether the next step asks for more of the input than is left.
+    #[tactic(auto, unfolding(crate::specs::Shows::Shows, crate::specs::Streams::sees_end))]
+    pub fn sees_end(&self, setup: &Setup) -> bool
+        ensures { (s : State) → Shows self.now s → result ≡ sees_end s setup.now }
+    {
+        self.guest.sees_end(setup)
+    }
+
+    /// Whether the next step is a `write` to the output that finds no room there.
+    #[tactic(auto, unfolding(crate::specs::Shows::Shows, crate::specs::Streams::refuses_write, crate::specs::Streams::row_at))]
+    pub fn refuses_write(&self, setup: &Setup) -> bool
+        ensures { (s : State) → Shows self.now s → result ≡ refuses_write s setup.now }
+    {
+        self.guest.refuses_write(&setup.hooks)
+    }
+
+    /// Whether the next step is a jump to itself, whose word is defined.
+    #[tactic(auto, unfolding(crate::specs::Shows::Shows, crate::specs::Streams::is_idle, crate::specs::Streams::row_at))]
+    pub fn is_idle(&self, setup: &Setup) -> bool
+        ensures { (s : State) → Shows self.now s → result ≡ is_idle s setup.now }
+    {
+        self.guest.is_idle(&setup.hooks)
+    }
+
+    /// Whether the machine has halted or is in a jump to itself: a step leaves it as it is then
+    /// ([`laws::stays_at_rest`](crate::laws::stays_at_rest)).
+    #[tactic(auto, unfolding(crate::specs::Shows::Shows))]
+    pub fn rests(&self, setup: &Setup) -> bool
+        ensures { IsTrue result → (s : State) → Shows self.now s → Rests s setup.now }
+    {
+        !self.guest.runs() || self.is_idle(setup)
+    }
+
+    /// Makes steps up to the first that may be an ECALL, `steps` at most, and returns how many. A halted machine makes none. A machine for
+    /// which memory fails is dropped.
+    pub fn run_quietly(self, setup: &Setup, steps: u32) -> Result<(Machine, u32), AllocError>
+        ensures within { IfOk result (λ r. r.1 ≤ steps) }
+        ensures shows { IfOk result (λ r. (s : State) → Shows self s → Shows r.0 (pre s setup.now [] r.1)) }
+        ensures quiet { IfOk result (λ r. (s : State) → Shows self s → IsQuietFor s setup.now r.1) }
+    {
+        let mut machine = self;
+        let made = machine.guest.run_quietly(setup, steps)?;
+        Ok((machine, made))
+    }
+}
