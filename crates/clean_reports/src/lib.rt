@@ -14,7 +14,7 @@
 //! | [`laws::disturbed_runs_exist`], [`laws::programs_are_bytes`], [`laws::inputs_are_bytes`] | likewise: that there are disturbed runs, and that files and inputs are bytes |
 //! | [`laws::heap_stays_open`], [`laws::heap_stays_closed`], [`laws::accesses_are_live`] | likewise, on which bytes of the heap region may be accessed |
 //!
-//! # What a caller relies on
+//! # What a caller can rely on
 //!
 //! - [`certify`]: the verdict is that of the run (`IsVerdict`). Where it is [`Verdict::Clean`], each disturbed run agrees with the run and has
 //!   the same reports (`IsCertified`): runs in which any undefined or inaccessible value changes before any step (`IsDisturbed`).

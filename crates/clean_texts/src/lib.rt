@@ -5,7 +5,7 @@
 //!
 //! | Call | What it does |
 //! |---|---|
-//! | [`laws::no_errors_means_none`] | nothing: its contract says that a report ends with this line exactly where the state has no error |
+//! | [`laws::no_errors_means_none`] | does nothing; its contract says that a report ends with this line exactly where the state has no error |
 //! | [`laws::clean_texts`] | likewise: a run with such a report is certified |
 //! | [`laws::printed_texts`], [`laws::run_texts`] | likewise, of the reports that a session and `replaycheck run` print |
 //! | [`laws::clean_outlines`] | likewise: an outline without suppressions and without an error's line is that of a state without errors |

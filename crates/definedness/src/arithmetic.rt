@@ -9,7 +9,7 @@ ghost use Rattle.definedness.specs.Exact.{TakesBothValues};
 
 use crate::{Bits, undef_branch};
 
-/// The undefined bits of the sum `x + y` modulo 2^32 (ADD, ADDI).
+/// Returns the undefined bits of the sum `x + y` modulo 2^32 (ADD, ADDI).
 pub fn undef_add(x: Bits, y: Bits) -> u32
     ensures bits { result ≡ undef_add x y }
     ensures law { KeepsAgreement add_of x y result }
@@ -21,7 +21,7 @@ pub fn undef_add(x: Bits, y: Bits) -> u32
     x.undef | y.undef | (least_sum ^ greatest_sum)
 }
 
-/// The undefined bits of the difference `x - y` modulo 2^32 (SUB).
+/// Returns the undefined bits of the difference `x - y` modulo 2^32 (SUB).
 pub fn undef_sub(x: Bits, y: Bits) -> u32
     ensures bits { result ≡ undef_sub x y }
     ensures law { KeepsAgreement sub_of x y result }
@@ -33,7 +33,7 @@ pub fn undef_sub(x: Bits, y: Bits) -> u32
     x.undef | y.undef | (least_difference ^ greatest_difference)
 }
 
-/// The undefined bits of the lower word of the product `x * y` (MUL).
+/// Returns the undefined bits of the lower word of the product `x * y` (MUL).
 pub fn undef_mul(x: Bits, y: Bits) -> u32
     ensures bits { result ≡ undef_mul x y }
     ensures law { KeepsAgreement mul_of x y result }
@@ -42,8 +42,7 @@ pub fn undef_mul(x: Bits, y: Bits) -> u32
     from_lowest(multiplied)
 }
 
-/// The undefined bits of the upper word of a product, of a quotient and of a remainder
-/// (MULH, MULHSU, MULHU, DIV, DIVU, REM, REMU).
+/// Returns the undefined bits of the upper word of a product, of a quotient and of a remainder (MULH, MULHSU, MULHU, DIV, DIVU, REM, REMU).
 pub fn undef_wide(x: Bits, y: Bits) -> u32
     ensures bits { result ≡ undef_wide x y }
     ensures law_mulh { KeepsAgreement mulh_of x y result }
@@ -58,7 +57,7 @@ pub fn undef_wide(x: Bits, y: Bits) -> u32
     u32::from(undef_branch(x, y)).wrapping_neg()
 }
 
-/// The word that has each bit at or above the lowest set bit of `word`.
+/// Returns the word that has each bit at or above the lowest set bit of `word`.
 #[inline]
 fn from_lowest(word: u32) -> u32
     ensures { result ≡ word_of (λ i. some_below (bit_is_set word) (suc i)) }

@@ -31,7 +31,7 @@ unfoldable pub add_events : List Group → List Event → List Group
 add_events gs [] = gs
 add_events gs (e ∷ es) = add_events (add_event gs e) es
 
--- `grouped` goes on from the groups that there are: no error has to be looked at again
+-- `grouped` continues from the groups that there are: no error has to be looked at again
 abbrev pub GroupsGrow : Type 0
 GroupsGrow = (es : List Event) (e : Event) → grouped (es ++ e ∷ []) ≡ add_event (grouped es) e
 

@@ -21,7 +21,7 @@ pub(crate) struct Counts {
     ghost few: { length chunks.items ≤ 1099511627776 },
 }
 
-/// The count at a place.
+/// Returns the count at a place.
 fn count_at(counts: &[u64], index: usize) -> Option<u64>
     ensures { result ≡ slice_get counts.now index }
 {
@@ -54,7 +54,7 @@ impl Counts {
     ghost use Rattle.error_events.specs.Counts.{raised_at};
     ghost use Rattle.error_events.specs.CountLists.{counts_of, HasRoom};
 
-    /// No counts, which take no memory.
+    /// No counts, which allocate nothing.
     pub(crate) fn new(alloc: Global) -> Self
         ensures { counts_of result ≡ [] }
     {
@@ -64,19 +64,19 @@ impl Counts {
         }
     }
 
-    /// Where memory comes from.
+    /// Returns where memory comes from.
     pub(crate) fn allocator(&self) -> Global {
         *self.recent.allocator()
     }
 
-    /// How many there are.
+    /// Returns how many there are.
     pub(crate) fn len(&self) -> usize
         ensures { result ≡ length (counts_of self.now) }
     {
         CHUNK * self.chunks.len() + self.recent.len()
     }
 
-    /// The count at a place.
+    /// Returns the count at a place.
     pub(crate) fn get(&self, index: usize) -> Option<u64>
         ensures { result ≡ slice_get (counts_of self.now) index }
     {
@@ -113,7 +113,7 @@ impl Counts {
         self.recent.reserve(1)
     }
 
-    /// The counts after the chunks become one.
+    /// Returns the counts after the chunks become one.
     fn close_chunk(&mut self) -> Result<(), AllocError>
         requires { length self.old.recent.items ≡ 256 }
         ensures { counts_of self.new ≡ counts_of self.old }
@@ -135,7 +135,7 @@ impl Counts {
         self.recent.push(count).unwrap();
     }
 
-    /// A copy, which shares the chunks.
+    /// Returns a copy, which shares the chunks.
     pub(crate) fn share(&self) -> Result<Counts, AllocError>
         ensures { IfOk result (λ copy. counts_of copy ≡ counts_of self.now) }
     {

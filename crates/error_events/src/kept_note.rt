@@ -36,7 +36,7 @@ impl Model for KeptNote {
     ghost view = { λ kept. note_in kept.form };
 }
 
-/// What to keep of a note.
+/// Returns what to keep of a note.
 fn form_of(alloc: Global, note: &Note) -> Result<Form, AllocError>
     ensures { IfOk result (λ form. note_in form ≡ note.now) }
 {
@@ -48,7 +48,7 @@ fn form_of(alloc: Global, note: &Note) -> Result<Form, AllocError>
     }
 }
 
-/// The note of which this is kept.
+/// Returns the note of which this is kept.
 fn note_in(form: &Form) -> Note
     ensures { result ≡ note_in form.now }
 {
@@ -61,7 +61,7 @@ fn note_in(form: &Form) -> Note
 }
 
 impl KeptNote {
-    /// A note to keep.
+    /// Returns a note to keep.
     pub(crate) fn of(alloc: Global, note: &Note) -> Result<KeptNote, AllocError>
         ensures { IfOk result (λ kept. kept ≡ note.now) }
     {
@@ -70,7 +70,7 @@ impl KeptNote {
         })
     }
 
-    /// The note.
+    /// Returns the note.
     pub(crate) fn note(&self) -> Note
         ensures { result ≡ self.now }
     {

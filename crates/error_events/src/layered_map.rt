@@ -37,7 +37,7 @@ impl Model for LayeredMap {
 }
 
 impl LayeredMap {
-    /// The empty map, which takes no memory.
+    /// Returns the empty map, which allocates nothing.
     pub(crate) fn new(alloc: Global) -> Self
         ensures { result ≡ [] }
     {
@@ -47,7 +47,7 @@ impl LayeredMap {
         }
     }
 
-    /// The index of a key.
+    /// Returns the index of a key.
     pub(crate) fn position(&self, key: &Key) -> Option<usize>
         requires { length self.now < 2 ^ 64 }
         ensures { result ≡ position (⟦<Key as PartialEq>⟧.eq key.now) (map (λ e. e.0) self.now) }
@@ -61,7 +61,7 @@ impl LayeredMap {
         }
     }
 
-    /// The entry at an index.
+    /// Returns the entry at an index.
     pub(crate) fn get(&self, index: usize) -> Option<(&Key, &KeptNote)>
         ensures { option_map deref_pair result ≡ slice_get self.now index }
     {
@@ -107,7 +107,7 @@ impl LayeredMap {
         Ok(())
     }
 
-    /// A copy, which shares the maps.
+    /// Returns a copy, which shares the maps.
     pub(crate) fn share(&self) -> Result<Self, AllocError>
         ensures { IfOk result (λ copy. copy ≡ self.now) }
     {

@@ -34,7 +34,7 @@ impl Model for Layers {
     ghost invariant = { λ layers. AreApart ⟦<Key as PartialEq>⟧.eq layers.maps.items × (layers.len ≡ length (entries_in layers.maps.items)) };
 }
 
-/// The index of a key among the entries of some maps.
+/// Returns the index of a key among the entries of some maps.
 fn position_in(maps: &[SharedMap], key: &Key) -> Option<usize>
     requires { length (entries_in maps.now) < 2 ^ 64 }
     ensures { result ≡ position (⟦<Key as PartialEq>⟧.eq key.now) (map (λ e. e.0) (entries_in maps.now)) }
@@ -49,7 +49,7 @@ fn position_in(maps: &[SharedMap], key: &Key) -> Option<usize>
     }
 }
 
-/// The entry at an index among those of some maps.
+/// Returns the entry at an index among those of some maps.
 fn entry_in(maps: &[SharedMap], index: usize) -> Option<(&Key, &KeptNote)>
     ensures { option_map deref_pair result ≡ slice_get (entries_in maps.now) index }
 {
@@ -62,7 +62,7 @@ fn entry_in(maps: &[SharedMap], index: usize) -> Option<(&Key, &KeptNote)>
     }
 }
 
-/// How many of some maps stay as a new one comes, and the map that takes up the others and the new one's entries.
+/// Returns how many of some maps stay as a new one comes, and the map that takes up the others and the new one's entries.
 fn taken_up(
     alloc: Global,
     maps: &[SharedMap],
@@ -97,7 +97,7 @@ fn put_behind(alloc: Global, maps: &mut Vec<SharedMap>, young: SharedMap) -> Res
 }
 
 impl Layers {
-    /// No maps, which take no memory.
+    /// No maps, which allocate nothing.
     pub(crate) fn new(alloc: Global) -> Self
         ensures { result ≡ [] }
     {
@@ -107,7 +107,7 @@ impl Layers {
         }
     }
 
-    /// The index of a key.
+    /// Returns the index of a key.
     pub(crate) fn position(&self, key: &Key) -> Option<usize>
         requires { length self.now < 2 ^ 64 }
         ensures { result ≡ position (⟦<Key as PartialEq>⟧.eq key.now) (map (λ e. e.0) self.now) }
@@ -115,14 +115,14 @@ impl Layers {
         position_in(&self.maps, key)
     }
 
-    /// The entry at an index.
+    /// Returns the entry at an index.
     pub(crate) fn get(&self, index: usize) -> Option<(&Key, &KeptNote)>
         ensures { option_map deref_pair result ≡ slice_get self.now index }
     {
         entry_in(&self.maps, index)
     }
 
-    /// How many entries there are.
+    /// Returns how many entries there are.
     pub(crate) fn len(&self) -> usize
         ensures { result ≡ length self.now }
     {
@@ -143,7 +143,7 @@ impl Layers {
         Ok(())
     }
 
-    /// A copy, which shares the maps.
+    /// Returns a copy, which shares the maps.
     pub(crate) fn share(&self) -> Result<Self, AllocError>
         ensures { IfOk result (λ copy. copy ≡ self.now) }
     {

@@ -16,7 +16,7 @@ pub(crate) enum NoteRef<'a> {
 }
 
 impl NoteRef<'_> {
-    /// A note to keep. One that is kept already shares what it says of a block.
+    /// Returns a note to keep. One that is kept already shares what it says of a block.
     pub(crate) fn kept(&self, alloc: Global) -> Result<KeptNote, AllocError>
         ensures { IfOk result (λ kept. kept ≡ lent_note self.now) }
     {

@@ -20,10 +20,10 @@
 //! | [`Parameter::text`] | the text by which reports and suppressions name a parameter of a call |
 //! | [`laws::groups_grow`], [`laws::kept_by_test`] | nothing: their contracts are laws of the definitions |
 //!
-//! [`Kind`], [`ParameterFault`], [`Parameter`], [`Note`], [`Event`] and [`Group`] are plain values. Only `add`, `regroup`,
-//! `regrouped` and `share` take memory, and nothing else fails.
+//! [`Kind`], [`ParameterFault`], [`Parameter`], [`Note`], [`Event`] and [`Group`] are plain values. Only `add`, `regroup`, `regrouped` and
+//! `share` allocate memory, and nothing else fails.
 //!
-//! # What a caller relies on
+//! # What a caller can rely on
 //!
 //! Contracts speak of `groups_of`, the list of the groups that [`Groups`] show. A caller keeps, in its proofs alone, the list of
 //! all errors, with `groups_of` of its groups equal to `grouped` of that list:
@@ -36,7 +36,7 @@
 //!
 //! Counts stand still at 2^64 - 1.
 //!
-//! # Where the definitions stand
+//! # Where the definitions are
 //!
 //! In `specs/`, in the order to read them:
 //!

@@ -31,7 +31,7 @@ impl Model for SharedMap {
     ghost view = { λ m. entries_of m.map };
 }
 
-/// A copy of its own.
+/// Returns a copy of its own.
 fn copy(map: &IndexMap<Key, KeptNote>) -> Result<IndexMap<Key, KeptNote>, AllocError>
     ensures { IfOk result (λ copy. copy.entries ≡ map.now.entries) }
 {
@@ -66,7 +66,7 @@ fn append(
     Ok(())
 }
 
-/// A map of the entries of two.
+/// Returns a map of the entries of two.
 fn join(
     first: &IndexMap<Key, KeptNote>,
     second: &IndexMap<Key, KeptNote>,
@@ -94,14 +94,14 @@ fn insert(
 }
 
 impl SharedMap {
-    /// The empty map, which takes no memory.
+    /// Returns the empty map, which allocates nothing.
     pub(crate) fn new() -> Self
         ensures { result ≡ [] }
     {
         SharedMap { map: None }
     }
 
-    /// The index of a key.
+    /// Returns the index of a key.
     pub(crate) fn position(&self, key: &Key) -> Option<usize>
         ensures { result ≡ position (⟦<Key as PartialEq>⟧.eq key.now) (map (λ e. e.0) self.now) }
     {
@@ -111,7 +111,7 @@ impl SharedMap {
         }
     }
 
-    /// The entry at an index.
+    /// Returns the entry at an index.
     pub(crate) fn get(&self, index: usize) -> Option<(&Key, &KeptNote)>
         ensures { option_map deref_pair result ≡ slice_get self.now index }
     {
@@ -141,7 +141,7 @@ impl SharedMap {
         }
     }
 
-    /// A map of one entry.
+    /// Returns a map of one entry.
     fn with_one(alloc: Global, key: &Key, note: KeptNote) -> Result<Self, AllocError>
         ensures { IfOk result (λ one. one ≡ (key.now, note) ∷ []) }
     {
@@ -150,7 +150,7 @@ impl SharedMap {
         Self::unshared(alloc, map)
     }
 
-    /// A map that nothing shares yet.
+    /// Returns a map that nothing shares yet.
     fn unshared(alloc: Global, map: IndexMap<Key, KeptNote>) -> Result<Self, AllocError>
         ensures { IfOk result (λ unshared. unshared ≡ map.entries) }
     {
@@ -159,7 +159,7 @@ impl SharedMap {
         })
     }
 
-    /// How many entries there are.
+    /// Returns how many entries there are.
     pub(crate) fn len(&self) -> usize
         ensures { result ≡ length self.now }
     {
@@ -169,7 +169,7 @@ impl SharedMap {
         }
     }
 
-    /// Whether a new key makes a copy of the map.
+    /// Returns whether a new key makes a copy of the map.
     pub(crate) fn is_shared(&self) -> bool {
         match &self.map {
             Some(map) => Rc::strong_count(map) != 1,
@@ -177,7 +177,7 @@ impl SharedMap {
         }
     }
 
-    /// A map of its own, with the entries of another after those of this one.
+    /// Returns a map of its own, with the entries of another after those of this one.
     pub(crate) fn joined(&self, alloc: Global, other: &Self) -> Result<Self, AllocError>
         requires { AreNew ⟦<Key as PartialEq>⟧.eq self.now other.now }
         ensures { IfOk result (λ whole. whole ≡ self.now ++ other.now) }
@@ -189,7 +189,7 @@ impl SharedMap {
         }
     }
 
-    /// A copy, which shares the map.
+    /// Returns a copy, which shares the map.
     pub(crate) fn share(&self) -> Result<Self, AllocError>
         ensures { IfOk result (λ copy. copy ≡ self.now) }
     {

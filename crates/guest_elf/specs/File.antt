@@ -172,7 +172,7 @@ late_refusal file =
     else if has_bad_symbols file then Some BadSymbols
     else None
 
--- why a file is refused: the first of the conditions 20 to 31 that holds
+-- why a file is rejected: the first of the conditions 20 to 31 that holds
 unfoldable pub refusal : List ℕ → Option ElfFault
 refusal file = option_or (early_refusal file) (late_refusal file)
 

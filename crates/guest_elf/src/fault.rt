@@ -63,7 +63,7 @@ impl From<AllocError> for ElfFault {
 }
 
 impl ElfFault {
-    /// The number of the refusal: 1 or from 20 to 31.
+    /// Returns the number of the refusal: 1 or from 20 to 31.
     pub fn number(self) -> u8
         ensures { result ≡ number_of self }
     {

@@ -29,7 +29,7 @@ const REALLOC: &[u8] = b"realloc";
 /// One more than the longest of these names has: no more of a name is looked at.
 const ENOUGH: usize = 8;
 
-/// The function that a name is, byte for byte.
+/// Returns the function that a name is, byte for byte.
 #[tactic(auto, unfolding(crate::specs::Hooks::hook_named))]
 fn hook_named(name: &[u8]) -> Option<Hook>
     ensures { result ≡ hook_named name.now }
@@ -47,7 +47,7 @@ fn hook_named(name: &[u8]) -> Option<Hook>
     }
 }
 
-/// The function that the name at an offset of a string table is. A long name costs no more than a short one.
+/// Returns the function that the name at an offset of a string table is. A long name costs no more than a short one.
 pub(crate) fn hook_from(strings: &[u8], start: u32) -> Option<Hook>
     ensures { result ≡ hook_named (name_from strings.now start) }
 {

@@ -1,11 +1,10 @@
 //! Reads a static ELF32 executable for RV32 from bytes in memory: the layer between a program's file and
 //! the machine that runs it.
 //!
-//! [`read`] answers an [`Image`], whose segments and names are slices of the file, or the first of the
-//! reasons to refuse the file, in the order of their numbers. It returns on every file. The conditions 20
-//! to 28 are tested before any memory is taken; then lists grow, of the loaded program headers, of the
-//! segments and of the symbols that name: where one can't grow, it answers `Memory`. Of the other calls
-//! `hooks` alone takes memory.
+//! [`read`] answers an [`Image`], whose segments and names are slices of the file, or the first of the reasons to refuse the file, in the
+//! order of their numbers. It returns on every file. The conditions 20 to 28 are tested before any memory is taken; then lists grow, of the
+//! loaded program headers, of the segments and of the symbols that name: where one can't grow, it answers `Memory`. Of the other calls
+//! `hooks` alone allocates memory.
 //!
 //! | Call | What it answers |
 //! |---|---|
@@ -36,7 +35,7 @@
 //! and a refusal from 20 to 28 is answered whatever memory there is. What callers see of an image are the words
 //! `segments_of`, `contents_of`, `entry_of`, `loaded_at`, `name_at` and `hooks_of`.
 //!
-//! Where the definitions stand, in `specs/`:
+//! Where the definitions are, in `specs/`:
 //!
 //! - `Fields`: a number in the file, which is a list of bytes.
 //! - `File`: each reason to refuse it (`is_not_elf` to `has_bad_symbols`), the first of them (`refusal`), and

@@ -74,7 +74,7 @@ fn late_refusal(alloc: Global, file: &[u8]) -> Result<Option<ElfFault>, AllocErr
     Ok(None)
 }
 
-/// The bytes in the file of a program header that is not bad. Without any, p_offset may be anywhere.
+/// Returns the bytes in the file of a program header that is not bad. Without any, p_offset may be anywhere.
 fn bytes_of(file: &[u8], header: ProgramHeader) -> &[u8]
     requires { is_bad_segment (length file.now) header ≡ false }
     ensures { result.now ≡ bytes_in file.now header }
@@ -86,7 +86,7 @@ fn bytes_of(file: &[u8], header: ProgramHeader) -> &[u8]
     &file[start..start + header.filesz as usize]
 }
 
-/// The segment of a program header that is not bad.
+/// Returns the segment of a program header that is not bad.
 #[tactic(auto, unfolding(crate::specs::File::content_in, crate::specs::Segments::content_of))]
 fn segment_of<'a>(file: &'a [u8], header: ProgramHeader) -> Segment<'a>
     requires { is_bad_segment (length file.now) header ≡ false }
@@ -99,7 +99,7 @@ fn segment_of<'a>(file: &'a [u8], header: ProgramHeader) -> Segment<'a>
     }
 }
 
-/// The loaded segments, in the order of the program headers.
+/// Returns the loaded segments, in the order of the program headers.
 fn segments_of<'a>(alloc: Global, file: &'a [u8]) -> Result<Vec<Segment<'a>>, AllocError>
     requires table { HasTable file.now }
     requires good { HasSegments file.now }

@@ -1,4 +1,4 @@
-//! The conditions under which a file is refused, each with the name of its definition.
+//! The conditions under which a file is rejected, each with the name of its definition.
 ghost use Rattle.std.specs.Prelude.{◌≡◌};
 ghost use Rattle.guest_elf.specs.File.{is_not_elf, is_not_class_32, is_not_little_endian, has_bad_version, is_not_executable, is_not_risc_v, has_bad_program_table, has_bad_table, HasHeader, HasTable};
 ghost use Rattle.guest_elf.specs.Sections.{HasSections};
@@ -97,7 +97,7 @@ pub(crate) fn has_bad_program_table(file: &[u8]) -> bool
     half_at(file, E_PHENTSIZE) as usize != PROGRAM_HEADER_SIZE || table_end > file.len()
 }
 
-/// The table of program headers is bad, or that of section headers.
+/// Returns the table of program headers is bad, or that of section headers.
 #[tactic(auto, unfolding(crate::specs::File::has_bad_table))]
 pub(crate) fn has_bad_table(file: &[u8]) -> bool
     requires { HasHeader file.now }

@@ -32,7 +32,7 @@ pub(crate) struct Symbol {
 }
 
 impl Symbol {
-    /// Whether it is an STT_FUNC of a section.
+    /// Returns whether it is an STT_FUNC of a section.
     #[tactic(auto, unfolding(crate::specs::Sections::is_function))]
     fn is_function(self) -> bool
         ensures { result ≡ is_function self }
@@ -40,21 +40,21 @@ impl Symbol {
         self.info % 16 == FUNCTION && self.section != UNDEFINED
     }
 
-    /// Whether it is a function whose name begins at `end` or past it.
+    /// Returns whether it is a function whose name begins at `end` or past it.
     fn is_function_from(self, end: usize) -> bool
         ensures { result ≡ (is_function self && nat_le end self.name) }
     {
         self.is_function() && self.name as usize >= end
     }
 
-    /// Whether its size is unknown, or it ends above an address.
+    /// Returns whether its size is unknown, or it ends above an address.
     pub(crate) fn has(self, addr: u32) -> bool
         ensures { result ≡ (self.size == 0 || nat_lt addr (self.value + self.size)) }
     {
         self.size == 0 || u64::from(addr) < u64::from(self.value) + u64::from(self.size)
     }
 
-    /// Whether it is a function with a name that is not empty.
+    /// Returns whether it is a function with a name that is not empty.
     #[tactic(auto, unfolding(crate::specs::Sections::is_naming))]
     fn is_naming(self, strings: &[u8]) -> bool
         ensures { result ≡ is_naming strings.now self }
@@ -64,7 +64,7 @@ impl Symbol {
     }
 }
 
-/// The symbol at an index of a table.
+/// Returns the symbol at an index of a table.
 #[tactic(auto, unfolding(crate::specs::Sections::symbol_from))]
 fn symbol_at(file: &[u8], table: SectionHeader, index: u32) -> Symbol
     requires inside { HasSymbols file.now table }
@@ -81,7 +81,7 @@ fn symbol_at(file: &[u8], table: SectionHeader, index: u32) -> Symbol
     }
 }
 
-/// The bytes of a symbol table's string table.
+/// Returns the bytes of a symbol table's string table.
 #[tactic(auto, unfolding(crate::specs::Sections::strings_in))]
 pub(crate) fn strings_in(file: &[u8], table: SectionHeader) -> &[u8]
     requires sections { HasSections file.now }
@@ -93,8 +93,8 @@ pub(crate) fn strings_in(file: &[u8], table: SectionHeader) -> &[u8]
     &file[start..start + section.size as usize]
 }
 
-/// How many bytes of a string table there are up to its last zero byte, with that: a name has an end just
-/// if it begins before that many.
+/// Returns how many bytes of a string table there are up to its last zero byte, with that: a name has an end just if it begins before that
+/// many.
 fn names_end(strings: &[u8]) -> usize
     ensures { (start : ℕ) → list_any is_zero (drop start strings.now) ≡ nat_lt start result }
 {
@@ -126,7 +126,7 @@ fn is_damaged(file: &[u8], table: SectionHeader) -> bool
     strings.offset as usize + strings.size as usize > file.len()
 }
 
-/// A function's name has no end in the string table.
+/// Returns a function's name has no end in the string table.
 fn has_endless_name(file: &[u8], table: SectionHeader) -> bool
     requires sections { HasSections file.now }
     requires inside { HasSymbols file.now table }
@@ -141,7 +141,7 @@ fn has_endless_name(file: &[u8], table: SectionHeader) -> bool
     false
 }
 
-/// The symbol table is damaged, or a function's name has no end.
+/// Returns the symbol table is damaged, or a function's name has no end.
 #[tactic(auto, unfolding(crate::specs::File::has_bad_symbols, crate::specs::Sections::is_bad_table))]
 pub(crate) fn has_bad_symbols(file: &[u8]) -> bool
     requires header { HasHeader file.now }
@@ -155,7 +155,7 @@ pub(crate) fn has_bad_symbols(file: &[u8]) -> bool
     }
 }
 
-/// The naming symbols of a table, in its order.
+/// Returns the naming symbols of a table, in its order.
 pub(crate) fn naming_symbols(
     alloc: Global,
     file: &[u8],

@@ -30,7 +30,7 @@ low_end b = b.start - b.redzone
 abbrev pub high_end : Block → ℕ
 high_end b = b.start + max b.size 1 + b.redzone
 
--- does the range from one address up to, not with, another meet a block's interval?
+-- does the range from one address up to, but not including, another meet a block's interval?
 abbrev pub Meets : ℕ → ℕ → Block → Type 0
 Meets low high b = (low < high_end b) × (low_end b < high)
 

@@ -19,7 +19,7 @@ with_cell grid part at entry = λ i. if i == part then with_entry (grid i) at en
 abbrev pub begin_in : ℕ → ℕ → ℕ → ℕ
 begin_in part at i = if i == part then at else 0
 
--- from a place of one part on there is none, in the parts up to, not with, another; each has so many places
+-- from a place of one part on there is none, in the parts up to, but not including, another; each has so many places
 abbrev pub AreNoneUpTo : Grid → ℕ → ℕ → ℕ → ℕ → Type 0
 AreNoneUpTo grid places part at end =
     (i : ℕ) → part ≤ i → i < end → AreNone (grid i) (begin_in part at i) places

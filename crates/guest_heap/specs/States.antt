@@ -87,7 +87,7 @@ abbrev pub MeetsFrom : Blocks → ℕ → ℕ → Option Block → Type 0
 MeetsFrom blocks from high None = (b : Block) → IsKept blocks b → heap_begin + 16 * from ≤ b.start → high ≤ low_end b
 MeetsFrom blocks from high (Some b) = BeforeFrom blocks from high b
 
--- from one address up to, not with, another no block of a size has a place with a redzone
+-- from one address up to, but not including, another no block of a size has a place with a redzone
 abbrev pub AreNoPlaces : Blocks → ℕ → ℕ → ℕ → ℕ → Type 0
 AreNoPlaces blocks size redzone from to = (q : ℕ) → from ≤ q → q < to → ¬ (IsPlace blocks size redzone q)
 

@@ -57,7 +57,7 @@ pub record AreApart (blocks : Blocks) : Type 0 where
 
 -- the calls --
 
--- does the range from one address up to, not with, another meet a block's interval?
+-- does the range from one address up to, but not including, another meet a block's interval?
 abbrev pub meets : ℕ → ℕ → Block → Bool
 meets low high b = nat_lt low (high_end b) && nat_lt (low_end b) high
 

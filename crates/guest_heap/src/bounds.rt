@@ -27,7 +27,7 @@ pub(crate) struct SizeClass {
     pub(crate) least: u32,
 }
 
-/// The class of a size.
+/// Returns the class of a size.
 pub(crate) fn class_of(size: u32) -> SizeClass
     requires { size ≤ greatest_size }
     ensures index { result.index < 268 }
@@ -54,7 +54,7 @@ pub(crate) fn class_of(size: u32) -> SizeClass
     }
 }
 
-/// Where no block of `size` bytes has a place: below `from`, and from `next` up to, not with, `until`.
+/// Where no block of `size` bytes has a place: below `from`, and from `next` up to, but not including, `until`.
 #[derive(Clone, Copy)]
 pub(crate) struct Bound {
     pub(crate) size: u32,
@@ -85,7 +85,7 @@ pub(crate) struct Opened {
     pub(crate) room: u64,
 }
 
-/// What stays known: of the range below, what lies below the new places, or above them where that is more than was known there.
+/// Returns what stays known: of the range below, what lies below the new places, or above them where that is more than was known there.
 fn lowered(bound: Bound, opened: &Opened) -> Bound
     ensures { result ≡ lowered opened.now bound }
 {
@@ -117,7 +117,7 @@ fn lowered(bound: Bound, opened: &Opened) -> Bound
     }
 }
 
-/// The least multiple of 16 from one on that a bound leaves open.
+/// Returns the least multiple of 16 from one on that a bound leaves open.
 pub(crate) fn past(at: u64, bound: &Bound) -> u64
     requires multiple { at % 16 ≡ 0 }
     requires below { at < 17179869184 }
@@ -132,7 +132,7 @@ pub(crate) fn past(at: u64, bound: &Bound) -> u64
     at
 }
 
-/// The bounds of a list that may be absent.
+/// Returns the bounds of a list that may be absent.
 fn listed(list: &Option<Rc<Vec<Bound>>>) -> &[Bound]
     ensures { result.now ≡ listed list.now }
 {
@@ -142,7 +142,7 @@ fn listed(list: &Option<Rc<Vec<Bound>>>) -> &[Bound]
     }
 }
 
-/// The greatest bound known of a class: where a lesser size has no place, it has none.
+/// Returns the greatest bound known of a class: where a lesser size has no place, it has none.
 fn known_in(list: &[Bound], class: &SizeClass) -> u32
     requires { class.now.index < 268 }
     ensures { IsKnown list.now class.now.least result }
@@ -157,7 +157,7 @@ fn known_in(list: &[Bound], class: &SizeClass) -> u32
     known
 }
 
-/// What is known between places of a class, with the least size of it.
+/// Returns what is known between places of a class, with the least size of it.
 fn taken_from(list: &[Bound], class: &SizeClass) -> Bound
     ensures size { result.size ≡ class.now.least }
     ensures known { IsTaken list.now result }
@@ -221,7 +221,7 @@ impl Bounds {
     ghost use Rattle.guest_heap.specs.Bounds.{AreFresh, IsKnown, IsTaken, IsLowered};
     ghost use Rattle.guest_heap.specs.BoundLists.{bounds_in};
 
-    /// No bounds, which take no memory.
+    /// No bounds, which allocate nothing.
     pub(crate) fn new() -> Bounds
         ensures { AreFresh (bounds_in result) }
     {
@@ -235,7 +235,7 @@ impl Bounds {
         listed(&self.list).is_empty()
     }
 
-    /// The greatest bound known of a class: where a lesser size has no place, it has none.
+    /// Returns the greatest bound known of a class: where a lesser size has no place, it has none.
     pub(crate) fn known(&self, class: &SizeClass) -> u32
         requires { class.now.index < 268 }
         ensures { IsKnown (bounds_in self.now) class.now.least result }
@@ -243,7 +243,7 @@ impl Bounds {
         known_in(listed(&self.list), class)
     }
 
-    /// What is known between places of a class, with the least size of it.
+    /// Returns what is known between places of a class, with the least size of it.
     pub(crate) fn get(&self, class: &SizeClass) -> Bound
         ensures size { result.size ≡ class.now.least }
         ensures known { IsTaken (bounds_in self.now) result }
@@ -262,7 +262,7 @@ impl Bounds {
         }
     }
 
-    /// A bound for each class, and nothing is known any more; where memory fails there are none.
+    /// Returns a bound for each class, and nothing is known any more; where memory fails there are none.
     pub(crate) fn forget(&mut self, alloc: Global) -> Result<(), AllocError>
         ensures { AreFresh (bounds_in self.new) }
     {

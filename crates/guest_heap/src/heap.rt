@@ -46,7 +46,7 @@ impl Heap {
     ghost use Rattle.guest_heap.specs.Blocks.{no_blocks};
     ghost use Rattle.guest_heap.specs.Steps.{AreInRegion, AreApart};
 
-    /// A heap with no blocks, which takes no memory.
+    /// Returns a heap with no blocks, which allocates nothing.
     pub fn new(alloc: Global) -> Heap
         ensures { blocks_of result ≡ no_blocks }
     {
@@ -68,7 +68,8 @@ impl Heap {
         }
     }
 
-    /// A heap that holds the same. Changes of one of the two don't reach the other. It takes memory for references, and none for blocks.
+    /// Returns a heap that holds the same. Changes of one of the two don't reach the other. It allocates memory for references, and none
+    /// for blocks.
     pub fn share(&self) -> Result<Heap, AllocError>
         ensures { IfOk result (λ copy. blocks_of copy ≡ blocks_of self.now) }
     {
@@ -90,7 +91,7 @@ impl Heap {
         })
     }
 
-    /// A trace for the entries of blocks, which those that have the same one share.
+    /// Returns a trace for the entries of blocks, which those that have the same one share.
     fn share_trace(&mut self, alloc: Global, trace: &Trace) -> Result<SharedTrace, AllocError>
         ensures same { blocks_of self.new ≡ blocks_of self.old }
         ensures trace { IfOk result (λ shared. shared ≡ trace.now) }

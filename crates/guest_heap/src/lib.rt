@@ -19,16 +19,16 @@
 //!
 //! A [`Block`] is a block as it was given to the guest; [`Near`] is one whose interval holds an address, and [`Place`] on which side.
 //!
-//! `allocate`, `release` and `share` take memory; where there is none a heap holds what it held. The other calls are total.
+//! `allocate`, `release` and `share` allocate memory; where there is none a heap holds what it held. The other calls are total.
 //!
-//! # What a caller relies on
+//! # What a caller can rely on
 //!
 //! Contracts speak of `blocks_of` a heap: the live blocks by their starts, and the queue as a list. A caller keeps such a value in its
 //! own state and never unfolds the word. Each call is a function of it: `place` and `allocated`, `released_at` and `released_blocks`,
 //! `live_from`, `near`. Further clauses and the laws say the same as relations: the least place of all (`Places`), the longest suffix
 //! (`IsLongestFitting`), the one kept block that holds an address (`NearIsOne`).
 //!
-//! # Where the definitions stand
+//! # Where the definitions are
 //!
 //! - `specs/Blocks.antt`: blocks, intervals, places, the queue, what is near an address, as relations.
 //! - `specs/Steps.antt`: the calls as functions. `specs/Laws.antt`: what these mean, at all blocks.

@@ -50,7 +50,7 @@ impl Queue {
         self.tail.reserve(1)
     }
 
-    /// The newest entries become a run, which copies share.
+    /// Returns the newest entries become a run, which copies share.
     fn close_run(&mut self, alloc: Global) -> Result<(), AllocError>
         requires { 0 < tail_len self.old }
         ensures { queued self.new ≡ queued self.old }
@@ -70,7 +70,7 @@ impl Queue {
         let _ = self.tail.push(entry);
     }
 
-    /// The oldest.
+    /// Returns the oldest.
     pub(crate) fn front(&self) -> Option<&Entry>
         ensures { option_copied result ≡ first_of (queued self.now) }
     {
@@ -92,7 +92,7 @@ impl Queue {
         }
     }
 
-    /// How many the first run has, or where there is none the tail.
+    /// Returns how many the first run has, or where there is none the tail.
     fn front_len(&self) -> usize
         ensures { result ≡ front_len self.now.runs.items self.now.tail.items }
     {

@@ -15,7 +15,7 @@ pub(crate) const SLOTS: usize = 33554432;
 /// The number of bytes of the greatest block.
 pub(crate) const GREATEST_SIZE: u32 = 16777216;
 
-/// The slot of an address of the region: how many multiples of 16 of the region lie below it.
+/// Returns the slot of an address of the region: how many multiples of 16 of the region lie below it.
 pub(crate) fn slot_of(address: u32) -> usize
     requires { heap_begin ≤ address }
     ensures { result ≡ slot_of address }
@@ -23,7 +23,7 @@ pub(crate) fn slot_of(address: u32) -> usize
     ((u64::from(address) - HEAP_BEGIN) / 16) as usize
 }
 
-/// The least multiple of 16 that isn't below an address.
+/// Returns the least multiple of 16 that isn't below an address.
 pub(crate) fn aligned(address: u64) -> u64
     requires { address < 17179869184 }
     ensures multiple { result % 16 ≡ 0 }

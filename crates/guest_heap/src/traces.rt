@@ -55,7 +55,7 @@ impl Clone for SharedTrace {
 /// How many traces a heap remembers.
 const RECENT: usize = 64;
 
-/// Where a trace is remembered. All its addresses count, since one instruction may be that of every allocation.
+/// Returns where a trace is remembered. All its addresses count, since one instruction may be that of every allocation.
 fn slot_of(trace: &Trace) -> usize {
     let mut mixed: u32 = 0;
     for address in trace.addresses() {
@@ -75,7 +75,7 @@ impl RecentTraces {
         RecentTraces { slots: None }
     }
 
-    /// The trace that is remembered in a slot, if it is this one.
+    /// Returns the trace that is remembered in a slot, if it is this one.
     fn known(&self, slot: usize, trace: &Trace) -> Option<&SharedTrace>
         ensures { IfSome result (λ shared. shared.now ≡ trace.now) }
     {
@@ -107,7 +107,7 @@ impl RecentTraces {
         Ok(())
     }
 
-    /// The trace as it is remembered, or else a new one, which is remembered if there is memory for that.
+    /// Returns the trace as it is remembered, or else a new one, which is remembered if there is memory for that.
     pub(crate) fn share(&mut self, alloc: Global, trace: &Trace) -> Result<SharedTrace, AllocError>
         ensures { IfOk result (λ shared. shared ≡ trace.now) }
     {

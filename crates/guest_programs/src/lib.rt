@@ -26,14 +26,14 @@ const FRONT: [u8; 68] = [
 /// p_flags (readable and executable) and p_align, which follow p_filesz and p_memsz.
 const BACK: [u8; 8] = [0x05, 0x00, 0x00, 0x00, 0x04, 0x00, 0x00, 0x00];
 
-/// How many bytes so many words have, in a field of the file.
+/// Returns how many bytes so many words have, in a field of the file.
 fn words_size(words: &[u32]) -> u32
     ensures { result ≡ words_size (length words.now) }
 {
     u32::try_from(words.len().saturating_mul(4)).unwrap_or(u32::MAX)
 }
 
-/// The file of a program: its words at 0x10000, which is its entry, and nothing else.
+/// Returns the file of a program: its words at 0x10000, which is its entry, and nothing else.
 pub fn program(alloc: Global, words: &[u32]) -> Result<Vec<u8>, AllocError>
     ensures { IfOk result (λ file. file.items ≡ file_of words.now (words_size (length words.now))) }
 {
@@ -41,7 +41,7 @@ pub fn program(alloc: Global, words: &[u32]) -> Result<Vec<u8>, AllocError>
     sized_program(alloc, words, size)
 }
 
-/// The file of a program whose segment has so many bytes in memory (p_memsz): its words at 0x10000, and zeros after them.
+/// Returns the file of a program whose segment has so many bytes in memory (p_memsz): its words at 0x10000, and zeros after them.
 #[tactic(auto, unfolding(crate::specs::Files::file_of))]
 pub fn sized_program(alloc: Global, words: &[u32], memsz: u32) -> Result<Vec<u8>, AllocError>
     ensures { IfOk result (λ file. file.items ≡ file_of words.now memsz) }

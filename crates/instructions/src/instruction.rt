@@ -175,7 +175,7 @@ impl Operands {
     }
 }
 
-/// The instruction of a row of the table.
+/// Returns the instruction of a row of the table.
 #[inline(always)]
 #[tactic(auto, unfolding(crate::specs::Instructions::instruction_of))]
 fn instruction_of(insn: Insn) -> Instruction
@@ -241,7 +241,7 @@ fn instruction_of(insn: Insn) -> Instruction
     }
 }
 
-/// The instruction of a word, if it is one.
+/// Returns the instruction of a word, if it is one.
 #[inline(always)]
 #[tactic(auto, unfolding(crate::specs::Instructions::row_of))]
 pub fn row_of(word: u32) -> Option<Instruction>

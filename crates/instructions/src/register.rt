@@ -30,7 +30,7 @@ impl Register {
         Register { number }
     }
 
-    /// The number, below 32.
+    /// Returns the number, below 32.
     #[inline(always)]
     pub fn number(self) -> usize
         ensures value { result ≡ self }

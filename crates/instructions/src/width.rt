@@ -10,7 +10,7 @@ pub enum Width {
 }
 
 impl Width {
-    /// The number of bytes, as an error names it.
+    /// Returns the number of bytes, as an error names it.
     pub fn byte_len(self) -> u8
         ensures { result ≡ width_len self }
     {
@@ -21,7 +21,7 @@ impl Width {
         }
     }
 
-    /// The number of bytes: 1, 2 or 4.
+    /// Returns the number of bytes: 1, 2 or 4.
     pub fn len(self) -> u32
         ensures { result ≡ width_len self }
     {

@@ -10,14 +10,14 @@
 //! | [`leak_kinds`] | the kind of each block, by the pointers of the roots and of each block |
 //! | [`Pointer::counts`] | whether a pointer counts where all do, or only those to starts |
 //!
-//! `leak_kinds` takes memory, and answers `AllocError` where there is none; nothing else fails.
+//! `leak_kinds` allocates memory, and answers `AllocError` where there is none; nothing else fails.
 //!
-//! # What a caller relies on
+//! # What a caller can rely on
 //!
 //! The clause `kinds` of [`leak_kinds`]: each answer is the block's kind by `HasKind`, which speaks of paths alone. `HasKind` is over
 //! any links (`Links`); `links_of` are those of the lists that the call is given.
 //!
-//! # Where the definitions stand
+//! # Where the definitions are
 //!
 //! In `specs/`: `Paths` (a path along edges), `Leaks` (the kind of a block), `Graphs` (the links of lists of pointers). `Marks` is for
 //! this crate's proofs.

@@ -31,7 +31,8 @@ pub record AreOrdered (blocks : List Block) : Type 0 where
   pub aligned : (k : ℕ) (b : Block) → slice_get blocks k ≡ Some b → b.start % 4 ≡ 0
   pub positive : (k : ℕ) (b : Block) → slice_get blocks k ≡ Some b → 0 < b.start
 
--- a list of blocks goes on by the first live one at an address or above, and then from the address after its first byte
+-- a list of blocks continues by the first live one at an address or above, and then from the address after its first
+-- byte
 abbrev pub GoesOn : Blocks → ℕ → Option ℕ → List Block → List Block → Type 0
 GoesOn blocks from None old new = (live_from blocks from ≡ None) × (new ≡ old)
 GoesOn blocks from (Some next) old new =
@@ -42,7 +43,7 @@ GoesOn blocks from (Some next) old new =
 abbrev pub words_in : Memory → ℕ → Option ℕ
 words_in memory = word_at (bytes_in memory) (shadows_in memory)
 
--- the words whose values lie from low up to, not with, high
+-- the words whose values lie from low up to, but not including, high
 unfoldable pub word_within : (ℕ → ℕ) → (ℕ → Shadow) → ℕ → ℕ → ℕ → Option ℕ
 word_within bytes shadows low high w =
     if nat_lt w (2 ^ 32) && (w % 4 == 0 && holds_in_range bytes shadows low high w) then Some (value_at bytes w)

@@ -25,7 +25,7 @@ fn add_live(heap: &Heap, from: u32, blocks: &mut Vec<Block>) -> Result<Option<u3
     }
 }
 
-/// The live blocks of a heap, in order of address.
+/// Returns the live blocks of a heap, in order of address.
 pub(crate) fn live_blocks(alloc: Global, heap: &Heap) -> Result<Vec<Block>, AllocError>
     ensures all { IfOk result (λ blocks. blocks.items ≡ live_list (blocks_of heap.now)) }
     ensures ordered { IfOk result (λ blocks. AreOrdered blocks.items) }

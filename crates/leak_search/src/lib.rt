@@ -10,16 +10,16 @@
 //! | Call | What it answers |
 //! |---|---|
 //! | [`search`] | a [`LeakRecord`] for each live block, in order of address |
-//! | [`laws::records_are_one`] | nothing: its contract says that a search has one answer |
+//! | [`laws::records_are_one`] | does nothing; its contract says that a search has one answer |
 //!
-//! `search` takes memory, and answers `AllocError` where there is none; nothing else fails.
+//! `search` allocates memory, and answers `AllocError` where there is none; nothing else fails.
 //!
-//! # What a caller relies on
+//! # What a caller can rely on
 //!
 //! The contract of [`search`]: for each state that the machine shows, the records are `AreRecordsOf` the state. That is a relation, by
 //! paths of pointers; by the law no two lists of records are one state's.
 //!
-//! # Where the definitions stand
+//! # Where the definitions are
 //!
 //! In `specs/`: `Words` (the words of a state), `Pointing` (what a value points to, and whose a word is), `Search` (roots, links and
 //! records), `Records` (those of a state), `Laws`. The kind of a block by its links is `HasKind` of the crate `leak_graph`. `Gathering`

@@ -27,7 +27,7 @@ struct Graph {
     edges: Vec<Vec<Pointer>>,
 }
 
-/// A list of no pointers for each block.
+/// Returns a list of no pointers for each block.
 fn no_edges(alloc: Global, count: usize) -> Result<Vec<Vec<Pointer>>, AllocError>
     ensures len { IfOk result (λ edges. length edges.items ≡ count) }
     ensures none { IfOk result (λ edges. HasNoEdge edges.items) }
@@ -58,7 +58,7 @@ fn gather(
     Ok(())
 }
 
-/// The records of the blocks with these kinds.
+/// Returns the records of the blocks with these kinds.
 fn records(
     alloc: Global,
     blocks: &[Block],
@@ -80,7 +80,7 @@ fn records(
     Ok(entries)
 }
 
-/// The pointers of the roots and of each block.
+/// Returns the pointers of the roots and of each block.
 fn graph_of(
     alloc: Global,
     memory: &Memory,
@@ -115,7 +115,7 @@ pub(crate) fn search_in(
     records(alloc, &blocks, &kinds)
 }
 
-/// The registers of a machine, by their numbers.
+/// Returns the registers of a machine, by their numbers.
 fn registers_of(machine: &Machine) -> [Bits; 32]
     ensures { (s : State) → Shows machine.now s → (r : ℕ) → r < 32 → listed result r ≡ register s.core r }
 {

@@ -10,7 +10,7 @@ pub enum ServeFault {
     /// A write or a flush failed, or a write took nothing. Whole replies were written, and a front of the next.
     #[error("the write failed after {bytes} bytes")]
     WriteFailed { replies: u64, bytes: u64 },
-    /// Memory was wanting before the first read.
+    /// Memory ran out before the first read.
     #[error("no memory")]
     NoMemory { replies: u64, bytes: u64 },
     /// 500,000,000 calls of `read` found no end. The replies to all lines whose newline was read were written.

@@ -7,7 +7,7 @@
 //! | [`send`] | writes all of some bytes and flushes; a [`Sent`] says how many were taken |
 //! | [`READS`], [`LONGEST_LINE`] | its limits: calls of `read`, and bytes of a line that is told from others |
 //!
-//! # What a caller relies on
+//! # What a caller can rely on
 //!
 //! [`serve`]: to the end, what was written is the replies to the lines of all bytes read, up to and with the first that was given when
 //! all lines had been given that are answered, and nothing else (`Served`); on a fault, the whole replies to the first lines whose newline
@@ -21,7 +21,7 @@
 //! of a chain of such listeners; where they stand for something else, as for what was said to a session, the chain is carried over to
 //! that by a map (`specs/Answers`, `proofs/Carried`).
 //!
-//! # Where the definitions stand
+//! # Where the definitions are
 //!
 //! In `specs/`: `Lines`, the lines of bytes; `Answers`, the replies to one line after another; `Served`, what was written for the bytes
 //! read, over any relation between lines and replies. `Serving` is for this crate's proofs.

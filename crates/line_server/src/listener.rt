@@ -13,7 +13,7 @@ pub trait Listener {
     /// Were all lines given that are answered?
     ghost over: { Self → Bool };
 
-    /// Whether all lines were given that are answered. One more is answered, and is the last.
+    /// Returns whether all lines were given that are answered. One more is answered, and is the last.
     fn is_over(&self) -> bool
         ensures { result ≡ over self.now };
 
@@ -21,7 +21,7 @@ pub trait Listener {
     fn answer(&mut self, line: &[u8])
         ensures { answers self.old line.now self.new };
 
-    /// The text of the reply to the last line.
+    /// Returns the text of the reply to the last line.
     fn reply(&self) -> &[u8]
         ensures { result.now ≡ reply self.now };
 

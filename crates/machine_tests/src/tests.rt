@@ -288,7 +288,7 @@ fn the_laws_can_be_called() {
     stays_halted();
 }
 
-/// Whether a byte is left of an input of three whose last two are taken off.
+/// Returns whether a byte is left of an input of three whose last two are taken off.
 fn is_shrunk(three: Input) -> bool {
     let mut input = three;
     input.pop();
@@ -297,7 +297,7 @@ fn is_shrunk(three: Input) -> bool {
     bytes.as_slice() == b"a".as_slice()
 }
 
-/// Whether a byte is put at the end of one.
+/// Returns whether a byte is put at the end of one.
 fn is_grown(alloc: Global) -> Result<bool, AllocError> {
     let mut input = Input::new(b"ab".to_vec(alloc)?);
     input.push(b'c')?;

@@ -51,13 +51,13 @@ fn hooks_of(alloc: Global, are_named: bool) -> Result<Hooks, AllocError> {
     Ok(Hooks::new(named))
 }
 
-/// Whether one of them is found.
+/// Returns whether one of them is found.
 pub(crate) fn are_hooks(alloc: Global) -> Result<bool, AllocError> {
     let hooks = hooks_of(alloc, true)?;
     Ok(hooks.at(0x10008) == Some(Hook::Calloc) && hooks.at(0x10004) == None)
 }
 
-/// The input and the functions of a row, and a heap with Memcheck's redzone and volume of freed blocks.
+/// Returns the input and the functions of a row, and a heap with Memcheck's redzone and volume of freed blocks.
 fn setup_of(alloc: Global, row: &Row) -> Result<Setup, AllocError> {
     let input = Input::new(row.2.to_vec(alloc)?);
     Ok(Setup {
@@ -68,12 +68,12 @@ fn setup_of(alloc: Global, row: &Row) -> Result<Setup, AllocError> {
     })
 }
 
-/// The value and the undefined bits of x`number`.
+/// Returns the value and the undefined bits of x`number`.
 fn bits_of(machine: &Machine, number: u8) -> Bits {
     machine.register(Register::new(number % 32))
 }
 
-/// Whether a machine is there.
+/// Returns whether a machine is there.
 fn is_at(machine: &Machine, state: &State) -> bool {
     let (status, pc, answer, errors, calls) = state;
     machine.status() == *status
@@ -83,7 +83,7 @@ fn is_at(machine: &Machine, state: &State) -> bool {
         && machine.heap_calls() == *calls
 }
 
-/// Whether it has read and written so much.
+/// Returns whether it has read and written so much.
 fn has_streams(machine: &Machine, streams: &Streams) -> bool {
     let (position, output_len, end_seen) = streams;
     machine.position() == *position
@@ -91,13 +91,13 @@ fn has_streams(machine: &Machine, streams: &Streams) -> bool {
         && machine.end_seen() == *end_seen
 }
 
-/// Whether a step touches what it should.
+/// Returns whether a step touches what it should.
 fn is_touched(touched: Touched, want: &Touches) -> bool {
     let (fetch, reads, writes) = want;
     touched.fetch == *fetch && touched.reads == *reads && touched.writes == *writes
 }
 
-/// The machine after a step for each row, if each touches what its row says.
+/// Returns the machine after a step for each row, if each touches what its row says.
 fn touching(
     start: Machine,
     setup: &Setup,
@@ -115,7 +115,7 @@ fn touching(
     Ok(Some(machine))
 }
 
-/// The machine after some steps.
+/// Returns the machine after some steps.
 fn stepped(
     start: Machine,
     setup: &Setup,
@@ -130,7 +130,7 @@ fn stepped(
     Ok(machine)
 }
 
-/// Whether a machine is where a trial says after its steps, each of which is counted.
+/// Returns whether a machine is where a trial says after its steps, each of which is counted.
 fn goes(
     start: Machine,
     setup: &Setup,
@@ -149,7 +149,7 @@ fn goes(
     }
 }
 
-/// Whether a machine that has ended after two steps makes three more, and stays.
+/// Returns whether a machine that has ended after two steps makes three more, and stays.
 fn rests(start: Machine, setup: &Setup) -> Result<bool, AllocError> {
     let ended = stepped(start, setup, &mut Meter::new(), 2)?;
     let mut meter = Meter::new();
@@ -157,13 +157,13 @@ fn rests(start: Machine, setup: &Setup) -> Result<bool, AllocError> {
     Ok(meter.read() == 3 && matches!(rested.status(), Status::Exited(_)))
 }
 
-/// The value and the undefined bits of a0 after some steps.
+/// Returns the value and the undefined bits of a0 after some steps.
 fn answer(start: Machine, setup: &Setup, steps: u32) -> Result<Bits, AllocError> {
     let machine = stepped(start, setup, &mut Meter::new(), steps)?;
     Ok(bits_of(&machine, 10))
 }
 
-/// Whether a word that is written at the stack pointer, and marked before the first step, is loaded.
+/// Returns whether a word that is written at the stack pointer, and marked before the first step, is loaded.
 fn marks(start: Machine, setup: &Setup) -> Result<bool, AllocError> {
     let poked = start.poke_word(0x7FFF_FFF0, 0x8765_4321)?;
     let marked = poked.mark(&Mark {
@@ -176,7 +176,7 @@ fn marks(start: Machine, setup: &Setup) -> Result<bool, AllocError> {
     Ok(bits.value == 0x8765_4321 && bits.undef == u32::MAX)
 }
 
-/// Whether a machine loads another word, and then a copy the word as it was.
+/// Returns whether a machine loads another word, and then a copy the word as it was.
 fn loads(machine: Machine, copy: Machine, setup: &Setup) -> Result<bool, AllocError> {
     let later = answer(machine, setup, 1)?;
     let pc = copy.pc();
@@ -184,19 +184,19 @@ fn loads(machine: Machine, copy: Machine, setup: &Setup) -> Result<bool, AllocEr
     Ok(pc == 0x10000 && later.value == 5 && again.value == 0)
 }
 
-/// Whether a copy stays as it was.
+/// Returns whether a copy stays as it was.
 fn copies(start: Machine, setup: &Setup) -> Result<bool, AllocError> {
     let copy = start.share()?;
     loads(start.poke_word(0x7FFF_FFF0, 5)?, copy, setup)
 }
 
-/// The machine of a program before the first step, with another first word.
+/// Returns the machine of a program before the first step, with another first word.
 fn begun_with(alloc: Global, image: &Image, first: u32) -> Result<Machine, AllocError> {
     let start = Machine::start(alloc, image)?;
     start.poke_word(0x10000, first)
 }
 
-/// Whether a step of the program with another first word adds so much, where it takes over what a machine has decoded.
+/// Returns whether a step of the program with another first word adds so much, where it takes over what a machine has decoded.
 fn adds(start: Machine, setup: &Setup, decoded: &Machine, want: u32) -> Result<bool, AllocError> {
     let mut machine = start;
     machine.learn(decoded);
@@ -215,13 +215,13 @@ fn adds_anew(
     adds(start, setup, decoded, want)
 }
 
-/// Whether two more steps of a copy that is ready add to the two from before.
+/// Returns whether two more steps of a copy that is ready add to the two from before.
 fn goes_on(setup: &Setup, decoded: &Machine) -> Result<bool, AllocError> {
     let copy = decoded.share_ready()?;
     Ok(answer(copy, setup, 2)?.value == 3)
 }
 
-/// Whether three steps of the program that adds 2 add 4, where all that is decoded is taken over.
+/// Returns whether three steps of the program that adds 2 add 4, where all that is decoded is taken over.
 fn takes_over(
     alloc: Global,
     image: &Image,
@@ -233,7 +233,7 @@ fn takes_over(
     Ok(answer(machine, setup, 3)?.value == 4)
 }
 
-/// Whether instructions are taken over where a machine has the same words, and not where it has others.
+/// Returns whether instructions are taken over where a machine has the same words, and not where it has others.
 fn is_learnt(
     alloc: Global,
     image: &Image,
@@ -251,13 +251,13 @@ fn is_learnt(
     takes_over(alloc, image, setup, decoded)
 }
 
-/// Whether they are of the program after three steps.
+/// Returns whether they are of the program after three steps.
 fn learns(alloc: Global, image: &Image, start: Machine, setup: &Setup) -> Result<bool, AllocError> {
     let mut decoded = stepped(start, setup, &mut Meter::new(), 3)?;
     is_learnt(alloc, image, setup, &mut decoded)
 }
 
-/// Whether each register of a machine before its first step is defined, and 0 but for the stack pointer.
+/// Returns whether each register of a machine before its first step is defined, and 0 but for the stack pointer.
 fn has_registers(machine: &Machine) -> bool {
     for number in 0..32 {
         let value = if number == 2 { 0x7FFF_FFF0 } else { 0 };
@@ -269,7 +269,7 @@ fn has_registers(machine: &Machine) -> bool {
     true
 }
 
-/// Whether a trial goes well on an image.
+/// Returns whether a trial goes well on an image.
 fn goes_well(
     alloc: Global,
     image: &Image,
@@ -289,7 +289,7 @@ fn goes_well(
     }
 }
 
-/// Whether a row is so on a file.
+/// Returns whether a row is so on a file.
 fn is_so_of(alloc: Global, file: &[u8], row: &Row) -> Result<bool, AllocError> {
     let setup = setup_of(alloc, row)?;
     match read(alloc, file) {
@@ -298,7 +298,7 @@ fn is_so_of(alloc: Global, file: &[u8], row: &Row) -> Result<bool, AllocError> {
     }
 }
 
-/// Whether it is on a new one.
+/// Returns whether it is on a new one.
 fn is_so(alloc: Global, row: &Row) -> Result<bool, AllocError> {
     let file = program(alloc, row.1)?;
     is_so_of(alloc, &file, row)

@@ -1,7 +1,7 @@
 //! The map of a guest's memory: the regions that aren't a program's own. Each reaches from its begin up to its end, not with it.
 //!
-//! A program's segments lie beside them: a file that loads into one of them is refused by `guest_elf`. Definitions cite the bounds by
-//! name from `specs/Regions.antt`.
+//! A program's segments lie beside them: a file that loads into one of them is rejected by `guest_elf`. Definitions cite the bounds by name
+//! from `specs/Regions.antt`.
 #![tactic(auto)]
 
 /// The first address of the heap's region.

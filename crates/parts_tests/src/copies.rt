@@ -4,7 +4,7 @@ use definedness::Bits;
 use shadow_memory::{Cell, Memory, RangeKind};
 use std::alloc::{AllocError, Global};
 
-/// A page that is held, with some bytes inaccessible, undefined and defined in part; two blank pages of undefined bytes; one of
+/// Returns a page that is held, with some bytes inaccessible, undefined and defined in part; two blank pages of undefined bytes; one of
 /// zeros; and inaccessible ones after them. The same stands at each base.
 fn lay_out(memory: &mut Memory, base: u32) -> Result<(), AllocError> {
     memory.fill(base, 0x1000, b"abcdefghijklmnopqrstuvw")?;
@@ -19,7 +19,7 @@ fn lay_out(memory: &mut Memory, base: u32) -> Result<(), AllocError> {
     Ok(())
 }
 
-/// A word that is defined in part, and undefined and inaccessible bytes after it.
+/// Returns a word that is defined in part, and undefined and inaccessible bytes after it.
 fn lay_out_group(memory: &mut Memory, at: u32, group: u32) -> Result<(), AllocError> {
     let bits = Bits {
         value: group | 0x4433_2200,
@@ -44,7 +44,7 @@ pub(crate) fn copy_apart(
     Ok(true)
 }
 
-/// What a target's byte is after a copy of a source's.
+/// Returns what a target's byte is after a copy of a source's.
 fn copied(source: Cell, target: Cell) -> Cell {
     Cell {
         byte: source.byte,
@@ -53,7 +53,7 @@ fn copied(source: Cell, target: Cell) -> Cell {
     }
 }
 
-/// The first offset of 16 more bytes than were copied whose byte isn't what it should be.
+/// Returns the first offset of 16 more bytes than were copied whose byte isn't what it should be.
 fn first_wrong(old: &Memory, new: &Memory, from: u32, to: u32, len: u32) -> Option<u32> {
     for i in 0..len.wrapping_add(16) {
         let at = to.wrapping_add(i);
@@ -70,7 +70,7 @@ fn first_wrong(old: &Memory, new: &Memory, from: u32, to: u32, len: u32) -> Opti
     None
 }
 
-/// Where a copy leaves a memory that is laid out at both bases as it shouldn't; none where all is well.
+/// Returns where a copy leaves a memory that is laid out at both bases as it shouldn't; none where all is well.
 fn wrong_in(memory: &mut Memory, from: u32, to: u32, len: u32) -> Result<Option<u32>, AllocError> {
     lay_out(memory, 0x1_0000)?;
     lay_out(memory, 0x3_0000)?;
@@ -91,7 +91,7 @@ fn wrong_copy(alloc: Global, from: u32, to: u32, len: u32) -> Result<Option<u32>
 /// a target.
 type Copy = (&'static str, u32, u32, u32, u32);
 
-/// Whether a copy goes well at each pair.
+/// Returns whether a copy goes well at each pair.
 fn is_copied(alloc: Global, copy: &Copy) -> Result<bool, AllocError> {
     let (_, from, to, len, pairs) = copy;
     for pair in 0..*pairs {

@@ -12,7 +12,7 @@ const TEXTS: [(&[u8], usize, bool); 5] = [
     (b"running\n", 1, true),
 ];
 
-/// Whether each of the texts is found.
+/// Returns whether each of the texts is found.
 fn are_met(tallies: &mut Tallies) -> Result<bool, AllocError> {
     for (text, number, is_met) in &TEXTS {
         let found = tallies.meet(text)?;
@@ -23,7 +23,7 @@ fn are_met(tallies: &mut Tallies) -> Result<bool, AllocError> {
     Ok(true)
 }
 
-/// Whether the texts are found and counted.
+/// Returns whether the texts are found and counted.
 fn are_counted(alloc: Global, tallies: &mut Tallies) -> Result<bool, AllocError> {
     if !are_met(tallies)? {
         return Ok(false);

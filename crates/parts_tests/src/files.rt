@@ -1,4 +1,4 @@
-//! Files by hand, and what becomes of them. By which number a cut or changed file is refused, `tools/test/test-files` compares.
+//! Files by hand, and what becomes of them. By which number a cut or changed file is rejected, `tools/test/test-files` compares.
 use crate::{comes, holds};
 use byteorder::{ByteOrder, LittleEndian};
 use guest_elf::{ElfFault, Hook, Image, Segment, read};
@@ -64,7 +64,7 @@ fn change(file: &mut [u8], change: Change) {
     }
 }
 
-/// Whether segments are that of the program above alone.
+/// Returns whether segments are that of the program above alone.
 fn are_code(segments: &[Segment<'_>]) -> bool {
     match segments {
         [segment] => {
@@ -74,7 +74,7 @@ fn are_code(segments: &[Segment<'_>]) -> bool {
     }
 }
 
-/// Whether the program is read.
+/// Returns whether the program is read.
 fn is_read(alloc: Global) -> bool {
     match read(alloc, &PROGRAM) {
         Ok(image) => {
@@ -112,7 +112,7 @@ const PATCHABLE: [Patchable; 12] = [
     (EMPTY, (OFFSET, 0xFFFF_FFFF), 0x10000, true, false),
 ];
 
-/// Whether segments are one with bytes or without.
+/// Returns whether segments are one with bytes or without.
 fn have_bytes(segments: &[Segment<'_>], want: bool) -> bool {
     match segments {
         [segment] => segment.bytes.is_empty() != want,
@@ -120,7 +120,7 @@ fn have_bytes(segments: &[Segment<'_>], want: bool) -> bool {
     }
 }
 
-/// Whether a row is so.
+/// Returns whether a row is so.
 fn is_patchable(alloc: Global, row: &Patchable) -> bool {
     let (one, two, addr, want, bytes) = row;
     let mut file = PROGRAM;
@@ -182,7 +182,7 @@ const NAMES: [Named; 15] = [
     ),
 ];
 
-/// Whether a row is so.
+/// Returns whether a row is so.
 fn is_named(alloc: Global, row: &Named) -> bool {
     let (one, two, addr, name) = row;
     let mut file = NAMED;
@@ -211,13 +211,13 @@ fn change_symbol(file: &mut [u8], offset: usize, symbol: &Symbol) {
     change(file, (offset.saturating_add(12), *kind));
 }
 
-/// Whether an image has these functions of the heap.
+/// Returns whether an image has these functions of the heap.
 fn has_hooks(alloc: Global, image: &Image<'_>, want: &[(u32, Hook)]) -> Result<bool, AllocError> {
     let hooks = image.hooks(alloc)?;
     Ok(hooks.as_slice() == want)
 }
 
-/// Whether a row is so.
+/// Returns whether a row is so.
 fn are_hooks(alloc: Global, row: &Hooks) -> Result<bool, ElfFault> {
     let mut file = NAMED;
     // Of section 2 sh_offset and sh_size.
@@ -236,7 +236,7 @@ fn set_program(file: &mut [u8]) {
     }
 }
 
-/// Whether a file has this answer: the number of a refusal, or 0.
+/// Returns whether a file has this answer: the number of a refusal, or 0.
 fn is_answered(alloc: Global, file: &[u8], want: u8) -> bool {
     match read(alloc, file) {
         Ok(_image) => want == 0,
@@ -244,7 +244,7 @@ fn is_answered(alloc: Global, file: &[u8], want: u8) -> bool {
     }
 }
 
-/// Whether the program in a file of `len` bytes, with zeros after it, has.
+/// Returns whether the program in a file of `len` bytes, with zeros after it, has.
 fn is_sized_answered(alloc: Global, len: usize, want: u8) -> Result<bool, AllocError> {
     let mut file = vec![in alloc; 0u8; len]?;
     set_program(&mut file);

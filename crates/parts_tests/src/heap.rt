@@ -27,7 +27,7 @@ const ONE: Act = Act::Allocate(8, 16, Some(0x4000_0010));
 /// What a row shows; what is done to a new heap, and then to a copy of it.
 type Case = (&'static str, &'static [Act], &'static [Act]);
 
-/// Where the block starts that an address which is released frees, and whether its release is an error.
+/// Returns where the block starts that an address which is released frees, and whether its release is an error.
 fn release(
     alloc: Global,
     heap: &mut Heap,
@@ -41,7 +41,7 @@ fn release(
     }
 }
 
-/// Whether a block is near an address in this way.
+/// Returns whether a block is near an address in this way.
 fn is_near(heap: &Heap, address: u32, want: Option<(Place, u32)>) -> bool {
     match (heap.block_near(address), want) {
         (Some(near), Some((place, distance))) => near.place == place && near.distance == distance,
@@ -57,7 +57,7 @@ fn start_of(block: Option<Block>) -> Option<u32> {
     }
 }
 
-/// Whether an act has its answer.
+/// Returns whether an act has its answer.
 fn is_answered(alloc: Global, heap: &mut Heap, act: &Act) -> Result<bool, AllocError> {
     match act {
         Act::Allocate(size, redzone, place) => {
@@ -73,7 +73,7 @@ fn is_answered(alloc: Global, heap: &mut Heap, act: &Act) -> Result<bool, AllocE
     }
 }
 
-/// Whether each act has, one after another.
+/// Returns whether each act has, one after another.
 fn are_answered(alloc: Global, heap: &mut Heap, acts: &[Act]) -> Result<bool, AllocError> {
     for act in acts {
         if !is_answered(alloc, heap, act)? {
@@ -83,13 +83,13 @@ fn are_answered(alloc: Global, heap: &mut Heap, acts: &[Act]) -> Result<bool, Al
     Ok(true)
 }
 
-/// Whether each has on a copy.
+/// Returns whether each has on a copy.
 fn are_answered_by_copy(alloc: Global, heap: &Heap, acts: &[Act]) -> Result<bool, AllocError> {
     let mut copy = heap.share()?;
     are_answered(alloc, &mut copy, acts)
 }
 
-/// Whether the acts of a case have their answers, on a heap that is lent.
+/// Returns whether the acts of a case have their answers, on a heap that is lent.
 fn are_answered_by_both(alloc: Global, heap: &mut Heap, case: &Case) -> Result<bool, AllocError> {
     if !are_answered(alloc, heap, case.1)? {
         return Ok(false);
@@ -97,7 +97,7 @@ fn are_answered_by_both(alloc: Global, heap: &mut Heap, case: &Case) -> Result<b
     are_answered_by_copy(alloc, heap, case.2)
 }
 
-/// Whether they have on a new one.
+/// Returns whether they have on a new one.
 fn is_so(alloc: Global, case: &Case) -> Result<bool, AllocError> {
     let mut heap = Heap::new(alloc);
     are_answered_by_both(alloc, &mut heap, case)

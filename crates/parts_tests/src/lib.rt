@@ -1,7 +1,7 @@
 //! Tests of the crates below the machine, by their public calls: undefined bits, instructions, program files, memory, call stacks, the
 //! heap, errors, kinds of leaks, suppressions and counted texts.
 //!
-//! They stand apart from the crates that they test, since a crate with tests is proved a second time with them.
+//! They are separate from the crates that they test, since a crate with tests is proved a second time with them.
 #![tactic(auto)]
 
 #[cfg(test)]

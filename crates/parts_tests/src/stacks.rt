@@ -15,13 +15,13 @@ fn call_each(stack: &mut CallStack, count: u32) {
     }
 }
 
-/// How many addresses the trace at 8 has.
+/// Returns how many addresses the trace at 8 has.
 fn depth(stack: &CallStack) -> usize {
     stack.trace(8).addresses().len()
 }
 
-/// Whether the oldest of 257 frames is gone, so that a return to it changes nothing, and a return to the second, which is the oldest that
-/// was kept, takes all.
+/// Returns whether the oldest of 257 frames is gone, so that a return to it changes nothing, and a return to the second, which is the
+/// oldest that was kept, takes all.
 fn has_256(stack: &mut CallStack) -> bool {
     stack.back_to(0x1004);
     if depth(stack) != 24 || stack.trace(8).addresses().get(1).copied() != Some(0x2000) {
@@ -31,7 +31,7 @@ fn has_256(stack: &mut CallStack) -> bool {
     depth(stack) == 1
 }
 
-/// Whether that is so, and a copy stays as it was.
+/// Returns whether that is so, and a copy stays as it was.
 fn drops_the_oldest(stack: &mut CallStack) -> Result<bool, AllocError> {
     call_each(stack, 257);
     let copy = stack.share()?;
@@ -49,13 +49,13 @@ const RETURNS: [(u32, &[u32]); 4] = [
     (0x24, &[8, 0x10]),
 ];
 
-/// Whether the trace at 8 has these addresses, once it is returned to a target.
+/// Returns whether the trace at 8 has these addresses, once it is returned to a target.
 fn is_back(stack: &mut CallStack, target: u32, addresses: &[u32]) -> bool {
     stack.back_to(target);
     stack.trace(8).addresses() == addresses
 }
 
-/// Whether returns go past some of the frames of four calls.
+/// Returns whether returns go past some of the frames of four calls.
 fn returns_past(stack: &mut CallStack) -> bool {
     for (site, ret) in &CALLS {
         stack.call(*site, *ret);
@@ -68,7 +68,7 @@ fn returns_past(stack: &mut CallStack) -> bool {
     true
 }
 
-/// Whether a new stack does either.
+/// Returns whether a new stack does either.
 fn stacks_calls(alloc: Global, many: bool) -> Result<bool, AllocError> {
     let mut stack = CallStack::new(alloc)?;
     if many {
@@ -77,7 +77,7 @@ fn stacks_calls(alloc: Global, many: bool) -> Result<bool, AllocError> {
     Ok(returns_past(&mut stack))
 }
 
-/// Whether a trace of these addresses has them.
+/// Returns whether a trace of these addresses has them.
 fn is_made(addresses: &[u32]) -> bool {
     match Trace::new(addresses) {
         Some(trace) => trace.addresses() == addresses,
@@ -85,7 +85,7 @@ fn is_made(addresses: &[u32]) -> bool {
     }
 }
 
-/// Whether a trace has 1 to 24 addresses.
+/// Returns whether a trace has 1 to 24 addresses.
 fn have_1_to_24() -> bool {
     Trace::of(8).addresses() == [8].as_slice()
         && Trace::new(&[]).is_none()

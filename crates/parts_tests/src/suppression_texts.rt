@@ -5,7 +5,7 @@ use leak_graph::LeakKind;
 use std::alloc::Global;
 use suppressions::{SuppFault, Suppression, TEXT_LIMIT, Target, is_suppressed, parse};
 
-/// At which line something is refused; 0 where it is so for another reason.
+/// At which line something is rejected; 0 where it is so for another reason.
 fn line_of(fault: SuppFault) -> u32 {
     match fault {
         SuppFault::BadSuppression(line) => line,
@@ -13,7 +13,7 @@ fn line_of(fault: SuppFault) -> u32 {
     }
 }
 
-/// How many suppressions a text has, or at which line it is refused.
+/// Returns how many suppressions a text has, or at which line it is rejected.
 fn count_of(alloc: Global, text: &str) -> Result<usize, u32> {
     if text.len() > TEXT_LIMIT {
         return Err(0);
@@ -24,7 +24,7 @@ fn count_of(alloc: Global, text: &str) -> Result<usize, u32> {
     }
 }
 
-/// Texts, and how many suppressions each has, or at which line it is refused.
+/// Texts, and how many suppressions each has, or at which line it is rejected.
 const TEXTS: [(&str, Result<usize, u32>); 12] = [
     ("{\nn\nMemcheck:Cond\nfun:a\n", Err(1)),
     ("}\n", Err(1)),
@@ -59,7 +59,7 @@ const READS: Target = Target::Error(Kind::Param(Parameter::ReadBuffer, Parameter
 
 const LOST: Target = Target::Leak(LeakKind::Definite);
 
-/// Words, and whether their suppression, which is on, matches a target in `max`, which `main` called, or at which line they are refused.
+/// Words, and whether their suppression, which is on, matches a target in `max`, which `main` called, or at which line they are rejected.
 const WORDS: [(&str, Target, Result<bool, u32>); 16] = [
     ("Cond fun:ma*", COND, Ok(true)),
     ("Cond fun:main", COND, Ok(false)),
@@ -82,7 +82,7 @@ const WORDS: [(&str, Target, Result<bool, u32>); 16] = [
 /// The names of the functions of a trace.
 const NAMES: [&[u8]; 2] = [b"max", b"main"];
 
-/// Whether the suppression of some words is on and matches, or at which line they are refused.
+/// Returns whether the suppression of some words is on and matches, or at which line they are rejected.
 fn matched(alloc: Global, words: &str, target: &Target, names: &[&[u8]]) -> Result<bool, u32> {
     match Suppression::from_words(alloc, words.as_bytes()) {
         Ok(suppression) if suppression.is_on() => Ok(suppression.matches(target, names)),
@@ -142,7 +142,7 @@ const LISTS: [(&str, &[u8], bool, Target, bool); 5] = [
     ("a jump beside that", TWO, false, JUMP, true),
 ];
 
-/// Whether blocks, of which the last one is on or not, suppress an error; none where they are refused.
+/// Returns whether blocks, of which the last one is on or not, suppress an error; none where they are rejected.
 fn suppressed(alloc: Global, blocks: &[u8], is_on: bool, target: &Target) -> Option<bool> {
     if blocks.len() > TEXT_LIMIT {
         return None;

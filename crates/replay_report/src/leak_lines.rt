@@ -48,7 +48,7 @@ fn push_leak(out: &mut Vec<u8>, sum: BlockSum, kind: LeakKind) -> Result<(), All
     push_text(out, b"\n")
 }
 
-/// The lines of a group of leaks, if its kind is shown.
+/// Returns the lines of a group of leaks, if its kind is shown.
 #[tactic(auto, unfolding(crate::specs::LeakLines::leak_lines), using(std::proofs::Common::append_assoc))]
 fn push_group(
     out: &mut Vec<u8>,
@@ -66,7 +66,7 @@ fn push_group(
     push_trace(out, image, key.trace.addresses())
 }
 
-/// The groups of leaks whose kind is shown, in their order.
+/// Returns the groups of leaks whose kind is shown, in their order.
 fn push_leak_groups(
     out: &mut Vec<u8>,
     image: &Image,
@@ -115,7 +115,7 @@ pub(crate) fn push_totals(
     push_blocks(out, b"suppressed", sum_of(hidden))
 }
 
-/// The groups of some records whose kind is shown, in order of their first blocks.
+/// Returns the groups of some records whose kind is shown, in order of their first blocks.
 fn push_groups_of(
     alloc: Global,
     out: &mut Vec<u8>,
@@ -130,7 +130,7 @@ fn push_groups_of(
     push_leak_groups(out, view.image, &view.options.show, &groups)
 }
 
-/// The lines on leaked blocks, with these records of the live ones.
+/// Returns the lines on leaked blocks, with these records of the live ones.
 #[tactic(auto, unfolding(crate::specs::LeakLines::leak_section), using(std::proofs::Common::append_assoc))]
 pub(crate) fn push_leaks(
     alloc: Global,

@@ -68,7 +68,7 @@ fn divide(
     Ok(())
 }
 
-/// The records that no suppression matches, and the others.
+/// Returns the records that no suppression matches, and the others.
 pub(crate) fn split_records(
     alloc: Global,
     records: &[LeakRecord],
@@ -120,7 +120,7 @@ pub(crate) fn sum_of_kind(records: &[LeakRecord], kind: LeakKind) -> BlockSum
     sum
 }
 
-/// The group of a record.
+/// Returns the group of a record.
 fn key_of(leak: &LeakRecord, callers: u32) -> LeakKey
     requires { 0 < callers }
     ensures { result ≡ key_of callers leak.now }
@@ -152,7 +152,7 @@ fn add_leak(
     Ok(())
 }
 
-/// The groups of some records, in order of their first blocks.
+/// Returns the groups of some records, in order of their first blocks.
 #[tactic(auto, using(crate::proofs::LeakSteps::groups_more), unfolding(crate::specs::Leaks::leak_groups))]
 pub(crate) fn leak_groups(
     alloc: Global,

@@ -10,7 +10,7 @@
 //! | [`push_text`], [`push_number`], [`push_address`], [`push_byte`] | append bytes, a number, decimal, an address, and a byte, hexadecimal |
 //! | [`push_state`] | appends the line of a report that tells whether the machine runs |
 //! | [`laws::report_is_one`], [`laws::outline_is_one`] | nothing: their contracts say that a state has one report and one outline |
-//! | [`laws::leaks_are_grouped`] | nothing: its contract says that the groups of leaks are their distinct keys, each with the sum of its blocks |
+//! | [`laws::leaks_are_grouped`] | does nothing; its contract says that the groups of leaks are their distinct keys, each with the sum of its blocks |
 //! | [`Options::default`] | what a user has who chooses nothing: 12 addresses of a trace, definite and possible leaks |
 //!
 //! A report's lines, in order, each with a newline:
@@ -54,7 +54,7 @@
 //! `IsReport` of that state, the image, the suppressions, the options, the step and the length of the input, or made that `IsOutline` of
 //! it. These are relations, since the kinds of leaks are told by paths of pointers; the laws say that no two texts are one state's.
 //!
-//! Where the definitions stand, in `specs/`:
+//! Where the definitions are, in `specs/`:
 //!
 //! - `Report`: the whole report (`IsReport`, `report_text`). `Outlines`: the outline (`IsOutline`, `outline_text`).
 //! - `Filtering`: which groups of errors are shown, and which only counted.

@@ -31,7 +31,7 @@ struct Moment<'a> {
     input_len: u64,
 }
 
-/// The first lines of a report.
+/// Returns the first lines of a report.
 #[tactic(auto, unfolding(crate::specs::Report::head_lines), using(std::proofs::Common::append_assoc))]
 fn push_head(out: &mut Vec<u8>, moment: &Moment) -> Result<(), AllocError>
     ensures { OnOk result ((s : State) → Shows moment.now.machine.now s
@@ -44,7 +44,7 @@ fn push_head(out: &mut Vec<u8>, moment: &Moment) -> Result<(), AllocError>
     push_output(out, machine.output_len())
 }
 
-/// The lines of a report after its first, with these groups of errors and these records of the live blocks.
+/// Returns the lines of a report after its first, with these groups of errors and these records of the live blocks.
 fn push_findings(
     alloc: Global,
     out: &mut Vec<u8>,
@@ -63,7 +63,7 @@ fn push_findings(
     push_summary(out, error_sum(shown), hidden)
 }
 
-/// The lines of a report, with these records of the live blocks.
+/// Returns the lines of a report, with these records of the live blocks.
 fn push_report(
     alloc: Global,
     out: &mut Vec<u8>,
@@ -86,7 +86,7 @@ fn push_report(
     push_findings(alloc, out, view, &shown, hidden, records)
 }
 
-/// The report.
+/// Returns the report.
 fn report_of(alloc: Global, moment: &Moment, view: &View) -> Result<Vec<u8>, AllocError>
     requires { 0 < view.now.options.now.callers }
     ensures { IfOk result (λ text. (s : State) → Shows moment.now.machine.now s
@@ -98,7 +98,7 @@ fn report_of(alloc: Global, moment: &Moment, view: &View) -> Result<Vec<u8>, All
     Ok(text)
 }
 
-/// A text put at the end, and not copied where it is all.
+/// Returns a text put at the end, and not copied where it is all.
 fn append(out: &mut Vec<u8>, text: Vec<u8>) -> Result<(), AllocError>
     ensures ok { OnOk result (out.new.items ≡ out.old.items ++ text.items) }
     ensures err { OnErr result (out.new.items ≡ out.old.items) }

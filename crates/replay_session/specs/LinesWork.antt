@@ -1,5 +1,5 @@
 -- What lines cost in steps, said of the list of lines alone: where machines are held when a line is given, and from
--- which of them a report goes on. No trail is in it.
+-- which of them a report continues. No trail is in it.
 use Rattle.std.specs.Prelude.{◌≡◌, ℕ, ◌+◌, ◌-◌, ◌%◌, ◌≤◌, ◌⊎◌, ◌↔◌, false, List, [], ◌∷◌, ◌++◌, Result, Ok, length, min}
 use Rattle.std.specs.List.{All}
 use Rattle.checkpoints.specs.FirstEffects.{IsBelowFirst}
@@ -72,7 +72,7 @@ abbrev pub HeldByLines : Type 0
 HeldByLines = (turn : Turn) (lines : List (List ℕ)) (work : Work) → LinesMove turn lines no_work work
     → (h : ℕ) → h % 1024 ≡ 0 → (h ≤ work.last) ↔ IsHeldAfter (given_from turn lines) h
 
--- the law of work: the steps made are those that the list of lines says, and it says one number
+-- the law of work: the steps executed are those that the list of lines says, and it says one number
 abbrev pub MadeByLines : Type 0
 MadeByLines = (turn : Turn) (lines : List (List ℕ)) (work : Work) → LinesMove turn lines no_work work
     → (steps : ℕ) × AddUp [] (given_from turn lines) steps × (work.made ≡ min steps 18446744073709551615)

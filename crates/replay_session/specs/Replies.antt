@@ -23,23 +23,23 @@ done_line = codes "ok\n"
 abbrev pub number_line : List ℕ → ℕ → List ℕ
 number_line word n = word ++ decimal n ++ 10 ∷ []
 
--- how many steps were made
+-- how many steps were executed
 abbrev pub worked_line : ℕ → List ℕ
 worked_line n = number_line (codes "worked ") n
 
--- a line that is refused
+-- a line that is rejected
 abbrev pub refused_line : Fault → List ℕ
 refused_line fault = number_line (codes "refused ") (number_of fault)
 
--- the text that answers a line, where so many steps were made
+-- the text that answers a line, where so many steps were executed
 abbrev pub IsReplyTo : Scenario → ℕ → Result Command Fault → List ℕ → Type 0
 IsReplyTo sc made (Ok Report) text = IsReportOf sc text
 IsReplyTo sc made (Ok Worked) text = text ≡ worked_line made
 IsReplyTo sc made (Ok _) text = text ≡ done_line
 IsReplyTo sc made (Err fault) text = text ≡ refused_line fault
 
--- one line, its reply, and what is left after it, where so many steps were made: as the scenario says, or memory was
--- wanting where it may be, and the line only counts
+-- one line, its reply, and what is left after it, where so many steps were executed: as the scenario says, or memory
+-- ran out where it may be, and the line only counts
 abbrev pub Says : Turn → ℕ → List ℕ → List ℕ → Turn → Type 0
 Says turn made line text after =
     (IsReplyTo turn.scenario made (accepted turn line) text × (after ≡ applied turn line))

@@ -29,7 +29,7 @@ scenario_of session = (turn_of session).scenario
 unfoldable pub trail_of : Session → Trail
 trail_of session = session.trail
 
--- how many steps were made for its reports
+-- how many steps were executed for its reports
 unfoldable pub work_of : Session → ℕ
 work_of session = meter_of session.trail
 
@@ -41,13 +41,13 @@ Finds sc sought = Hits sought (first_state sc) sc.setup sc.marks
 abbrev pub IsVerdictOf : Scenario → List ℕ → Type 0
 IsVerdictOf sc text = IsVerdictLine sc.image (first_state sc) sc.setup sc.marks sc.step text
 
--- memory may be wanting at a report, and at an edit whose row says so
+-- memory may run out at a report, and at an edit whose row says so
 abbrev pub TakesMemory : Scenario → Command → Type 0
 TakesMemory sc Report = Unit {0}
 TakesMemory sc (Edit edit) = (row sc edit).may_fail ≡ true
 TakesMemory sc _ = ⊥
 
--- the reply to an accepted command, where so many steps were made
+-- the reply to an accepted command, where so many steps were executed
 abbrev pub reply_to : ℕ → Command → Reply
 reply_to work Report = Reported
 reply_to work Worked = Work work
@@ -69,7 +69,7 @@ pub record Answered (new : Session) (turn : Turn) (line : List ℕ) (result : Re
   pub appends : AppendsFor turn.scenario (accepted turn line) out-old out-new
   pub has : turn_of new ≡ applied turn line
 
--- or memory was wanting, at a line that isn't refused and may want it: the line counts, and nothing else changes
+-- or memory ran out, at a line that isn't rejected and may want it: the line counts, and nothing else changes
 pub record Wanting (new : Session) (turn : Turn) (line : List ℕ) (result : Result Reply Fault)
     (out-old out-new : List ℕ) : Type 0 where
   pub replies : result ≡ Err Memory
@@ -88,7 +88,7 @@ pub record Done (new : Session) (turn : Turn) (command : Command) (result : Resu
   pub appends : AppendsFor turn.scenario (Ok command) out-old out-new
   pub has : turn_of new ≡ record turn { scenario = changed turn.scenario command }
 
--- or memory was wanting, and nothing changed
+-- or memory ran out, and nothing changed
 pub record Failed (new : Session) (turn : Turn) (command : Command) (result : Result Reply Fault)
     (out-old out-new : List ℕ) : Type 0 where
   pub replies : result ≡ Err Memory

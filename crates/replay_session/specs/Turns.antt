@@ -24,7 +24,7 @@ pub record Turn : Type 0 where
 abbrev pub most_lines : ℕ
 most_lines = 100000
 
--- why a command is refused, if it is: a step above the limit, and an edit as its row says
+-- why a command is rejected, if it is: a step above the limit, and an edit as its row says
 abbrev pub command_refusal : Scenario → Command → Option Fault
 command_refusal sc (Goto n) = if nat_lt most_steps n then Some StepLimit else None
 command_refusal sc (Edit edit) = option_map fault_of (row sc edit).refusal
@@ -40,7 +40,7 @@ abbrev pub if_command : Scenario → Result Command Fault → Result Command Fau
 if_command sc (Err fault) = Err fault
 if_command sc (Ok command) = accepted_by (command_refusal sc command) command
 
--- the command that a line is, or why it is refused: too many lines, a line that is too long, no command, and then the
+-- the command that a line is, or why it is rejected: too many lines, a line that is too long, no command, and then the
 -- command's own
 unfoldable pub accepted : Turn → List ℕ → Result Command Fault
 accepted turn line =

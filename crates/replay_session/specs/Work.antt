@@ -1,4 +1,4 @@
--- How a line moves a session's work: the last step at which a machine is held, and how many steps were made.
+-- How a line moves a session's work: the last step at which a machine is held, and how many steps were executed.
 use Rattle.std.specs.Prelude.{◌≡◌, ℕ, Bool, false, List, Result, Ok, Err}
 use Rattle.checkpoints.specs.Edits.{MayShorten as ShortenedBy}
 use Rattle.checkpoints.specs.Effects.{EffectShows}
@@ -45,8 +45,8 @@ abbrev pub MayShorten : Scenario → Result Command Fault → Bool → Bool → 
 MayShorten sc (Ok (Edit edit)) old new = ShortenedBy (row sc edit).effect old new
 MayShorten sc outcome old new = new ≡ old
 
--- so does an accepted command of a session, and it moves the work so, unless memory was wanting or the trail is short
--- after it
+-- so does an accepted command of a session, and it moves the work so, unless memory ran out or the trail is short after
+-- it
 pub record Works (old new : Session) (command : Command) (result : Result Reply Fault) : Type 0 where
   pub whole : MayShorten (scenario_of old) (Ok command) (is_short (trail_of old)) (is_short (trail_of new))
   pub moves : (result ≡ Err Memory → ⊥) → is_short (trail_of new) ≡ false

@@ -26,7 +26,7 @@ pub fn push_step(out: &mut Vec<u8>, step: u32) -> Result<(), AllocError>
     push_text(out, b"\n")
 }
 
-/// Why a machine stopped, in one word.
+/// Returns why a machine stopped, in one word.
 pub fn stop_word(stop: Stop) -> &'static [u8]
     ensures { result.now ≡ stop_word stop }
 {
@@ -104,7 +104,7 @@ pub fn push_output(out: &mut Vec<u8>, n: u64) -> Result<(), AllocError>
     push_text(out, b"\n")
 }
 
-/// What is wrong with a parameter.
+/// Returns what is wrong with a parameter.
 fn fault_text(fault: ParameterFault) -> &'static [u8]
     ensures { result.now ≡ fault_text fault }
 {
@@ -115,7 +115,7 @@ fn fault_text(fault: ParameterFault) -> &'static [u8]
     }
 }
 
-/// What an error of a parameter is called.
+/// Returns what an error of a parameter is called.
 #[tactic(auto, unfolding(crate::specs::Lines::param_text), using(std::proofs::Common::append_assoc))]
 fn push_param(
     out: &mut Vec<u8>,
@@ -170,7 +170,7 @@ fn push_error(out: &mut Vec<u8>, count: u64, kind: Kind) -> Result<(), AllocErro
     push_text(out, b"\n")
 }
 
-/// An address of a trace, after `at` or `by`, with its name.
+/// Returns an address of a trace, after `at` or `by`, with its name.
 #[tactic(auto, unfolding(crate::specs::Lines::frame_line), using(std::proofs::Common::append_assoc))]
 fn push_frame(out: &mut Vec<u8>, word: &[u8], image: &Image, addr: u32) -> Result<(), AllocError>
     ensures { OnOk result (out.new.items ≡ out.old.items ++ frame_line word.now image.now addr) }
@@ -184,7 +184,7 @@ fn push_frame(out: &mut Vec<u8>, word: &[u8], image: &Image, addr: u32) -> Resul
     push_text(out, b"\n")
 }
 
-/// The addresses of a trace after the first.
+/// Returns the addresses of a trace after the first.
 fn push_callers(out: &mut Vec<u8>, image: &Image, callers: &[u32]) -> Result<(), AllocError>
     ensures { OnOk result (out.new.items ≡ out.old.items ++ flat_map (frame_line (codes "by") image.now) callers.now) }
 {
@@ -227,7 +227,7 @@ fn place_text(place: Place) -> &'static [u8]
     }
 }
 
-/// Whether a block is live.
+/// Returns whether a block is live.
 fn state_text(freed: Option<Trace>) -> &'static [u8]
     ensures { result.now ≡ state_text freed }
 {
@@ -237,7 +237,7 @@ fn state_text(freed: Option<Trace>) -> &'static [u8]
     }
 }
 
-/// Where a block was allocated or, if it is freed, where that was.
+/// Returns where a block was allocated or, if it is freed, where that was.
 fn last_trace(block: &Block) -> Trace
     ensures { result ≡ last_trace block.now }
 {
@@ -268,7 +268,7 @@ fn push_near_back(out: &mut Vec<u8>, block: &Block) -> Result<(), AllocError>
     Ok(())
 }
 
-/// What an error says of an address in a block, or near one.
+/// Returns what an error says of an address in a block, or near one.
 #[tactic(auto, using(std::proofs::Common::append_assoc))]
 fn push_near(
     out: &mut Vec<u8>,
@@ -296,7 +296,7 @@ fn push_about(out: &mut Vec<u8>, addr: u32, text: &[u8]) -> Result<(), AllocErro
     push_text(out, b"\n")
 }
 
-/// What an error says of an address, if it says anything.
+/// Returns what an error says of an address, if it says anything.
 #[tactic(auto, unfolding(crate::specs::Lines::note_lines))]
 fn push_note(out: &mut Vec<u8>, image: &Image, callers: u32, note: &Note) -> Result<(), AllocError>
     ensures { OnOk result (out.new.items ≡ out.old.items ++ note_lines image.now callers note.now) }
@@ -315,7 +315,7 @@ fn push_note(out: &mut Vec<u8>, image: &Image, callers: u32, note: &Note) -> Res
     }
 }
 
-/// A group of errors, with at most `callers` addresses of its trace.
+/// Returns a group of errors, with at most `callers` addresses of its trace.
 #[tactic(auto, unfolding(crate::specs::Lines::group_lines), using(std::proofs::Common::append_assoc))]
 fn push_group(
     out: &mut Vec<u8>,
@@ -330,7 +330,7 @@ fn push_group(
     push_note(out, image, callers, &group.note)
 }
 
-/// A group of errors, if it is there.
+/// Returns a group of errors, if it is there.
 fn push_group_at(
     out: &mut Vec<u8>,
     image: &Image,
@@ -370,7 +370,7 @@ fn with_errors_of(total: u64, group: Option<Group>) -> u64
     }
 }
 
-/// How many errors there are, or the greatest `u64`.
+/// Returns how many errors there are, or the greatest `u64`.
 fn error_total(groups: &Groups) -> u64
     ensures { result ≡ error_total (groups_of groups.now) }
 {
@@ -390,7 +390,7 @@ pub struct ErrorSum {
     pub groups: usize,
 }
 
-/// The sum of groups.
+/// Returns the sum of groups.
 pub fn error_sum(groups: &Groups) -> ErrorSum
     ensures { result ≡ error_sum (groups_of groups.now) }
 {

@@ -22,7 +22,7 @@ pub fn push_number(out: &mut Vec<u8>, n: u64) -> Result<(), AllocError>
     push_text(out, buffer.format(n).as_bytes())
 }
 
-/// A hexadecimal digit, in lower case.
+/// Returns a hexadecimal digit, in lower case.
 fn hex_glyph(n: u32) -> u8
     requires { n < 16 }
     ensures { result ≡ digit_glyph false n }
@@ -60,7 +60,7 @@ pub fn push_byte(out: &mut Vec<u8>, b: u8) -> Result<(), AllocError>
     push_text(out, &[hex_glyph((b >> 4) % 16), hex_glyph(b % 16)])
 }
 
-/// A byte of a name.
+/// Returns a byte of a name.
 fn shown_byte(b: u8) -> u8
     ensures { result ≡ shown_byte b }
 {

@@ -71,7 +71,7 @@ fn errors_and_leaks(rt: HostRuntime) {
     assert_told(&rt, rt.alloc(), &ERRORS_AND_LEAKS);
 }
 
-/// Whether a number and an address are written behind a text.
+/// Returns whether a number and an address are written behind a text.
 fn are_written(out: &mut Vec<u8>) -> Result<bool, AllocError> {
     push_number(out, 4095)?;
     push_address(out, 0x0001_02AF)?;

@@ -57,7 +57,7 @@ fn plain(front: &'static [u8], back: &'static [u8]) -> Report {
     }
 }
 
-/// The report that is told, if it is one with nothing suppressed.
+/// Returns the report that is told, if it is one with nothing suppressed.
 fn report_of(telling: &Telling) -> Option<Report> {
     match telling {
         Telling::Ends(front, back) => Some(plain(front, back)),
@@ -84,7 +84,7 @@ fn report_of(telling: &Telling) -> Option<Report> {
 /// A label, a program, how many steps it makes, and what is told of it then.
 pub(crate) type Run = (&'static str, &'static [u32], u32, Telling);
 
-/// The machine after some steps, with no input.
+/// Returns the machine after some steps, with no input.
 fn stepped(machine: Machine, setup: &Setup, steps: u32) -> Result<Machine, AllocError> {
     let mut meter = Meter::new();
     let mut machine = machine;
@@ -95,7 +95,7 @@ fn stepped(machine: Machine, setup: &Setup, steps: u32) -> Result<Machine, Alloc
     Ok(machine)
 }
 
-/// The machine before the first step. The four bytes at the stack pointer, which are 0, are undefined from the start.
+/// Returns the machine before the first step. The four bytes at the stack pointer, which are 0, are undefined from the start.
 fn started(alloc: Global, image: &Image) -> Result<Machine, AllocError> {
     Machine::start(alloc, image)?.mark(&Mark {
         step: 0,
@@ -115,13 +115,13 @@ pub(crate) fn setup_of(alloc: Global, input: Input) -> Setup {
     }
 }
 
-/// The machine of a program after some steps.
+/// Returns the machine of a program after some steps.
 fn machine_after(alloc: Global, image: &Image, steps: u32) -> Result<Machine, AllocError> {
     let setup = setup_of(alloc, Input::new(Vec::new(alloc)));
     stepped(started(alloc, image)?, &setup, steps)
 }
 
-/// Whether a text has these ends.
+/// Returns whether a text has these ends.
 fn has_ends(text: &[u8], report: &Report) -> bool {
     match text.strip_prefix(report.front) {
         Some(rest) if report.is_whole => rest == report.back,
@@ -130,7 +130,7 @@ fn has_ends(text: &[u8], report: &Report) -> bool {
     }
 }
 
-/// Whether a machine has a report.
+/// Returns whether a machine has a report.
 fn has_report(
     alloc: Global,
     image: &Image,
@@ -156,7 +156,7 @@ fn has_report(
     Ok(has_ends(&out, report))
 }
 
-/// Whether a report that shows all has an end, with some suppressions.
+/// Returns whether a report that shows all has an end, with some suppressions.
 fn hides(
     alloc: Global,
     image: &Image,
@@ -195,7 +195,7 @@ fn hides_possible(
     }
 }
 
-/// Whether a machine has an outline.
+/// Returns whether a machine has an outline.
 fn has_outline(
     alloc: Global,
     image: &Image,
@@ -208,7 +208,7 @@ fn has_outline(
     Ok(text.as_slice() == want)
 }
 
-/// Whether these are records of leaks.
+/// Returns whether these are records of leaks.
 fn are_records(records: &[LeakRecord], leaks: &[(u32, LeakKind, u32)]) -> bool {
     for (i, (start, kind, pc)) in leaks.iter().enumerate() {
         let want = LeakRecord {
@@ -224,7 +224,7 @@ fn are_records(records: &[LeakRecord], leaks: &[(u32, LeakKind, u32)]) -> bool {
     records.len() == leaks.len()
 }
 
-/// Whether a search answers these.
+/// Returns whether a search answers these.
 fn has_leaks(
     alloc: Global,
     machine: &Machine,
@@ -234,7 +234,7 @@ fn has_leaks(
     Ok(are_records(&records, leaks))
 }
 
-/// Whether that is told of a machine.
+/// Returns whether that is told of a machine.
 fn is_told_by(
     alloc: Global,
     image: &Image,
@@ -254,13 +254,13 @@ fn is_told_by(
     }
 }
 
-/// Whether it is of the run of an image.
+/// Returns whether it is of the run of an image.
 fn is_told_on(alloc: Global, image: &Image, run: &Run) -> Result<bool, AllocError> {
     let machine = machine_after(alloc, image, run.2)?;
     is_told_by(alloc, image, &machine, run)
 }
 
-/// Whether it is of a file's.
+/// Returns whether it is of a file's.
 fn is_told_of(alloc: Global, file: &[u8], run: &Run) -> Result<bool, AllocError> {
     match read(alloc, file) {
         Ok(image) => is_told_on(alloc, &image, run),
@@ -268,7 +268,7 @@ fn is_told_of(alloc: Global, file: &[u8], run: &Run) -> Result<bool, AllocError>
     }
 }
 
-/// Whether it is of a program's.
+/// Returns whether it is of a program's.
 fn is_told(alloc: Global, run: &Run) -> Result<bool, AllocError> {
     let file = program(alloc, run.1)?;
     is_told_of(alloc, &file, run)

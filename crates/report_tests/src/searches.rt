@@ -1,6 +1,6 @@
 //! The next and the last step that runs, reads, writes, changes what is known of a byte or raises an error in a range, and how many steps
-//! were made to find it. The numbers follow from the two programs: a search on makes the steps up to the one that is found or to the halt,
-//! one back those of the windows of 1,024 steps from the last one down to the one in which it is found.
+//! were executed to find it. The numbers follow from the two programs: a search on makes the steps up to the one that is found or to the
+//! halt, one back those of the windows of 1,024 steps from the last one down to the one in which it is found.
 
 use crate::trails::{Act, Case, Program, assert_performed};
 use checkpoints::Watch;

@@ -1,5 +1,5 @@
-//! Edits of runs, and how many steps were made for each machine that was asked for. The numbers follow from the steps at which
-//! an edit first shows: a trail that is asked for step n makes those from the last multiple of 1024 that it holds, or n has.
+//! Edits of runs, and how many steps were executed for each machine that was asked for. The numbers follow from the steps at which an edit
+//! first shows: a trail that is asked for step n makes those from the last multiple of 1024 that it holds, or n has.
 ghost use Rattle.checkpoints.specs.Trails.{LoadsAs};
 
 use crate::runs::setup_of;
@@ -66,7 +66,7 @@ pub(crate) enum Program {
     ReadsBytes(u32),
 }
 
-/// The words of a program that asks for so many bytes a call.
+/// Returns the words of a program that asks for so many bytes a call.
 fn reads_bytes(len: u32) -> [u32; 13] {
     let mut words = READS_BYTES;
     words[1] |= len << 20;
@@ -84,13 +84,13 @@ impl Program {
     }
 }
 
-/// The steps made on a trail so far; and of the machine that was asked for its status, its pc and how many errors it has.
+/// The steps executed on a trail so far; and of the machine that was asked for its status, its pc and how many errors it has.
 type Told = (u64, Status, u32, usize);
 
-/// The step of a fork; and of the machine at a step of the edited run, how many steps were made for it, its status and its pc.
+/// The step of a fork; and of the machine at a step of the edited run, how many steps were executed for it, its status and its pc.
 type Forked = (u32, u64, Status, u32);
 
-/// A step that was found, and how many steps were made to find it.
+/// A step that was found, and how many steps were executed to find it.
 pub(crate) type Found = (Option<u32>, u64);
 
 const RUNS: Status = Status::Running;
@@ -113,11 +113,11 @@ pub(crate) enum Act {
     Append(u8),
     /// The redzone is another.
     SetRedzone(u32),
-    /// At a byte of the input there is a fork, from which another input goes on to step 5000.
+    /// At a byte of the input there is a fork, from which another input continues to step 5000.
     ForkAtByte(u32, &'static [u8], Forked),
-    /// At a word there is one, from which another word goes on to step 4000.
+    /// At a word there is one, from which another word continues to step 4000.
     ForkAtWord(u32, u32, Forked),
-    /// The run up to a step, without the trail: the steps that were made, and the status.
+    /// The run up to a step, without the trail: the steps that were executed, and the status.
     Run(u32, (u64, Status)),
     /// The next and the last step at which something is met in a range of addresses, from a step on and below one.
     Search((Watch, u32, u32), (u32, u32), [Found; 2]),
@@ -314,7 +314,7 @@ struct Edited<'a> {
     marks: Vec<Mark>,
 }
 
-/// Whether a machine goes on from a fork as it is told, with no marks.
+/// Returns whether a machine continues from a fork as it is told, with no marks.
 fn goes_on(
     fork: &Fork,
     effect: Effect,
@@ -336,7 +336,7 @@ fn goes_on(
     )
 }
 
-/// Whether a run of an image ends as it is told.
+/// Returns whether a run of an image ends as it is told.
 fn runs(
     alloc: Global,
     image: &Image,
@@ -351,7 +351,7 @@ fn runs(
 }
 
 impl<'a> Edited<'a> {
-    /// The trail of a program with no input, no marks and the settings of Memcheck.
+    /// Returns the trail of a program with no input, no marks and the settings of Memcheck.
     fn begin(alloc: Global, image: Image<'a>) -> Result<Self, AllocError> {
         let trail = Trail::begin(alloc, &image)?;
         Ok(Edited {
@@ -363,7 +363,7 @@ impl<'a> Edited<'a> {
         })
     }
 
-    /// Whether that is told of the machine at a step.
+    /// Returns whether that is told of the machine at a step.
     fn asks(&mut self, step: u32, told: &Told) -> Result<bool, AllocError> {
         let machine = self.trail.at(step, &self.setup, &self.marks)?;
         let (made, status, pc, errors) = told;
@@ -418,7 +418,7 @@ impl<'a> Edited<'a> {
         true
     }
 
-    /// Whether another input goes on from a fork as it is told.
+    /// Returns whether another input continues from a fork as it is told.
     fn forks_at_byte(
         &mut self,
         offset: u32,
@@ -432,7 +432,7 @@ impl<'a> Edited<'a> {
         goes_on(&fork, Effect::Input(offset), &setup, 5000, told)
     }
 
-    /// Whether another word whose bytes are loaded does.
+    /// Returns whether another word whose bytes are loaded does.
     fn forks_at_word(&mut self, addr: u32, word: u32, told: &Forked) -> Result<bool, AllocError> {
         if addr % 4 != 0 || !self.image.patchable(addr) {
             return Ok(false);
@@ -443,7 +443,7 @@ impl<'a> Edited<'a> {
         goes_on(&fork, Effect::Word { addr, word }, &self.setup, 4000, told)
     }
 
-    /// Whether the next step is found that is sought.
+    /// Returns whether the next step is found that is sought.
     fn finds_next(
         &mut self,
         sought: Sought,
@@ -462,7 +462,7 @@ impl<'a> Edited<'a> {
         Ok(next == found.0 && meter.read() == found.1)
     }
 
-    /// Whether the last one is.
+    /// Returns whether the last one is.
     fn finds_last(
         &mut self,
         sought: Sought,
@@ -481,7 +481,7 @@ impl<'a> Edited<'a> {
         Ok(last == found.0 && meter.read() == found.1)
     }
 
-    /// Whether both are, one after the other.
+    /// Returns whether both are, one after the other.
     fn finds(
         &mut self,
         sought: Sought,
@@ -532,13 +532,13 @@ impl<'a> Edited<'a> {
     }
 }
 
-/// Whether acts are performed on the trail of an image.
+/// Returns whether acts are performed on the trail of an image.
 fn are_performed_on(alloc: Global, image: Image<'_>, acts: &[Act]) -> Result<bool, AllocError> {
     let mut edited = Edited::begin(alloc, image)?;
     edited.performs_all(acts)
 }
 
-/// Whether they are on that of a file.
+/// Returns whether they are on that of a file.
 fn are_performed_of(alloc: Global, file: &[u8], acts: &[Act]) -> Result<bool, AllocError> {
     match read(alloc, file) {
         Ok(image) => are_performed_on(alloc, image, acts),
@@ -546,7 +546,7 @@ fn are_performed_of(alloc: Global, file: &[u8], acts: &[Act]) -> Result<bool, Al
     }
 }
 
-/// Whether the acts of a case are.
+/// Returns whether the acts of a case are.
 fn are_performed(alloc: Global, case: &Case) -> Result<bool, AllocError> {
     let (_, program, acts) = case;
     let file = program.file(alloc)?;

@@ -14,7 +14,7 @@ pub enum Stop {
 /// Whether a machine runs. A stopped or exited one is its own successor.
 #[derive(Clone, Copy, PartialEq, Eq)]
 pub enum Status {
-    /// It goes on.
+    /// It continues.
     Running,
     /// The program ended by the call `exit`, with the low 8 bits of its status.
     Exited(u8),

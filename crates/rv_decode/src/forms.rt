@@ -19,7 +19,7 @@ pub(crate) fn r_form(op: Op, word: u32) -> Insn
     }
 }
 
-/// A source register, an immediate and a destination.
+/// Returns a source register, an immediate and a destination.
 pub(crate) fn i_form(op: Op, word: u32) -> Insn
     ensures { result ≡ with_fields I op word }
 {
@@ -32,7 +32,7 @@ pub(crate) fn i_form(op: Op, word: u32) -> Insn
     }
 }
 
-/// A source register, an amount to shift by and a destination.
+/// Returns a source register, an amount to shift by and a destination.
 pub(crate) fn shift_form(op: Op, word: u32) -> Insn
     ensures { result ≡ with_fields Shift op word }
 {
@@ -45,7 +45,7 @@ pub(crate) fn shift_form(op: Op, word: u32) -> Insn
     }
 }
 
-/// A store.
+/// Returns a store.
 pub(crate) fn s_form(op: Op, word: u32) -> Insn
     ensures { result ≡ with_fields S op word }
 {
@@ -58,7 +58,7 @@ pub(crate) fn s_form(op: Op, word: u32) -> Insn
     }
 }
 
-/// A branch.
+/// Returns a branch.
 pub(crate) fn b_form(op: Op, word: u32) -> Insn
     ensures { result ≡ with_fields B op word }
 {
@@ -71,7 +71,7 @@ pub(crate) fn b_form(op: Op, word: u32) -> Insn
     }
 }
 
-/// A destination and an upper immediate.
+/// Returns a destination and an upper immediate.
 pub(crate) fn u_form(op: Op, word: u32) -> Insn
     ensures { result ≡ with_fields U op word }
 {
@@ -84,7 +84,7 @@ pub(crate) fn u_form(op: Op, word: u32) -> Insn
     }
 }
 
-/// A destination and the distance of a jump.
+/// Returns a destination and the distance of a jump.
 pub(crate) fn j_form(op: Op, word: u32) -> Insn
     ensures { result ≡ with_fields J op word }
 {

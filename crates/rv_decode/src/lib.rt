@@ -11,7 +11,7 @@
 //! - [`decode`] is the instruction of a word. It is total and keeps no state.
 //! - [`one_row`] is a law of the table, with nothing to run.
 //!
-//! # What a caller relies on
+//! # What a caller can rely on
 //!
 //! One clause of [`decode`]: `result ≡ insn word`. The definition `insn` is a table and not a
 //! program: a list `rows` of fixed bits, each with its operation, read by `find`. A caller can
@@ -22,7 +22,7 @@
 //! - `none`: where there is none, the word has the fixed bits of no row;
 //! - `only`: a word with the fixed bits of a row is that row's instruction, whichever row it is.
 //!
-//! # Where the definitions stand
+//! # Where the definitions are
 //!
 //! - `specs/Fields.antt`: the fields of a word, as bits from `high` down to `low`, and the five
 //!   immediates, by the positions of their bits.
@@ -125,7 +125,7 @@ pub struct Insn {
     pub rs2: u8,
 }
 
-/// The jump to an address in a register.
+/// Returns the jump to an address in a register.
 #[tactic(auto, using(crate::proofs::TableLemmas::insn_jalr))]
 fn jalr(word: u32) -> Option<Insn>
     requires { bit_and word 0x7F ≡ 0x67 }
@@ -137,7 +137,7 @@ fn jalr(word: u32) -> Option<Insn>
     }
 }
 
-/// The conditional branches.
+/// Returns the conditional branches.
 #[tactic(auto, using(crate::proofs::TableLemmas::insn_branch))]
 fn branch(word: u32) -> Option<Insn>
     requires { bit_and word 0x7F ≡ 0x63 }
@@ -154,7 +154,7 @@ fn branch(word: u32) -> Option<Insn>
     }
 }
 
-/// The loads.
+/// Returns the loads.
 #[tactic(auto, using(crate::proofs::TableLemmas::insn_load))]
 fn load(word: u32) -> Option<Insn>
     requires { bit_and word 0x7F ≡ 0x03 }
@@ -170,7 +170,7 @@ fn load(word: u32) -> Option<Insn>
     }
 }
 
-/// The stores.
+/// Returns the stores.
 #[tactic(auto, using(crate::proofs::TableLemmas::insn_store))]
 fn store(word: u32) -> Option<Insn>
     requires { bit_and word 0x7F ≡ 0x23 }
@@ -184,7 +184,7 @@ fn store(word: u32) -> Option<Insn>
     }
 }
 
-/// The operations on a register and an immediate.
+/// Returns the operations on a register and an immediate.
 #[tactic(auto, using(crate::proofs::TableLemmas::insn_immediate))]
 fn immediate(word: u32) -> Option<Insn>
     requires { bit_and word 0x7F ≡ 0x13 }
@@ -204,7 +204,7 @@ fn immediate(word: u32) -> Option<Insn>
     }
 }
 
-/// The left shift by an immediate amount.
+/// Returns the left shift by an immediate amount.
 #[tactic(auto, using(crate::proofs::TableLemmas::insn_left_shift))]
 fn left_shift(word: u32) -> Option<Insn>
     requires { bit_and word 0x707F ≡ 0x1013 }
@@ -216,7 +216,7 @@ fn left_shift(word: u32) -> Option<Insn>
     }
 }
 
-/// The right shifts by an immediate amount.
+/// Returns the right shifts by an immediate amount.
 #[tactic(auto, using(crate::proofs::TableLemmas::insn_right_shift))]
 fn right_shift(word: u32) -> Option<Insn>
     requires { bit_and word 0x707F ≡ 0x5013 }
@@ -229,7 +229,7 @@ fn right_shift(word: u32) -> Option<Insn>
     }
 }
 
-/// The operations on two registers, by funct7.
+/// Returns the operations on two registers, by funct7.
 #[tactic(auto, using(crate::proofs::TableLemmas::insn_register_other))]
 fn register(word: u32) -> Option<Insn>
     requires { bit_and word 0x7F ≡ 0x33 }
@@ -243,7 +243,7 @@ fn register(word: u32) -> Option<Insn>
     }
 }
 
-/// The operations on two registers with funct7 0x00.
+/// Returns the operations on two registers with funct7 0x00.
 #[tactic(auto, using(crate::proofs::TableLemmas::insn_base))]
 fn base(word: u32) -> Option<Insn>
     requires { bit_and word 0xFE00007F ≡ 0x33 }
@@ -262,7 +262,7 @@ fn base(word: u32) -> Option<Insn>
     }
 }
 
-/// The operations on two registers with funct7 0x20.
+/// Returns the operations on two registers with funct7 0x20.
 #[tactic(auto, using(crate::proofs::TableLemmas::insn_alternate))]
 fn alternate(word: u32) -> Option<Insn>
     requires { bit_and word 0xFE00007F ≡ 0x40000033 }
@@ -275,7 +275,7 @@ fn alternate(word: u32) -> Option<Insn>
     }
 }
 
-/// The multiplications and divisions, with funct7 0x01.
+/// Returns the multiplications and divisions, with funct7 0x01.
 #[tactic(auto, using(crate::proofs::TableLemmas::insn_multiply))]
 fn multiply(word: u32) -> Option<Insn>
     requires { bit_and word 0xFE00007F ≡ 0x02000033 }
@@ -294,7 +294,7 @@ fn multiply(word: u32) -> Option<Insn>
     }
 }
 
-/// The fence, whose other fields are free.
+/// Returns the fence, whose other fields are free.
 #[tactic(auto, using(crate::proofs::TableLemmas::insn_fence))]
 fn fence(word: u32) -> Option<Insn>
     requires { bit_and word 0x7F ≡ 0x0F }
@@ -306,7 +306,7 @@ fn fence(word: u32) -> Option<Insn>
     }
 }
 
-/// The calls of the environment, which are whole words.
+/// Returns the calls of the environment, which are whole words.
 #[tactic(auto, using(crate::proofs::TableLemmas::insn_environment))]
 fn environment(word: u32) -> Option<Insn>
     requires { bit_and word 0x7F ≡ 0x73 }
@@ -319,7 +319,7 @@ fn environment(word: u32) -> Option<Insn>
     }
 }
 
-/// The instruction, by the opcode.
+/// Returns the instruction, by the opcode.
 #[tactic(auto, using(crate::proofs::TableLemmas::insn_lui, crate::proofs::TableLemmas::insn_auipc, crate::proofs::TableLemmas::insn_jal))]
 fn by_opcode(word: u32) -> Option<Insn>
     ensures { result ≡ insn word }
@@ -340,7 +340,7 @@ fn by_opcode(word: u32) -> Option<Insn>
     }
 }
 
-/// The instruction that the word is, or `None` where it has the fixed bits of no row.
+/// Returns the instruction that the word is, or `None` where it has the fixed bits of no row.
 pub fn decode(word: u32) -> Option<Insn>
     ensures row { result ≡ insn word }
     ensures registers { IfSome result (λ i. (i.rd < 32) × (i.rs1 < 32) × (i.rs2 < 32)) }

@@ -16,7 +16,7 @@ use Rattle.commands.specs.declared.edit.Edit.TheVariants.{Redzone, Volume, Show}
 use Rattle.commands.specs.declared.refusal.Refusal.{Refusal}
 use Rattle.scenario.proofs.FrontSteps.{with-more}
 
--- a test that refuses fails where nothing is refused
+-- a test that refuses fails where nothing is rejected
 pub passed : (b : Bool) (r : Refusal) → refused_if b r ≡ None → b ≡ false
 passed true r h = cc
 passed false r h = refl

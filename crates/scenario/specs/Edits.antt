@@ -27,7 +27,7 @@ abbrev pub refused_if : Bool → Refusal → Option Refusal
 refused_if true refusal = Some refusal
 refused_if false refusal = None
 
--- why a mark is refused where there are so many, in order: its step, its range, too many marks
+-- why a mark is rejected where there are so many, in order: its step, its range, too many marks
 unfoldable pub mark_refusal : ℕ → MarkAt → Option Refusal
 mark_refusal marks mark =
     if nat_lt most_steps mark.step then Some StepLimit
@@ -59,8 +59,8 @@ is_on (rule ∷ rules) (suc i) = is_on rules i
 abbrev pub shown : LeakKinds → List Bool
 shown kinds = kinds.definite ∷ kinds.indirect ∷ kinds.possible ∷ kinds.reachable ∷ []
 
--- what is said of an edit of a scenario: why it is refused, what it leaves, where it shows, whether memory may be
--- wanting, and the edit that takes it back, if one does
+-- what is said of an edit of a scenario: why it is rejected, what it leaves, where it shows, whether memory may run
+-- out, and the edit that takes it back, if one does
 pub record Row : Type 0 where
   pub refusal : Option Refusal
   pub after : Scenario
@@ -155,11 +155,11 @@ row sc (Show kinds) = record {
   back = None;
 }
 
--- the edit isn't refused
+-- the edit isn't rejected
 abbrev pub IsTaken : Scenario → Edit → Type 0
 IsTaken sc edit = (row sc edit).refusal ≡ None
 
--- an edit that isn't refused leads from the run of the scenario to that of the edited one, by its effect
+-- an edit that isn't rejected leads from the run of the scenario to that of the edited one, by its effect
 abbrev pub Follows : Type 0
 Follows =
     (sc : Scenario) (edit : Edit) → IsTaken sc edit

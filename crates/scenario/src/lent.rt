@@ -35,8 +35,8 @@ pub struct ScenarioRef<'a> {
 }
 
 impl<'a> ScenarioRef<'a> {
-    /// Appends the report at the chosen step, by one run from step zero, whose steps are made on a meter. `callers` of the options is from
-    /// 1 to 24.
+    /// Appends the report at the chosen step, by one run from step zero, whose steps are executed on a meter. `callers` of the options is
+    /// from 1 to 24.
     #[tactic(auto, unfolding(crate::specs::Scenario::chosen_state))]
     pub fn report(
         &self,
@@ -80,7 +80,7 @@ impl<'a> ScenarioRef<'a> {
         )
     }
 
-    /// The outline of a machine that is at the chosen step of the run.
+    /// Returns the outline of a machine that is at the chosen step of the run.
     #[tactic(auto, unfolding(crate::specs::Scenario::IsOutlineOf))]
     pub(crate) fn outline(
         &self,
@@ -102,7 +102,7 @@ impl<'a> ScenarioRef<'a> {
         )
     }
 
-    /// The machine before step 0, with the words written.
+    /// Returns the machine before step 0, with the words written.
     #[tactic(auto, unfolding(crate::specs::Scenario::first_state))]
     fn start(&self, alloc: Global) -> Result<Machine, AllocError>
         ensures { IfOk result (λ machine. Shows machine (first_state (lent self.now))) }
@@ -112,7 +112,7 @@ impl<'a> ScenarioRef<'a> {
     }
 }
 
-/// A machine with words written into it, one after another.
+/// Returns a machine with words written into it, one after another.
 fn with_words(machine: Machine, words: &[Word]) -> Result<Machine, AllocError>
     ensures { IfOk result (λ written. (s : State) → Shows machine s → Shows written (with_words s words.now)) }
 {

@@ -43,7 +43,7 @@ impl<'a> Model for Scenario<'a> {
 }
 
 impl<'a> Scenario<'a> {
-    /// The scenario of a program with an input and suppressions, with nothing edited and step 0 chosen.
+    /// Returns the scenario of a program with an input and suppressions, with nothing edited and step 0 chosen.
     pub fn begin(
         alloc: Global,
         image: Image<'a>,
@@ -66,28 +66,28 @@ impl<'a> Scenario<'a> {
         })
     }
 
-    /// The program.
+    /// Returns the program.
     pub fn image(&self) -> &Image<'a>
         ensures { result.now ≡ self.now.image }
     {
         &self.image
     }
 
-    /// What its run is given.
+    /// Returns what its run is given.
     pub fn setup(&self) -> &Setup
         ensures { result.now ≡ self.now.setup }
     {
         &self.setup
     }
 
-    /// The marks, in their order.
+    /// Returns the marks, in their order.
     pub fn marks(&self) -> &[Mark]
         ensures { result.now ≡ self.now.marks }
     {
         &self.marks
     }
 
-    /// The chosen step.
+    /// Returns the chosen step.
     pub fn step(&self) -> u32
         ensures { result ≡ self.now.step }
     {
@@ -118,7 +118,7 @@ impl<'a> Scenario<'a> {
         }
     }
 
-    /// Appends the report at the chosen step, by one run from step zero, whose steps are made on a meter.
+    /// Appends the report at the chosen step, by one run from step zero, whose steps are executed on a meter.
     pub fn report(&self, meter: &mut Meter, out: &mut Vec<u8>) -> Result<(), AllocError>
         ensures ok { OnOk result (AppendsReport (IsReportOf self.now) out.old.items out.new.items) }
         ensures err { OnErr result (out.new.items ≡ out.old.items) }
@@ -134,7 +134,7 @@ impl<'a> Scenario<'a> {
         self.lent().render(self.alloc, machine, out)
     }
 
-    /// The outline of a machine that is at the chosen step of the run, with or without how much was written.
+    /// Returns the outline of a machine that is at the chosen step of the run, with or without how much was written.
     pub fn outline(&self, machine: &Machine, with_output: bool) -> Result<Vec<u8>, AllocError>
         ensures { IfOk result (λ text. Shows machine.now (chosen_state self.now) → IsOutlineOf with_output self.now text.items) }
     {

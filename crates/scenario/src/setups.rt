@@ -6,8 +6,8 @@ use guest_elf::Image;
 use guest_machine::{Hooks, Input, Setup, USUAL_REDZONE, USUAL_VOLUME};
 use std::alloc::{AllocError, Global};
 
-/// An input, the heap's settings of Memcheck, which are a redzone of 16 bytes and 20,000,000 bytes of freed blocks, and the functions of
-/// the heap that a program has by name.
+/// Returns an input, the heap's settings of Memcheck, which are a redzone of 16 bytes and 20,000,000 bytes of freed blocks, and the
+/// functions of the heap that a program has by name.
 pub fn setup_with(alloc: Global, image: &Image, input: Vec<u8>) -> Result<Setup, AllocError>
     ensures { IfOk result (λ setup. setup ≡ setup_with image.now input.items) }
 {

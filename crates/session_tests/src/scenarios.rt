@@ -8,7 +8,7 @@ use std::alloc::{AllocError, Global};
 /// Three words: exit with status 0.
 const EXITS: [u32; 3] = [0x05D0_0893, 0x0000_0513, 0x0000_0073];
 
-/// Whether the report of a scenario, by one run from step zero, begins so.
+/// Returns whether the report of a scenario, by one run from step zero, begins so.
 fn has_state(alloc: Global, scenario: &Scenario<'_>, front: &[u8]) -> Result<bool, AllocError> {
     let mut text = Vec::new(alloc);
     scenario.report(&mut Meter::new(), &mut text)?;
@@ -21,7 +21,7 @@ const EDIT: Edit = Edit::Patch {
     word: 0x0070_0513,
 };
 
-/// Whether that word, which is written into a scenario of `EXITS`, shows at step 3.
+/// Returns whether that word, which is written into a scenario of `EXITS`, shows at step 3.
 fn is_written(alloc: Global, scenario: &mut Scenario<'_>) -> Result<bool, AllocError> {
     if scenario.refusal(&EDIT).is_some() {
         return Ok(false);
@@ -30,7 +30,7 @@ fn is_written(alloc: Global, scenario: &mut Scenario<'_>) -> Result<bool, AllocE
     has_state(alloc, scenario, b"step 3\nstate exited 7\n")
 }
 
-/// Whether it does, and doesn't any more once it is dropped.
+/// Returns whether it does, and doesn't any more once it is dropped.
 fn is_written_and_dropped(alloc: Global, scenario: &mut Scenario<'_>) -> Result<bool, AllocError> {
     if !is_written(alloc, scenario)? {
         return Ok(false);
@@ -39,7 +39,7 @@ fn is_written_and_dropped(alloc: Global, scenario: &mut Scenario<'_>) -> Result<
     has_state(alloc, scenario, b"step 3\nstate exited 0\n")
 }
 
-/// A machine of a scenario without edits, at its step.
+/// Returns a machine of a scenario without edits, at its step.
 fn machine_at(alloc: Global, scenario: &Scenario<'_>) -> Result<Machine, AllocError> {
     let mut meter = Meter::new();
     let mut machine = Machine::start(alloc, scenario.image())?;
@@ -50,7 +50,7 @@ fn machine_at(alloc: Global, scenario: &Scenario<'_>) -> Result<Machine, AllocEr
     Ok(machine)
 }
 
-/// Whether a scenario without edits has this outline, by a machine.
+/// Returns whether a scenario without edits has this outline, by a machine.
 fn is_outlined(
     scenario: &Scenario<'_>,
     machine: &Machine,
@@ -72,7 +72,7 @@ fn has_outline(
     is_outlined(scenario, &machine, with_output, want)
 }
 
-/// Whether the outlines are right at step 0 and at step 3.
+/// Returns whether the outlines are right at step 0 and at step 3.
 fn are_outlines(alloc: Global, scenario: &mut Scenario<'_>) -> Result<bool, AllocError> {
     if !has_outline(alloc, scenario, false, b"running\n")? {
         return Ok(false);
@@ -81,7 +81,7 @@ fn are_outlines(alloc: Global, scenario: &mut Scenario<'_>) -> Result<bool, Allo
     has_outline(alloc, scenario, true, b"exited 0\noutput 0\n")
 }
 
-/// Whether the outlines are, and a word is written and dropped then.
+/// Returns whether the outlines are, and a word is written and dropped then.
 fn is_so(alloc: Global, scenario: &mut Scenario<'_>) -> Result<bool, AllocError> {
     if !are_outlines(alloc, scenario)? {
         return Ok(false);

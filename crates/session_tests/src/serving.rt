@@ -31,7 +31,7 @@ type End = Option<Result<(), ServeFault>>;
 
 const DONE: End = Some(Ok(()));
 
-/// How it ends where memory is wanting for it.
+/// How it ends where memory runs out for it.
 const NO_MEMORY: End = Some(Err(ServeFault::NoMemory {
     replies: 0,
     bytes: 0,
@@ -67,7 +67,7 @@ fn served_of(
     }
 }
 
-/// Whether a session over a program of some words, with so much input, ends so.
+/// Returns whether a session over a program of some words, with so much input, ends so.
 fn ends(
     alloc: Global,
     (words, input_len): (&[u32], usize),
@@ -79,7 +79,7 @@ fn ends(
     Ok(served_of(alloc, &file, input_len, script, writer)? == *want)
 }
 
-/// Whether a session without a line ends so.
+/// Returns whether a session without a line ends so.
 fn ends_at_once(alloc: Global, input_len: usize, want: &End) -> Result<bool, AllocError> {
     let mut writer = Room::new(alloc, 0);
     let mut script = Script::new(b"");
@@ -102,7 +102,7 @@ type Shown = (
     &'static [(&'static str, usize)],
 );
 
-/// Whether a text has all these parts.
+/// Returns whether a text has all these parts.
 fn has_parts(text: &str, parts: &[(&str, usize)]) -> bool {
     for (part, count) in parts {
         if text.matches(*part).count() != *count {
@@ -112,7 +112,7 @@ fn has_parts(text: &str, parts: &[(&str, usize)]) -> bool {
     true
 }
 
-/// Whether a row is so, by what a writer takes.
+/// Returns whether a row is so, by what a writer takes.
 fn shows(alloc: Global, row: &Shown, writer: &mut Room) -> Result<bool, AllocError> {
     let mut script = Script::new(row.2);
     if !ends(alloc, (row.1, 2), &mut script, writer, &DONE)? {
@@ -205,7 +205,7 @@ type Pieces = &'static [(&'static [u8], usize)];
 /// What a row shows; lines, how many bytes of them a read gives at most, and which reads are interrupted; and the replies.
 type Answered = (&'static str, Pieces, usize, Interruptions, Pieces);
 
-/// The text of some pieces.
+/// Returns the text of some pieces.
 fn joined(alloc: Global, pieces: &[(&[u8], usize)]) -> Result<Vec<u8>, AllocError> {
     let mut text = Vec::new(alloc);
     for (bytes, count) in pieces {
@@ -222,7 +222,7 @@ type Writing = (usize, usize, u64, Refusal, usize);
 /// One that takes all.
 const ROOMY: Writing = (1 << 20, usize::MAX, u64::MAX, Refusal::Fails, usize::MAX);
 
-/// Whether lines end so that a writer has taken a front of the replies, of so many bytes, and flushed so many.
+/// Returns whether lines end so that a writer has taken a front of the replies, of so many bytes, and flushed so many.
 fn are_taken(
     alloc: Global,
     script: &mut Script<'_>,
@@ -242,7 +242,7 @@ fn are_taken(
     )
 }
 
-/// Whether a row is so.
+/// Returns whether a row is so.
 fn is_answered(alloc: Global, row: &Answered) -> Result<bool, AllocError> {
     let lines = joined(alloc, row.1)?;
     let want = joined(alloc, row.4)?;
@@ -338,7 +338,7 @@ refused 2
 /// How many bytes the replies to none, one, two, three and all of them have.
 const REPLIED: [usize; 5] = [0, 3, 288, 297, 307];
 
-/// How many replies are whole in so many bytes, and how many bytes those have.
+/// Returns how many replies are whole in so many bytes, and how many bytes those have.
 fn whole_replies(bytes: usize) -> (u64, usize) {
     match bytes {
         0..=2 => (0, 0),
@@ -349,7 +349,8 @@ fn whole_replies(bytes: usize) -> (u64, usize) {
     }
 }
 
-/// Whether a reader of `LINES` that fails after so many bytes, or doesn't fail, has the replies to the lines whose newline it gave, or all.
+/// Returns whether a reader of `LINES` that fails after so many bytes, or doesn't fail, has the replies to the lines whose newline it gave,
+/// or all.
 fn is_served(
     alloc: Global,
     reader: &mut Script<'_>,
@@ -383,7 +384,7 @@ const READINGS: [Reading; 3] = [
     ("each byte", usize::MAX, Interruptions::None, 2, 24, true),
 ];
 
-/// Whether reads that fail from each on are told.
+/// Returns whether reads that fail from each on are told.
 fn reads_fail(alloc: Global, reading: &Reading) -> Result<bool, AllocError> {
     let (_, most, interruptions, by_two, reads, by_byte) = *reading;
     for n in 0..=reads {
@@ -413,7 +414,7 @@ fn each_read_fails_in_turn(rt: HostRuntime) {
     }
 }
 
-/// Whether reads without an end stop at the 10,000th, which fails, after replies of three bytes each.
+/// Returns whether reads without an end stop at the 10,000th, which fails, after replies of three bytes each.
 fn stops(
     alloc: Global,
     interruptions: Interruptions,
@@ -441,7 +442,7 @@ fn without_an_end(rt: HostRuntime) {
     assert!(rt; matches!(endless, Ok(true)));
 }
 
-/// Whether a writer takes so much of the replies to `LINES`, and flushes so much.
+/// Returns whether a writer takes so much of the replies to `LINES`, and flushes so much.
 fn is_written(
     alloc: Global,
     writing: &Writing,
@@ -481,7 +482,7 @@ const WRITTEN: [(usize, usize); 10] = [
     (307, 307),
 ];
 
-/// Whether writes that are refused from each on are told.
+/// Returns whether writes that are rejected from each on are told.
 fn writes_fail(alloc: Global, refusal: Refusal) -> Result<bool, AllocError> {
     for (n, (bytes, flushed)) in WRITTEN.iter().enumerate() {
         let writing = (1 << 20, 50, n as u64, refusal, usize::MAX);
@@ -492,7 +493,7 @@ fn writes_fail(alloc: Global, refusal: Refusal) -> Result<bool, AllocError> {
     Ok(true)
 }
 
-/// Whether writes that fail from each byte on are.
+/// Returns whether writes that fail from each byte on are.
 fn bytes_fail(alloc: Global) -> Result<bool, AllocError> {
     for bytes in 0..=REPLIED[4] {
         let writing = (bytes, usize::MAX, u64::MAX, Refusal::Fails, usize::MAX);
@@ -503,7 +504,7 @@ fn bytes_fail(alloc: Global) -> Result<bool, AllocError> {
     Ok(true)
 }
 
-/// Whether flushes that fail are.
+/// Returns whether flushes that fail are.
 fn flushes_fail(alloc: Global) -> Result<bool, AllocError> {
     for n in 0..4 {
         let writing = (1 << 20, usize::MAX, u64::MAX, Refusal::Fails, n);
@@ -524,7 +525,7 @@ enum Failing {
     Flushes,
 }
 
-/// Whether all of it is told.
+/// Returns whether all of it is told.
 fn fails(alloc: Global, failing: Failing) -> Result<bool, AllocError> {
     match failing {
         Failing::Writes(refusal) => writes_fail(alloc, refusal),

@@ -1,4 +1,4 @@
--- Searches that go on from page to page.
+-- Searches that continue from page to page.
 use Rattle.std.proofs.Common.{◌≡◌, ℕ, zero, suc, Bool, true, false, not, ◌&&◌, Some, None, refl, ap, ap₂, sym, ◌∙◌, ◌+◌}
 use Rattle.std.proofs.Common.{◌-◌, ◌*◌, ◌/◌, ◌%◌, ◌<◌, ◌≤◌, inl, inr, cond, arith}
 use Rattle.std.proofs.lemmas.Bool.{cases_lt}

@@ -1,7 +1,7 @@
 -- The first place that passes a test.
 use Rattle.std.specs.Prelude.{ℕ, Bool, true, false, ◌<◌, ◌≤◌, ◌≡◌}
 
--- no place from one up to, not with, another passes
+-- no place from one up to, but not including, another passes
 abbrev pub NonePass : (ℕ → Bool) → ℕ → ℕ → Type 0
 NonePass p from to = (k : ℕ) → from ≤ k → k < to → p k ≡ false
 

@@ -1,7 +1,7 @@
 -- Functions of a place in a memory or in a part of it: their changes from one place up to another, and where two agree.
 use Rattle.std.specs.Prelude.{ℕ, Bool, ◌+◌, ◌-◌, ◌&&◌, ◌≡◌, ◌<◌, nat_le, nat_lt, if◌then◌else◌}
 
--- is a number from one up to, not with, another?
+-- is a number from one up to, but not including, another?
 abbrev pub is_between : ℕ → ℕ → ℕ → Bool
 is_between from to a = nat_le from a && nat_lt a to
 

@@ -74,7 +74,7 @@ holds_word shadows a =
     not (is_bad true (shadows a)) && not (is_bad true (shadows (a + 1))) && not (is_bad true (shadows (a + 2)))
     && not (is_bad true (shadows (a + 3)))
 
--- no multiple of 4 from one address up to, not with, another has four accessible and defined bytes
+-- no multiple of 4 from one address up to, but not including, another has four accessible and defined bytes
 abbrev pub HoldNoWord : (ℕ → Shadow) → ℕ → ℕ → Type 0
 HoldNoWord shadows from to = (a : ℕ) → from ≤ a → a < to → a % 4 ≡ 0 → holds_word shadows a ≡ false
 

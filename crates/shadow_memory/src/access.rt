@@ -18,8 +18,8 @@ use definedness::Bits;
 use std::alloc::AllocError;
 
 impl Memory {
-    /// The low n bytes at an address, their undefined bits, and the first inaccessible address among them; n is 1, 2 or 4.
-    /// What is above the n bytes is 0.
+    /// Returns the low n bytes at an address, their undefined bits, and the first inaccessible address among them; n is 1, 2 or 4. What is
+    /// above the n bytes is 0.
     #[inline(always)]
     #[tactic(auto, unfolding(crate::specs::Loads::loaded_at, crate::specs::Ranges::window, crate::specs::Shadows::first_inaccessible, crate::specs::Memories::bytes_in, crate::specs::Memories::shadows_in))]
     pub fn load(&self, addr: u32, n: u32) -> Loaded
@@ -33,8 +33,8 @@ impl Memory {
         self.load_at(addr, n)
     }
 
-    /// The number of n bytes at an address, as [`Memory::load`] takes it, if one look-up tells that they are all accessible and defined. It
-    /// doesn't tell it of bytes of two pages, nor of zeros that no one changed.
+    /// Returns the number of n bytes at an address, as [`Memory::load`] takes it, if one look-up shows that they are all accessible and
+    /// defined. It doesn't tell it of bytes of two pages, nor of zeros that no one changed.
     #[inline(always)]
     #[tactic(auto, unfolding(crate::specs::Loads::loaded_at, crate::specs::Ranges::window, crate::specs::Shadows::first_inaccessible, crate::specs::Memories::bytes_in, crate::specs::Memories::shadows_in))]
     pub fn defined(&self, addr: u32, n: u32) -> Option<u32>
@@ -119,7 +119,7 @@ impl Memory {
     }
 
     /// The same at once, by one look-up and without memory: of defined bits in one page, if no other memory has it, and what is there is
-    /// all accessible. Says whether it did.
+    /// all accessible. Returns whether it did.
     #[inline(always)]
     pub fn store_at_once(&mut self, addr: u32, n: u32, bits: Bits) -> bool
         requires { IsWidth n }
@@ -132,8 +132,8 @@ impl Memory {
         self.put_word(addr, n, bits)
     }
 
-    // The same, of cells: by one look-up, which takes no memory: of defined bits in one page, if no other memory has it, and what is there is
-    // all accessible. Says whether it did.
+    // The same, of cells: by one look-up, which allocates nothing: of defined bits in one page, if no other memory has it, and what is
+    // there is all accessible. Returns whether it did.
     #[inline(always)]
     fn put_word(&mut self, addr: u32, n: u32, bits: Bits) -> bool
         requires { IsWidth n }

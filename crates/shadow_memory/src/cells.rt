@@ -47,7 +47,7 @@ pub(crate) struct ByteShadow {
     pub(crate) undef: u8,
 }
 
-/// The mark of a byte of a kind.
+/// Returns the mark of a byte of a kind.
 pub(crate) fn mark_of_kind(kind: RangeKind) -> ByteShadow
     ensures value { result ≡ mark_of kind }
     ensures clean { IsCleanMark result }
@@ -68,7 +68,7 @@ pub(crate) fn mark_of_kind(kind: RangeKind) -> ByteShadow
     }
 }
 
-/// The cell of a byte and a mark.
+/// Returns the cell of a byte and a mark.
 pub(crate) fn marked_cell(byte: u8, mark: ByteShadow) -> Cell
     requires { IsCleanMark mark }
     ensures value { result ≡ marked byte mark }

@@ -21,7 +21,7 @@ pub(crate) const DEFINED: u8 = 2;
 /// That of any other byte, whose undefined bits are in the side map.
 pub(crate) const PARTLY: u8 = 3;
 
-/// The number of a kind.
+/// Returns the number of a kind.
 pub(crate) fn code_of_kind(kind: RangeKind) -> u8
     ensures small { result < 4 }
     ensures value { result ≡ code_of kind }
@@ -33,7 +33,7 @@ pub(crate) fn code_of_kind(kind: RangeKind) -> u8
     }
 }
 
-/// The kind that has a number.
+/// Returns the kind that has a number.
 pub(crate) fn kind_of_code(code: u8) -> Option<RangeKind>
     ensures { IfSome result (λ kind. code ≡ code_of kind) }
 {
@@ -45,7 +45,7 @@ pub(crate) fn kind_of_code(code: u8) -> Option<RangeKind>
     }
 }
 
-/// The number of what a byte loads as, where it isn't defined in part.
+/// Returns the number of what a byte loads as, where it isn't defined in part.
 pub(crate) fn loaded_code(code: u8) -> u8
     ensures small { result < 4 }
     ensures value { result ≡ loaded_code code }
@@ -192,7 +192,7 @@ impl Codes {
         self.packed[PACKED - 1] == code * FOUR_ONES && all_are(&self.packed, code * FOUR_ONES)
     }
 
-    /// Is each number, from one place up to, not with, another, this one?
+    /// Is each number, from one place up to, but not including, another, this one?
     #[inline(always)]
     pub(crate) fn are_all_between(&self, from: usize, to: usize, code: u8) -> bool
         requires order { from ≤ to }
@@ -211,7 +211,7 @@ impl Codes {
         true
     }
 
-    /// Is no number, from one place up to, not with, another, that of an inaccessible byte?
+    /// Is no number, from one place up to, but not including, another, that of an inaccessible byte?
     #[inline(always)]
     pub(crate) fn are_accessible(&self, from: usize, to: usize) -> bool
         requires order { from ≤ to }
@@ -226,8 +226,8 @@ impl Codes {
         true
     }
 
-    /// Has four places, from a multiple of 4 on, take a number at once, if their bytes are all undefined or all defined. Says whether
-    /// it did.
+    /// Has four places, from a multiple of 4 on, take a number at once, if their bytes are all undefined or all defined. Returns whether it
+    /// did.
     #[inline(always)]
     pub(crate) fn take_word(&mut self, from: usize, to: usize, made: u8) -> bool
         requires order { from ≤ to }
@@ -244,7 +244,7 @@ impl Codes {
         true
     }
 
-    /// A place, from a multiple of 4 on, before which each number is this one.
+    /// Returns a place, from a multiple of 4 on, before which each number is this one.
     pub(crate) fn skip(&self, from: usize, code: u8) -> usize
         requires within { from ≤ page_len }
         requires aligned { from % 4 ≡ 0 }
@@ -280,7 +280,7 @@ impl Codes {
         at + 1
     }
 
-    /// The place after one where the run of the number there ends, or another place if that comes first.
+    /// Returns the place after one where the run of the number there ends, or another place if that comes first.
     pub(crate) fn run(&self, from: usize, to: usize) -> usize
         requires order { from < to }
         requires within { to ≤ page_len }
@@ -317,7 +317,7 @@ impl Codes {
         self.run(at, to)
     }
 
-    /// The first place, from one up to another, whose byte is defined in part; the other place, if there is none.
+    /// Returns the first place, from one up to another, whose byte is defined in part; the other place, if there is none.
     pub(crate) fn whole_end(&self, from: usize, to: usize) -> usize
         requires order { from ≤ to }
         requires within { to ≤ page_len }
@@ -348,7 +348,7 @@ impl Codes {
         set_all(&mut self.packed, from / 4, to / 4, code * FOUR_ONES);
     }
 
-    // Sets the number of a place, or those of all whole bytes that end before another place; answers the place after them.
+    // Sets the number of a place, or those of all whole bytes that end before another place; returns the place after them.
     fn set_some(&mut self, at: usize, to: usize, code: u8) -> usize
         requires order { at < to }
         requires within { to ≤ page_len }
@@ -367,7 +367,7 @@ impl Codes {
         }
     }
 
-    /// Sets the numbers from one place up to, not with, another.
+    /// Sets the numbers from one place up to, but not including, another.
     pub(crate) fn make(&mut self, from: usize, to: usize, code: u8)
         requires order { from ≤ to }
         requires within { to ≤ page_len }
@@ -380,7 +380,7 @@ impl Codes {
         }
     }
 
-    // Has the places of a run take a number; answers the place after them.
+    // Has the places of a run take a number; returns the place after them.
     fn take_some(&mut self, at: usize, to: usize, made: u8) -> usize
         requires order { at < to }
         requires within { to ≤ page_len }
@@ -395,7 +395,7 @@ impl Codes {
         end
     }
 
-    /// Has the places from one up to, not with, another take a number; those of inaccessible bytes keep theirs.
+    /// Has the places from one up to, but not including, another take a number; those of inaccessible bytes keep theirs.
     pub(crate) fn take(&mut self, from: usize, to: usize, made: u8)
         requires order { from ≤ to }
         requires within { to ≤ page_len }
@@ -450,7 +450,7 @@ impl Codes {
         self.packed[at / 4] = copied_four(source.packed[from / 4], self.packed[at / 4]);
     }
 
-    // Has places take what others load as, four of a byte or a run of one number; answers the place after the others.
+    // Has places take what others load as, four of a byte or a run of one number; returns the place after the others.
     fn copy_some(&mut self, at: usize, source: &Codes, from: usize, to: usize) -> usize
         requires order { from < to }
         requires within { to ≤ page_len }
@@ -467,7 +467,7 @@ impl Codes {
         self.copy_run(at, source, from, to)
     }
 
-    // Has places take what those of a run of others load as; answers the place after the run.
+    // Has places take what those of a run of others load as; returns the place after the run.
     fn copy_run(&mut self, at: usize, source: &Codes, from: usize, to: usize) -> usize
         requires order { from < to }
         requires within { to ≤ page_len }

@@ -45,7 +45,7 @@ impl Memory {
         Ok(())
     }
 
-    // Copies the first part; answers how many bytes it has.
+    // Copies the first part; returns how many bytes it has.
     fn copy_some(&mut self, from: u32, to: u32, most: u32) -> Result<u32, AllocError>
         requires { 0 < most }
         ensures some { IfOk result (λ n. 0 < n) }
@@ -78,7 +78,7 @@ impl Memory {
         self.change_all(to, count, Each::Take(kind))
     }
 
-    // Copies bytes from one page to one page, up to the first that is defined in part, or this one alone; answers how many.
+    // Copies bytes from one page to one page, up to the first that is defined in part, or this one alone; returns how many.
     #[tactic(auto, unfolding(crate::specs::Edits::count_of, crate::specs::Edits::change_of, crate::specs::Edits::Fits))]
     fn copy_part(&mut self, from: u32, to: u32, most: u32) -> Result<u32, AllocError>
         requires some { 0 < most }

@@ -47,7 +47,7 @@ impl Directory {
         }
     }
 
-    /// Where the page with this number is kept, if it is.
+    /// Returns where the page with this number is kept, if it is.
     #[inline(always)]
     fn place(&self, number: usize) -> Option<usize>
         ensures some { IfSome result (λ place. (number ≡ self.now.first + place) × (place < vec_len self.now.pages)) }
@@ -63,7 +63,7 @@ impl Directory {
         None
     }
 
-    /// The page of a place, to read.
+    /// Returns the page of a place, to read.
     #[inline(always)]
     pub(crate) fn view(&self, at: usize) -> View<'_>
         requires { at < 4194304 }
@@ -75,7 +75,7 @@ impl Directory {
         }
     }
 
-    /// The page of a place, which the one who asks holds too.
+    /// Returns the page of a place, which the one who asks holds too.
     pub(crate) fn slot(&self, at: usize) -> Result<PageSlot, AllocError>
         requires { at < 4194304 }
         ensures { IfOk result (λ slot. (a : ℕ) → a / page_len ≡ at / page_len → cells_under self.now a ≡ cells_at slot (a % page_len)) }
@@ -86,7 +86,7 @@ impl Directory {
         }
     }
 
-    /// Stores bytes in one page, if it is its own and what is there is all accessible. Says whether it did.
+    /// Stores bytes in one page, if it is its own and what is there is all accessible. Returns whether it did.
     #[inline(always)]
     pub(crate) fn put(&mut self, at: usize, bytes: &[u8]) -> bool
         requires within { at < 4194304 }
@@ -101,7 +101,7 @@ impl Directory {
         }
     }
 
-    /// Changes cells of one page, if it is its own and that takes no memory. Says whether it did.
+    /// Changes cells of one page, if it is its own and that allocates nothing. Returns whether it did.
     #[inline(always)]
     pub(crate) fn change_own(&mut self, at: usize, edit: &PageEdit<'_>) -> bool
         requires within { at < 4194304 }
@@ -187,7 +187,7 @@ impl Directory {
         self.pages[place].change(alloc, at % PAGE, edit)
     }
 
-    /// Changes each byte of blank pages, one after another from one that is kept on, and at most so many. Answers how many.
+    /// Changes each byte of blank pages, one after another from one that is kept on, and at most so many. Returns how many.
     fn sweep(&mut self, place: usize, most: usize, each: Each) -> usize
         requires { place + most ≤ vec_len self.old.pages }
         ensures within { result ≤ most }
@@ -226,7 +226,7 @@ impl Directory {
         Ok(self.sweep(place, most.min(kept), each))
     }
 
-    /// Changes bytes of one page alike, at most so many. Answers how many.
+    /// Changes bytes of one page alike, at most so many. Returns how many.
     #[tactic(auto, unfolding(crate::specs::Edits::count_of, crate::specs::Edits::change_of, crate::specs::Edits::Fits))]
     fn change_page(
         &mut self,
@@ -247,7 +247,7 @@ impl Directory {
         Ok(count)
     }
 
-    /// Changes bytes alike from a place on: those of blank pages, or some of one page. Answers how many.
+    /// Changes bytes alike from a place on: those of blank pages, or some of one page. Returns how many.
     pub(crate) fn change_some(
         &mut self,
         alloc: Global,

@@ -31,7 +31,7 @@ pub(crate) enum DirectorySlot {
 
 #[tactic(auto, unfolding(crate::specs::Shelves::cells_below, crate::specs::Views::cells_seen, crate::specs::Directories::cells_at))]
 impl DirectorySlot {
-    /// The page of a place, to read.
+    /// Returns the page of a place, to read.
     #[inline(always)]
     pub(crate) fn view(&self, at: usize) -> View<'_>
         requires { at < 4194304 }
@@ -43,7 +43,7 @@ impl DirectorySlot {
         }
     }
 
-    /// The page of a place, which the one who asks holds too.
+    /// Returns the page of a place, which the one who asks holds too.
     pub(crate) fn slot(&self, at: usize) -> Result<PageSlot, AllocError>
         requires { at < 4194304 }
         ensures { IfOk result (λ slot. (a : ℕ) → a / page_len ≡ at / page_len → a < 4194304 → cells_below self.now a ≡ cells_at slot (a % page_len)) }
@@ -82,7 +82,7 @@ impl DirectorySlot {
         false
     }
 
-    /// Changes cells of one page, if it and the directory are its own and that takes no memory. Says whether it did.
+    /// Changes cells of one page, if it and the directory are its own and that allocates nothing. Returns whether it did.
     #[inline(always)]
     pub(crate) fn change_own(&mut self, at: usize, edit: &PageEdit<'_>) -> bool
         requires within { at < 4194304 }
@@ -126,7 +126,7 @@ impl DirectorySlot {
         }
     }
 
-    /// Changes bytes alike from a place on, at most so many, in a directory of its own. Answers how many.
+    /// Changes bytes alike from a place on, at most so many, in a directory of its own. Returns how many.
     pub(crate) fn change_some(
         &mut self,
         alloc: Global,

@@ -19,7 +19,7 @@ pub(crate) enum Each {
 
 #[tactic(auto, unfolding(crate::specs::Edits::each_of))]
 impl Each {
-    /// The kind that zeros of a kind have after it; they are zeros still.
+    /// Returns the kind that zeros of a kind have after it; they are zeros still.
     pub(crate) fn kind_after(self, old: RangeKind) -> RangeKind
         ensures { each_of self (blank old) ≡ blank result }
     {

@@ -22,7 +22,7 @@ fn run_at(bytes: &[u8], at: usize, byte: u8) -> u32
     }
 }
 
-/// The least index whose byte differs.
+/// Returns the least index whose byte differs.
 pub fn first_not(bytes: &[u8], byte: u8) -> Option<usize>
     ensures none { IfNone result (EachIndex bytes.now (λ k. slice_index bytes.now k ≡ byte)) }
     ensures within { IfSome result (λ i. i < length bytes.now) }

@@ -11,9 +11,9 @@
 //! | [`Memory::new`] | each byte 0 and inaccessible | no |
 //! | [`Memory::byte`] | what an address holds | no |
 //! | [`Memory::load`] | 1, 2 or 4 bytes as a number, their undefined bits, the first inaccessible address | no |
-//! | [`Memory::store`] | stores 1, 2 or 4 bytes with their undefined bits; answers the first inaccessible address | yes |
-//! | [`Memory::defined`] | such a number alone, if one look-up tells that the bytes are accessible and defined | no |
-//! | [`Memory::store_at_once`] | stores as `store` does, if one look-up tells that it can; says whether it did | no |
+//! | [`Memory::store`] | stores 1, 2 or 4 bytes with their undefined bits; returns the first inaccessible address | yes |
+//! | [`Memory::defined`] | such a number alone, if one look-up shows that the bytes are accessible and defined | no |
+//! | [`Memory::store_at_once`] | stores as `store` does, if one look-up shows that it can; says whether it did | no |
 //! | [`Memory::set_range`] | makes a range inaccessible, undefined or defined; its bytes stay | yes |
 //! | [`Memory::fill`] | makes a range defined, with these bytes and zeros after them | yes |
 //! | [`Memory::poke`], [`Memory::poke_word`] | change a byte or four; what else is known of them stays | yes |
@@ -26,10 +26,10 @@
 //! | [`Memory::share`] | a memory that holds the same; a later change of one of the two doesn't reach the other | yes |
 //! | [`laws::first_not`], [`laws::all_are`] | scans of bytes, sixteen at a time | no |
 //!
-//! [`Cell`], [`Loaded`], [`RangeKind`] and [`Bad`] are the values that these take and answer. What takes memory answers
-//! `AllocError` where there is none; nothing else fails.
+//! [`Cell`], [`Loaded`], [`RangeKind`] and [`Bad`] are the values that these take and answer. What allocates memory answers `AllocError`
+//! where there is none; nothing else fails.
 //!
-//! # What a caller relies on
+//! # What a caller can rely on
 //!
 //! A memory is seen as two functions of the address, `bytes_in` and `shadows_in` (`specs/Memories`), and each contract is an
 //! equation of them, for every address and length. So `store` ensures
@@ -41,7 +41,7 @@
 //!
 //! A refused `poke` changes nothing, a refused `set_range` no byte. No other word tells how a memory is kept.
 //!
-//! # Where the definitions stand
+//! # Where the definitions are
 //!
 //! In `specs/`. For callers:
 //!
@@ -57,20 +57,19 @@
 //!
 //! # How it is kept
 //!
-//! Up to 32 shelves of 32 directories of 1,024 pages of 4,096 bytes, each directory and page behind an `Rc`. The table reaches as
-//! far as the last shelf that was changed, and a shelf as far as the last directory of it that was; what was not changed is blank.
-//! So to share a memory is to copy short lists, though a stack lies high: a shelf in which nothing was changed has an empty one. A
-//! directory keeps its pages from the first to the last that was changed, so that a copy of it is no longer than what a program
-//! uses there. A page of zeros of one kind is blank too: it has no bytes at all. The marks of a page are of one kind, or two bits a
-//! byte with an ordered map for the bytes that are defined in part (as in N. Nethercote and J. Seward, "How to shadow every byte of
-//! memory used by a program", VEE 2007); a range that makes them one kind again is found by a scan. Every change goes through
-//! `Memory::change`, which changes cells of one page, all of them or none, in a page of its own, or through `Memory::change_some`,
-//! which changes the bytes of a range alike: those of blank pages one after another at once. `Rc::make_mut` copies a directory or a
-//! page that others share first. Two ways change a page at once, only where no other memory has it, and take no memory: `Memory::put`
-//! stores defined bits where the bytes are accessible, and `Memory::change_own`, which `change` and `change_some` try first, makes a
-//! range of one page so, stores undefined bytes or sets a cell that isn't defined in part. A load that lies in one page looks it up
-//! once, and so does a store that `Memory::put` makes; any other store in one page looks it up to find what is inaccessible, and to
-//! write.
+//! Up to 32 shelves of 32 directories of 1,024 pages of 4,096 bytes, each directory and page behind an `Rc`. The table reaches as far as
+//! the last shelf that was changed, and a shelf as far as the last directory of it that was; what was not changed is blank. So to share a
+//! memory is to copy short lists, though a stack lies high: a shelf in which nothing was changed has an empty one. A directory keeps its
+//! pages from the first to the last that was changed, so that a copy of it is no longer than what a program uses there. A page of zeros of
+//! one kind is blank too: it has no bytes at all. The marks of a page are of one kind, or two bits a byte with an ordered map for the bytes
+//! that are defined in part (as in N. Nethercote and J. Seward, "How to shadow every byte of memory used by a program", VEE 2007); a range
+//! that makes them one kind again is found by a scan. Every change goes through `Memory::change`, which changes cells of one page, all of
+//! them or none, in a page of its own, or through `Memory::change_some`, which changes the bytes of a range alike: those of blank pages one
+//! after another at once. `Rc::make_mut` copies a directory or a page that others share first. Two ways change a page at once, only where
+//! no other memory has it, and allocate nothing: `Memory::put` stores defined bits where the bytes are accessible, and
+//! `Memory::change_own`, which `change` and `change_some` try first, makes a range of one page so, stores undefined bytes or sets a cell
+//! that isn't defined in part. A load that lies in one page looks it up once, and so does a store that `Memory::put` makes; any other store
+//! in one page looks it up to find what is inaccessible, and to write.
 //!
 //! A copy looks for zeros of one kind first, over as many pages as there are: they change the target as a range alike, so that
 //! blank pages stay blank, and a held page that becomes zeros of one kind becomes blank. Other bytes go from one page to one page,

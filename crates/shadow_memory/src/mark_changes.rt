@@ -40,7 +40,7 @@ impl PageShadows {
         }
     }
 
-    /// Sets a mark, if that takes no memory. Says whether it did.
+    /// Sets a mark, if that allocates nothing. Returns whether it did.
     pub(crate) fn set_held(&mut self, at: usize, mark: ByteShadow) -> bool
         requires within { at < page_len }
         requires clean { IsCleanMark mark }
@@ -64,7 +64,7 @@ impl PageShadows {
         }
     }
 
-    /// Makes the bits of the accessible bytes from one place up to, not with, another defined.
+    /// Makes the bits of the accessible bytes from one place up to, but not including, another defined.
     pub(crate) fn define(&mut self, alloc: Global, from: usize, to: usize) -> Result<(), AllocError>
         requires order { from ≤ to }
         requires within { to ≤ page_len }
@@ -83,8 +83,8 @@ impl PageShadows {
         }
     }
 
-    /// Makes the bits of the bytes from one place up to, not with, another defined, if all of them are accessible and they are held one by
-    /// one. Says whether they are; it takes no memory.
+    /// Makes the bits of the bytes from one place up to, but not including, another defined, if all of them are accessible and they are
+    /// held individually. Returns whether they are; it allocates nothing.
     pub(crate) fn define_accessible(&mut self, from: usize, to: usize) -> bool
         requires order { from ≤ to }
         requires within { to ≤ page_len }
@@ -98,7 +98,7 @@ impl PageShadows {
         }
     }
 
-    /// Has the accessible bytes from one place up to, not with, another take the bits undefined that one of a kind loads with.
+    /// Has the accessible bytes from one place up to, but not including, another take the bits undefined that one of a kind loads with.
     pub(crate) fn take(
         &mut self,
         alloc: Global,
@@ -184,7 +184,8 @@ impl PageShadows {
         }
     }
 
-    /// Sets the marks from one place up to, not with, another, if they are held one by one. Says whether they are; it takes no memory.
+    /// Sets the marks from one place up to, but not including, another, if they are held individually. Returns whether they are; it
+    /// allocates nothing.
     pub(crate) fn make_held(&mut self, from: usize, to: usize, kind: RangeKind) -> bool
         requires order { from ≤ to }
         requires within { to ≤ page_len }
@@ -219,7 +220,7 @@ impl PageShadows {
         }
     }
 
-    /// Sets the marks from one place up to, not with, another.
+    /// Sets the marks from one place up to, but not including, another.
     pub(crate) fn make(
         &mut self,
         alloc: Global,

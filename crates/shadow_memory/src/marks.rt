@@ -29,7 +29,7 @@ pub(crate) enum PageShadows {
     Mixed(Mixed),
 }
 
-/// The first multiple of 4, from one on, that has four accessible and defined bytes, where all are of one kind.
+/// Returns the first multiple of 4, from one on, that has four accessible and defined bytes, where all are of one kind.
 pub(crate) fn next_word_of(kind: RangeKind, from: usize) -> Option<usize>
     requires within { from ≤ page_len }
     requires aligned { from % 4 ≡ 0 }
@@ -44,7 +44,7 @@ pub(crate) fn next_word_of(kind: RangeKind, from: usize) -> Option<usize>
     }
 }
 
-/// The first bad byte, where all are of one kind.
+/// Returns the first bad byte, where all are of one kind.
 pub(crate) fn first_bad_of(
     kind: RangeKind,
     from: usize,
@@ -103,7 +103,7 @@ impl Mixed {
         }
     }
 
-    /// Sets a mark, if it isn't that of a byte defined in part. Says whether it did.
+    /// Sets a mark, if it isn't that of a byte defined in part. Returns whether it did.
     pub(crate) fn set_whole(&mut self, at: usize, mark: ByteShadow) -> bool
         requires within { at < page_len }
         requires clean { IsCleanMark mark }
@@ -123,7 +123,7 @@ impl Mixed {
         true
     }
 
-    /// The side map is written first, which can fail. What it has of a byte that is not partly defined is never read.
+    /// Returns the side map is written first, which can fail. What it has of a byte that is not partly defined is never read.
     pub(crate) fn set(&mut self, at: usize, mark: ByteShadow) -> Result<(), AllocError>
         requires within { at < page_len }
         requires clean { IsCleanMark mark }
@@ -137,7 +137,7 @@ impl Mixed {
         Ok(())
     }
 
-    /// Sets the marks from one place up to, not with, another.
+    /// Sets the marks from one place up to, but not including, another.
     pub(crate) fn make(&mut self, from: usize, to: usize, kind: RangeKind)
         requires order { from ≤ to }
         requires within { to ≤ page_len }
@@ -146,7 +146,7 @@ impl Mixed {
         self.codes.make(from, to, code_of_kind(kind));
     }
 
-    // Are the bytes from one place up to, not with, another all accessible and defined? `false` may be told of such bytes too.
+    // Are the bytes from one place up to, but not including, another all accessible and defined? `false` may be told of such bytes too.
     #[inline(always)]
     fn are_defined(&self, from: usize, to: usize) -> bool
         requires order { from ≤ to }
@@ -177,7 +177,7 @@ impl Mixed {
         }
     }
 
-    /// Makes the bits of bytes defined, if all of them are accessible. Says whether they are.
+    /// Makes the bits of bytes defined, if all of them are accessible. Returns whether they are.
     pub(crate) fn define_accessible(&mut self, from: usize, to: usize) -> bool
         requires order { from ≤ to }
         requires within { to ≤ page_len }
@@ -214,7 +214,7 @@ impl Mixed {
         self.codes.copy(at, &source.codes, from, count);
     }
 
-    // The kind of the bytes from one place up to, not with, another, if they are of one.
+    // The kind of the bytes from one place up to, but not including, another, if they are of one.
     fn kind(&self, from: usize, to: usize) -> Option<RangeKind>
         requires order { from < to }
         requires within { to ≤ page_len }
@@ -228,7 +228,7 @@ impl Mixed {
         }
     }
 
-    // The first bad byte from one place up to, not with, another. Defined bytes are skipped by a scan.
+    // The first bad byte from one place up to, but not including, another. Defined bytes are skipped by a scan.
     fn first_bad(&self, from: usize, to: usize, need_defined: bool) -> Option<usize>
         requires order { from ≤ to }
         requires within { to ≤ page_len }
@@ -340,7 +340,7 @@ impl PageShadows {
         }
     }
 
-    /// The first multiple of 4, from one on, that has four accessible and defined bytes.
+    /// Returns the first multiple of 4, from one on, that has four accessible and defined bytes.
     pub(crate) fn next_word(&self, from: usize) -> Option<usize>
         requires within { from ≤ page_len }
         requires aligned { from % 4 ≡ 0 }
@@ -354,7 +354,7 @@ impl PageShadows {
         }
     }
 
-    /// The first bad byte from one place up to, not with, another.
+    /// Returns the first bad byte from one place up to, but not including, another.
     pub(crate) fn first_bad(&self, from: usize, to: usize, need_defined: bool) -> Option<usize>
         requires order { from ≤ to }
         requires within { to ≤ page_len }
@@ -367,7 +367,7 @@ impl PageShadows {
         }
     }
 
-    /// Are the bytes from one place up to, not with, another all accessible and defined? `false` may be told of such bytes too.
+    /// Are the bytes from one place up to, but not including, another all accessible and defined? `false` may be told of such bytes too.
     #[inline(always)]
     pub(crate) fn are_defined(&self, from: usize, to: usize) -> bool
         requires order { from ≤ to }
@@ -392,7 +392,7 @@ impl PageShadows {
         }
     }
 
-    /// The first place, from one up to another, whose byte is defined in part; the other place, if there is none.
+    /// Returns the first place, from one up to another, whose byte is defined in part; the other place, if there is none.
     pub(crate) fn whole_end(&self, from: usize, to: usize) -> usize
         requires order { from ≤ to }
         requires within { to ≤ page_len }
@@ -406,7 +406,7 @@ impl PageShadows {
         }
     }
 
-    /// The kind of the bytes from one place up to, not with, another, if they are of one.
+    /// Returns the kind of the bytes from one place up to, but not including, another, if they are of one.
     pub(crate) fn kind(&self, from: usize, to: usize) -> Option<RangeKind>
         requires order { from < to }
         requires within { to ≤ page_len }

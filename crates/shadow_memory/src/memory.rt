@@ -38,7 +38,7 @@ impl Memory {
         }
     }
 
-    /// What an address holds.
+    /// Returns what an address holds.
     pub fn byte(&self, addr: u32) -> Cell
         ensures byte { result.byte ≡ bytes_in self.now addr }
         ensures shadow { shadow_in result ≡ shadows_in self.now addr }
@@ -54,7 +54,7 @@ impl Memory {
         self.view(addr).cell(addr as usize % PAGE)
     }
 
-    /// The page of an address, to read.
+    /// Returns the page of an address, to read.
     #[inline(always)]
     pub(crate) fn view(&self, addr: u32) -> View<'_>
         ensures { (a : ℕ) → a / page_len ≡ addr / page_len → cells_of self.now a ≡ cells_seen result (a % page_len) }
@@ -67,7 +67,7 @@ impl Memory {
         }
     }
 
-    /// The page of an address, which the one who asks holds too.
+    /// Returns the page of an address, which the one who asks holds too.
     pub(crate) fn slot(&self, addr: u32) -> Result<PageSlot, AllocError>
         ensures { IfOk result (λ slot. (a : ℕ) → a / page_len ≡ addr / page_len → cells_of self.now a ≡ cells_at slot (a % page_len)) }
     {
@@ -104,8 +104,8 @@ impl Memory {
         Ok(())
     }
 
-    /// Stores bytes in one page, if what is there is all accessible, and no other memory has the page. Says whether it
-    /// did; it takes no memory.
+    /// Stores bytes in one page, if what is there is all accessible, and no other memory has the page. Returns whether it did; it allocates
+    /// nothing.
     #[inline(always)]
     pub(crate) fn put(&mut self, addr: u32, bytes: &[u8]) -> bool
         requires { addr % page_len + length bytes.now ≤ page_len }
@@ -118,7 +118,7 @@ impl Memory {
         number < self.shelves.len() && self.shelves[number].put(at % SHELF, bytes)
     }
 
-    // Changes cells of one page, if no other memory has it and that takes no memory. Says whether it did.
+    // Changes cells of one page, if no other memory has it and that allocates nothing. Returns whether it did.
     #[inline(never)]
     fn change_own(&mut self, addr: u32, edit: &PageEdit<'_>) -> bool
         requires one_page { addr % page_len + count_of edit.now ≤ page_len }
@@ -156,7 +156,7 @@ impl Memory {
         self.shelves[at / SHELF].change(self.alloc, at % SHELF, edit)
     }
 
-    // Changes bytes of one page alike, if no other memory has it and that takes no memory. Says whether it did.
+    // Changes bytes of one page alike, if no other memory has it and that allocates nothing. Returns whether it did.
     #[tactic(auto, unfolding(crate::specs::Edits::count_of, crate::specs::Edits::change_of, crate::specs::Edits::Fits))]
     fn change_own_alike(&mut self, addr: u32, count: u32, each: Each) -> bool
         ensures inside { IsTrue result → addr + count ≤ 2 ^ 32 }
@@ -167,7 +167,7 @@ impl Memory {
         addr as usize % PAGE + count <= PAGE && self.change_own(addr, &PageEdit::All(count, each))
     }
 
-    /// Changes bytes alike from an address on, at least one and at most so many, all of them or none. Answers how many.
+    /// Changes bytes alike from an address on, at least one and at most so many, all of them or none. Returns how many.
     pub(crate) fn change_some(
         &mut self,
         addr: u32,
@@ -204,7 +204,7 @@ impl Memory {
         Ok(count as u32)
     }
 
-    /// A memory that holds the same. Later changes of one of the two don't reach the other.
+    /// Returns a memory that holds the same. Later changes of one of the two don't reach the other.
     pub fn share(&self) -> Result<Memory, AllocError>
         ensures bytes { IfOk result (λ copy. bytes_in copy ≡ bytes_in self.now) }
         ensures shadows { IfOk result (λ copy. shadows_in copy ≡ shadows_in self.now) }

@@ -16,7 +16,7 @@ use std::alloc::AllocError;
 /// How many bytes a page has.
 pub(crate) const PAGE_LEN: u32 = 4096;
 
-/// How many bytes of a page there are from an address on, and at most so many.
+/// Returns how many bytes of a page there are from an address on, and at most so many.
 pub(crate) fn count_in_page(at: u32, most: u32) -> u32
     requires { 0 < most }
     ensures some { 0 < result }
@@ -60,7 +60,7 @@ impl Memory {
         self.fill_cells(addr, len, bytes)
     }
 
-    // Some cells of a range, all of them or none; answers how many.
+    // Some cells of a range, all of them or none; returns how many.
     #[tactic(auto, unfolding(crate::specs::Edits::count_of, crate::specs::Edits::change_of, crate::specs::Edits::each_of, crate::specs::Edits::Fits))]
     fn fill_some(&mut self, at: u32, most: u32, bytes: &[u8]) -> Result<u32, AllocError>
         requires { 0 < most }

@@ -55,7 +55,7 @@ impl Memory {
         Some(Zeros { count, kind })
     }
 
-    /// The first byte of a range that is inaccessible or, where asked, has an undefined bit.
+    /// Returns the first byte of a range that is inaccessible or, where asked, has an undefined bit.
     pub fn first_bad(&self, addr: u32, len: u32, need_defined: bool) -> Option<Bad>
         ensures { result ≡ first_bad (shadows_in self.now) addr len need_defined }
     {
@@ -75,7 +75,7 @@ impl Memory {
         None
     }
 
-    /// The least multiple of 4, at or above an address, whose four bytes are all accessible and defined.
+    /// Returns the least multiple of 4, at or above an address, whose four bytes are all accessible and defined.
     pub fn next_word(&self, addr: u32) -> Option<u32>
         ensures none { IfNone result (HoldNoWord (shadows_in self.now) addr (2 ^ 32)) }
         ensures some { IfSome result (IsNextWord (shadows_in self.now) addr) }
@@ -97,8 +97,8 @@ impl Memory {
         None
     }
 
-    /// The least multiple of 4, at or above an address, whose four bytes are all accessible and defined, with a value from low up to,
-    /// not with, high. Zeros are never such a value: a page that is blank, and a directory, costs a step.
+    /// Returns the least multiple of 4, at or above an address, whose four bytes are all accessible and defined, with a value from low up
+    /// to, but not including, high. Zeros are never such a value: a page that is blank, and a directory, costs a step.
     pub fn next_in_range(&self, addr: u32, low: u32, high: u64) -> Option<u32>
         requires { 0 < low }
         ensures none { IfNone result (HoldNoneInRange (bytes_in self.now) (shadows_in self.now) low high addr (2 ^ 32)) }

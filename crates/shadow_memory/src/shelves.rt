@@ -43,7 +43,7 @@ impl Shelf {
         }
     }
 
-    /// The page of a place, to read.
+    /// Returns the page of a place, to read.
     #[inline(always)]
     pub(crate) fn view(&self, at: usize) -> View<'_>
         requires { at < 134217728 }
@@ -57,7 +57,7 @@ impl Shelf {
         }
     }
 
-    /// The page of a place, which the one who asks holds too.
+    /// Returns the page of a place, which the one who asks holds too.
     pub(crate) fn slot(&self, at: usize) -> Result<PageSlot, AllocError>
         requires { at < 134217728 }
         ensures { IfOk result (λ slot. (a : ℕ) → a / page_len ≡ at / page_len → cells_on self.now a ≡ cells_at slot (a % page_len)) }
@@ -93,7 +93,7 @@ impl Shelf {
         Ok(())
     }
 
-    /// Stores bytes in one page, if it and its directory are its own and what is there is all accessible. Says whether it did.
+    /// Stores bytes in one page, if it and its directory are its own and what is there is all accessible. Returns whether it did.
     #[inline(always)]
     pub(crate) fn put(&mut self, at: usize, bytes: &[u8]) -> bool
         requires within { at < 134217728 }
@@ -106,7 +106,7 @@ impl Shelf {
         number < self.directories.len() && self.directories[number].put(at % DIRECTORY, bytes)
     }
 
-    /// Changes cells of one page, if it and its directory are its own and that takes no memory. Says whether it did.
+    /// Changes cells of one page, if it and its directory are its own and that allocates nothing. Returns whether it did.
     #[inline(always)]
     pub(crate) fn change_own(&mut self, at: usize, edit: &PageEdit<'_>) -> bool
         requires within { at < 134217728 }
@@ -137,7 +137,7 @@ impl Shelf {
         self.directories[number].change(alloc, at % DIRECTORY, edit)
     }
 
-    /// Changes bytes of one directory alike from a place on, at least one and at most so many. Answers how many.
+    /// Changes bytes of one directory alike from a place on, at least one and at most so many. Returns how many.
     pub(crate) fn change_some(
         &mut self,
         alloc: Global,

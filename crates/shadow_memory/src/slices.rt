@@ -3,7 +3,7 @@ ghost use Rattle.std.specs.Prelude.{◌≡◌, ℕ, ◌+◌, ◌-◌, ◌≤◌,
 ghost use Rattle.shadow_memory.specs.Places.{is_between};
 ghost use Rattle.shadow_memory.specs.Changes.{overwritten};
 
-/// Sets the bytes from one place up to, not with, another.
+/// Sets the bytes from one place up to, but not including, another.
 pub(crate) fn set_all(bytes: &mut [u8], from: usize, to: usize, byte: u8)
     requires order { from ≤ to }
     requires within { to ≤ length bytes.old }

@@ -58,7 +58,7 @@ fn cleared_by(page: &Page, edit: &PageEdit<'_>) -> Option<RangeKind>
 
 #[tactic(auto, unfolding(crate::specs::Directories::cells_at, crate::specs::Views::cells_seen, crate::specs::Edits::count_of, crate::specs::Edits::change_of))]
 impl PageSlot {
-    /// The page, to read.
+    /// Returns the page, to read.
     #[inline(always)]
     pub(crate) fn view(&self) -> View<'_>
         ensures { cells_seen result ≡ cells_at self.now }
@@ -69,7 +69,7 @@ impl PageSlot {
         }
     }
 
-    /// Stores bytes from a place on, if the page is its own and what is there is all accessible. Says whether it did.
+    /// Stores bytes from a place on, if the page is its own and what is there is all accessible. Returns whether it did.
     #[inline(always)]
     pub(crate) fn put(&mut self, at: usize, bytes: &[u8]) -> bool
         requires { at + length bytes.now ≤ page_len }
@@ -86,7 +86,7 @@ impl PageSlot {
         false
     }
 
-    /// Changes cells from a place on, if the page is its own and that takes no memory. Says whether it did.
+    /// Changes cells from a place on, if the page is its own and that allocates nothing. Returns whether it did.
     #[inline(always)]
     pub(crate) fn change_own(&mut self, at: usize, edit: &PageEdit<'_>) -> bool
         requires within { at + count_of edit.now ≤ page_len }
@@ -102,7 +102,7 @@ impl PageSlot {
         false
     }
 
-    /// Changes each byte of a blank page. Says whether it was one.
+    /// Changes each byte of a blank page. Returns whether it was one.
     pub(crate) fn sweep(&mut self, each: Each) -> bool
         ensures done { IsTrue result → cells_at self.new ≡ (λ k. each_of each (cells_at self.old k)) }
         ensures kept { IsFalse result → cells_at self.new ≡ cells_at self.old }

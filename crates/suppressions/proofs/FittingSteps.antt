@@ -116,7 +116,7 @@ module _ {P X : Type 0} (Fits : P → List X → Type 0) where
     pub none_whole : (ps : List P) → FitsPieces Fits ps [] → FitsFront Fits may_go_on ps []
     none_whole ps h = ([], [], refl, h, inr refl)
 
-  -- items that may not go on after a pattern are all fitted
+  -- items that may not continue after a pattern are all fitted
   pub front_closed : (ps : List P) (xs : List X) → FitsFront Fits false ps xs → FitsPieces Fits ps xs
   front_closed ps xs h = go h.4
     where

@@ -201,7 +201,7 @@ module _ {P X : Type 0} (Fits : P → List X → Type 0) (may_go_on : Bool) (p :
           let none = end_closed Fits may_go_on (drop place t) closed (rw (drop_all at p ge) at h) in
           absurd (omega (arith, ap length (sym item ∙ none)))
 
-  -- at the pattern's end, where the items may go on
+  -- at the pattern's end, where the items may continue
   pub walk_goes_on : (at place : ℕ) (back : Option (ℕ × ℕ)) → length p ≤ at → IsTrue may_go_on
       → Walk Front p t at place back → Front p t
   walk_goes_on at place back ge goes_on w =

@@ -109,12 +109,12 @@ unfoldable pub block : List Line → ℕ → Reading
 block [] close = fault_at close
 block (name ∷ lines) close = named_block lines close
 
--- a refusal names the first of the lines at fault; or memory was wanting
+-- a refusal names the first of the lines at fault; or memory ran out
 abbrev pub IsFirstFault : List ℕ → SuppFault → Type 0
 IsFirstFault faults Memory = Unit {0}
 IsFirstFault faults (BadSuppression number) = (more : List ℕ) × (faults ≡ number ∷ more)
 
--- a block's refusal names its first fault; or memory was wanting for what stands before that
+-- a block's refusal names its first fault; or memory ran out for what stands before that
 abbrev pub Refuses : Reading → SuppFault → Type 0
 Refuses reading Memory = IsTrue reading.kept
 Refuses reading (BadSuppression number) = IsFirstFault reading.faults (BadSuppression number)

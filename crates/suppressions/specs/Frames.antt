@@ -1,5 +1,5 @@
 -- Frame lines, and the traces that they match (Valgrind user manual, section 2.5: each line fits one frame, `...` any
--- number; the trace may go on after them). A trace is seen by the names of its frames, the innermost first.
+-- number; the trace may continue after them). A trace is seen by the names of its frames, the innermost first.
 use Rattle.std.specs.Prelude.{◌≡◌, ℕ, Bool, true, false, List, [], ◌∷◌, ◌++◌, length, codes}
 use Rattle.suppressions.specs.declared.frames.FrameLine.{FrameLine}
 use Rattle.suppressions.specs.declared.frames.FrameLine.TheVariants.{Function, Object, AnyFrames, Source}

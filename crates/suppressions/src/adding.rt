@@ -16,7 +16,7 @@ use text_parts::Parts;
 /// What refuses a suppression's words.
 const REFUSED: SuppFault = SuppFault::BadSuppression(1);
 
-/// The suppression of a subject and frame words.
+/// Returns the suppression of a subject and frame words.
 #[tactic(auto, unfolding(crate::specs::Added::framed))]
 fn framed(alloc: Global, subject: Subject, words: Parts<'_>) -> Result<Suppression, SuppFault>
     ensures { Gives (framed subject words.entry) result }
@@ -32,7 +32,7 @@ fn framed(alloc: Global, subject: Subject, words: Parts<'_>) -> Result<Suppressi
     })
 }
 
-/// The suppression of a parameter's text and frame words.
+/// Returns the suppression of a parameter's text and frame words.
 #[tactic(auto, unfolding(crate::specs::Added::framed))]
 fn parameter_rule(alloc: Global, mut words: Parts<'_>) -> Result<Suppression, SuppFault>
     ensures { Gives (parameter_rule words.entry) result }
@@ -47,7 +47,7 @@ fn parameter_rule(alloc: Global, mut words: Parts<'_>) -> Result<Suppression, Su
     framed(alloc, Subject::Parameter(text), words)
 }
 
-/// The suppression of leak kinds, if they are given, and frame words.
+/// Returns the suppression of leak kinds, if they are given, and frame words.
 fn leak_rule(alloc: Global, words: Parts<'_>) -> Result<Suppression, SuppFault>
     ensures { Gives (leak_rule words.entry) result }
 {
@@ -63,7 +63,7 @@ fn leak_rule(alloc: Global, words: Parts<'_>) -> Result<Suppression, SuppFault>
     framed(alloc, Subject::Leak(EACH_KIND), words)
 }
 
-/// The suppression of the command's words.
+/// Returns the suppression of the command's words.
 #[tactic(auto, unfolding(crate::specs::Added::added))]
 pub(crate) fn added(alloc: Global, words: &[u8]) -> Result<Suppression, SuppFault>
     ensures { Gives (added words.now) result }

@@ -47,7 +47,7 @@ impl<'a> Piece<&'a [u8]> for FrameLine {
     }
 }
 
-/// The byte that each text begins with which fits a pattern, where the pattern's first byte stands for itself.
+/// Returns the byte that each text begins with which fits a pattern, where the pattern's first byte stands for itself.
 fn initial_of(pattern: &[u8]) -> Option<u8>
     ensures { result ≡ initial_of pattern.now }
 {
@@ -57,7 +57,7 @@ fn initial_of(pattern: &[u8]) -> Option<u8>
     }
 }
 
-/// The byte that the name of the innermost frame begins with in each trace that frame lines match, where the first of them says so.
+/// Returns the byte that the name of the innermost frame begins with in each trace that frame lines match, where the first of them says so.
 fn innermost_initial(lines: &[FrameLine]) -> Option<u8>
     ensures { result ≡ innermost_initial lines.now }
 {
@@ -67,7 +67,7 @@ fn innermost_initial(lines: &[FrameLine]) -> Option<u8>
     }
 }
 
-/// Whether the innermost frame of a trace, given by the names of its frames, begins with a byte, where one is known.
+/// Returns whether the innermost frame of a trace, given by the names of its frames, begins with a byte, where one is known.
 fn may_match(initial: Option<u8>, names: &[&[u8]]) -> bool
     ensures { result ≡ may_match initial (map (λ name. name.now) names.now) }
 {
@@ -108,7 +108,7 @@ impl Frames {
         Frames { lines, initial }
     }
 
-    /// Whether some frames at the front of a trace, given by their names, fit the frame lines one by one.
+    /// Returns whether some frames at the front of a trace, given by their names, fit the frame lines in order.
     pub(crate) fn matches(&self, names: &[&[u8]]) -> bool
         ensures { result ≡ matches_trace self.now (map (λ name. name.now) names.now) }
     {

@@ -15,14 +15,13 @@
 //! | [`is_suppressed`] | whether some suppression that is switched on matches |
 //! | [`LeakKinds::from_list`] | the leak kinds that a list of words names |
 //!
-//! [`Target`] is an error's or a leak's kind, [`LeakKinds`] a set of leak kinds, [`SuppFault`] a refusal, and [`TEXT_LIMIT`] how long
-//! a text may be. `matches`, `is_suppressed`, `is_on` and `switch` take no memory and always answer, for any number of names. One
-//! walk fits the bytes of a name to a pattern and the names of a trace to frame lines, where `...` is the star. It goes back to the
-//! last star alone: the time is the length of the pattern times that of what it is fitted to, whatever the number of stars. Where
-//! the first frame line wants a name that begins with a byte of its own, a trace whose innermost name begins otherwise is passed
-//! with no walk.
+//! [`Target`] is an error's or a leak's kind, [`LeakKinds`] a set of leak kinds, [`SuppFault`] a refusal, and [`TEXT_LIMIT`] how long a
+//! text may be. `matches`, `is_suppressed`, `is_on` and `switch` allocate nothing and always answer, for any number of names. One walk fits
+//! the bytes of a name to a pattern and the names of a trace to frame lines, where `...` is the star. It goes back to the last star alone:
+//! the time is the length of the pattern times that of what it is fitted to, whatever the number of stars. Where the first frame line wants
+//! a name that begins with a byte of its own, a trace whose innermost name begins otherwise is passed with no walk.
 //!
-//! # What a caller relies on
+//! # What a caller can rely on
 //!
 //! A suppression is seen as a `Rule` (`specs/Rules.antt`): what it is for, its frame lines, its switch.
 //!
@@ -30,10 +29,10 @@
 //!   memory is answered only where the text `NeedsMemory`, something of it being kept before its first fault.
 //! - [`Suppression::from_words`]: `added` of the words, if they are a suppression's, and else a refusal.
 //! - [`Suppression::matches`]: the function `matches`, which holds just where the relation `Matches` does: the kind is one that the
-//!   suppression is for, and some frames at the front of the trace fit the frame lines one by one.
+//!   suppression is for, and some frames at the front of the trace fit the frame lines in order.
 //! - [`is_suppressed`]: the function of that name, by which a report filters; it holds just where `IsSuppressed` does.
 //!
-//! # Where the definitions stand
+//! # Where the definitions are
 //!
 //! In `specs/`, in the order to read them:
 //!

@@ -41,7 +41,7 @@ impl<'a> Line<'a> {
     }
 }
 
-/// Whether a byte is dropped at the ends of a line.
+/// Returns whether a byte is dropped at the ends of a line.
 fn is_blank(b: u8) -> bool
     ensures { result ≡ is_blank b }
 {
@@ -74,7 +74,7 @@ fn trim_end(line: &[u8]) -> &[u8]
     rest
 }
 
-/// A line without blanks at its ends.
+/// Returns a line without blanks at its ends.
 #[tactic(auto, unfolding(crate::specs::Lines::trimmed))]
 fn trim(line: &[u8]) -> &[u8]
     ensures { result.now ≡ trimmed line.now }
@@ -82,7 +82,7 @@ fn trim(line: &[u8]) -> &[u8]
     trim_end(trim_start(line))
 }
 
-/// Whether a line, trimmed, is empty or a comment.
+/// Returns whether a line, trimmed, is empty or a comment.
 fn is_skipped(line: &[u8]) -> bool
     ensures { result ≡ is_skipped line.now }
 {
@@ -111,7 +111,7 @@ impl<'a> Model for Lines<'a> {
 }
 
 impl<'a> Lines<'a> {
-    /// The lines of a text.
+    /// Returns the lines of a text.
     pub(crate) fn new(text: &'a [u8]) -> Self
         requires { length text.now ≤ TEXT_LIMIT }
         ensures { result ≡ lines_of text.now }
@@ -132,7 +132,7 @@ impl<'a> Lines<'a> {
         }
     }
 
-    /// The next line.
+    /// Returns the next line.
     pub(crate) fn next(&mut self) -> Option<Line<'a>>
         ensures none { IfNone result ((self.old ≡ []) × (self.new ≡ [])) }
         ensures some { IfSome result (λ line. self.old ≡ line ∷ self.new) }

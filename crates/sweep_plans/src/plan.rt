@@ -19,7 +19,7 @@ impl Places {
     ghost use Rattle.std.specs.Prelude.{◌≡◌, ◌<◌, IfSome};
     ghost use Rattle.sweep_plans.specs.Plans.{count, nth};
 
-    /// How many there are.
+    /// Returns how many there are.
     pub fn count(self) -> u32
         ensures { result ≡ count self }
     {
@@ -90,7 +90,7 @@ impl Plan {
     ghost use Rattle.std.specs.Prelude.{◌≡◌, ◌<◌, ◌^◌, IfOk};
     ghost use Rattle.sweep_plans.specs.Plans.{place_at, place_count, values_of};
 
-    /// How many places there are.
+    /// Returns how many places there are.
     pub fn places(&self) -> u64
         ensures number { result ≡ place_count self.now }
         ensures few { result < 2 ^ 33 }
@@ -98,7 +98,7 @@ impl Plan {
         u64::from(self.bytes.count()) + u64::from(self.words.count())
     }
 
-    /// The place of a number: the bytes come first, then the words.
+    /// Returns the place of a number: the bytes come first, then the words.
     pub fn place(&self, i: u64) -> Place
         ensures { result ≡ place_at self.now i }
     {
@@ -114,7 +114,7 @@ impl Plan {
         }
     }
 
-    /// The values where something stands: in order, each that is wanted but that one.
+    /// Returns the values where something stands: in order, each that is wanted but that one.
     #[tactic(auto, unfolding(crate::specs::Plans::values_of))]
     pub fn values(&self, alloc: Global, standing: Change) -> Result<Vec<u32>, AllocError>
         ensures { IfOk result (λ values. values.items ≡ values_of self.now standing) }

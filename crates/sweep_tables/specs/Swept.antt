@@ -137,7 +137,7 @@ abbrev pub case_of : List ℕ → List ℕ → ProgramImage → List ℕ → Lis
 case_of file text image input list words request plan =
     case_with file text image input list words request.words request.part plan
 
--- the places that are meant are refused, the bytes before the words, and nothing is written; or the table of those of
+-- the places that are meant are rejected, the bytes before the words, and nothing is written; or the table of those of
 -- the part is
 abbrev pub Sweeps : List ℕ → List ℕ → ProgramImage → List ℕ → List Rule → SweepWords → Request → Option (List ℕ)
     → Option (List ℕ) → End → Type 0

@@ -19,7 +19,7 @@ use suppressions::Suppression;
 use sweep_plans::{Part, Places, Plan, Range, Request, plan_of};
 use sweeps::Sweep;
 
-/// The head of a table, and the unedited run's outcome behind it; and the sweep that has met that run.
+/// Returns the head of a table, and the unedited run's outcome behind it; and the sweep that has met that run.
 fn begin_table<'p>(
     alloc: Global,
     file: &[u8],

@@ -18,7 +18,7 @@ use std::io::Write;
 use sweep_plans::Plan;
 use sweeps::Sweep;
 
-/// The first place of a part, of so many, where so many come before.
+/// Returns the first place of a part, of so many, where so many come before.
 pub(crate) fn first_place(places: u64, before: u32, parts: u32) -> u64
     requires few { places < 2 ^ 33 }
     requires fewer { before ≤ 1000000 }
@@ -40,7 +40,7 @@ pub(crate) fn write_all<'a, W: Write>(writer: &mut W, bytes: &[u8]) -> Result<()
     }
 }
 
-/// The rows of a place.
+/// Returns the rows of a place.
 fn rows_of(
     alloc: Global,
     sweep: &mut Sweep<'_>,
@@ -98,7 +98,7 @@ fn write_places<'a, W: Write>(
     Ok(())
 }
 
-/// What ends a table.
+/// Returns what ends a table.
 fn totals_of(alloc: Global, sweep: &Sweep<'_>) -> Result<Vec<u8>, AllocError>
     ensures { IfOk result (λ out. (first : List ℕ) (met : List Met) → HasMet sweep.now first met → table_text first met ≡ rows_text first met ++ out.items) }
 {

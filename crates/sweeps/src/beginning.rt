@@ -18,7 +18,7 @@ use std::alloc::{AllocError, Global};
 use suppressions::Suppression;
 use tallies::Tallies;
 
-/// The scenario of a program with an input and suppressions, with nothing edited and a step chosen.
+/// Returns the scenario of a program with an input and suppressions, with nothing edited and a step chosen.
 pub(crate) fn scenario_at<'a>(
     alloc: Global,
     image: Image<'a>,
@@ -34,7 +34,7 @@ pub(crate) fn scenario_at<'a>(
     Ok(scenario)
 }
 
-/// What the unedited run comes to.
+/// Returns what the unedited run comes to.
 fn unedited_outcome(
     trail: &mut Trail,
     scenario: &Scenario,
@@ -75,7 +75,7 @@ fn count_unedited(
     })
 }
 
-/// The machine before the unedited run, the trail of that run, and its outcome counted and appended.
+/// Returns the machine before the unedited run, the trail of that run, and its outcome counted and appended.
 pub(crate) fn unedited_run(
     alloc: Global,
     scenario: &Scenario,

@@ -8,18 +8,18 @@
 //! | Call | What it does |
 //! |---|---|
 //! | [`Sweep::begin`] | makes the unedited run, and appends its outcome |
-//! | [`Sweep::visit`] | makes each edit of a place, and appends its row, after what its outcome is where that is new |
+//! | [`Sweep::visit`] | applies each edit of a place, and appends its row, after what its outcome is where that is new |
 //! | [`Sweep::finish`] | appends the number of edits that lead to each outcome, and then the number of edits, of outcomes and of steps |
 //! | [`laws::outcomes_are_counted`], [`laws::steps_are_one`], [`laws::outcomes_are_one`], [`laws::parts_have_all_changes`] | nothing: their contracts are laws of the table |
 //!
-//! # What a caller relies on
+//! # What a caller can rely on
 //!
 //! Each outcome is the outline of **one run from step zero of the scenario with that edit alone** (`IsOutcome`); no outcome of another
 //! edit, and nothing that is left of one, is in it. Outcomes are numbered in order of first occurrence. A sweep knows what it has met
-//! (`HasMet`): `visit` adds the changes of its place (`changes_from`), in order. Where memory is wanting, what was appended is not to be
+//! (`HasMet`): `visit` adds the changes of its place (`changes_from`), in order. Where memory runs out, what was appended is not to be
 //! used, and the sweep neither; its scenario is as it was.
 //!
-//! # Where the definitions stand
+//! # Where the definitions are
 //!
 //! In `specs/`: `Standing` (what stands at a place, and the changes there), `Outcomes` (what a change comes to), `Tables` (the text), `Sweeps`
 //! (what a sweep has met), `Laws` (what the numbers of a table say). The places of a plan are defined in the crate `sweep_plans`.

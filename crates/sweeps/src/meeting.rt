@@ -16,7 +16,7 @@ use scenario::Scenario;
 use std::alloc::AllocError;
 use sweep_plans::Change;
 
-/// What stands at a place, and the machine from which each run goes on in which another value stands there.
+/// What stands at a place, and the machine from which each run continues in which another value stands there.
 #[derive(Clone, Copy)]
 pub(crate) struct Spot<'a> {
     pub(crate) standing: Change,

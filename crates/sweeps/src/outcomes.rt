@@ -1,4 +1,4 @@
-//! Where the runs of edits go on, and what each comes to.
+//! Where the runs of edits continue, and what each comes to.
 ghost use Rattle.std.specs.Prelude.{◌≡◌, ◌≤◌, ℕ, IfOk, IfSome, Some};
 ghost use Rattle.checkpoints.specs.Effects.{LeadsTo, Run};
 ghost use Rattle.checkpoints.specs.Edits.{IsRightForRun};
@@ -18,7 +18,7 @@ use scenario::laws::{edits_follow, edits_go_back};
 use std::alloc::AllocError;
 use sweep_plans::Change;
 
-/// The machine from which each run goes on in which another value stands somewhere.
+/// Returns the machine from which each run continues in which another value stands somewhere.
 pub(crate) fn fork_at(
     trail: &mut Trail,
     scenario: &Scenario,
@@ -44,7 +44,7 @@ pub(crate) fn fork_at(
     }
 }
 
-/// The outline of an edited scenario, whose run goes on from a fork of the run that an effect leads from.
+/// Returns the outline of an edited scenario, whose run continues from a fork of the run that an effect leads from.
 fn outline_from(
     scenario: &Scenario,
     fork: &Fork,
@@ -79,7 +79,8 @@ fn take_back(scenario: &mut Scenario, standing: Change)
     }
 }
 
-/// The outcome of another value in the place of what stands somewhere, whose run goes on from a fork. The scenario is as it was then.
+/// Returns the outcome of another value in the place of what stands somewhere, whose run continues from a fork. The scenario is as it was
+/// then.
 pub(crate) fn outcome_of(
     scenario: &mut Scenario,
     fork: &Fork,

@@ -5,10 +5,10 @@
 //! | [`Tallies::begin`] | a first text, of number 0, which is counted no time yet |
 //! | [`Tallies::meet`] | one more of a text: its number, and whether it was met before |
 //! | [`Tallies::counts`] | how often each text was met, in their order |
-//! | [`laws::texts_are_counted`] | nothing: its contract says that the entries are the distinct texts with how often each was met |
+//! | [`laws::texts_are_counted`] | does nothing; its contract says that the entries are the distinct texts with how often each was met |
 //!
-//! A text that was met before costs one look-up of it, and no memory. Of a new one a copy is kept. Where memory is wanting, the texts
-//! and their counts stay as they were. Counts stand still at 2^64 - 1.
+//! A text that was met before costs one look-up of it, and no memory. Of a new one a copy is kept. Where memory runs out, the texts and
+//! their counts stay as they were. Counts stand still at 2^64 - 1.
 //!
 //! Contracts speak of `entries_of`, the list of the texts with their counts. In `specs/`: `Tallied` has the definitions, `Distinct` the distinct items
 //! of a list, and `Laws` what the entries are.
@@ -44,7 +44,7 @@ fn next_count(count: u64) -> u64
     count.saturating_add(1)
 }
 
-/// What is told of a text.
+/// Returns what is told of a text.
 fn find_in(texts: &IndexMap<Vec<u8>, u64>, text: &[u8]) -> Found
     ensures number { result.number ≡ number_of (keyed texts.now.entries) text.now }
     ensures met { result.is_met ≡ is_met (keyed texts.now.entries) text.now }
@@ -71,7 +71,7 @@ fn count_again(texts: &mut IndexMap<Vec<u8>, u64>, place: usize)
     texts[place] = next_count(texts[place]);
 }
 
-/// A copy of a new text, met once.
+/// Returns a copy of a new text, met once.
 fn add_new(texts: &mut IndexMap<Vec<u8>, u64>, text: &[u8]) -> Result<(), AllocError>
     requires { is_met (keyed texts.old.entries) text.now ≡ false }
     ensures ok { OnOk result (keyed texts.new.entries ≡ with_text (keyed texts.old.entries) text.now) }
@@ -84,7 +84,7 @@ fn add_new(texts: &mut IndexMap<Vec<u8>, u64>, text: &[u8]) -> Result<(), AllocE
 
 #[tactic(auto, unfolding(crate::specs::Tallied::entries_of))]
 impl Tallies {
-    /// A first text, which is counted no time yet.
+    /// Returns a first text, which is counted no time yet.
     pub fn begin(alloc: Global, first: Vec<u8>) -> Result<Tallies, AllocError>
         ensures { IfOk result (λ tallies. entries_of tallies ≡ (first.items, 0) ∷ []) }
     {
@@ -93,7 +93,7 @@ impl Tallies {
         Ok(Tallies { texts })
     }
 
-    /// One more of a text: its number, and whether it was met before. Where memory is wanting for a new text, all stays as it was.
+    /// One more of a text: its number, and whether it was met before. Where memory runs out for a new text, all stays as it was.
     pub fn meet(&mut self, text: &[u8]) -> Result<Found, AllocError>
         ensures number { IfOk result (λ found. found.number ≡ number_of (entries_of self.old) text.now) }
         ensures met { IfOk result (λ found. found.is_met ≡ is_met (entries_of self.old) text.now) }

@@ -21,7 +21,7 @@ impl Heap {
     ghost use Rattle.guest_heap.specs.States.{AreNoPlaces};
     ghost use Rattle.guest_heap.specs.Bounds.{Holds};
 
-    /// The least place from an address on, where there is none below it.
+    /// Returns the least place from an address on, where there is none below it.
     fn place_from(&self, from: u64, size: u32, redzone: u32, known: &Bound) -> Option<u32>
         requires multiple { from % 16 ≡ 0 }
         requires above { heap_begin + redzone ≤ from }
@@ -46,7 +46,7 @@ impl Heap {
         None
     }
 
-    /// The bounds are those of a redzone.
+    /// Returns the bounds are those of a redzone.
     #[tactic(auto, unfolding(crate::specs::Heaps::blocks_of, crate::specs::Heaps::redzone_in))]
     fn use_redzone(&mut self, alloc: Global, redzone: u32) -> Result<(), AllocError>
         ensures same { blocks_of self.new ≡ blocks_of self.old }
@@ -59,7 +59,7 @@ impl Heap {
         Ok(())
     }
 
-    /// The bound of a class, raised to the least place of its least block.
+    /// Returns the bound of a class, raised to the least place of its least block.
     #[tactic(auto, unfolding(crate::specs::Heaps::blocks_of, crate::specs::Heaps::redzone_in))]
     fn raised(&self, class: &SizeClass) -> Bound
         requires index { class.now.index < 268 }
@@ -100,7 +100,7 @@ impl Heap {
         Ok(raised)
     }
 
-    /// The least place for a block.
+    /// Returns the least place for a block.
     fn place(&mut self, alloc: Global, size: u32, redzone: u32) -> Result<Option<u32>, AllocError>
         ensures same { blocks_of self.new ≡ blocks_of self.old }
         ensures place { IfOk result (λ start. Places (blocks_of self.new) size redzone start) }
@@ -114,7 +114,7 @@ impl Heap {
         Ok(self.place_from(from, size, redzone, &bound))
     }
 
-    /// A new live block at a place.
+    /// Returns a new live block at a place.
     fn put(&mut self, alloc: Global, entry: Entry) -> Result<(), AllocError>
         requires place { IsPlace (blocks_of self.old) entry.size entry.redzone entry.start }
         requires live { entry.freed ≡ None }
@@ -127,8 +127,8 @@ impl Heap {
         Ok(())
     }
 
-    /// A new live block of `size` bytes, with `redzone` bytes on either side and the trace of its allocation: where it begins, at the least
-    /// place for it. `None` where there is no place, as for more than 16,777,216 bytes. Where memory fails the heap is as before.
+    /// Returns a new live block of `size` bytes, with `redzone` bytes on either side and the trace of its allocation: where it begins, at
+    /// the least place for it. `None` where there is no place, as for more than 16,777,216 bytes. Where memory fails the heap is as before.
     pub fn allocate(
         &mut self,
         alloc: Global,

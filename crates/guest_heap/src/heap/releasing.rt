@@ -28,8 +28,8 @@ fn freed_by(block: &Block, trace: Trace) -> Block
     }
 }
 
-/// What is kept of a block that is freed: with the trace of its allocation, which blocks share as they do that of its release, and with how
-/// many were freed before it.
+/// Returns what is kept of a block that is freed: with the trace of its allocation, which blocks share as they do that of its release, and
+/// with how many were freed before it.
 fn freed_entry(
     alloc: Global,
     block: &Block,
@@ -77,7 +77,7 @@ impl Heap {
     ghost use Rattle.guest_heap.specs.Steps.{released_blocks};
     ghost use Rattle.guest_heap.specs.Heaps.{blocks_of};
 
-    /// The live block that begins at an address.
+    /// Returns the live block that begins at an address.
     fn live_at(&self, address: u32) -> Option<&Entry>
         ensures { option_map block_of (option_copied result) ≡ (blocks_of self.now).live address }
     {
@@ -98,7 +98,7 @@ impl Heap {
         }
     }
 
-    /// A live block goes to the end of the queue.
+    /// Returns a live block goes to the end of the queue.
     fn enqueue(
         &mut self,
         alloc: Global,

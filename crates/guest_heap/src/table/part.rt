@@ -21,7 +21,7 @@ pub(crate) trait Part: Drop {
     /// What is at its places.
     ghost entries: { Self → Entries };
 
-    /// A part with no blocks.
+    /// Returns a part with no blocks.
     fn empty(alloc: Global) -> Result<Self, AllocError>
         ensures { IfOk result (λ part. entries part ≡ (λ _. None)) };
 
@@ -46,12 +46,12 @@ pub(crate) trait Part: Drop {
         ensures empty { IfOk result (λ empty. IsTrue empty → entries shared.new.value ≡ (λ _. None)) }
         ensures err { OnErr result (entries shared.new.value ≡ entries shared.old.value) };
 
-    /// The first place from this one on that has a block.
+    /// Returns the first place from this one on that has a block.
     fn next_from(&self, at: usize) -> Option<usize>
         requires { at ≤ PLACES }
         ensures { IsNext (entries self.now) at PLACES result };
 
-    /// The last place below this one that has a block.
+    /// Returns the last place below this one that has a block.
     fn last_below(&self, at: usize) -> Option<usize>
         requires { at ≤ PLACES }
         ensures { IsLast (entries self.now) at result };
@@ -71,7 +71,7 @@ pub(crate) fn get_in<P: Part>(slot: &Option<Rc<P>>, at: usize) -> Option<&Entry>
     }
 }
 
-/// A new part, with an entry at one of its places.
+/// Returns a new part, with an entry at one of its places.
 fn part_with<P: Part>(
     alloc: Global,
     at: usize,
@@ -108,7 +108,7 @@ pub(crate) fn set_in<P: Part>(
     Ok(())
 }
 
-/// The first place from this one on that has a block.
+/// Returns the first place from this one on that has a block.
 #[tactic(auto, unfolding(crate::specs::Entries::entries_at))]
 pub(crate) fn next_in<P: Part>(slot: &Option<Rc<P>>, at: usize) -> Option<usize>
     requires { at ≤ P.PLACES }
@@ -120,7 +120,7 @@ pub(crate) fn next_in<P: Part>(slot: &Option<Rc<P>>, at: usize) -> Option<usize>
     }
 }
 
-/// The last place below this one that has a block.
+/// Returns the last place below this one that has a block.
 #[tactic(auto, unfolding(crate::specs::Entries::entries_at))]
 pub(crate) fn last_in<P: Part>(slot: &Option<Rc<P>>, at: usize) -> Option<usize>
     requires { at ≤ P.PLACES }

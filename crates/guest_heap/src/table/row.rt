@@ -13,7 +13,8 @@ use std::rc::Rc;
 /// How many places a row of 64 rows of 64 leaves has.
 const THIRD_LEVEL: usize = 262144;
 
-/// How many parts a row has, each with so many places: 64, or as many as the heap region has where one is a row of 64 rows of 64 leaves.
+/// Returns how many parts a row has, each with so many places: 64, or as many as the heap region has where one is a row of 64 rows of 64
+/// leaves.
 #[tactic(auto, unfolding(crate::specs::Sizes::parts_of))]
 const fn parts_of(each: usize) -> usize
     requires { IsSize each }
@@ -22,14 +23,14 @@ const fn parts_of(each: usize) -> usize
     if each < THIRD_LEVEL { 64 } else { SLOTS / each }
 }
 
-/// Where in a part a search upwards begins, which begins at a place of one.
+/// Returns where in a part a search upwards begins, which begins at a place of one.
 fn begin_in(part: usize, at: usize, i: usize) -> usize
     ensures { result ≡ begin_in part at i }
 {
     if i == part { at } else { 0 }
 }
 
-/// Where in a part a search downwards begins, which begins below a place of one.
+/// Returns where in a part a search downwards begins, which begins below a place of one.
 fn end_in(places: usize, part: usize, at: usize, i: usize) -> usize
     ensures { result ≡ end_in places part at i }
 {

@@ -26,7 +26,7 @@ impl Written {
     }
 }
 
-/// Has a line answered, and writes its reply. Tells whether all lines were given before that are answered, or that a write or a flush
+/// Has a line answered, and writes its reply. Returns whether all lines were given before that are answered, or that a write or a flush
 /// failed.
 pub(crate) fn answer<L: Listener, W: Write>(
     listener: &mut L,

@@ -55,7 +55,7 @@ impl Server {
         }
     }
 
-    /// Takes the next byte. Tells whether all lines were given that are answered.
+    /// Takes the next byte. Returns whether all lines were given that are answered.
     fn take<L: Listener, W: Write>(
         &mut self,
         listener: &mut L,
@@ -81,7 +81,7 @@ impl Server {
         Ok(over)
     }
 
-    /// Takes the next bytes. Tells whether all lines were given that are answered.
+    /// Takes the next bytes. Returns whether all lines were given that are answered.
     pub(crate) fn feed<L: Listener, W: Write>(
         &mut self,
         listener: &mut L,
@@ -125,7 +125,7 @@ impl Server {
         Ok(())
     }
 
-    /// Reads once, into room for it, and answers the lines whose newline was read, or the last one at the reader's end. Tells whether it
+    /// Reads once, into room for it, and answers the lines whose newline was read, or the last one at the reader's end. Returns whether it
     /// has ended.
     pub(crate) fn turn<L: Listener, R: Read, W: Write>(
         &mut self,
@@ -163,7 +163,7 @@ impl Server {
         }
     }
 
-    /// The fault of a reader that has no end.
+    /// Returns the fault of a reader that has no end.
     pub(crate) fn endless(&self) -> ServeFault
         ensures { IsEndlessFault self.now.written result }
     {
@@ -173,14 +173,14 @@ impl Server {
         }
     }
 
-    /// How many whole replies were written.
+    /// Returns how many whole replies were written.
     fn replies(&self) -> u64
         ensures { result ≡ self.now.written.replies }
     {
         self.written.replies
     }
 
-    /// How many bytes were written.
+    /// Returns how many bytes were written.
     fn bytes(&self) -> u64
         ensures { result ≡ self.now.written.bytes }
     {

@@ -10,7 +10,7 @@ use guest_machine::Input;
 use std::alloc::AllocError;
 use std::mem;
 
-/// An input with one byte replaced.
+/// Returns an input with one byte replaced.
 fn with_byte(input: Input, offset: u32, byte: u8) -> Input
     requires { offset < length input }
     ensures { result ≡ slice_set input offset byte }
@@ -49,7 +49,7 @@ impl<'a> Scenario<'a> {
         refused_if(self.setup.input.len() < 1, Refusal::OutsideInput)
     }
 
-    /// Where the last byte of the input shows.
+    /// Returns where the last byte of the input shows.
     pub(crate) fn last_byte(&self) -> Effect
         ensures { result ≡ (row self.now Cut).effect }
     {

@@ -10,7 +10,7 @@ use commands::Refusal;
 use guest_machine::Mark;
 use std::alloc::AllocError;
 
-/// Why a mark is refused where there are so many.
+/// Returns why a mark is rejected where there are so many.
 #[tactic(auto, unfolding(crate::specs::Edits::mark_refusal))]
 fn refusal_of(marks: usize, mark: &Mark) -> Option<Refusal>
     ensures { result ≡ mark_refusal marks mark.now }
@@ -44,7 +44,7 @@ impl<'a> Scenario<'a> {
         refused_if(index as usize >= self.marks.len(), Refusal::NoSuchMark)
     }
 
-    /// Where the mark at an index shows.
+    /// Returns where the mark at an index shows.
     pub(crate) fn mark_at(&self, index: u32) -> Effect
         ensures { result ≡ (row self.now (Unmark index)).effect }
     {
