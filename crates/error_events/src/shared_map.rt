@@ -31,14 +31,14 @@ impl Model for SharedMap {
     ghost view = { λ m. entries_of m.map };
 }
 
-/// Returns a copy of its own.
+/// Returns a copy that nothing shares.
 fn copy(map: &IndexMap<Key, KeptNote>) -> Result<IndexMap<Key, KeptNote>, AllocError>
     ensures { IfOk result (λ copy. copy.entries ≡ map.now.entries) }
 {
     map.clone()
 }
 
-/// Inserts a value at a copy of a key. What stood at the key is dropped.
+/// Inserts a value at a copy of a key. Drops the value that was at the key.
 fn put<K: Eq + Hash + Copy + Drop, V: Drop>(
     map: &mut IndexMap<K, V>,
     key: &K,
@@ -51,7 +51,7 @@ fn put<K: Eq + Hash + Copy + Drop, V: Drop>(
     Ok(())
 }
 
-/// Puts copies of a map's entries behind those of another.
+/// Appends copies of a map's entries to another.
 fn append(
     whole: &mut IndexMap<Key, KeptNote>,
     second: &IndexMap<Key, KeptNote>,
@@ -66,7 +66,7 @@ fn append(
     Ok(())
 }
 
-/// Returns a map of the entries of two.
+/// Returns a map with the entries of two.
 fn join(
     first: &IndexMap<Key, KeptNote>,
     second: &IndexMap<Key, KeptNote>,
@@ -94,7 +94,7 @@ fn insert(
 }
 
 impl SharedMap {
-    /// Returns the empty map, which allocates nothing.
+    /// Returns the empty map. Allocates nothing.
     pub(crate) fn new() -> Self
         ensures { result ≡ [] }
     {
@@ -121,7 +121,7 @@ impl SharedMap {
         }
     }
 
-    /// Adds a key that is not there, as the last.
+    /// Appends a key that isn't there yet.
     pub(crate) fn push(
         &mut self,
         alloc: Global,
@@ -159,7 +159,7 @@ impl SharedMap {
         })
     }
 
-    /// Returns how many entries there are.
+    /// Returns the number of entries.
     pub(crate) fn len(&self) -> usize
         ensures { result ≡ length self.now }
     {
@@ -169,7 +169,7 @@ impl SharedMap {
         }
     }
 
-    /// Returns whether a new key makes a copy of the map.
+    /// Returns whether inserting a key would copy the map.
     pub(crate) fn is_shared(&self) -> bool {
         match &self.map {
             Some(map) => Rc::strong_count(map) != 1,
@@ -177,7 +177,7 @@ impl SharedMap {
         }
     }
 
-    /// Returns a map of its own, with the entries of another after those of this one.
+    /// Returns a map that nothing shares, with the entries of another after those of this one.
     pub(crate) fn joined(&self, alloc: Global, other: &Self) -> Result<Self, AllocError>
         requires { AreNew ⟦<Key as PartialEq>⟧.eq self.now other.now }
         ensures { IfOk result (λ whole. whole ≡ self.now ++ other.now) }

@@ -21,9 +21,9 @@ pub(crate) const E_MACHINE: usize = 18;
 pub(crate) const E_VERSION: usize = 20;
 /// Four bytes: the address of the first instruction.
 pub(crate) const E_ENTRY: usize = 24;
-/// Four bytes: where the program header table begins.
+/// Four bytes: the offset of the program header table.
 pub(crate) const E_PHOFF: usize = 28;
-/// Four bytes: where the section header table begins, or 0 if there is none.
+/// Four bytes: the offset of the section header table, or 0 if there is none.
 pub(crate) const E_SHOFF: usize = 32;
 /// Two bytes: the size of a program header.
 pub(crate) const E_PHENTSIZE: usize = 42;

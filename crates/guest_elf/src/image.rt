@@ -58,8 +58,8 @@ impl<'a> Image<'a> {
         self.entry
     }
 
-    /// Returns the name of the function at an address, a slice of the file; `???` where no symbol names one. It may outlive the image.
-    /// Takes no memory.
+    /// Returns the name of the function at an address, a slice of the file; `???` if no symbol names one. It may outlive the image.
+    /// Allocates nothing.
     #[tactic(auto, unfolding(crate::specs::Images::name_at))]
     pub fn name_of(&self, addr: u32) -> &'a [u8]
         ensures { result.now ≡ name_at self.now addr }
@@ -68,8 +68,8 @@ impl<'a> Image<'a> {
     }
 
     /// Returns the functions of the heap that the program has by name, with their addresses: those of type STT_FUNC that a section defines
-    /// and that are named exactly `malloc`, `free`, `calloc` or `realloc`. They are in the order of their addresses, one at an address:
-    /// that of the lowest index in the symbol table. The one call on an image that allocates memory.
+    /// and that are named exactly `malloc`, `free`, `calloc` or `realloc`. They are in the order of their addresses, one at each: the one
+    /// with the lowest index in the symbol table. This is the only call on an image that allocates memory.
     #[tactic(auto, unfolding(crate::specs::Images::hooks_of), using(crate::proofs::Hooked::hooks_rise))]
     pub fn hooks(&self, alloc: Global) -> Result<Vec<(u32, Hook)>, AllocError>
         ensures list { IfOk result (λ hooks. hooks.items ≡ hooks_of self.now) }
@@ -95,7 +95,7 @@ impl<'a> Image<'a> {
     }
 }
 
-/// Returns whether an address is among those of a segment of a list.
+/// Returns whether an address is in one of some segments.
 fn has_any(segments: &[Segment], addr: u32) -> bool
     ensures { result ≡ list_any (λ segment. has_address segment addr) segments.now }
 {

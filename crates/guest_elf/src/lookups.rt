@@ -21,7 +21,7 @@ pub(crate) fn nearest(symbols: &[Symbol], addr: u32) -> Option<Symbol>
     Some(symbols[first])
 }
 
-/// Returns where the first zero byte of some bytes stands.
+/// Returns the place of the first zero byte.
 fn first_zero(bytes: &[u8]) -> Option<usize>
     ensures { result ≡ position is_zero bytes.now }
 {

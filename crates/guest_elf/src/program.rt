@@ -17,7 +17,7 @@ pub(crate) const PROGRAM_HEADER_SIZE: usize = 32;
 pub(crate) struct ProgramHeader {
     /// p_type.
     pub(crate) kind: u32,
-    /// p_offset: where its bytes begin in the file.
+    /// p_offset: the offset of its first byte in the file.
     pub(crate) offset: u32,
     /// p_vaddr: the address of its first byte.
     pub(crate) vaddr: u32,
@@ -63,7 +63,7 @@ impl ProgramHeader {
         self.meets(HEAP_BEGIN, HEAP_END) || self.meets(STACK_BEGIN, STACK_END)
     }
 
-    /// Returns whether it has an address from `start` up to `end`, not with it.
+    /// Returns whether it has an address from `start` up to, but not including, `end`.
     fn meets(self, start: u32, end: u32) -> bool
         ensures { result ≡ ranges_meet self.vaddr (self.vaddr + self.memsz) start end }
     {

@@ -16,11 +16,11 @@ const SYMBOL_TABLE: u32 = 2;
 pub(crate) struct SectionHeader {
     /// sh_type.
     pub(crate) kind: u32,
-    /// sh_offset: where its bytes begin in the file.
+    /// sh_offset: the offset of its first byte in the file.
     pub(crate) offset: u32,
     /// sh_size: the number of its bytes.
     pub(crate) size: u32,
-    /// sh_link: of a symbol table the index of its string table.
+    /// sh_link: for a symbol table, the index of its string table.
     pub(crate) link: u32,
     /// sh_entsize: the size of an entry.
     pub(crate) entry_size: u32,
@@ -48,7 +48,7 @@ pub(crate) fn section_count(file: &[u8]) -> u16
     half_at(file, E_SHNUM)
 }
 
-/// There are section headers of another size, or that end past the file.
+/// Returns whether section headers have another size or end past the file.
 #[tactic(auto, unfolding(crate::specs::Sections::has_bad_section_table))]
 pub(crate) fn has_bad_section_table(file: &[u8]) -> bool
     requires { HasHeader file.now }

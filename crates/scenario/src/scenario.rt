@@ -1,4 +1,4 @@
-//! A scenario: what it keeps, and the report of it.
+//! A scenario, and its report.
 ghost use Rattle.std.specs.Prelude.{◌≡◌, ◌≤◌, IfOk, OnOk, OnErr, length};
 ghost use Rattle.guest_machine.specs.Shows.{Shows};
 ghost use Rattle.replay_report.specs.Report.{AppendsReport};
@@ -43,7 +43,7 @@ impl<'a> Model for Scenario<'a> {
 }
 
 impl<'a> Scenario<'a> {
-    /// Returns the scenario of a program with an input and suppressions, with nothing edited and step 0 chosen.
+    /// Returns the scenario of a program with an input and suppressions, without edits and with step 0 chosen.
     pub fn begin(
         alloc: Global,
         image: Image<'a>,
@@ -73,7 +73,7 @@ impl<'a> Scenario<'a> {
         &self.image
     }
 
-    /// Returns what its run is given.
+    /// Returns the setup of its run.
     pub fn setup(&self) -> &Setup
         ensures { result.now ≡ self.now.setup }
     {
@@ -101,7 +101,7 @@ impl<'a> Scenario<'a> {
         self.step = step;
     }
 
-    /// The same with its parts lent.
+    /// Returns the same scenario with borrowed parts.
     fn lent(&self) -> ScenarioRef<'_>
         ensures parts { lent result ≡ self.now }
         ensures some { 1 ≤ result.options.now.callers }
@@ -118,7 +118,7 @@ impl<'a> Scenario<'a> {
         }
     }
 
-    /// Appends the report at the chosen step, by one run from step zero, whose steps are executed on a meter.
+    /// Appends the report at the chosen step, by one run from step zero, whose steps count on a meter.
     pub fn report(&self, meter: &mut Meter, out: &mut Vec<u8>) -> Result<(), AllocError>
         ensures ok { OnOk result (AppendsReport (IsReportOf self.now) out.old.items out.new.items) }
         ensures err { OnErr result (out.new.items ≡ out.old.items) }
@@ -134,7 +134,7 @@ impl<'a> Scenario<'a> {
         self.lent().render(self.alloc, machine, out)
     }
 
-    /// Returns the outline of a machine that is at the chosen step of the run, with or without how much was written.
+    /// Returns the outline of a machine that is at the chosen step of the run, with or without the number of bytes written.
     pub fn outline(&self, machine: &Machine, with_output: bool) -> Result<Vec<u8>, AllocError>
         ensures { IfOk result (λ text. Shows machine.now (chosen_state self.now) → IsOutlineOf with_output self.now text.items) }
     {

@@ -12,7 +12,7 @@ pub const TEXT_LIMIT: usize = 1_048_576;
 /// The line that ends a block.
 pub(crate) const CLOSE: &[u8] = b"}";
 
-/// A line without blanks at its ends, and its number. Contracts see these two.
+/// A line without blanks at its ends, and its number. Contracts see both.
 #[derive(Drop)]
 pub(crate) struct Line<'a> {
     number: u32,
@@ -92,7 +92,7 @@ fn is_skipped(line: &[u8]) -> bool
     }
 }
 
-/// The lines that count and are left. Contracts see their list.
+/// The remaining lines that count. Contracts see their list.
 #[derive(Drop)]
 pub(crate) struct Lines<'a> {
     parts: Parts<'a>,
@@ -122,7 +122,7 @@ impl<'a> Lines<'a> {
         }
     }
 
-    /// The same lines.
+    /// Returns the same lines.
     pub(crate) fn fork(&self) -> Self
         ensures { result ≡ self.now }
     {
@@ -148,7 +148,7 @@ impl<'a> Lines<'a> {
         None
     }
 
-    /// Passes over a block, and answers the number of its last line, if there is one.
+    /// Skips a block, and returns the number of its last line, if there is one.
     pub(crate) fn pass_block(&mut self) -> Option<u32>
         ensures number { result ≡ closing self.old }
         ensures after { OnSome result (self.new ≡ after_block self.old) }

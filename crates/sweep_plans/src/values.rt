@@ -45,7 +45,7 @@ impl ByteValues {
     }
 }
 
-/// Returns a value put at the end, if it is wanted.
+/// Appends a value put at the end, if it is wanted.
 #[inline(always)]
 fn push_if(values: &mut Vec<u32>, is_wanted: bool, value: u32) -> Result<(), AllocError>
     ensures { OnOk result (values.new.items ≡ values.old.items ++ (if is_wanted then value ∷ [] else [])) }

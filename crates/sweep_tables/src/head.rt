@@ -19,7 +19,7 @@ pub(crate) struct Sources<'a> {
     pub(crate) suppressions: &'a [u8],
 }
 
-/// Returns the SHA-256 of bytes, in hexadecimal digits.
+/// Appends the SHA-256 of bytes, in hexadecimal digits.
 fn push_digest(alloc: Global, out: &mut Vec<u8>, bytes: &[u8]) -> Result<(), AllocError>
     ensures { OnOk result (out.new.items ≡ out.old.items ++ encode_lower (sha256 bytes.now)) }
 {
@@ -27,7 +27,7 @@ fn push_digest(alloc: Global, out: &mut Vec<u8>, bytes: &[u8]) -> Result<(), All
     push_text(out, digest.as_bytes())
 }
 
-/// Returns a line of a file: how many bytes were read, and their digest.
+/// Appends a line of a file: how many bytes were read, and their digest.
 #[tactic(auto, unfolding(crate::specs::Swept::file_line), using(std::proofs::Common::append_assoc))]
 fn push_file(alloc: Global, out: &mut Vec<u8>, word: &[u8], bytes: &[u8]) -> Result<(), AllocError>
     ensures { OnOk result (out.new.items ≡ out.old.items ++ file_line word.now bytes.now) }
@@ -39,7 +39,7 @@ fn push_file(alloc: Global, out: &mut Vec<u8>, word: &[u8], bytes: &[u8]) -> Res
     push_text(out, b"\n")
 }
 
-/// Returns the lines of the files.
+/// Appends the lines of the files.
 #[tactic(auto, unfolding(crate::specs::Swept::file_lines), using(std::proofs::Common::append_assoc))]
 fn push_files(alloc: Global, out: &mut Vec<u8>, sources: &Sources) -> Result<(), AllocError>
     ensures { OnOk result (out.new.items ≡ out.old.items ++ file_lines sources.now.program.now sources.now.input.now sources.now.suppressions.now) }
@@ -49,7 +49,7 @@ fn push_files(alloc: Global, out: &mut Vec<u8>, sources: &Sources) -> Result<(),
     push_file(alloc, out, b"supp ", sources.suppressions)
 }
 
-/// Returns what ends a line of what is edited: the values.
+/// Appends what ends a line of what is edited: the values.
 fn push_values(out: &mut Vec<u8>, values: &str) -> Result<(), AllocError>
     ensures { OnOk result (out.new.items ≡ out.old.items ++ (codes " " ++ values.now ++ newline)) }
 {
@@ -58,7 +58,7 @@ fn push_values(out: &mut Vec<u8>, values: &str) -> Result<(), AllocError>
     push_text(out, b"\n")
 }
 
-/// Returns the line of the bytes that are edited, where some are.
+/// Appends the line of the bytes that are edited, where some are.
 #[tactic(auto, unfolding(crate::specs::Swept::bytes_line), using(std::proofs::Common::append_assoc))]
 fn push_bytes(out: &mut Vec<u8>, bytes: Places, values: &str) -> Result<(), AllocError>
     ensures { OnOk result (out.new.items ≡ out.old.items ++ bytes_line bytes values.now) }
@@ -73,7 +73,7 @@ fn push_bytes(out: &mut Vec<u8>, bytes: Places, values: &str) -> Result<(), Allo
     push_values(out, values)
 }
 
-/// Returns the line of the words that are edited, where some are.
+/// Appends the line of the words that are edited, where some are.
 #[tactic(auto, unfolding(crate::specs::Swept::words_line), using(std::proofs::Common::append_assoc))]
 fn push_words(out: &mut Vec<u8>, words: Option<Range>, values: &str) -> Result<(), AllocError>
     ensures { OnOk result (out.new.items ≡ out.old.items ++ words_line words values.now) }
@@ -99,7 +99,7 @@ fn output_line(with_output: bool) -> &'static [u8]
     }
 }
 
-/// Returns the lines of the step, of what an outcome has, and of the part.
+/// Appends the lines of the step, of what an outcome has, and of the part.
 #[tactic(auto, unfolding(crate::specs::Swept::step_lines), using(std::proofs::Common::append_assoc))]
 fn push_rest(out: &mut Vec<u8>, step: u32, with_output: bool, part: Part) -> Result<(), AllocError>
     ensures { OnOk result (out.new.items ≡ out.old.items ++ step_lines step with_output part) }
@@ -113,7 +113,7 @@ fn push_rest(out: &mut Vec<u8>, step: u32, with_output: bool, part: Part) -> Res
     push_text(out, b"\n")
 }
 
-/// Returns the head of a table.
+/// Appends the head of a table.
 #[tactic(auto, unfolding(crate::specs::Swept::head_text), using(std::proofs::Common::append_assoc))]
 pub(crate) fn push_head(
     alloc: Global,

@@ -18,7 +18,7 @@ pub(crate) struct Counts {
     pub(crate) steps: u64,
 }
 
-/// Returns what an outcome is, where it is new, and the row of the change that has it.
+/// Appends what an outcome is, where it is new, and the row of the change that has it.
 #[tactic(auto, unfolding(crate::specs::Tables::met_text), using(std::proofs::Common::append_assoc))]
 fn push_met(
     out: &mut Vec<u8>,

@@ -37,7 +37,7 @@ impl<'a> Scenario<'a> {
         Ok(())
     }
 
-    /// Takes the word off again that was written last, if there is one.
+    /// Removes the word that was written last, if there is one.
     pub fn drop_word(&mut self)
         ensures { self.new ≡ record self.old { words = take (length self.old.words - 1) self.old.words } }
     {
