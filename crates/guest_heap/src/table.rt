@@ -1,4 +1,4 @@
-//! Blocks by their places: the multiples of 16 of the heap region in order. Copies share what neither has changed.
+//! Blocks by their places: the multiples of 16 of the heap region, in order. Copies share what neither has changed.
 
 use crate::entry::Entry;
 use crate::table::leaf::Leaf;
@@ -74,7 +74,7 @@ impl Table {
         }
     }
 
-    /// Returns a table that holds the same, for one reference.
+    /// Returns a table with the same contents, for the cost of one reference.
     pub(crate) fn share(&self) -> Result<Table, AllocError>
         ensures { IfOk result (λ copy. entries_of copy ≡ entries_of self.now) }
     {

@@ -1,4 +1,4 @@
-//! Blocks found by their places.
+//! Blocks by their places.
 ghost use Rattle.std.specs.Prelude.{◌≡◌, ◌<◌, ◌≤◌, ◌+◌, ◌*◌, ◌==◌, ℕ, IsNone};
 
 use crate::entry::Entry;
@@ -96,7 +96,7 @@ impl Heap {
         None
     }
 
-    /// Returns a kept block that begins below a slot and whose interval goes past an address.
+    /// Returns a kept block that begins below a slot and whose interval extends past an address.
     fn meeting_below(&self, to: usize, low: u64) -> Option<&Entry>
         requires { to ≤ 33554432 }
         ensures { MeetsBelow (blocks_of self.now) to low (option_map block_of (option_copied result)) }
@@ -128,7 +128,7 @@ impl Heap {
         }
     }
 
-    /// Returns where the kept block's interval ends that begins below an address, or the region begins.
+    /// Returns the end of the interval of the last kept block that begins below an address, or the region's begin if there is none.
     pub(crate) fn end_below(&self, start: u32) -> u64
         requires above { heap_begin ≤ start }
         requires below { start < heap_end }
@@ -141,7 +141,7 @@ impl Heap {
         }
     }
 
-    /// Returns where the kept block's interval begins that begins above an address, or the region ends.
+    /// Returns the begin of the interval of the first kept block that begins above an address, or the region's end if there is none.
     pub(crate) fn begin_above(&self, start: u32) -> u64
         requires above { heap_begin ≤ start }
         requires below { start < heap_end }
@@ -163,7 +163,8 @@ impl Heap {
         ensures within { IfSome result (λ e. high_end (block_of e.now) ≤ heap_end) }
         ensures none { IfNone result ((b : Block) → IsKept (blocks_of self.now) b → ¬ (Meets low high b)) }
     {
-        // The one behind first: a walk from block to block then has each in front of it, and seldom looks back.
+        // Looks first at the blocks that begin in the range or after it: a walk from block to block has each ahead of it, and seldom looks
+        // back.
         let from = ((low - HEAP_BEGIN + 15) / 16) as usize;
         match self.meeting_from(from, high) {
             Some(entry) => Some(entry),
