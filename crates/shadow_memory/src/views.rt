@@ -50,7 +50,7 @@ impl View<'_> {
         }
     }
 
-    /// Returns the number of n bytes from a place on, where they are told to be all accessible and defined.
+    /// Returns the number of `n` bytes from a place on, if they are found to be all accessible and defined.
     #[inline(always)]
     pub(crate) fn defined(self, at: usize, n: u32) -> Option<u32>
         requires width { IsWidth n }
@@ -65,7 +65,7 @@ impl View<'_> {
         }
     }
 
-    /// Returns what a load takes of n bytes from a place on, which lie from an address on.
+    /// Returns what a load of `n` bytes from a place on takes. The bytes lie from an address on.
     #[inline(always)]
     pub(crate) fn load(self, at: usize, addr: u32, n: u32) -> Loaded
         requires width { IsWidth n }
@@ -87,7 +87,7 @@ impl View<'_> {
         }
     }
 
-    /// Returns the first multiple of 4, from one on, that has four accessible and defined bytes.
+    /// Returns the first multiple of 4, from `from` on, that has four accessible and defined bytes.
     pub(crate) fn next_word(self, from: usize) -> Option<usize>
         requires within { from ≤ page_len }
         requires aligned { from % 4 ≡ 0 }
@@ -101,8 +101,8 @@ impl View<'_> {
         }
     }
 
-    /// Returns the first multiple of 4, from one on, whose four bytes are accessible and defined, with a value from low up to, but not
-    /// including, high.
+    /// Returns the first multiple of 4, from `from` on, whose four bytes are accessible and defined, with a value from `low` up to, but not
+    /// including, `high`.
     pub(crate) fn next_in_range(self, from: usize, low: u32, high: u64) -> Option<usize>
         requires within { from ≤ page_len }
         requires aligned { from % 4 ≡ 0 }
