@@ -1,14 +1,14 @@
-//! Laws of whole runs. Each is the contract of a function that does nothing: a caller has the law after the call. Where a law speaks of
-//! an input or a file, the function takes its bytes, and the law holds of each slice.
+//! Laws of whole runs. Each is the contract of a function that does nothing. A caller has the law after the call. If a law is about an
+//! input or a file, the function takes its bytes, and the law holds for each slice.
 ghost use Rattle.std.specs.Prelude.{◌^◌, ◌<◌, All};
 ghost use Rattle.clean_reports.specs.Laws.{AccessesAreLive, CleanReports, CleanRuns, DisturbedRunsExist, HeapStaysClosed, HeapStaysOpen, PowerOn, ProgramsAreBytes, ReportsAgree, RunsAgree, StepsAgree};
 
-/// A step that raises no use takes states that agree where they are defined to states that agree where they are defined.
+/// From states that agree where they are defined, a step that raises no use leads to states that agree where they are defined.
 pub fn steps_agree(input: &[u8])
     ensures { StepsAgree input.now }
 {}
 
-/// So does a run, whatever undefined and inaccessible values become between its steps.
+/// So does a run, whatever undefined and inaccessible values change to between its steps.
 pub fn runs_agree(input: &[u8])
     ensures { RunsAgree input.now }
 {}
@@ -18,13 +18,12 @@ pub fn reports_agree()
     ensures { ReportsAgree }
 {}
 
-/// A program's run without uses agrees with each disturbed run: nothing that undefined or inaccessible memory holds has an influence on
-/// it.
+/// A program's run without uses agrees with each disturbed run: nothing that undefined or inaccessible memory holds has an influence on it.
 pub fn clean_runs(input: &[u8])
     ensures { CleanRuns input.now }
 {}
 
-/// In particular, nothing that undefined or inaccessible memory holds at power-on.
+/// In particular, nothing that undefined or inaccessible memory holds at power-on has an influence on it.
 pub fn power_on(input: &[u8])
     ensures { PowerOn input.now }
 {}
@@ -39,12 +38,12 @@ pub fn disturbed_runs_exist(input: &[u8])
     ensures { DisturbedRunsExist input.now }
 {}
 
-/// An input is bytes, as [`crate::certify`] wants it.
+/// An input is bytes, as [`crate::certify`] requires.
 pub fn inputs_are_bytes(input: &[u8])
     ensures { All (λ byte. byte < 2 ^ 8) input.now }
 {}
 
-/// What a program's file loads is bytes, as the law on disturbed runs wants them.
+/// What a program's file loads is bytes, as the law on disturbed runs requires.
 pub fn programs_are_bytes(file: &[u8])
     ensures { ProgramsAreBytes file.now }
 {}
@@ -59,7 +58,7 @@ pub fn heap_stays_closed()
     ensures { HeapStaysClosed }
 {}
 
-/// A load or a store that raises no error accesses, of the heap region, only bytes of live blocks.
+/// A load or a store that raises no error accesses only bytes of live blocks in the heap region.
 pub fn accesses_are_live()
     ensures { AccessesAreLive }
 {}

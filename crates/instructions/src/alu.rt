@@ -1,4 +1,4 @@
-//! What an instruction computes of two numbers, with the undefined bits of the result.
+//! What an instruction computes from two numbers, with the undefined bits of the result.
 ghost use Rattle.std.specs.Prelude.{◌≡◌, ◌<◌, ◌^◌};
 ghost use Rattle.instructions.specs.Widths.{width_limit};
 ghost use Rattle.definedness.specs.Operations.{less_signed, shift_of, upper_word, mulh_of, mulhsu_of, mulhu_of, div_of, rem_of};
@@ -39,7 +39,7 @@ fn undef_of(operation: Operation, x: Bits, y: Bits) -> u32
     }
 }
 
-/// 1 for true.
+/// Returns 1 for true and 0 for false.
 #[inline(always)]
 fn number_of(holds: bool) -> u32
     ensures { result ≡ number_of holds }
@@ -105,7 +105,7 @@ fn mulhu(x: u32, y: u32) -> u32
     (u64::from(x).wrapping_mul(u64::from(y)) >> 32) as u32
 }
 
-/// Returns the signed quotient, rounded towards zero; all ones by zero.
+/// Returns the signed quotient, rounded towards zero; all ones for division by zero.
 #[inline(always)]
 #[tactic(auto, unfolding(definedness::specs::Operations::div_of))]
 fn div(x: u32, y: u32) -> u32
@@ -119,7 +119,7 @@ fn div(x: u32, y: u32) -> u32
         .cast_unsigned()
 }
 
-/// Returns the signed remainder, with the sign of the dividend; the dividend by zero.
+/// Returns the signed remainder, with the sign of the dividend; the dividend for division by zero.
 #[inline(always)]
 #[tactic(auto, unfolding(definedness::specs::Operations::rem_of))]
 fn rem(x: u32, y: u32) -> u32
@@ -160,7 +160,8 @@ fn value_of(operation: Operation, x: u32, y: u32) -> u32
     }
 }
 
-/// Returns the result of an operation of two numbers of which some bits are undefined. Out of line, as most numbers have none.
+/// Returns the result of an operation on two numbers some of whose bits are undefined. Out of line, since most numbers have no undefined
+/// bits.
 #[inline(never)]
 #[tactic(auto, unfolding(crate::specs::Alu::computed))]
 fn computed_in_part(operation: Operation, x: Bits, y: Bits) -> Bits
@@ -172,7 +173,7 @@ fn computed_in_part(operation: Operation, x: Bits, y: Bits) -> Bits
     }
 }
 
-/// Where no bit of `x` and `y` is undefined, no bit of the result is.
+/// If no bit of `x` and `y` is undefined, no bit of the result is.
 #[inline(always)]
 fn leaves_none(operation: Operation, x: Bits, y: Bits)
     requires x_defined { x.undef ≡ 0 }
@@ -229,7 +230,7 @@ pub fn is_undecided(comparison: Comparison, x: Bits, y: Bits) -> bool
     }
 }
 
-/// Returns what a load puts in a register: the number of its bytes, its sign repeated upwards where the load is signed.
+/// Returns what a load puts in a register: the number of its bytes, sign-extended if the load is signed.
 #[inline(always)]
 #[tactic(auto, unfolding(crate::specs::Alu::extended))]
 pub fn extended(width: Width, signed: bool, x: u32) -> u32

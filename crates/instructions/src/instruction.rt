@@ -17,7 +17,7 @@ pub enum Comparison {
     GreaterEqualUnsigned,
 }
 
-/// What an instruction computes of two numbers (sections 2.4 and 7).
+/// What an instruction computes from two numbers (sections 2.4 and 7).
 #[derive(Clone, Copy)]
 pub enum Operation {
     Add,
@@ -40,7 +40,7 @@ pub enum Operation {
     RemUnsigned,
 }
 
-/// An instruction. Immediates are modulo 2^32, their sign repeated upwards; a shift's amount is its immediate.
+/// An instruction. Immediates are modulo 2^32 and sign-extended; the amount of a shift is its immediate.
 #[derive(Clone, Copy)]
 pub enum Instruction {
     LoadUpper {
@@ -96,7 +96,7 @@ pub enum Instruction {
     Breakpoint,
 }
 
-/// The operands of a row of the table, and the instructions that are made of them.
+/// The operands of a row of the table, from which instructions are made.
 #[derive(Clone, Copy)]
 struct Operands {
     rd: Register,

@@ -1,7 +1,7 @@
-//! Why lines were not served to their end.
+//! Why a reader's lines weren't all answered.
 use thiserror::Error;
 
-/// Why lines were not served to their end, with the number of whole replies and of bytes that were written.
+/// Why a reader's lines weren't all answered, with the number of whole replies and of bytes that were written.
 #[derive(Clone, Copy, Debug, PartialEq, Eq, Error)]
 pub enum ServeFault {
     /// A read failed. The replies to all lines whose newline was read were written.

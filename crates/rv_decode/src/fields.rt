@@ -3,7 +3,7 @@
 ghost use Rattle.std.specs.Prelude.{◌≡◌, ◌<◌, ◌≤◌};
 ghost use Rattle.rv_decode.specs.Fields.{field, rd, rs1, rs2, shift_amount, imm_i, imm_s, imm_b, imm_u, imm_j};
 
-/// Returns the number that the bits `high` down to `low` of the word spell.
+/// Returns the number in the bits `high` down to `low` of the word.
 #[inline(always)]
 pub(crate) fn field(word: u32, high: u32, low: u32) -> u32
     requires order { low ≤ high }

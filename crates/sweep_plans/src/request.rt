@@ -1,4 +1,4 @@
-//! The words of a sweep, read.
+//! Reads the arguments of a sweep.
 ghost use Rattle.std.specs.Prelude.{◌≡◌, IfErr, IfOk, IfSome, MatchOption, Some, option_map};
 ghost use Rattle.command_line.specs.Orders.{text_of};
 ghost use Rattle.sweep_plans.specs.Planned.{AreBadByteValues, AreBadWordValues, IsBadPart, IsBadRange, IsNoRequest, IsPart, IsRequestOf};
@@ -22,10 +22,10 @@ const SKIP: &[u8] = b"skip";
 
 /// The instruction that does nothing.
 const NO_OP: u32 = 0x13;
-/// The most parts of a sweep.
+/// The greatest number of parts of a sweep.
 const MOST_PARTS: u32 = 1_000_000;
 
-/// Places from a first one to a last one; or to the last that there is.
+/// Places from a first one to a last one, or to the last that exists.
 #[derive(Clone, Copy)]
 pub struct Range {
     /// The first place.
@@ -34,31 +34,31 @@ pub struct Range {
     pub last: Option<u32>,
 }
 
-/// One of the parts into which places are cut.
+/// One of the parts into which the places are split.
 #[derive(Clone, Copy)]
 pub struct Part {
-    /// Which one, from 1.
+    /// The number of this part, from 1.
     pub index: u32,
-    /// How many there are.
+    /// The number of parts.
     pub count: u32,
 }
 
-/// What a sweep is asked for.
+/// The request that the arguments of a sweep make.
 #[derive(Drop)]
 pub struct Request {
     /// The bytes of the input, if some are named.
     pub bytes: Option<Range>,
-    /// What they get.
+    /// The values that they get.
     pub byte_values: ByteValues,
     /// The addresses of words, if some are named.
     pub words: Option<Range>,
-    /// What they get.
+    /// The values that they get.
     pub word_values: WordValues,
     /// The part of the places.
     pub part: Part,
 }
 
-/// Returns a range from a place on, of what comes behind the dots.
+/// Returns a range from a place on, given what follows the dots.
 fn range_to(first: u32, end: &[u8]) -> Option<Range>
     ensures { result ≡ up_to (Some first) end.now }
 {
@@ -75,7 +75,7 @@ fn range_to(first: u32, end: &[u8]) -> Option<Range>
     })
 }
 
-/// Returns a range, of its parts between dots.
+/// Returns a range, given its parts between dots.
 #[tactic(auto, unfolding(crate::specs::Requests::range_in))]
 fn range_in(mut parts: Parts<'_>) -> Option<Range>
     ensures { result ≡ range_in parts.entry }
@@ -107,7 +107,7 @@ fn closed_range(text: &[u8]) -> Option<Range>
     }
 }
 
-/// One of the parts of a sweep, of its numbers.
+/// Returns a part of a sweep, given its numbers.
 #[tactic(auto, unfolding(crate::specs::Requests::part_in))]
 fn part_in(mut parts: Parts<'_>) -> Option<Part>
     ensures value { result ≡ part_in parts.entry }
@@ -127,7 +127,7 @@ fn part_in(mut parts: Parts<'_>) -> Option<Part>
     }
 }
 
-/// Returns a list with one more number, where that is small enough and not there yet.
+/// Returns a list with another number appended, if that is small enough and not in the list yet.
 fn join(list: Vec<u32>, most: u32, next: Option<u32>) -> Result<Option<Vec<u32>>, AllocError>
     ensures { IfOk result (λ longer. option_map (λ v. v.items) longer ≡ joined_by most list.items next) }
 {
@@ -142,7 +142,7 @@ fn join(list: Vec<u32>, most: u32, next: Option<u32>) -> Result<Option<Vec<u32>>
     Ok(Some(list))
 }
 
-/// Numbers between commas, none twice, and none above another.
+/// Returns the numbers between commas, if none is there twice and none is above `most`.
 #[tactic(auto, unfolding(crate::specs::Requests::listed_from))]
 fn list_of(alloc: Global, text: &[u8], most: u32) -> Result<Option<Vec<u32>>, AllocError>
     ensures { IfOk result (λ list. option_map (λ v. v.items) list ≡ list_of most text.now) }
@@ -282,8 +282,8 @@ fn named_part<'a>(text: &'a str) -> Result<Part, End<'a>>
 }
 
 impl Request {
-    /// Returns what the words of a sweep ask for. Their texts are read in the order of the fields of [`SweepWords`]: the first that means
-    /// nothing is how the sweep ends.
+    /// Returns the request in the arguments of a sweep. They are read in the order of the fields of [`SweepWords`]. The first that can't be
+    /// read is how the sweep ends.
     pub fn of<'a>(alloc: Global, words: &SweepWords<'a>) -> Result<Request, End<'a>>
         ensures ok { IfOk result (λ request. IsRequestOf words.now request) }
         ensures part { IfOk result (λ request. IsPart request.part) }
