@@ -1,4 +1,4 @@
-//! Programs by hand, and whether what is told of their runs is what was written down.
+//! Programs by hand, and whether the reports of their runs are those written down.
 use call_stacks::Trace;
 use guest_elf::{Image, read};
 use guest_machine::{Hooks, Input, Machine, Mark, Meter, Setup};
@@ -11,19 +11,19 @@ use std::alloc::{AllocError, Global};
 use std::process::Abort;
 use suppressions::Suppression;
 
-/// What is told of a run. A report shows the kinds of leaks that Memcheck shows, and has no input, if nothing else is said.
+/// What is reported of a run. A report shows the kinds of leaks that Memcheck shows, and has no input, unless something else is said.
 pub(crate) enum Telling {
     /// A report with these first lines and these last ones.
     Ends(&'static [u8], &'static [u8]),
-    /// One with no other lines.
+    /// A report with no other lines.
     Whole(&'static [u8], &'static [u8]),
-    /// One that shows these kinds of leaks: its last lines.
+    /// A report that shows these kinds of leaks: its last lines.
     Shown([bool; 4], &'static [u8]),
-    /// One for an input of so many bytes, of which none is read: its first lines.
+    /// A report for an input of this length, of which nothing is read: its first lines.
     OfInput(u64, &'static [u8]),
-    /// One behind a text: that text with its first lines.
+    /// A report after a text: that text with its first lines.
     Behind(&'static [u8], &'static [u8]),
-    /// One that shows all, with possible leaks suppressed: its last lines.
+    /// A report that shows all kinds of leaks, with possible leaks suppressed: its last lines.
     Hidden(&'static [u8]),
     /// An outline, with the output or without.
     Outline(bool, &'static [u8]),
@@ -34,7 +34,7 @@ pub(crate) enum Telling {
 /// The kinds of leaks that Memcheck shows.
 pub(crate) const MEMCHECK: [bool; 4] = [true, false, true, false];
 
-/// How a report is made, and what it should be.
+/// The options of a report, and its expected text.
 #[derive(Clone, Copy)]
 struct Report {
     input_len: u64,
@@ -45,7 +45,7 @@ struct Report {
     is_whole: bool,
 }
 
-/// One with no input and these lines.
+/// Returns a report without input and with these lines.
 fn plain(front: &'static [u8], back: &'static [u8]) -> Report {
     Report {
         input_len: 0,
@@ -57,7 +57,7 @@ fn plain(front: &'static [u8], back: &'static [u8]) -> Report {
     }
 }
 
-/// Returns the report that is told, if it is one with nothing suppressed.
+/// Returns the expected report, if a report without suppressions is expected.
 fn report_of(telling: &Telling) -> Option<Report> {
     match telling {
         Telling::Ends(front, back) => Some(plain(front, back)),
@@ -81,10 +81,10 @@ fn report_of(telling: &Telling) -> Option<Report> {
     }
 }
 
-/// A label, a program, how many steps it makes, and what is told of it then.
+/// A label, a program, the number of steps executed, and what is reported then.
 pub(crate) type Run = (&'static str, &'static [u32], u32, Telling);
 
-/// Returns the machine after some steps, with no input.
+/// Returns the machine after a number of steps, without input.
 fn stepped(machine: Machine, setup: &Setup, steps: u32) -> Result<Machine, AllocError> {
     let mut meter = Meter::new();
     let mut machine = machine;
@@ -105,7 +105,7 @@ fn started(alloc: Global, image: &Image) -> Result<Machine, AllocError> {
     })
 }
 
-/// Memcheck's redzone and volume of freed blocks, and an input.
+/// Returns a setup of Memcheck's redzone and volume of freed blocks, and an input.
 pub(crate) fn setup_of(alloc: Global, input: Input) -> Setup {
     Setup {
         input,
@@ -115,7 +115,7 @@ pub(crate) fn setup_of(alloc: Global, input: Input) -> Setup {
     }
 }
 
-/// Returns the machine of a program after some steps.
+/// Returns the machine of a program after a number of steps.
 fn machine_after(alloc: Global, image: &Image, steps: u32) -> Result<Machine, AllocError> {
     let setup = setup_of(alloc, Input::new(Vec::new(alloc)));
     stepped(started(alloc, image)?, &setup, steps)
@@ -182,7 +182,7 @@ fn hides(
     Ok(out.ends_with(back))
 }
 
-/// The same, where possible leaks are suppressed.
+/// Returns the same if possible leaks are suppressed.
 fn hides_possible(
     alloc: Global,
     image: &Image,
@@ -224,7 +224,7 @@ fn are_records(records: &[LeakRecord], leaks: &[(u32, LeakKind, u32)]) -> bool {
     records.len() == leaks.len()
 }
 
-/// Returns whether a search answers these.
+/// Returns whether a search returns these leaks.
 fn has_leaks(
     alloc: Global,
     machine: &Machine,
@@ -234,7 +234,7 @@ fn has_leaks(
     Ok(are_records(&records, leaks))
 }
 
-/// Returns whether that is told of a machine.
+/// Returns whether a machine's report is as expected.
 fn is_told_by(
     alloc: Global,
     image: &Image,
@@ -254,13 +254,13 @@ fn is_told_by(
     }
 }
 
-/// Returns whether it is of the run of an image.
+/// Returns whether it is for the run of an image.
 fn is_told_on(alloc: Global, image: &Image, run: &Run) -> Result<bool, AllocError> {
     let machine = machine_after(alloc, image, run.2)?;
     is_told_by(alloc, image, &machine, run)
 }
 
-/// Returns whether it is of a file's.
+/// Returns whether it is for the run of a file.
 fn is_told_of(alloc: Global, file: &[u8], run: &Run) -> Result<bool, AllocError> {
     match read(alloc, file) {
         Ok(image) => is_told_on(alloc, &image, run),
@@ -268,13 +268,13 @@ fn is_told_of(alloc: Global, file: &[u8], run: &Run) -> Result<bool, AllocError>
     }
 }
 
-/// Returns whether it is of a program's.
+/// Returns whether it is for the run of a program.
 fn is_told(alloc: Global, run: &Run) -> Result<bool, AllocError> {
     let file = program(alloc, run.1)?;
     is_told_of(alloc, &file, run)
 }
 
-/// Asserts that what runs tell is told.
+/// Asserts that the reports of runs are as expected.
 pub(crate) fn assert_told(rt: &impl Abort, alloc: Global, runs: &[Run]) {
     for run in runs {
         assert!(rt; matches!(is_told(alloc, run), Ok(true)), "{}", run.0);
