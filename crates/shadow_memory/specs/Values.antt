@@ -1,4 +1,4 @@
--- Words by their values: which of the words that a memory holds have one in a range.
+-- Words by their values: the words of a memory whose value lies in a range.
 use Rattle.std.specs.Prelude.{ℕ, Bool, true, false, ◌&&◌, ◌+◌, ◌%◌, ◌<◌, ◌≤◌, ◌≡◌, nat_le, nat_lt}
 use Rattle.shadow_memory.specs.Ranges.{little_word}
 use Rattle.shadow_memory.specs.Shadows.{Shadow, holds_word}
@@ -17,7 +17,7 @@ abbrev pub HoldNoneInRange : (ℕ → ℕ) → (ℕ → Shadow) → ℕ → ℕ 
 HoldNoneInRange bytes shadows low high from to =
     (a : ℕ) → from ≤ a → a < to → a % 4 ≡ 0 → holds_in_range bytes shadows low high a ≡ false
 
--- the least multiple of 4, at or above an address, that does
+-- the least multiple of 4, at or above an address, that holds such a word
 pub record IsNextInRange (bytes : ℕ → ℕ) (shadows : ℕ → Shadow) (low high from word : ℕ) : Type 0 where
   pub above : from ≤ word
   pub aligned : word % 4 ≡ 0
