@@ -25,7 +25,7 @@ impl Machine {
         self.guest.status
     }
 
-    /// The address of the next instruction; of a stopped or exited machine, of its last one.
+    /// The address of the next instruction; for a stopped or exited machine, of its last one.
     pub fn pc(&self) -> u32
         ensures { (s : State) → Shows self.now s → result ≡ s.core.pc }
     {
@@ -46,14 +46,14 @@ impl Machine {
         self.guest.progress.end_seen
     }
 
-    /// How many bytes were written out.
+    /// The number of bytes written.
     pub fn output_len(&self) -> u64
         ensures { (s : State) → Shows self.now s → result ≡ length s.output }
     {
         self.guest.progress.output_len
     }
 
-    /// How many heap calls were made.
+    /// The number of heap calls.
     pub fn heap_calls(&self) -> u64
         ensures { (s : State) → Shows self.now s → result ≡ s.heap_calls }
     {
