@@ -1,4 +1,4 @@
-//! A command on a program is carried out: its files are read, and a report printed or a session served.
+//! Carries out a command on a program: reads its files, and prints a report or serves a session.
 ghost use Rattle.std.specs.Prelude.{◌≡◌, ◌≤◌, ◌<◌, ◌^◌, Some, IfOk, IfErr, length, option_map};
 ghost use Rattle.replay_session.specs.Replies.{Answers};
 ghost use Rattle.replay_session.specs.Stages.{fresh};
@@ -25,11 +25,11 @@ use suppressions::{Suppression, TEXT_LIMIT, parse};
 use sweep_plans::Request;
 use sweep_tables::sweep_program;
 
-/// How many bytes of a program's file are judged, and one more where it has more. A file is refused for its size at fewer; of one that has
-/// more still, the refusal is that of this front.
+/// The number of bytes of a program's file that are judged, and one more if the file is larger. A file is rejected for its size at fewer
+/// bytes; of a larger file, only this front is judged.
 pub const MOST_READ: usize = 67_108_864;
 
-/// The bytes of a file up to a limit, and one more where it has more.
+/// The bytes of a file up to a limit, and one more if the file is larger.
 fn read_front<'a, F: Files>(
     alloc: Global,
     files: &F,
@@ -90,7 +90,7 @@ fn read_named_text<'a, F: Files>(
     }
 }
 
-/// How the program ends where standard input gives no bytes.
+/// How the program ends if standard input gives no bytes.
 fn end_of_input<'a>(fault: ReadFault) -> End<'a>
     ensures { result ≡ end_of_input fault }
 {
@@ -213,7 +213,7 @@ fn serve_looks<'a, R: Read, W: Write>(
     Ok(looks::serve(session, reader, writer)?)
 }
 
-/// What is done with a program whose files were read.
+/// What to do with a program whose files were read.
 #[derive(Clone, Copy)]
 pub(crate) enum Action {
     /// The report of a step is printed.
@@ -226,7 +226,8 @@ pub(crate) enum Action {
     Certify(u32),
 }
 
-/// Follows an order for the report or the verdict of a step, or for a session: the program is read, then the suppressions, then the input, each judged before the next is read.
+/// Carries out an order for the report or the verdict of a step, or for a session: the program is read, then the suppressions, then the
+/// input, each judged before the next is read.
 fn follow_order<'a, F: Files, R: Read, W: Write>(
     alloc: Global,
     order: &Order<'a>,
@@ -250,7 +251,7 @@ fn follow_order<'a, F: Files, R: Read, W: Write>(
     }
 }
 
-/// Sweeps a program by what else an order names: the suppressions are read, then the input, each judged before the next.
+/// Sweeps a program by the rest of an order: the suppressions are read, then the input, each judged before the next is read.
 fn sweep_image<'a, F: Files, R: Read, W: Write>(
     alloc: Global,
     order: &Order<'a>,
@@ -283,7 +284,8 @@ fn sweep_image<'a, F: Files, R: Read, W: Write>(
     )
 }
 
-/// Follows an order for a sweep: its words are read, and then the program, the suppressions and the input, each judged before the next.
+/// Carries out an order for a sweep: its arguments are read, and then the program, the suppressions and the input, each judged before the
+/// next is read.
 fn follow_sweep<'a, F: Files, R: Read, W: Write>(
     alloc: Global,
     order: &Order<'a>,
@@ -315,7 +317,7 @@ fn ended<'a>(done: Result<(), End<'a>>) -> End<'a>
     }
 }
 
-/// Does what is asked for, and answers how the program ends.
+/// Carries out an order, and returns how the program ends.
 pub fn run_order<'a, F: Files, R: Read, W: Write>(
     alloc: Global,
     order: &Order<'a>,

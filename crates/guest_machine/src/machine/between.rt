@@ -89,7 +89,8 @@ impl Guest {
         self.memory.learn(self.alloc, &other.memory);
     }
 
-    /// Takes over what another guest has decoded, for the words that are the same in both memories, unless this one has decoded something itself.
+    /// Takes over what another guest has decoded, for the words that are the same in both memories, unless this one has decoded something
+    /// itself.
     fn take_over(&mut self, other: &mut Guest)
         ensures same { self.new ≡ self.old }
         ensures other { other.new ≡ other.old }
@@ -189,8 +190,8 @@ impl Machine {
         self.guest.learn(&other.guest);
     }
 
-    /// Takes over the instructions that another machine has decoded, for the words that are the same in both, unless this one has decoded some itself.
-    /// The other one's next steps cost more then. What the two show stays.
+    /// Takes over the instructions that another machine has decoded, for the words that are the same in both, unless this one has decoded
+    /// some itself. The other one's next steps cost more then. What the two show stays.
     pub fn take_over(&mut self, other: &mut Machine)
         ensures same { self.new ≡ self.old }
         ensures other { other.new ≡ other.old }
