@@ -1,5 +1,5 @@
--- What becomes of a command on a program: its files are read in order, each judged before the next, and then a report
--- is printed or lines are answered.
+-- The outcome of a command on a program: its files are read in order, each judged before the next, and then a report is
+-- printed or lines are answered.
 use Rattle.std.specs.Prelude.{ℕ, ◌≡◌, ◌+◌, ◌<◌, ◌≤◌, ◌⊎◌, List, [], Option, Some, None, length, take}
 use Rattle.std.specs.Io.KnownBytes.{Appends, Consumes}
 use Rattle.command_line.specs.Orders.{input_path, rules_path}
@@ -28,19 +28,19 @@ use Rattle.suppressions.specs.Rules.{Rule}
 use Rattle.suppressions.specs.Texts.{faults, rules, IsLeast}
 use Rattle.suppressions.specs.declared.fault.SuppFault.TheVariants as Supp
 
--- what files give: a path's bytes, or none where it can't be read
+-- what files give: a path's bytes, or none if it can't be read
 abbrev pub Giving : Type 1
 Giving = List ℕ → Option (List ℕ) → Type 0
 
--- how many bytes of a program's file are judged, and one more; and the most bytes of a text of suppressions (this
--- project's limits)
+-- the number of bytes of a program's file that are judged, and one more; and the greatest number of bytes of a text of
+-- suppressions (this project's limits)
 abbrev pub most_judged : ℕ
 most_judged = 67108864
 
 abbrev pub longest_text : ℕ
 longest_text = 1048576
 
--- what standard input still has, and what standard output was given, where they tell it
+-- what standard input still has, and what standard output was given, if they say so
 pub record Streams : Type 0 where
   pub left : Option (List ℕ)
   pub held : Option (List ℕ)
@@ -52,17 +52,17 @@ streams left held = record { left = left; held = held }
 abbrev pub Untouched : Streams → Streams → Type 0
 Untouched old new = Consumes old.left new.left [] × Appends old.held new.held []
 
--- a file's bytes up to a limit, and one more where it has more
+-- a file's bytes up to a limit, and one more if it is larger
 abbrev pub IsFront : Giving → List ℕ → ℕ → List ℕ → Type 0
 IsFront gives path limit front = (bytes : List ℕ) × gives path (Some bytes) × (front ≡ take (limit + 1) bytes)
 
--- a file gave no bytes: it can't be read, and the end names it as the order does; or memory was wanting
+-- a file gave no bytes: it can't be read, and the end names it as the order does; or memory ran out
 abbrev pub NoBytes : Giving → List ℕ → End → Type 0
 NoBytes gives path (CannotRead named) = (named.now ≡ path) × gives path None
 NoBytes gives path NoMemory = Unit {0}
 NoBytes gives path end = ⊥
 
--- why a program is refused: the first of the reasons, or want of memory, which hides none of those that are found
+-- why a program is rejected: the first of the reasons, or memory ran out, which hides none of those that are found
 -- without memory
 abbrev pub IsRefusedBy : ElfFault → List ℕ → Type 0
 IsRefusedBy fault front =
@@ -77,7 +77,7 @@ abbrev pub NoImage : Giving → List ℕ → End → Type 0
 NoImage gives path (Image fault) = (front : List ℕ) × IsFront gives path most_judged front × IsRefusedBy fault front
 NoImage gives path end = NoBytes gives path end
 
--- the suppressions of a file's text, or none where no file is named
+-- the suppressions of a file's text, or none if no file is named
 abbrev pub HasRules : Giving → Option (List ℕ) → List Rule → Type 0
 HasRules gives None list = list ≡ []
 HasRules gives (Some path) list =
@@ -92,7 +92,7 @@ NoRules gives (Some path) (Suppressions Supp.Memory) =
     (text : List ℕ) × gives path (Some text) × (length text ≤ longest_text)
 NoRules gives (Some path) end = NoBytes gives path end
 
--- the bytes of an input's file, or none where no file is named
+-- the bytes of an input's file, or none if no file is named
 abbrev pub HasInput : Giving → Option (List ℕ) → List ℕ → Type 0
 HasInput gives None input = input ≡ []
 HasInput gives (Some path) input = gives path (Some input) × (length input ≤ longest_input)
@@ -102,15 +102,15 @@ NoInput gives None end = ⊥
 NoInput gives (Some path) InputTooLarge = (input : List ℕ) × gives path (Some input) × (longest_input < length input)
 NoInput gives (Some path) end = NoBytes gives path end
 
--- a report was printed; or a front of one, after which a write failed; or nothing, for want of memory
+-- a report was printed; or a front of one, after which a write failed; or nothing, as memory ran out
 abbrev pub Reports : (List ℕ → Type 0) → Option (List ℕ) → Option (List ℕ) → End → Type 0
 Reports is_report old new Done = WritesReport is_report old new
 Reports is_report old new CannotWrite = (sent : ℕ) × StopsBy (ReportCut sent) is_report old new
 Reports is_report old new NoMemory = Appends old new []
 Reports is_report old new end = ⊥
 
--- lines were answered to their end; or up to where a read failed or found no end, or a write failed; or not at all, for
--- want of memory
+-- lines were answered to their end; or up to where a read failed or found no end, or a write failed; or not at all, as
+-- memory ran out
 abbrev pub Serves : Relation → Streams → Streams → End → Type 0
 Serves AreReplies old new Done =
     ServedAll AreReplies old.left old.held new.held × ServedRead AreReplies old.left new.left old.held new.held
@@ -121,8 +121,8 @@ Serves AreReplies old new CannotWrite =
 Serves AreReplies old new NoMemory = Untouched old new
 Serves AreReplies old new end = ⊥
 
--- what is asked for was done with a program, its suppressions and its input: the report of a step, a session, one that
--- can be looked at, or the verdict up to a step, on which suppressions have no say
+-- what an order asks for was done with a program, its suppressions and its input: the report of a step, a session, one
+-- that can be looked at, or the verdict up to a step, which doesn't depend on suppressions
 abbrev pub Does : Action → ProgramImage → List Rule → List ℕ → Streams → Streams → End → Type 0
 Does (Report step) image list input old new end =
     Consumes old.left new.left [] × Reports (IsReportOnce image input list step) old.held new.held end
@@ -131,7 +131,8 @@ Does Look image list input old new end = Serves (ViewsLines (fresh (opening imag
 Does (Certify step) image list input old new end =
     Consumes old.left new.left [] × Certifies image input step old.held new.held end
 
--- with the program and its suppressions: the input is read, and what is asked for done, or the input ends the program
+-- with the program and its suppressions: the input is read, and what the order asks for is done, or the input ends the
+-- program
 abbrev pub CarriedWithRules : Giving → Order → Action → ProgramImage → List Rule → Streams → Streams → End → Type 0
 CarriedWithRules gives order action image list old new end =
     (NoInput gives (input_path order) end × Untouched old new)
