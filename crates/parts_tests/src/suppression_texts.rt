@@ -1,4 +1,4 @@
-//! Texts and arguments of suppressions, and what comes of reading them.
+//! Texts and arguments of suppressions, and the results of reading them.
 use crate::holds;
 use error_events::{Kind, Parameter, ParameterFault};
 use leak_graph::LeakKind;

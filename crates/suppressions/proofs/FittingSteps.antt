@@ -7,7 +7,7 @@ use Rattle.std.proofs.lemmas.List.{take-append-drop, length-append, drop-drop}
 use Rattle.std.proofs.lemmas.Bool.{false≢true}
 use Rattle.suppressions.specs.Fitting.{FitsPieces, FitsFront, IsStar, IsSingle, StandsAt}
 
--- what stands at a place
+-- the piece at a place
 pub stands_here : {X : Type 0} (xs : List X) (at : ℕ) (x : X) → at < length xs → x ≡ get_or xs at x → StandsAt xs at x
 stands_here xs at x lt is = rw (add-one) (drop-cons xs at x lt ∙ ap (λ y. y ∷ drop (suc at) xs) (sym is))
 
