@@ -9,7 +9,7 @@ Relation = List (List ℕ) → List (List ℕ) → Type 0
 
 -- one reply for each line, up to the first that is rejected because there were too many; the next line meets what is
 -- left after it. What lines meet and leave is of any type: `Replies` says which reply to a line leaves what, and
--- `is_over` whether as many were given as are answered
+-- `is_over` whether the limit of lines is reached
 abbrev pub AnswersBy : {S : Type 0} → (S → List ℕ → List ℕ → S → Type 0) → (S → Bool) → S → Relation
 AnswersBy Replies is_over stage [] replies = replies ≡ []
 AnswersBy Replies is_over stage (line ∷ lines) [] = ⊥

@@ -37,7 +37,7 @@ pub record Fed (from after : Relation) (old new : Server) (held-old held-new : O
       → after (take n (lines_by last new.kept.items more)) rs
       → from (take all (lines_by last old.kept.items (bytes ++ more))) (done ++ rs)
 
--- as many lines were given as are answered: whatever comes, these are all the replies
+-- the limit of lines was reached: whatever comes, these are all the replies
 pub record Over (from : Relation) (old : Server) (held-old held-new : Option (List ℕ)) (bytes : List ℕ) : Type 0 where
   pub done : List (List ℕ)
   pub appended : Appends held-old held-new (joined done)
@@ -70,8 +70,8 @@ IsFresh server = (server.kept.items ≡ []) × (server.written.replies ≡ 0) ×
 abbrev pub Reads : Option (List ℕ) → Option (List ℕ) → (List ℕ → Type 0) → Type 0
 Reads left-old left-new P = (seen : List ℕ) × Consumes left-old left-new seen × P seen
 
--- it has ended with the bytes that were read: as many lines were given as are answered, or there are no bytes since
--- there are no more
+-- it has ended with the bytes that were read: the limit of lines was reached, or there are no bytes since there are no
+-- more
 abbrev pub Ends : Relation → Server → Option (List ℕ) → Option (List ℕ) → Option (List ℕ) → List ℕ → Type 0
 Ends from old left held-old held-new seen =
     Over from old held-old held-new seen ⊎ ((seen ≡ []) × IsAtEnd left × Ended from old held-old held-new)

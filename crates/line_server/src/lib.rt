@@ -2,7 +2,7 @@
 //!
 //! | Item | What it is |
 //! |---|---|
-//! | [`Listener`] | what answers lines: what a line leaves of it, the text of its reply, and whether as many lines were given as are answered |
+//! | [`Listener`] | what answers lines: what a line leaves of it, the text of its reply, and whether its limit of lines is reached |
 //! | [`serve`] | has each line answered and writes its reply, or stops with a [`ServeFault`] |
 //! | [`send`] | writes bytes, all of them, and flushes; a [`Sent`] says how many were taken |
 //! | [`READS`], [`LONGEST_LINE`] | its limits: calls of `read`, and bytes of a line that is distinguished from others |
@@ -10,7 +10,7 @@
 //! # What a caller can rely on
 //!
 //! [`serve`]: at the end, it has written the replies to the lines of all bytes read, up to and including the first line that was given
-//! after as many lines as are answered, and nothing else (`Served`). On a fault, it has written the whole replies to the first lines whose
+//! after the limit of lines was reached, and nothing else (`Served`). On a fault, it has written the whole replies to the first lines whose
 //! newline was read. After a failed write it has also written a front of the next reply, with the stated numbers of whole replies and bytes
 //! (`StopsBy`). Bytes after the last newline are a line only at the reader's end. The listener determines the replies to lines (`Answers`).
 //!

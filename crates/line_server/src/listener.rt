@@ -10,10 +10,10 @@ pub trait Listener {
     /// The text of its last reply.
     ghost reply: { Self → List ℕ };
 
-    /// Were as many lines given as are answered?
+    /// Whether the limit of lines is reached.
     ghost over: { Self → Bool };
 
-    /// Returns whether as many lines were given as are answered. The next line is still answered, and is the last.
+    /// Returns whether the limit of lines is reached. The next line is still answered, and is the last.
     fn is_over(&self) -> bool
         ensures { result ≡ over self.now };
 

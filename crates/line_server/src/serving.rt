@@ -23,8 +23,8 @@ pub const READS: u32 = 500_000_000;
 pub const LONGEST_LINE: usize = 4096;
 
 /// Has each line of a reader answered, writes its reply, and flushes after each. Drops one carriage return before a newline; bytes after
-/// the last newline are a line. Ends at the reader's end, or after the first reply to a line that was given after as many lines as are
-/// answered. Tries an interrupted read again, but not an interrupted write.
+/// the last newline are a line. Ends at the reader's end, or after the reply to the first line that is given after the limit of lines was
+/// reached. Tries an interrupted read again, but not an interrupted write.
 pub fn serve<L: Listener, R: Read, W: Write>(
     alloc: Global,
     listener: &mut L,

@@ -20,7 +20,7 @@ use Rattle.look_lines.specs.declared.look.Look.{Look}
 use Rattle.look_lines.specs.declared.look.Look.TheVariants.{Registers, Memory, Next, Last, Certify}
 use Rattle.looks.specs.declared.viewer.Viewer.{Viewer}
 
--- does a line look? One that is too long doesn't, and none does once as many lines were given as are answered
+-- does a line look? One that is too long doesn't, and none does once the limit of lines is reached
 unfoldable pub looks : Turn → List ℕ → Bool
 looks turn line = starts_with nat_eq line (codes "look ") && not (is_over turn) && nat_le (length line) longest_line
 

@@ -62,7 +62,7 @@ Replies old line text new =
     × Moves old line text new
     × MayShorten old.turn.scenario (accepted old.turn line) old.short new.short
 
--- were as many lines given as are answered?
+-- is the limit of lines reached?
 abbrev pub is_over : Turn → Bool
 is_over turn = nat_le most_lines turn.lines
 

@@ -10,7 +10,7 @@
 //! |---|---|
 //! | [`Session::begin`] | returns a session of a program with an input and suppressions, or a [`BeginFault`] |
 //! | [`Session::command`] | answers one line: a [`Reply`], or a [`Fault`] with its number; appends the bytes of a report |
-//! | [`Session::is_over`] | returns whether as many lines were given as are answered |
+//! | [`Session::is_over`] | returns whether the limit of lines is reached |
 //! | [`Session::allocator`] | returns the allocator of its memory |
 //! | [`Session::certify`] | appends the line of the verdict on the run up to the chosen step |
 //! | [`Session::trail`] | returns the held machines, on whose meter each step counts that a report executes |

@@ -96,7 +96,7 @@ impl<'a> Session<'a> {
         self.alloc
     }
 
-    /// Returns whether as many lines were given as are answered. The next one is answered by `refused 12`.
+    /// Returns whether the limit of lines is reached. The next line is answered by `refused 12`.
     #[tactic(auto, unfolding(crate::specs::Session::turn_of))]
     pub fn is_over(&self) -> bool
         ensures { result ≡ is_over (turn_of self.now) }

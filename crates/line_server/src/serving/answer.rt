@@ -26,8 +26,8 @@ impl Written {
     }
 }
 
-/// Has a line answered, and writes its reply. Returns whether as many lines were given before as are answered, or that a write or a flush
-/// failed.
+/// Has a line answered, and writes its reply. Returns whether this line was the last: the limit of lines was reached before it. Fails if a
+/// write or a flush fails.
 pub(crate) fn answer<L: Listener, W: Write>(
     listener: &mut L,
     written: &mut Written,

@@ -55,7 +55,7 @@ impl Server {
         }
     }
 
-    /// Takes the next byte. Returns whether as many lines were given as are answered.
+    /// Takes the next byte. Returns whether the last line was answered, since the limit of lines is reached.
     fn take<L: Listener, W: Write>(
         &mut self,
         listener: &mut L,
@@ -81,7 +81,7 @@ impl Server {
         Ok(over)
     }
 
-    /// Takes the next bytes. Returns whether as many lines were given as are answered.
+    /// Takes the next bytes. Returns whether the last line was answered, since the limit of lines is reached.
     pub(crate) fn feed<L: Listener, W: Write>(
         &mut self,
         listener: &mut L,
