@@ -1,15 +1,15 @@
 //! The heap of a guest: its live blocks, and the queue of the freed ones that aren't forgotten yet.
 //!
 //! A heap call of the guest asks a [`Heap`] for the lowest place, or frees the block at an address. A freed block is kept in a queue of
-//! bounded volume, so that errors can name it and its place isn't used again too soon (Memcheck manual, section 4.3, `--freelist-vol`).
-//! Either side of a block has a redzone (Valgrind core manual, section 2.6, `--redzone-size`).
+//! bounded volume, so that errors can name it, and its place isn't used again before it leaves the queue (Memcheck manual, section 4.3,
+//! `--freelist-vol`). Either side of a block has a redzone (Valgrind core manual, section 2.6, `--redzone-size`).
 //!
 //! # Public items
 //!
 //! | Call | What it does |
 //! |---|---|
 //! | [`Heap::new`] | returns a heap with no blocks |
-//! | [`Heap::allocate`] | returns the least place of all, where the new block then is, or none |
+//! | [`Heap::allocate`] | allocates a block and returns its start, the least place of all, or none if there is no place |
 //! | [`Heap::release`] | frees a block and returns it; the queue is then the longest suffix whose sizes sum to at most the volume |
 //! | [`Heap::live`] | returns the live block with the least start that isn't below an address |
 //! | [`Heap::block_near`] | returns the kept block whose interval holds an address, and where in it the address lies |
@@ -43,8 +43,8 @@
 //! search is a few steps, a change after a copy copies one row of each kind and one leaf, and `share` copies a reference for each table and
 //! one for each run. What is kept of a block has references to its traces. Blocks of the same calls share these while the heap remembers
 //! them (`traces.rt`). `allocate` keeps a bound for each class of sizes, below which the class has no place, and one range further up
-//! (`bounds.rt`). It looks only at kept blocks from there on. A block that leaves the queue makes it forget no more of this than the room
-//! that the block leaves.
+//! (`bounds.rt`). It looks at kept blocks only from there on. When a block leaves the queue, it forgets no more of this than the room that
+//! the block leaves.
 #![tactic(auto)]
 
 mod bounds;
