@@ -56,7 +56,7 @@ abbrev pub IsLast : (ℕ → Type 0) → ℕ → ℕ → Option ℕ → Type 0
 IsLast P from before None = (k : ℕ) → from ≤ k → k < before → P k → ⊥
 IsLast P from before (Some l) = (from ≤ l) × (l < before) × P l × ((k : ℕ) → l < k → k < before → P k → ⊥)
 
--- ---- how many steps are made
+-- ---- the number of steps executed
 
 -- the greatest number of steps to look for the next one: those up to and including the step that is found, or all
 abbrev pub next_price : ℕ → ℕ → Option ℕ → ℕ
