@@ -8,7 +8,8 @@ pub fn steps_agree(input: &[u8])
     ensures { StepsAgree input.now }
 {}
 
-/// So does a run, whatever undefined and inaccessible values change to between its steps.
+/// A run without uses agrees with each disturbed run of it where it is defined, whatever undefined and inaccessible values change to
+/// between its steps.
 pub fn runs_agree(input: &[u8])
     ensures { RunsAgree input.now }
 {}
@@ -23,12 +24,12 @@ pub fn clean_runs(input: &[u8])
     ensures { CleanRuns input.now }
 {}
 
-/// In particular, nothing that undefined or inaccessible memory holds at power-on has an influence on it.
+/// Nothing that undefined or inaccessible memory holds at power-on has an influence on a program's run without uses.
 pub fn power_on(input: &[u8])
     ensures { PowerOn input.now }
 {}
 
-/// So each report of a run without uses is the report of each disturbed run.
+/// Each report of a run without uses is the report of each disturbed run.
 pub fn clean_reports(input: &[u8])
     ensures { CleanReports input.now }
 {}
@@ -53,12 +54,12 @@ pub fn heap_stays_open()
     ensures { HeapStaysOpen }
 {}
 
-/// No other byte of the heap region may be accessed.
+/// No byte of the heap region may be accessed except those of live blocks.
 pub fn heap_stays_closed()
     ensures { HeapStaysClosed }
 {}
 
-/// A load or a store that raises no error accesses only bytes of live blocks in the heap region.
+/// In the heap region, a load or a store that raises no error accesses only bytes of live blocks.
 pub fn accesses_are_live()
     ensures { AccessesAreLive }
 {}

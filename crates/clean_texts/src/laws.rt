@@ -7,18 +7,18 @@ pub fn no_errors_means_none()
     ensures { NoErrorsMeansNone }
 {}
 
-/// A report that ends with this line certifies the run, if no mark is in the way: each disturbed run agrees with it up to the step, and has
-/// the same reports.
+/// A report that ends with the line of no errors certifies its run, if no mark is in the way: each disturbed run agrees with it up to the
+/// step, and has the same reports.
 pub fn clean_texts(input: &[u8])
     ensures { CleanTexts input.now }
 {}
 
-/// In particular, this holds for each such report of a session in whose scenario no mark is in the way.
+/// A report of a session that ends with the line of no errors certifies the run, if no mark of the session's scenario is in the way.
 pub fn printed_texts(input: &[u8])
     ensures { PrintedTexts input.now }
 {}
 
-/// It also holds for each such report that `replaycheck run` prints; such a run has no marks.
+/// A report that `replaycheck run` prints and that ends with the line of no errors certifies the run, which has no marks.
 pub fn run_texts(input: &[u8])
     ensures { RunTexts input.now }
 {}

@@ -33,7 +33,7 @@
 //! | `input OFFSET BYTE` | replaces a byte of the input |
 //! | `input append BYTE` | appends a byte to the input, which may have 1,048,576 |
 //! | `input cut` | removes the last byte of the input |
-//! | `patch ADDR WORD` | replaces a loaded word, the lowest byte first; its undefined bits stay as they are |
+//! | `patch ADDR WORD` | replaces a loaded word, the lowest byte first; its accessibility and undefined bits stay |
 //! | `mark STEP ADDR LEN KIND` | makes a range `defined`, `undefined` or `noaccess` just before a step |
 //! | `unmark I` | removes mark I, counted from 0; later ones move down |
 //! | `supp on I`, `supp off I` | switches suppression I on or off, counted from 0 |

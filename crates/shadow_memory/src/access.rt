@@ -118,8 +118,8 @@ impl Memory {
         self.store_anywhere(addr, n, bits)
     }
 
-    /// Stores the same by one look-up, without allocating, if the bits are defined, the bytes lie in one page that no other memory shares,
-    /// and that page's bytes there are all accessible. Returns whether it did.
+    /// Stores as [`Memory::store`] does, by one look-up and without allocating, if the bits are defined, the bytes lie in one page that no
+    /// other memory shares, and what is there is all accessible. Returns whether it did.
     #[inline(always)]
     pub fn store_at_once(&mut self, addr: u32, n: u32, bits: Bits) -> bool
         requires { IsWidth n }

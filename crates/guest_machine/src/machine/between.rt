@@ -172,8 +172,8 @@ impl Machine {
         })
     }
 
-    /// See [`Machine::share`]. This is for several copies that each continue the run: they have decoded what this machine has, so that
-    /// their first steps cost no more than later ones. If memory runs out only for that, a copy has decoded nothing.
+    /// Returns a copy as [`Machine::share`] does, for several copies that each continue the run: they have decoded what this machine has,
+    /// so that their first steps cost no more than later ones. If memory runs out only for that, a copy has decoded nothing.
     pub fn share_ready(&self) -> Result<Machine, AllocError>
         ensures { IfOk result (λ copy. (s : State) → Shows self.now s → Shows copy s) }
     {
@@ -199,8 +199,8 @@ impl Machine {
         self.guest.take_over(&mut other.guest);
     }
 
-    /// See [`Machine::share`]. This is for the copy that continues the run: instructions that were decoded move to it. What this machine
-    /// shows stays, and its next steps cost more.
+    /// Returns a copy as [`Machine::share`] does, for the copy that continues the run: instructions that were decoded move to it. What this
+    /// machine shows stays, and its next steps cost more.
     pub fn hand_on(&mut self) -> Result<Machine, AllocError>
         ensures same { self.new ≡ self.old }
         ensures copy { IfOk result (λ copy. (s : State) → Shows self.old s → Shows copy s) }
