@@ -57,7 +57,7 @@ pub enum Fault {
 }
 
 impl Fault {
-    /// The number of the fault, from 1 to 14, as a reply has it.
+    /// Returns the number of the fault, from 1 to 14, as a reply has it.
     pub fn number(self) -> u8
         ensures { result ≡ number_of self }
     {

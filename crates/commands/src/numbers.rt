@@ -37,7 +37,7 @@ fn number_in(base: u64, most: usize, field: &[u8]) -> Option<u32>
     u32::try_from(value).ok()
 }
 
-/// A number: decimal, or hexadecimal after `0x`.
+/// Returns the number in a field: decimal, or hexadecimal after `0x`.
 #[tactic(auto, unfolding(crate::specs::Commands::number))]
 pub fn number(field: &[u8]) -> Option<u32>
     ensures { result ≡ number field.now }

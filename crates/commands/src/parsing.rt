@@ -301,7 +301,7 @@ fn command_of(word: &[u8], fields: Parts<'_>) -> Result<Command, Fault>
     }
 }
 
-/// The command of a line, or why it is none.
+/// Returns the command of a line, or why it is none.
 #[tactic(auto, unfolding(crate::specs::Commands::parsed))]
 pub fn parse(alloc: Global, line: &[u8]) -> Result<Command, Fault>
     ensures { Reads (parsed line.now) result }

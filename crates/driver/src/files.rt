@@ -47,7 +47,7 @@ impl Files for HostRuntime {
     }
 }
 
-/// The first bytes of an opened file, at most `most` of them; or why it gave none.
+/// Returns the first bytes of an opened file, at most `most` of them; or why it gave none.
 pub fn read_opened<R: Read + Drop>(
     alloc: Global,
     opened: io::Result<R>,

@@ -40,7 +40,7 @@ pub struct Script<'a> {
 impl<'a> Script<'a> {
     ghost use Rattle.std.specs.Prelude.{◌≡◌, ◌-◌, ◌^◌, false};
 
-    /// A reader of some bytes that doesn't fail.
+    /// Returns a reader of some bytes that doesn't fail.
     pub fn new(rest: &'a [u8]) -> Self
         ensures bytes { (result.rest.now ≡ rest.now) × (result.endless ≡ false) × (result.most ≡ 2 ^ 64 - 1) × (result.bytes ≡ 2 ^ 64 - 1) }
         ensures reads { (result.reads ≡ 0) × (result.failing_read ≡ 2 ^ 64 - 1) × (result.interruptions ≡ Interruptions.None) }
@@ -119,7 +119,7 @@ pub struct Room {
 impl Room {
     ghost use Rattle.std.specs.Prelude.{◌≡◌, ◌-◌, ◌^◌, []};
 
-    /// A writer with room for a number of bytes, of which each flush succeeds.
+    /// Returns a writer with room for a number of bytes, of which each flush succeeds.
     pub fn new(alloc: Global, left: usize) -> Self
         ensures bytes { (result.left ≡ left) × (result.most ≡ 2 ^ 64 - 1) × (result.taken.items ≡ []) × (result.flushed ≡ 0) }
         ensures calls { (result.writes ≡ 2 ^ 64 - 1) × (result.flushes ≡ 2 ^ 64 - 1) × (result.refusal ≡ Refusal.Fails) }

@@ -34,7 +34,7 @@ impl Model for Hooks {
 }
 
 impl Hooks {
-    /// The functions at these addresses, which are in order.
+    /// Returns the functions at these addresses, which are in order.
     pub fn new(entries: Vec<(u32, Hook)>) -> Self
         requires { IsNonDecreasingBy (λ (entry : ℕ × HookOf). entry.0) entries.items }
         ensures { result ≡ entries.items }
@@ -43,7 +43,7 @@ impl Hooks {
         Hooks { entries, sieve }
     }
 
-    /// The function that begins at an address; if there are several, the first.
+    /// Returns the function that begins at an address; if there are several, the first.
     #[inline(always)]
     pub fn at(&self, addr: u32) -> Option<Hook>
         ensures { result ≡ hook_at self.now addr }

@@ -18,7 +18,7 @@ impl Model for Input {
 }
 
 impl Input {
-    /// The input with these bytes.
+    /// Returns the input with these bytes.
     pub fn new(bytes: Vec<u8>) -> Self
         ensures { result ≡ bytes.items }
     {

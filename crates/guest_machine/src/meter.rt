@@ -17,7 +17,7 @@ impl Model for Meter {
 }
 
 impl Meter {
-    /// A meter at 0.
+    /// Returns a meter at 0.
     pub fn new() -> Self
         ensures { result ≡ 0 }
     {

@@ -201,7 +201,7 @@ fn look_refusal(look: Look) -> Option<Fault>
     }
 }
 
-/// The look that a line asks for, or why it is rejected.
+/// Returns the look that a line asks for, or why it is rejected.
 #[tactic(auto, unfolding(crate::specs::Looks::asked))]
 pub fn asked(line: &[u8]) -> Result<Look, Fault>
     ensures asked { result ≡ asked line.now }
