@@ -74,7 +74,7 @@ kept_whole n frames fits =
     let none : length frames - n ≡ 0 = omega arith in
     ap (λ k. drop k frames) none
 
--- one more site
+-- another site
 pub sites_more : (pc i : ℕ) (frames : List Frame) (f : Frame) → i < 23 → slice_get frames i ≡ Some f
     → take 24 ((pc ∷ map (λ frame. frame.site) (take i frames)) ++ f.site ∷ []) ≡ pc
     ∷ map (λ frame. frame.site) (take (i + 1) frames)

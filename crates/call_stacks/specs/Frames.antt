@@ -12,11 +12,12 @@ abbrev pub older_than : Option ℕ → List Frame → List Frame
 older_than None frames = frames
 older_than (Some i) frames = drop (i + 1) frames
 
--- a return to an address: the newest frame with that return address goes, and all newer ones; if there is none, nothing
+-- a return to an address removes the newest frame with that return address, and all newer ones, or nothing if there is
+-- none
 unfoldable pub returned : ℕ → List Frame → List Frame
 returned target frames = older_than (position (λ frame. frame.return_to == target) frames) frames
 
--- the most addresses of a trace
+-- the greatest number of addresses of a trace
 abbrev pub longest_trace : ℕ
 longest_trace = 24
 

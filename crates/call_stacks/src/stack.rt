@@ -7,7 +7,7 @@ use circular_buffer::HeapCircularBuffer;
 use std::alloc::{AllocError, Global};
 use std::marker::Model;
 
-/// The most frames of a stack.
+/// The greatest number of frames of a stack.
 const FRAMES: usize = 256;
 
 /// A call that is on the stack.
@@ -38,7 +38,7 @@ impl Model for CallStack {
 
 #[tactic(auto, unfolding(crate::specs::Frames::returned, crate::specs::Frames::trace_at))]
 impl CallStack {
-    /// A stack with no frames, which takes all its memory here.
+    /// Returns a stack with no frames. Allocates all the memory that the stack needs.
     pub fn new(alloc: Global) -> Result<CallStack, AllocError>
         ensures { IfOk result (λ stack. stack ≡ []) }
     {
@@ -46,7 +46,7 @@ impl CallStack {
         Ok(CallStack { frames })
     }
 
-    /// A call from `site` that returns to `ret`; of 257 frames the oldest is dropped. It takes no memory.
+    /// Pushes a call from `site` that returns to `ret`; of 257 frames, drops the oldest. Allocates nothing.
     pub fn call(&mut self, site: u32, ret: u32)
         ensures { self.new ≡ called (record { site = site; return_to = ret }) self.old }
     {
@@ -56,8 +56,8 @@ impl CallStack {
         });
     }
 
-    /// A return to `target`: the newest frame with that return address goes, and all newer ones; if there is none, nothing.
-    /// It takes no memory, and is one pass over the frames.
+    /// Returns to `target`: removes the newest frame with that return address, and all newer ones, or nothing if there is none. Allocates
+    /// nothing, and costs one pass over the frames.
     pub fn back_to(&mut self, target: u32)
         ensures { self.new ≡ returned target self.old }
     {
@@ -67,7 +67,7 @@ impl CallStack {
         }
     }
 
-    /// How many frames are newer than the newest one that returns to `target`.
+    /// Returns the number of frames that are newer than the newest one that returns to `target`.
     fn newest_returning_to(&self, target: u32) -> Option<usize>
         ensures { result ≡ position (λ frame. frame.return_to == target) self.now }
     {
@@ -81,7 +81,7 @@ impl CallStack {
         None
     }
 
-    /// The trace at `pc`: `pc`, and the sites of the newest calls.
+    /// Returns the trace at `pc`: `pc`, and the sites of the newest calls.
     pub fn trace(&self, pc: u32) -> Trace
         ensures { result ≡ trace_at pc self.now }
     {
@@ -94,7 +94,7 @@ impl CallStack {
         trace
     }
 
-    /// A copy, which later changes of the other don't reach. It costs a copy of the frames held.
+    /// Returns a copy, which later changes of the original don't reach. Costs a copy of the frames held.
     pub fn share(&self) -> Result<CallStack, AllocError>
         ensures { IfOk result (λ copy. copy ≡ self.now) }
     {

@@ -1,4 +1,4 @@
--- What the machine at a step tells of an edit's effect, and how far the edited run goes the same way.
+-- What the machine at a step shows of an edit's effect, and how far the edited run does the same.
 use Rattle.std.proofs.Common.{◌≡◌, ℕ, ◌+◌, ◌-◌, ◌*◌, ◌<◌, ◌≤◌, nat_lt, Bool, true, false, List, Option, Some, None}
 use Rattle.std.proofs.Common.{refl, ap, sym, ◌∙◌, subst, arith, inl, inr, length, take, min, get_or}
 use Rattle.std.specs.Prelude.{is_some}
@@ -106,7 +106,7 @@ hidden-at-start Heap trail start setup marks h j l shown =
     omega arith
 hidden-at-start (Word addr word) trail start setup marks h j l shown = let next = shown.1 in omega arith
 
--- ---- how far the edited run goes the same way
+-- ---- how far the edited run does the same
 
 -- the laws of a step that this rests on
 pub record Laws : Type 0 where

@@ -22,7 +22,7 @@ use Rattle.checkpoints.proofs.FirstSteps.{is-low}
 use Rattle.checkpoints.proofs.TrailSteps.{not-used}
 use Rattle.checkpoints.proofs.EffectSteps.{Laws, goes-alike, told-use}
 
--- one step more at which it doesn't show
+-- another step at which it doesn't show
 pub hidden-more : (P : ℕ → Type 0) (k : ℕ) → IsBelowFirst P k → (P (k + 1) → ⊥) → IsBelowFirst P (k + 1)
 hidden-more P k hidden none j l shown = elim (cases_lt k j) [
   | inl past ↦ none (let at : j ≡ k + 1 = omega arith in subst P at shown)

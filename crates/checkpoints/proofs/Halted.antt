@@ -28,7 +28,7 @@ marked-halted k marks s h = marked-runs k marks s ∙ h
 
 module _ (law : StaysHalted) (start : State) (setup : Setup) (marks : List Mark) (from : ℕ)
     (halted : is_running (pre start setup marks from).core.status ≡ false) where
-  -- one more step
+  -- another step
   one-more : (j : ℕ) → is_running (pre start setup marks (from + j)).core.status ≡ false
       → pre start setup marks (from + suc j) ≡ after_marks (from + j) marks (pre start setup marks (from + j))
   one-more j h =

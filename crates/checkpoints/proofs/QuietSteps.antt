@@ -1,4 +1,4 @@
--- One more step of a run, between steps with marks.
+-- Another step of a run, between steps with marks.
 use Rattle.std.proofs.Common.{◌≡◌, ℕ, ◌+◌, ◌*◌, ◌/◌, ◌%◌, ◌<◌, ◌≤◌, ◌⊎◌, ◌∙◌, List, [], refl, ap, cond, min, arith}
 use Rattle.guest_machine.specs.State.{State}
 use Rattle.guest_machine.specs.Exec.{exec, touches, touched_of, has_touched}

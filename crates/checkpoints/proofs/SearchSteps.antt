@@ -58,7 +58,7 @@ halted-unhit law sought start setup marks from halted k l =
     rests-unhit law sought.watch sought.range (post start setup marks k) setup
     (halted-after law start setup marks from halted k l)
 
--- one step more that isn't one
+-- another step that isn't one
 pub none-longer : (P : ℕ → Type 0) (from k : ℕ) → ((j : ℕ) → from ≤ j → j < k → P j → ⊥) → (P k → ⊥)
     → (j : ℕ) → from ≤ j → j < k + 1 → P j → ⊥
 none-longer P from k none not j low high p = elim (cases_lt j k) [
@@ -66,7 +66,7 @@ none-longer P from k none not j low high p = elim (cases_lt j k) [
   | inr after ↦ (let here : j ≡ k = omega arith in not (subst P here p))
 ]
 
--- one step more, of which a test tells
+-- another step, by a test
 pub last-more : (P : ℕ → Type 0) (from k : ℕ) (b : Bool) (last : Option ℕ) → from ≤ k → Decides b (P k)
     → IsLast P from k last
     → IsLast P from (k + 1) (cond b (Some k) last)

@@ -1,4 +1,4 @@
--- Whether what is known of a byte of a range is not the same in two memories, as the range is gone through.
+-- Whether what is known of a byte of a range differs in two memories, as the range is gone through.
 use Rattle.std.proofs.Common.{◌≡◌, ℕ, ◌<◌, ◌^◌, Bool, true, false, refl, sym, ◌∙◌, subst, arith}
 use Rattle.std.specs.Prelude.{Decides}
 use Rattle.std.proofs.lemmas.Bool.{true≢false}

@@ -25,7 +25,7 @@ abbrev pub IsRightForLed : Effect → Trail → Trail → Type 0
 IsRightForLed effect old new =
     (one other : Run) → LeadsTo effect one other → IsRightForRun old one → IsRightForRun new other
 
--- for that run, but for a word that is still to be written
+-- for that run, except for a word that is still to be written
 abbrev pub IsRightForEdited : Effect → Trail → Trail → Type 0
 IsRightForEdited effect old new =
     (start : State) (setup other : Setup) (marks edited : List Mark) → DifferBy effect setup marks other edited
@@ -37,7 +37,7 @@ IsRightForPoked addr word old new =
     (start : State) (setup : Setup) (marks : List Mark) → IsRightFor old start setup marks
     → IsRightFor new (poked start addr word) setup marks
 
--- machine i of the new trail is that of the old one, with the word written where the edit writes one
+-- machine i of the new trail is that of the old one, with the word written if the edit writes one
 abbrev pub HasFollowed : Effect → Trail → Trail → ℕ → Type 0
 HasFollowed effect old new i =
     (d : Machine) (s : State) → Shows (slice_index_or (machines_of old) i d) s
@@ -45,36 +45,35 @@ HasFollowed effect old new i =
 
 -- ---- which machines are kept
 
--- an answer tells, of each run for which a trail is right, whether the edit shows at a step or before it
+-- a result says, for each run for which a trail is right, whether the edit shows at a step or before it
 abbrev pub TellsShown : Effect → Trail → ℕ → Bool → Type 0
 TellsShown effect trail k told =
     (start : State) (setup : Setup) (marks : List Mark) → IsRightFor trail start setup marks
     → Tells (EffectShows effect start setup marks) k told
 
--- just those below the edit's first effect
+-- exactly those below the edit's first effect
 abbrev pub KeepsBelowEffect : Effect → Trail → Trail → Type 0
 KeepsBelowEffect effect old new =
     (start : State) (setup : Setup) (marks : List Mark) → IsRightFor old start setup marks
     → KeepsJust (IsBelowFirst (EffectShows effect start setup marks)) old new
 
--- and where memory failed, fewer of them, which the trail says
+-- and if memory ran out, fewer of them, which the trail says
 abbrev pub KeepsBelowEffectOrIsShort : Effect → Trail → Trail → Type 0
 KeepsBelowEffectOrIsShort effect old new =
     (start : State) (setup : Setup) (marks : List Mark) → IsRightFor old start setup marks
     → (KeepsJust (IsBelowFirst (EffectShows effect start setup marks)) old new × (is_short new ≡ is_short old))
     ⊎ (KeepsOnly (IsBelowFirst (EffectShows effect start setup marks)) old new × (is_short new ≡ true))
 
--- none but a written word makes a trail short, and one that is short stays so: said of whether it is short before and
--- after
+-- only a written word makes a trail short, and a short one stays so; by whether it is short before and after
 abbrev pub MayShorten : Effect → Bool → Bool → Type 0
 MayShorten (Word addr word) old new = old ≡ true → new ≡ true
 MayShorten _ old new = new ≡ old
 
--- and of the trails
+-- and the same for the trails
 abbrev pub StaysWhole : Effect → Trail → Trail → Type 0
 StaysWhole effect old new = MayShorten effect (is_short old) (is_short new)
 
--- where the machines are kept below a step, the last step at which one is held follows from it
+-- if the machines are kept below a step, the last step at which one is held follows from it
 abbrev pub KeepsLower : Type 0
 KeepsLower =
     (f : Option ℕ) (old new : Trail) → KeepsJust (IsBelow f) old new → last_held new ≡ lowered (last_held old) f

@@ -20,12 +20,12 @@ EffectShows End start setup marks k = EndShows start setup marks k
 EffectShows Heap start setup marks k = HeapShows start setup marks k
 EffectShows (Word addr word) start setup marks k = PatchShows addr start setup marks k
 
--- an answer tells whether something holds at a step or before it
+-- a result says whether something holds at a step or before it
 abbrev pub Tells : (ℕ → Type 0) → ℕ → Bool → Type 0
 Tells P k true = IsBelowFirst P k → ⊥
 Tells P k false = IsBelowFirst P k
 
--- where the effect writes a word, that is one of these ranges
+-- if the effect writes a word, that is in one of these ranges
 abbrev pub WritesWithin : List Span → Effect → Type 0
 WritesWithin ranges (Word addr word) = IsWordIn ranges addr
 WritesWithin ranges _ = Unit {0}
@@ -37,11 +37,11 @@ IsWrite _ = ⊥
 
 -- ---- from which run to which
 
--- two lists of marks differ in those of one step alone
+-- two lists of marks differ only in those of one step
 abbrev pub DifferAtStep : ℕ → List Mark → List Mark → Type 0
 DifferAtStep s marks edited = (k : ℕ) → (k ≡ s → ⊥) → marks_at k marks ≡ marks_at k edited
 
--- two setups differ in the options of the heap alone
+-- two setups differ only in the options of the heap
 pub record DifferInHeap (setup other : Setup) : Type 0 where
   pub input : setup.input ≡ other.input
   pub hooks : setup.hooks ≡ other.hooks
@@ -55,7 +55,7 @@ DifferBy End setup marks other edited = Extends setup other × (marks ≡ edited
 DifferBy Heap setup marks other edited = DifferInHeap setup other × (marks ≡ edited)
 DifferBy (Word addr word) setup marks other edited = (setup ≡ other) × (marks ≡ edited)
 
--- a state with the word written, where the effect writes one
+-- a state with the word written, if the effect writes one
 abbrev pub written_by : Effect → State → State
 written_by (Word addr word) s = poked s addr word
 written_by _ s = s

@@ -1,4 +1,4 @@
--- Where an edited run goes on from the run that it is an edit of: the machine before the last step at which the edit
+-- Where an edited run continues from the run that it is an edit of: the machine before the last step at which the edit
 -- doesn't show yet.
 use Rattle.std.specs.Prelude.{◌≡◌, ℕ, ◌+◌, ◌%◌, ◌^◌, ◌<◌, ◌≤◌, List}
 use Rattle.guest_machine.specs.Run.{pre, post}
@@ -21,7 +21,7 @@ pub record IsLastUnshown (effect : Effect) (run : Run) (last k : ℕ) : Type 0 w
   pub hidden : IsBelowFirst (EffectShows effect run.start run.setup run.marks) k
   pub next : k < last → IsBelowFirst (EffectShows effect run.start run.setup run.marks) (k + 1) → ⊥
 
--- where the effect writes a word, that is one at a multiple of 4
+-- if the effect writes a word, that is one at a multiple of 4
 abbrev pub WritesAligned : Effect → Type 0
 WritesAligned (Word addr word) = (addr % 4 ≡ 0) × (addr < 2 ^ 32)
 WritesAligned _ = Unit {0}

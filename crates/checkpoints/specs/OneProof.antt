@@ -1,4 +1,4 @@
--- That a trail is right for a run has one proof at most, so that a type can keep it as a ghost field.
+-- That a trail is right for a run has at most one proof, so a type can keep it as a ghost field.
 use Rattle.std.specs.Prelude.{ℕ, Bool, Option, Some, None}
 use Rattle.std.proofs.Props.{props}
 use Rattle.guest_machine.specs.State.{State}

@@ -20,18 +20,18 @@ use Rattle.checkpoints.specs.declared.searches.Sought.{Sought}
 abbrev pub Meets : Span → Option Span → Type 0
 Meets range touched = (a : ℕ) × (is_in range.start range.len a ≡ true) × (covers touched a ≡ true)
 
--- of a byte of a range, its undefined bits or whether it may be accessed are not the same before and after
+-- for a byte of a range, its undefined bits or whether it may be accessed differ before and after
 abbrev pub DiffersIn : Span → (ℕ → Shadow) → (ℕ → Shadow) → Type 0
 DiffersIn range before after = (a : ℕ) × (is_in range.start range.len a ≡ true) × (before a ≡ after a → ⊥)
 
--- of each byte they are the same
+-- for each byte they are the same
 abbrev pub AreAlikeIn : Span → (ℕ → Shadow) → (ℕ → Shadow) → Type 0
 AreAlikeIn range before after = (a : ℕ) → is_in range.start range.len a ≡ true → before a ≡ after a
 
--- the step of a state runs at an address of a range, reads one of its bytes beside the step's word, writes one, changes
--- the undefined bits or the access of one, or raises an error at an address of it. What a step changes is seen from the
+-- the step of a state runs at an address of a range, reads one of its bytes besides the step's word, writes one,
+-- changes the undefined bits or the access of one, or raises an error at an address of it. A step's change is from the
 -- state that it starts from, after the marks of that step, to the one that it leaves, before the marks of the next
--- step: so a mark changes nothing here
+-- step; so a mark changes nothing here
 abbrev pub HitsIn : Watch → Span → State → Setup → Type 0
 HitsIn Run range s setup = (is_running s.core.status ≡ true) × (is_in range.start range.len s.core.pc ≡ true)
 HitsIn Read range s setup = Meets range (touched_of s setup).reads
@@ -56,9 +56,9 @@ abbrev pub IsLast : (ℕ → Type 0) → ℕ → ℕ → Option ℕ → Type 0
 IsLast P from before None = (k : ℕ) → from ≤ k → k < before → P k → ⊥
 IsLast P from before (Some l) = (from ≤ l) × (l < before) × P l × ((k : ℕ) → l < k → k < before → P k → ⊥)
 
--- ---- how many steps are made
+-- ---- the number of steps executed
 
--- as many at most, to look for the next one: those up to the step that is found, that one counted, or all
+-- the greatest number of steps to look for the next one: those up to and including the step that is found, or all
 abbrev pub next_price : ℕ → ℕ → Option ℕ → ℕ
 next_price from end None = end - from
 next_price from end (Some found) = found + 1 - from

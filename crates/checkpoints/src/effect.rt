@@ -3,15 +3,15 @@
 /// Where the first effect of an edit lies: no state of the run before it depends on the edit.
 #[derive(Clone, Copy)]
 pub enum Effect {
-    /// Nowhere: the edit changes what is said of a run, and no state of it.
+    /// Nowhere: the edit changes what is reported of a run, and no state of it.
     Nowhere,
-    /// After a step: other marks stand there.
+    /// After a step, where the marks are others.
     After(u32),
-    /// Once a byte of the input at an offset, or one behind it, was read: the input is another from that offset on.
+    /// Once a byte of the input at an offset, or one after it, was read: the input differs from that offset on.
     Input(u32),
-    /// Once a read has asked for more than was left: the input has one byte more at its end.
+    /// Once a read has asked for more than was left: the input has another byte at its end.
     End,
-    /// Once a heap call was made: the options of the heap are others.
+    /// Once a heap call was executed: the options of the heap are others.
     Heap,
     /// After a step that touches the word at an address: another word is written there.
     Word { addr: u32, word: u32 },

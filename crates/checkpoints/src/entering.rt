@@ -1,4 +1,4 @@
-//! How first uses are entered, looked up and forgotten.
+//! How first uses are entered, looked up and dropped.
 ghost use Rattle.std.specs.Prelude.{◌≡◌, ℕ, ◌+◌, ◌-◌, ◌*◌, ◌/◌, ◌%◌, ◌^◌, ◌<◌, ◌≤◌, slice_index_or, slice_set, if◌then◌else◌, true, map, min, max, length, IfOk, IfSome, IsTrue, Some, is_some};
 ghost use Rattle.std.specs.List.{list_any};
 ghost use Rattle.std.specs.List.Sorted.{IsNonDecreasingBy};
@@ -18,16 +18,16 @@ use guest_elf::Segment;
 use guest_machine::{Span, Touched};
 use std::alloc::{AllocError, Global};
 
-/// In place of a step where there is none.
+/// The value for no step.
 const NEVER: u32 = u32::MAX;
-/// So many rows are looked at one by one.
+/// The greatest number of rows that are looked at individually.
 const FEW: usize = 8;
-/// How many bytes a word has.
+/// The number of bytes of a word.
 const WORD: u32 = 4;
-/// How many words there are at all.
+/// The number of all words.
 const ALL_WORDS: u32 = 1 << 30;
 
-/// How many words have a byte in a range.
+/// The number of words that have a byte in a range.
 fn words_in(range: Span) -> usize
     ensures value { result ≡ words_in range }
     ensures few { result < 2 ^ 31 }
@@ -58,7 +58,7 @@ fn greater(x: u64, y: u64) -> u64
     if x < y { y } else { x }
 }
 
-/// How many rows end before a word, where there are many: found by halves.
+/// The number of rows that end before a word, if there are many: found by halves.
 #[inline(never)]
 fn many_ended_by(rows: &[Row], word: u32) -> usize
     requires { IsNonDecreasingBy (λ (row : RowOf). row.end) rows.now }
@@ -69,7 +69,7 @@ fn many_ended_by(rows: &[Row], word: u32) -> usize
     rows.partition_point(|row| row.end <= u64::from(word))
 }
 
-/// How many rows end before a word, where there are few: found one by one.
+/// The number of rows that end before a word, if there are few: found one after another.
 #[inline(always)]
 fn few_ended_by(rows: &[Row], word: u32) -> usize
     ensures within { result ≤ length rows.now }
@@ -84,7 +84,7 @@ fn few_ended_by(rows: &[Row], word: u32) -> usize
     rows.len()
 }
 
-/// How many rows end before a word.
+/// The number of rows that end before a word.
 #[inline(always)]
 fn ended_by(rows: &[Row], word: u32) -> usize
     requires { IsNonDecreasingBy (λ (row : RowOf). row.end) rows.now }
@@ -155,7 +155,7 @@ impl FirstUses {
         })
     }
 
-    /// Where a word stands in the table.
+    /// The place of a word in the table.
     #[inline(always)]
     #[tactic(auto, unfolding(crate::specs::Entries::ranges_of))]
     fn place_of(&self, word: u32) -> Place
@@ -186,7 +186,8 @@ impl FirstUses {
         }
     }
 
-    /// Enters a step for a word that has a place, or passes a word that has none and those like it above it. Returns how many words it is done with.
+    /// Enters a step for a word that has a place, or skips a word that has none and those like it above it. Returns the number of words
+    /// that are then done.
     #[tactic(auto, unfolding(crate::specs::Entries::ranges_of, crate::specs::Entries::entry_of))]
     fn enter(&mut self, word: u32, most: u32, step: u32) -> u32
         ensures ranges { ranges_of self.new ≡ ranges_of self.old }
@@ -255,7 +256,7 @@ impl FirstUses {
         self.remembered[word as usize % REMEMBERED] = word;
     }
 
-    /// Puts a step at a place.
+    /// Stores a step at a place.
     #[inline(always)]
     #[tactic(auto, unfolding(crate::specs::Entries::ranges_of))]
     fn put(&mut self, place: usize, step: u32)
@@ -271,7 +272,8 @@ impl FirstUses {
         self.steps[place] = step;
     }
 
-    /// Whether the word of a range that lies in one is remembered: then it changes nothing to enter a step for it that isn't below the others.
+    /// Whether the word of a range that lies in one word is remembered. Then it changes nothing to enter a step for it that isn't below the
+    /// others.
     #[inline(always)]
     #[tactic(auto, unfolding(crate::specs::Entries::ranges_of, crate::specs::Entries::entry_of))]
     fn remembers(&self, span: Span) -> bool
@@ -290,7 +292,7 @@ impl FirstUses {
         span.len <= 4 - span.start % 4 && self.remembers(span)
     }
 
-    /// Enters a step for the word that was taken, if one was.
+    /// Enters a step for the word that was fetched, if one was.
     #[inline(always)]
     fn enter_fetch(&mut self, fetch: Option<Span>, step: u32)
         requires clean { IsClean self.old (step + 1) }
@@ -327,8 +329,8 @@ impl FirstUses {
         }
     }
 
-    /// The same. Out of line, since most steps touch words that were touched before. Of a range in one word it calls nothing where there
-    /// are few rows, so that no register is saved.
+    /// The same. Out of line, since most steps touch words that were touched before. For a range in one word it calls nothing if there are
+    /// few rows, so that no register is saved.
     #[inline(never)]
     fn enter_unknown(&mut self, span: Span, step: u32)
         ensures ranges { ranges_of self.new ≡ ranges_of self.old }
@@ -374,7 +376,7 @@ impl FirstUses {
         self.enter_span(touched.writes, step);
     }
 
-    /// The same. Out of line, for a step that took no word, which is rare.
+    /// The same. Out of line, for a step that fetched no word, which is rare.
     #[cold]
     #[inline(never)]
     fn enter_apart(&mut self, touched: Touched, step: u32)
@@ -387,7 +389,8 @@ impl FirstUses {
         self.enter_each(&touched, step);
     }
 
-    /// Enters a step for each word that it touched. None after it was entered. Says whether it took a word, as no step of a halted machine does.
+    /// Enters a step for each word that it touched. No later step was entered before. Returns whether the step fetched a word, which no
+    /// step of a halted machine does.
     #[inline(always)]
     pub(crate) fn enter_touched(&mut self, touched: &Touched, step: u32) -> bool
         requires clean { IsClean self.old (step + 1) }
@@ -420,7 +423,7 @@ impl FirstUses {
     }
 }
 
-/// Drops the steps from one on. Groups whose bound doesn't lie above it have none of them, and are passed over.
+/// Drops the steps from one on. Groups whose bound isn't above that step have none of them, and are skipped.
 fn forget_groups(steps: &mut [u32], bounds: &mut [u32], from: u32)
     requires grouped { length bounds.old ≡ length steps.old / group_size + 1 }
     requires bounded { AreBelowBounds steps.old bounds.old }
@@ -435,7 +438,7 @@ fn forget_groups(steps: &mut [u32], bounds: &mut [u32], from: u32)
     }
 }
 
-/// Drops the steps from one on in a group. Out of line, so that a group which is passed over costs one comparison.
+/// Drops the steps from one on in a group. Out of line, so that a skipped group costs one comparison.
 #[inline(never)]
 fn forget_group(steps: &mut [u32], group: usize, from: u32)
     requires { group_size * group ≤ length steps.old }
@@ -446,7 +449,7 @@ fn forget_group(steps: &mut [u32], group: usize, from: u32)
     }
 }
 
-/// A step, or none where it doesn't lie below another.
+/// A step, or none if it isn't below another.
 fn kept_below(from: u32, step: u32) -> u32
     ensures { result ≡ kept_below from step }
 {

@@ -1,4 +1,4 @@
-//! Where edited runs go on: a machine of the run that is edited, before the last step at which the edit doesn't show yet.
+//! Where edited runs continue: a machine of the run that is edited, before the last step at which the edit doesn't show yet.
 ghost use Rattle.std.specs.Prelude.{◌≡◌, ◌+◌, ◌-◌, ◌<◌, ◌≤◌, ◌^◌, ℕ, List, min, IfOk, OnOk};
 ghost use Rattle.guest_machine.specs.State.{State};
 ghost use Rattle.guest_machine.specs.Run.{pre};
@@ -31,8 +31,8 @@ pub struct Fork {
 }
 
 impl Fork {
-    /// The machine at a step of an edited run, after the step's marks, where an edit with this effect leads to that run. Each step
-    /// from the fork's on is made on the meter.
+    /// Returns the machine at a step of an edited run, after the step's marks, if an edit with this effect leads to that run. Each step
+    /// from the fork's on counts on the meter.
     pub fn follow(
         &self,
         effect: Effect,
@@ -59,7 +59,7 @@ impl Fork {
     }
 }
 
-/// A copy of a machine, with the word written where an effect writes one.
+/// A copy of a machine, with the word written if an effect writes one.
 fn written_copy(machine: &Machine, effect: Effect) -> Result<Machine, AllocError>
     ensures { IfOk result (λ copy. (s : State) → Shows machine.now s → Shows copy (written_by effect s)) }
 {
@@ -70,8 +70,8 @@ fn written_copy(machine: &Machine, effect: Effect) -> Result<Machine, AllocError
 }
 
 impl Trail {
-    /// A fork of the run before the last step, up to another, at which the byte of the input at an offset isn't read yet: each run goes
-    /// on from it whose input is another from that offset on.
+    /// Returns a fork of the run before the last step, up to another, at which the byte of the input at an offset isn't read yet. Each run
+    /// whose input differs from that offset on continues from it.
     #[tactic(auto, unfolding(crate::specs::Trails::last_held))]
     pub fn fork_at_byte(
         &mut self,
@@ -92,8 +92,8 @@ impl Trail {
         self.fork_at(step, setup, marks)
     }
 
-    /// A fork of the run before the last step, up to another, with no earlier use of the word at an address: each run goes on from it
-    /// in which another word is written there.
+    /// Returns a fork of the run before the last step, up to another, with no earlier use of the word at an address. Each run in which
+    /// another word is written there continues from it.
     #[tactic(auto, unfolding(crate::specs::Trails::last_held))]
     pub fn fork_at_word(
         &mut self,
@@ -167,7 +167,7 @@ fn lesser(x: u32, y: u32) -> u32
     if x < y { x } else { y }
 }
 
-/// The last step, from one up to another, at which the byte of the input at an offset isn't read yet, where it isn't at the first.
+/// The last step, from one up to another, at which the byte of the input at an offset isn't read yet, if it isn't at the first.
 fn unread_until(
     machine: Machine,
     setup: &Setup,

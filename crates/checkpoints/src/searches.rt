@@ -27,7 +27,7 @@ use std::alloc::AllocError;
 pub enum Watch {
     /// It runs at an address of a range.
     Run,
-    /// It reads a byte of a range, beside its own word.
+    /// It reads a byte of a range, besides its own word.
     Read,
     /// It writes a byte of a range.
     Write,
@@ -37,7 +37,7 @@ pub enum Watch {
     Error,
 }
 
-/// What a search looks for: a step that does so in a range of addresses, which wraps at 2^32.
+/// What a search looks for: a step that does this in a range of addresses, which wraps at 2^32.
 #[derive(Clone, Copy)]
 pub struct Sought {
     /// What the step does.
@@ -47,8 +47,8 @@ pub struct Sought {
 }
 
 impl Trail {
-    /// The least step from one on, below another, that does what is sought. The trail is moved as [`Trail::at`] the first of them moves
-    /// it, and the steps of the search are made on a meter beside it, up to the step that is found or at which the machine is halted.
+    /// Returns the least step that does what is sought, from one on and below another. The trail is moved as [`Trail::at`] the first of
+    /// them moves it. The steps of the search count on another meter, up to the step that is found or at which the machine is halted.
     pub fn next(
         &mut self,
         sought: Sought,
@@ -75,8 +75,8 @@ impl Trail {
         Ok(found)
     }
 
-    /// The greatest step from one on, below another, that does what is sought. The trail is moved as [`Trail::at`] the latter moves
-    /// it, and the steps of the search are made on a meter beside it: each at most once, from the held machine at or below the first on.
+    /// Returns the greatest step that does what is sought, from one on and below another. The trail is moved as [`Trail::at`] the latter
+    /// moves it. The steps of the search count on another meter: each at most once, from the held machine at or below the first step on.
     pub fn last(
         &mut self,
         sought: Sought,
@@ -102,8 +102,8 @@ impl Trail {
         Ok(found)
     }
 
-    /// The last step that does what is sought, where there is a machine for each window: a window is from a held machine to the next, or
-    /// to the last step.
+    /// The last step that does what is sought, if there is a machine for each window: a window is from a held machine to the next, or to
+    /// the last step.
     fn last_below(
         &self,
         sought: Sought,
@@ -130,7 +130,7 @@ impl Trail {
         Ok(None)
     }
 
-    /// The last step of one window that does what is sought: of the window up to `end`, from `from` on.
+    /// The last step that does what is sought in the window up to `end`, from `from` on.
     #[tactic(auto, unfolding(crate::specs::Trails::machines_of, crate::specs::Trails::last_held))]
     fn last_in(
         &self,
@@ -164,7 +164,7 @@ pub(crate) fn later(x: u32, y: u32) -> u32
     if x < y { y } else { x }
 }
 
-/// Goes on with a machine to the next step that does what is sought. A machine that doesn't run does nothing more.
+/// Runs a machine to the next step that does what is sought. A machine that doesn't run does nothing more.
 fn next_from(
     machine: Machine,
     sought: Sought,
@@ -197,7 +197,7 @@ fn next_from(
     Ok(None)
 }
 
-/// Goes on with a machine to the end of its window, and tells the last step that does what is sought.
+/// Runs a machine to the end of its window, and returns the last step that does what is sought.
 fn last_from(
     machine: Machine,
     sought: Sought,
@@ -231,7 +231,7 @@ fn last_from(
     Ok(last)
 }
 
-/// The last step that is a hit, after one more.
+/// The last step that is a hit, after another step.
 #[inline(always)]
 fn last_hit(is_hit: bool, step: u32, last: Option<u32>) -> Option<u32>
     ensures { result ≡ (if is_hit then Some step else last) }
@@ -263,8 +263,8 @@ fn step_watching(
     Ok((stepped, is_hit))
 }
 
-/// One step, and whether it changes what is known of a byte of a range. The memory that it was compared with is kept for the next step, so
-/// that a share is made only where what is known has changed.
+/// Executes one step, and returns whether it changes what is known of a byte of a range. The memory that it was compared with is kept for
+/// the next step, so that a share is made only if what is known has changed.
 #[inline(never)]
 fn step_comparing(
     machine: Machine,
@@ -285,7 +285,8 @@ fn step_comparing(
     Ok((stepped, is_hit))
 }
 
-/// A memory in which the same is known of a range as in another one: that which was seen before, if it is so there, or a share of the other.
+/// A memory in which the same is known of a range as in another one: the one that was seen before, if that is so there, or a share of the
+/// other.
 fn alike_memory(seen: Option<Memory>, range: Span, memory: &Memory) -> Result<Memory, AllocError>
     ensures { IfOk result (λ before. AreAlikeIn range (shadows_in before) (shadows_in memory.now)) }
 {
@@ -317,8 +318,8 @@ fn are_alike(one: Cell, other: Cell) -> bool
     one.accessible == other.accessible && one.undef == other.undef
 }
 
-/// Whether a step of a machine that runs does what is sought, if that is no change of what is known, by its pc, the ranges that it touches,
-/// and whether it raises an error.
+/// Whether a step of a machine that runs does what is sought, unless a change of what is known is sought: by its pc, the ranges that it
+/// touches, and whether it raises an error.
 #[inline(always)]
 fn is_hit(sought: Sought, pc: u32, touched: &Touched, raised: bool) -> bool
     requires { sought.watch ≡ OfShadow → ⊥ }

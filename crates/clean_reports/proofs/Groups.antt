@@ -1,4 +1,4 @@
--- The groups of errors tell whether one of the errors is a use, and which is the first.
+-- The groups of errors show whether one of the errors is a use, and which is the first.
 use Rattle.std.proofs.Common.{◌≡◌, ℕ, ◌↔◌, Bool, true, false, cond, refl, sym, ap, ◌∙◌, inl, inr}
 use Rattle.std.proofs.Common.{List, [], ◌∷◌, ◌++◌, map, Option, Some, None, slice_get, take, get_or, length, ◌+◌, ◌<◌}
 use Rattle.std.proofs.Common.{zero, suc, arith}

@@ -1,4 +1,4 @@
--- A whole step takes states that agree to states that agree.
+-- From states that agree, a whole step leads to states that agree.
 use Rattle.std.proofs.Common.{◌≡◌, ℕ, ◌+◌, ◌%◌, Bool, true, false, cond, refl, sym, ap}
 use Rattle.std.proofs.Common.{◌∙◌, subst, subst₂, List, ◌++◌, length, Option, Some, None, ◌==◌}
 use Rattle.definedness.specs.declared.Bits.{Bits}

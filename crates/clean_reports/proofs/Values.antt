@@ -243,7 +243,7 @@ undecided-agree test x y u v a b =
       undef = b.undef i;
     }))
 
--- a branch that is decided goes the same way
+-- a branch that is decided does the same
 pub passes-agree : (test : Comparison) (x y u v : Bits) → ValuesAgree x u → ValuesAgree y v
     → is_undecided test x y ≡ false → passes test x.value y.value ≡ passes test u.value v.value
 unfolding passes is_undecided

@@ -28,7 +28,7 @@ use Rattle.clean_reports.proofs.Reports.{reports-agree}
 use Rattle.clean_reports.proofs.Runs.{states-sym}
 use Rattle.clean_reports.proofs.Steps.{step-agrees}
 
--- marks none of which stands in the way --
+-- marks none of which is in the way --
 
 misses : (addr len a : ℕ) → is_in addr len heap_begin ≡ false
     → (nat_lt 0 len && is_in heap_begin (heap_end - heap_begin) addr) ≡ false → heap_begin ≤ a → a < heap_end

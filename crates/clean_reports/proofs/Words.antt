@@ -1,4 +1,4 @@
--- Each of the 18 operations takes two words to a word.
+-- Each of the 18 operations on two words gives a word.
 use Rattle.std.proofs.Common.{◌≡◌, ℕ, zero, suc, ◌+◌, ◌-◌, ◌*◌, ◌/◌, ◌%◌, ◌^◌, ◌<◌, ◌≤◌, Bool, true, false, cond, refl}
 use Rattle.std.proofs.Common.{arith, ltb, ltb-true, ltb-false, mul-le-mul, div-le_self, ◌==◌, rules}
 use Rattle.std.proofs.lemmas.Nat.{mod_below, or_lt, xor_lt, and_le_l}

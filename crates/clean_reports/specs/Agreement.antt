@@ -1,5 +1,5 @@
--- When two states agree where they are defined: a program that uses only defined bits of accessible bytes can't tell
--- one from the other. Byte values and register values may differ at the other bits. All else is equal.
+-- States that agree where they are defined: a program that uses only defined bits of accessible bytes can't distinguish
+-- them. Byte values and register values may differ at the other bits. All else is equal.
 -- Sources: Seward and Nethercote, "Using Valgrind to detect undefined value errors with bit-precision" (USENIX 2005),
 -- section 2; Memcheck manual, section 4.5.
 use Rattle.std.specs.Prelude.{◌≡◌, ℕ, ◌^◌, ◌<◌, true, List, length, slice_index_or}

@@ -12,7 +12,7 @@ pub record BlocksAreOpen (core : Core) : Type 0 where
   pub opened : (p : ℕ) (b : Block) → core.blocks.live p ≡ Some b → (i : ℕ) → i < b.size
       → (core.shadow (above p i)).accessible ≡ true
 
--- the same, and blocks lie apart from each other and end in the region
+-- the same, and blocks don't overlap and end in the region
 pub record HeapIsOpen (core : Core) : Type 0 where
   pub region : AreInRegion core.blocks
   pub apart : AreApart core.blocks
@@ -20,7 +20,7 @@ pub record HeapIsOpen (core : Core) : Type 0 where
   pub opened : (p : ℕ) (b : Block) → core.blocks.live p ≡ Some b → (i : ℕ) → i < b.size
       → (core.shadow (p + i)).accessible ≡ true
 
--- an address is one of a live block
+-- an address is one of a live block's
 pub record IsInLive (core : Core) (a : ℕ) : Type 0 where
   pub start : ℕ
   pub block : Block
@@ -28,7 +28,7 @@ pub record IsInLive (core : Core) (a : ℕ) : Type 0 where
   pub low : start ≤ a
   pub high : a < start + block.size
 
--- no byte of the heap region may be accessed but those of live blocks
+-- no byte of the heap region may be accessed except those of live blocks
 abbrev pub HeapIsClosed : Core → Type 0
 HeapIsClosed core =
     (a : ℕ) → heap_begin ≤ a → a < heap_end → (core.shadow a).accessible ≡ true → IsInLive core a

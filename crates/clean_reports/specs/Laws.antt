@@ -1,5 +1,5 @@
 -- The laws: what undefined and inaccessible bytes hold has no influence on a run without uses. An `input` is a list of
--- bytes: each law that has one is the contract of a function that takes it as a slice.
+-- bytes: each law with an input is the contract of a function that takes it as a slice.
 use Rattle.std.specs.Prelude.{◌≡◌, ℕ, ◌<◌, ◌≤◌, ◌↔◌, List, []}
 use Rattle.guest_elf.specs.File.{IsImageOf}
 use Rattle.guest_elf.specs.declared.image.Image.{Image}
@@ -21,7 +21,7 @@ use Rattle.clean_reports.specs.Marks.{DefineNothing, HideNothing, MissTheHeap}
 use Rattle.clean_reports.specs.Heap.{BlocksAreOpen, HeapIsOpen, HeapIsClosed, IsInLive}
 use Rattle.clean_reports.specs.Disturbed.{IsStartOf, IsDisturbed, noisy_run}
 
--- a step that raises no use takes states that agree to states that agree
+-- from states that agree, a step that raises no use leads to states that agree
 abbrev pub StepsAgree : List ℕ → Type 0
 StepsAgree input =
     (setup : Setup) (s t : State) → setup.input ≡ input → BlocksAreOpen s.core → StatesAgree s t
@@ -51,7 +51,7 @@ CleanRuns input =
     → IsDisturbed start setup marks n states → NoUse (pre start setup marks n).events
     → StatesAgree (post start setup marks n) (after_marks n marks (states n))
 
--- The plain case: only what undefined and inaccessible memory holds at power-on is another
+-- The plain case: only what undefined and inaccessible memory holds at power-on differs
 abbrev pub PowerOn : List ℕ → Type 0
 PowerOn input =
     (image : Image) (start other : State) (setup : Setup) (marks : List Mark) (n : ℕ)
@@ -59,7 +59,7 @@ PowerOn input =
     → NoUse (pre start setup marks n).events
     → StatesAgree (post start setup marks n) (post other setup marks n)
 
--- The theorem on reports: a report of such a run is the report of each disturbed run, and the other way round
+-- The theorem on reports: a report of such a run is the report of each disturbed run, and vice versa
 abbrev pub CleanReports : List ℕ → Type 0
 CleanReports input =
     (image : Image) (start : State) (setup : Setup) (marks : List Mark) (states : ℕ → State) (n : ℕ)
@@ -85,13 +85,13 @@ pub record DisturbedRunsExist (input : List ℕ) : Type 0 where
 abbrev pub ProgramsAreBytes : List ℕ → Type 0
 ProgramsAreBytes file = (image : Image) → IsImageOf file image → AreBytes (start_state image).bytes
 
--- where marks hide nothing of the heap, each byte of a live block may be accessed at every step
+-- if marks hide nothing of the heap, each byte of a live block may be accessed at every step
 abbrev pub HeapStaysOpen : Type 0
 HeapStaysOpen =
     (image : Image) (start : State) (setup : Setup) (marks : List Mark) → IsStartOf image start → HideNothing marks
     → (k : ℕ) → HeapIsOpen (post start setup marks k).core
 
--- where marks miss the heap, and the program was read from a file, no other byte of the heap region may
+-- if marks miss the heap, and the program was read from a file, no other byte of the heap region may be accessed
 abbrev pub HeapStaysClosed : Type 0
 HeapStaysClosed =
     (file : List ℕ) (image : Image) (start : State) (setup : Setup) (marks : List Mark) → IsImageOf file image

@@ -1,4 +1,4 @@
--- The line that tells a verdict.
+-- The line of a verdict.
 use Rattle.std.specs.Prelude.{◌≡◌, ℕ, List, [], ◌∷◌, ◌++◌, codes}
 use Rattle.std.specs.Fmt.{decimal}
 use Rattle.std.specs.List.{flat_map}
@@ -22,7 +22,7 @@ clean_line n =
     codes "clean to step " ++ decimal n
     ++ codes ": nothing that uninitialised, freed or unmapped memory holds has any influence on this run\n"
 
--- what a mark makes bytes, as the line of a session says it
+-- the kind of a mark, as the line of a session names it
 abbrev pub range_kind_text : RangeKind → List ℕ
 range_kind_text NoAccess = codes "noaccess"
 range_kind_text Undefined = codes "undefined"

@@ -1,4 +1,4 @@
--- Which marks stand in the way of a clean run: one that makes bytes defined takes what they hold as meant, and one that
+-- The marks that are in the way of a clean run. One that makes bytes defined takes their values as meant. One that
 -- makes bytes of the heap inaccessible has `realloc` copy them as they are.
 use Rattle.std.specs.Prelude.{◌≡◌, ◌⊎◌, ◌||◌, ◌&&◌, ℕ, ◌-◌, ◌<◌, ◌≤◌, nat_lt, Bool, true, false, List, [], ◌∷◌}
 use Rattle.memory_map.specs.Regions.{heap_begin, heap_end}
@@ -38,11 +38,11 @@ abbrev pub MissTheHeap : List Mark → Type 0
 MissTheHeap [] = Unit {0}
 MissTheHeap (m ∷ ms) = MissesHeap m × MissTheHeap ms
 
--- has a mark a byte of the heap region? Then one of the two ranges begins inside the other
+-- does a mark have a byte of the heap region? Then one of the two ranges begins inside the other
 abbrev pub meets_heap : Mark → Bool
 meets_heap mark =
     is_in mark.addr mark.len heap_begin || (nat_lt 0 mark.len && is_in heap_begin (heap_end - heap_begin) mark.addr)
 
--- does a mark stand in the way of a clean run?
+-- is a mark in the way of a clean run?
 abbrev pub is_in_the_way : Mark → Bool
 is_in_the_way mark = defines mark.kind || (hides mark.kind && meets_heap mark)

@@ -1,4 +1,4 @@
--- Whether a run is clean up to a step: no mark stands in the way, and no error is a use. Else which mark comes first,
+-- Whether a run is clean up to a step: no mark is in the way, and no error is a use. Otherwise, which mark comes first,
 -- or which error.
 use Rattle.std.specs.Prelude.{◌≡◌, ℕ, suc, ◌<◌, ◌↔◌, false, true, List, Some, slice_get, take}
 use Rattle.std.specs.List.{list_any}
@@ -19,11 +19,11 @@ use Rattle.clean_reports.specs.declared.verdict.FirstUse.{FirstUse}
 use Rattle.clean_reports.specs.declared.verdict.Verdict.{Verdict}
 use Rattle.clean_reports.specs.declared.verdict.Verdict.TheVariants.{Clean, Mark as ByMark, Use}
 
--- no mark of a list stands in the way
+-- no mark of a list is in the way
 abbrev pub NoneInTheWay : List Mark → Type 0
 NoneInTheWay marks = list_any is_in_the_way marks ≡ false
 
--- the mark at an index is the first that stands in the way
+-- the mark at an index is the first that is in the way
 pub record IsFirstInTheWay (marks : List Mark) (index : ℕ) (mark : Mark) : Type 0 where
   pub at : slice_get marks index ≡ Some mark
   pub stands : is_in_the_way mark ≡ true
@@ -43,7 +43,7 @@ pub record IsFirstUse (start : State) (setup : Setup) (marks : List Mark) (n : �
   pub below : found.step < n
   pub raises : RaisesFirstUse start setup marks found.step
 
--- the verdict on a run up to step n: on marks first, and then on errors, suppressed ones too
+-- the verdict on a run up to step n: on marks first, and then on errors, including suppressed ones
 abbrev pub IsVerdict : State → Setup → List Mark → ℕ → Verdict → Type 0
 IsVerdict start setup marks n Clean = NoneInTheWay marks × NoUse (post start setup marks n).events
 IsVerdict start setup marks n (ByMark index mark) = IsFirstInTheWay marks index mark

@@ -1,4 +1,4 @@
-//! A run is certified.
+//! The verdict on a run.
 ghost use Rattle.std.specs.Prelude.{◌≡◌, ◌+◌, ◌↔◌, ◌≤◌, IfOk, IsTrue, OnOk};
 ghost use Rattle.checkpoints.specs.Trails.{IsRightFor, is_short, last_held, loaded_of};
 ghost use Rattle.checkpoints.specs.Work.{reached};
@@ -34,7 +34,7 @@ fn is_clean_at(
     Ok(is_clean(&machine))
 }
 
-/// Returns the step that raises the first use of a trail's run, of which one is raised before the step `end`. It is found by halving.
+/// Returns the step that raises the first use of a trail's run, if a use is raised before the step `end`. Finds it by halving.
 fn first_use_step(
     trail: &mut Trail,
     setup: &Setup,
@@ -65,7 +65,7 @@ fn first_use_step(
 
 /// Returns the verdict on a trail's run up to a step: on marks first, and then on errors. The trail is moved as by [`Trail::at`].
 ///
-/// Where the verdict is [`Verdict::Clean`], each disturbed run agrees with the run, and has the same reports (`IsCertified`).
+/// If the verdict is [`Verdict::Clean`], each disturbed run agrees with the run, and has the same reports (`IsCertified`).
 pub fn certify(
     trail: &mut Trail,
     setup: &Setup,

@@ -1,4 +1,4 @@
-//! The line that tells a verdict.
+//! The line of a verdict.
 ghost use Rattle.std.specs.Prelude.{◌≡◌, ◌++◌, OnOk, codes};
 ghost use Rattle.std.specs.List.{flat_map};
 ghost use Rattle.clean_reports.specs.Lines.{caller_text, clean_line, mark_front, mark_line, range_kind_text, range_text, trace_text, use_front, use_line, verdict_line};
@@ -23,7 +23,7 @@ fn push_clean(out: &mut Vec<u8>, step: u32) -> Result<(), AllocError>
     )
 }
 
-/// Returns what a mark makes bytes, in the word of a session's line.
+/// Returns the kind of a mark as a line of a session names it.
 fn range_kind_text(kind: RangeKind) -> &'static [u8]
     ensures { result.now ≡ range_kind_text kind }
 {
@@ -34,7 +34,7 @@ fn range_kind_text(kind: RangeKind) -> &'static [u8]
     }
 }
 
-/// Appends the range of a mark and what it makes its bytes.
+/// Appends the range and the kind of a mark.
 #[tactic(auto, unfolding(crate::specs::Lines::range_text), using(std::proofs::Common::append_assoc))]
 fn push_range(out: &mut Vec<u8>, mark: &Mark) -> Result<(), AllocError>
     ensures { OnOk result (out.new.items ≡ out.old.items ++ range_text mark.now) }
@@ -46,7 +46,7 @@ fn push_range(out: &mut Vec<u8>, mark: &Mark) -> Result<(), AllocError>
     push_text(out, range_kind_text(mark.kind))
 }
 
-/// Appends which mark stands in the way.
+/// Appends which mark is in the way.
 #[tactic(auto, unfolding(crate::specs::Lines::mark_front), using(std::proofs::Common::append_assoc))]
 fn push_mark_front(out: &mut Vec<u8>, index: usize) -> Result<(), AllocError>
     ensures { OnOk result (out.new.items ≡ out.old.items ++ mark_front index) }
@@ -56,7 +56,7 @@ fn push_mark_front(out: &mut Vec<u8>, index: usize) -> Result<(), AllocError>
     push_text(out, b" makes ")
 }
 
-/// Appends that a mark stands in the way.
+/// Appends that a mark is in the way.
 #[tactic(auto, unfolding(crate::specs::Lines::mark_line), using(std::proofs::Common::append_assoc))]
 fn push_mark(out: &mut Vec<u8>, index: usize, mark: &Mark) -> Result<(), AllocError>
     ensures { OnOk result (out.new.items ≡ out.old.items ++ mark_line index mark.now) }

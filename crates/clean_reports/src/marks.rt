@@ -1,4 +1,4 @@
-//! Which marks stand in the way of a clean run.
+//! The marks that are in the way of a clean run.
 ghost use Rattle.std.specs.Prelude.{◌≡◌, IfNone, IfSome};
 ghost use Rattle.memory_map.specs.Regions.{heap_begin};
 ghost use Rattle.shadow_memory.specs.Ranges.{is_in};
@@ -24,7 +24,7 @@ fn meets_heap(mark: &Mark) -> bool
         || (mark.len > 0 && is_in(HEAP_BEGIN, HEAP_END - HEAP_BEGIN, mark.addr))
 }
 
-/// Returns whether a mark stands in the way of a clean run: it makes bytes defined, or bytes of the heap region inaccessible.
+/// Returns whether a mark is in the way of a clean run: it makes bytes defined, or bytes of the heap region inaccessible.
 fn is_in_the_way(mark: &Mark) -> bool
     ensures { result ≡ is_in_the_way mark.now }
 {
@@ -35,7 +35,7 @@ fn is_in_the_way(mark: &Mark) -> bool
     }
 }
 
-/// Returns the first mark that stands in the way, with its index.
+/// Returns the first mark that is in the way, with its index.
 pub(crate) fn first_in_the_way(marks: &[Mark]) -> Option<(usize, Mark)>
     ensures some { IfSome result (λ found. IsFirstInTheWay marks.now found.0 found.1) }
     ensures none { IfNone result (NoneInTheWay marks.now) }

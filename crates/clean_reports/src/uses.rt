@@ -1,4 +1,4 @@
-//! Which errors are uses.
+//! The errors that are uses.
 ghost use Rattle.std.specs.Prelude.{◌≡◌, ◌↔◌, IsTrue, find};
 ghost use Rattle.error_events.specs.Shown.{groups_of};
 ghost use Rattle.guest_machine.specs.State.{State};
@@ -8,7 +8,7 @@ ghost use Rattle.clean_reports.specs.Uses.{NoUse, fault_is_use, is_use};
 use error_events::{Group, Groups, Kind, Parameter, ParameterFault};
 use guest_machine::Machine;
 
-/// Returns whether an error of a kind is a use: whether a run may depend, after it, on what undefined or inaccessible memory holds.
+/// Returns whether an error of a kind is a use, so that the run may depend on what undefined or inaccessible memory holds from then on.
 pub fn is_use(kind: Kind) -> bool
     ensures { result ≡ is_use kind }
 {
@@ -43,8 +43,8 @@ pub(crate) fn first_use(groups: &Groups) -> Option<Group>
     None
 }
 
-/// Returns whether no error of a machine's run so far is a use, suppressed errors among them. Then nothing that undefined or
-/// inaccessible memory holds has had an influence on the run, as long as no mark stands in the way ([`crate::certify`]).
+/// Returns whether no error of a machine's run so far is a use; suppressed errors count. If none is, nothing that undefined or inaccessible
+/// memory holds has had an influence on the run, as long as no mark is in the way ([`crate::certify`]).
 pub fn is_clean(machine: &Machine) -> bool
     ensures { (s : State) → Shows machine.now s → IsTrue result ↔ NoUse s.events }
 {

@@ -8,13 +8,13 @@ use guest_machine::Mark;
 pub struct FirstUse {
     /// The step that raises the error.
     pub step: u32,
-    /// What the error is.
+    /// The kind of the error.
     pub kind: Kind,
-    /// Where the error was met.
+    /// The trace where the error happened.
     pub trace: Trace,
 }
 
-/// Whether a run is clean up to a step, or what comes first that stands in the way.
+/// Whether a run is clean up to a step, or what is in the way first.
 #[derive(Clone, Copy)]
 pub enum Verdict {
     /// The run is clean: nothing that undefined or inaccessible memory holds has an influence on it up to the step.

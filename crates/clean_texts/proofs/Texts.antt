@@ -1,4 +1,5 @@
--- A report that ends with the line of no errors, and an outline without an error's line, are of a state without errors.
+-- A report that ends with the line of no errors, and an outline without the line of an error, are of a state without
+-- errors.
 use Rattle.std.proofs.Common.{◌≡◌, ℕ, ◌^◌, ◌<◌, List, [], ◌∷◌, ◌++◌, length, slice_index, codes, Bool, true, false}
 use Rattle.std.proofs.Common.{refl, sym, ap, ◌∙◌, subst, inr}
 use Rattle.std.specs.Fmt.{decimal, digits}

@@ -1,5 +1,5 @@
--- What a text without errors says of the run, from the text alone. An `input` is a list of bytes: each law that has one
--- is the contract of a function that takes it as a slice.
+-- What a text without errors says about the run, known only from the text. An `input` is a list of bytes: each law with
+-- an input is the contract of a function that takes it as a slice.
 use Rattle.std.specs.Prelude.{◌≡◌, ◌↔◌, ℕ, Bool, List, []}
 use Rattle.guest_elf.specs.declared.image.Image.{Image}
 use Rattle.run_values.specs.declared.mark.Mark.{Mark}
@@ -16,13 +16,13 @@ use Rattle.clean_reports.specs.Disturbed.{IsStartOf}
 use Rattle.clean_reports.specs.Verdicts.{IsCertified, NoneInTheWay}
 use Rattle.clean_texts.specs.Texts.{EndsWithNoErrors, HasErrorLine}
 
--- a report ends with the line of no errors exactly where the state has none, whatever the suppressions and options are
+-- a report ends with the line of no errors exactly if the state has none, whatever the suppressions and options are
 abbrev pub NoErrorsMeansNone : Type 0
 NoErrorsMeansNone =
     (s : State) (image : Image) (rules : List Rule) (options : Options) (step input_len : ℕ) (text : List ℕ)
     → IsReport s image rules options step input_len text → EndsWithNoErrors text ↔ s.events ≡ []
 
--- so a program's run up to step n is certified by such a report of it, under marks none of which stands in the way
+-- so such a report certifies a program's run up to step n, under marks none of which is in the way
 abbrev pub CleanTexts : List ℕ → Type 0
 CleanTexts input =
     (image : Image) (start : State) (setup : Setup) (marks : List Mark) (n : ℕ) (rules : List Rule) (options : Options)
@@ -31,21 +31,21 @@ CleanTexts input =
     → IsReport (post start setup marks n) image rules options step input_len text → EndsWithNoErrors text
     → IsCertified image start setup marks n
 
--- in particular by each such report of a scenario, as a session writes it
+-- in particular, this holds for each such report of a scenario, as a session writes it
 abbrev pub PrintedTexts : List ℕ → Type 0
 PrintedTexts input =
     (sc : Scenario) (text : List ℕ)
     → sc.setup.input ≡ input → NoneInTheWay sc.marks → IsReportOf sc text → EndsWithNoErrors text
     → IsCertified sc.image (first_state sc) sc.setup sc.marks sc.step
 
--- and by each such report that `replaycheck run` writes: from the start of the program, without marks
+-- it also holds for each such report that `replaycheck run` writes: from the start of the program, without marks
 abbrev pub RunTexts : List ℕ → Type 0
 RunTexts input =
     (image : Image) (rules : List Rule) (n : ℕ) (text : List ℕ)
     → IsReportOf (at_step (begun image input rules) n) text → EndsWithNoErrors text
     → IsCertified image (start_state image) (setup_with image input) [] n
 
--- an outline without suppressions, no line of which is what an error is called, is that of a state without errors
+-- if an outline without suppressions has no line that names an error, it is the outline of a state without errors
 abbrev pub CleanOutlines : Type 0
 CleanOutlines =
     (s : State) (image : Image) (options : Options) (with_output : Bool) (text : List ℕ)

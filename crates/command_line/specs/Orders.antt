@@ -1,5 +1,5 @@
--- The command line, in `clap`'s own words (`clap`'s specs: what a line of words gives for each argument), and the order
--- that it gives.
+-- The command line, in `clap`'s own terms (`clap`'s specs: what a line of arguments gives for each argument), and the
+-- order that it gives.
 use denote.Ref.{Bor}
 use Rattle.std.specs.Prelude.{◌≡◌, ℕ, pos, List, [], ◌∷◌, Bool, true, false, Option, Some, None, codes, map}
 use Rattle.std.specs.Prelude.{option_map, unwrap_or, IsSomeAnd}
@@ -32,7 +32,7 @@ rules_path order = option_map (λ path. path.now) order.suppressions
 abbrev pub option : Text → Rule
 option name = record (new_rule name) { long = Some name; value_names = 1 }
 
--- the program's file, which must be there
+-- the program's file, which is required
 abbrev pub file_argument : Rule
 file_argument = record (new_rule (codes "FILE")) { required = true }
 
@@ -44,7 +44,7 @@ input_command name = with_rule (with_rule (new_app name) file_argument) (option 
 abbrev pub program_command : Text → App
 program_command name = with_rule (input_command name) (option (codes "supp"))
 
--- `--step`, from 0 to 4,194,304, and 1,048,576 where it isn't given
+-- `--step`, from 0 to 4,194,304, and 1,048,576 by default
 abbrev pub step_option : Rule
 step_option =
     record (option (codes "step")) {
@@ -56,7 +56,7 @@ step_option =
 abbrev pub run_command : App
 run_command = with_rule (program_command (codes "run")) step_option
 
--- the command line with `run` alone
+-- the command line with only `run`
 abbrev pub with_run : App
 with_run =
     with_subcommand (on_top (λ top. record top { has_version = true; subcommand_required = true })
@@ -70,7 +70,7 @@ with_session = with_subcommand with_run (program_command (codes "session")).top
 abbrev pub with_look : App
 with_look = with_subcommand with_session (program_command (codes "look")).top
 
--- an option with a value that it has where it isn't given
+-- an option with a value, and a default for it
 abbrev pub default_option : Text → Text → Rule
 default_option name default = record (option name) { defaults = default ∷ [] }
 
@@ -163,11 +163,11 @@ pub record IsFlagOf (name : Text) (rows : List Row) (flag : Bool) : Type 0 where
   pub given : one_of name rows ≡ Some (codes "true") → flag ≡ true
   pub absent : one_of name rows ≡ Some (codes "false") → flag ≡ false
 
--- a text that an option was given, and one that it has at any rate
+-- a text that an option was given, and one that it has in any case
 abbrev pub text_of : Option (Bor Text) → Option Text
 text_of given = option_map (λ text. text.now) given
 
--- the words of what was found for the arguments of `sweep`
+-- the arguments of `sweep`, from what was found
 pub record IsSweepOf (rows : List Row) (asked : SweepWords) : Type 0 where
   pub step : IsStepOf rows asked.step
   pub bytes : text_of asked.bytes ≡ first_of (codes "bytes") rows
@@ -214,6 +214,6 @@ pub record IsOrderOf (name : Text) (rows : List Row) (order : Order) : Type 0 wh
   pub task : IsTaskOf name rows order.task
   pub patches : map (λ text. text.now) order.patches.items ≡ texts_of (codes "patch") rows
 
--- the order of a command line's words: of what was found for the command that they enter
+-- the order of a command line's arguments: of what was found for the command in them
 abbrev pub IsOrderFor : List Text → Order → Type 0
 IsOrderFor words order = IsSomeAnd (subcommand_of command_line words) (λ entered. IsOrderOf entered.0 entered.1 order)

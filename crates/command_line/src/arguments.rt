@@ -1,4 +1,4 @@
-//! The words of the command line, and the order that they give.
+//! The arguments of the command line, and the order that they give.
 ghost use Rattle.std.specs.Prelude.{◌≡◌, IfErr, IfOk, IfSome, IsSomeAnd, false, map, string_bytes, true};
 ghost use Rattle.clap.specs.Words.{FailsBy, app_of, fault_of, found_of, kind_of, rows_of, rule_of, subcommand_rows_of, takes};
 ghost use Rattle.clap.specs.declared.builder.command.Command.TheViews.{out-Command};
@@ -17,7 +17,7 @@ use std::alloc::{AllocError, Global};
 /// The greatest step of a report.
 pub const MOST_STEPS: u32 = 4_194_304;
 
-/// The program's file, which must be given.
+/// The program's file, which is required.
 fn file_argument<'a>(alloc: Global) -> Arg<'a>
     ensures rule { rule_of result ≡ file_argument }
     ensures local { result.global ≡ false }
@@ -88,7 +88,7 @@ fn run_command<'a>(alloc: Global) -> Result<Command<'a>, AllocError>
     program_command(alloc, "run", RUN, AFTER_RUN)?.arg(step_argument(alloc))
 }
 
-/// The command line with `run` alone.
+/// The command line with only `run`.
 fn with_run<'a>(alloc: Global) -> Result<Command<'a>, AllocError>
     ensures { IfOk result (λ command. app_of command ≡ with_run) }
 {
@@ -116,7 +116,7 @@ fn with_look<'a>(alloc: Global) -> Result<Command<'a>, AllocError>
     with_session(alloc)?.subcommand(look)
 }
 
-/// An option with a value that it has where it isn't given.
+/// An option with a value, and a default for it.
 pub(crate) fn default_option<'a>(
     alloc: Global,
     name: &'a str,
@@ -200,15 +200,15 @@ fn make_command<'a>(alloc: Global) -> Result<Command<'a>, AllocError>
     with_certify(alloc)?.subcommand(exec)
 }
 
-/// Reads the words of a command line, the program's name first. Help and the version are errors whose text goes to standard output.
+/// Reads the arguments of a command line, the program's name first. Help and the version are errors whose text goes to standard output.
 ///
-/// Words that `clap` takes give an order: each value of one is required or has a default. As no clause of `clap` says that, one
-/// that is missing is told as want of memory.
+/// Arguments that `clap` takes give an order: each of its values is required or has a default. As no clause of `clap` says so, a missing
+/// value is reported as out of memory.
 pub fn read_order<'a>(alloc: Global, words: &'a [String]) -> Result<Order<'a>, Error>
     ensures order { IfOk result (IsOrderFor (map string_bytes words.entry.now)) }
-    // An order is given where the words have no fault; an error is of a kind of their first fault, or want of memory.
+    // An order is returned if the arguments have no fault; an error is of a kind of their first fault, or memory ran out.
     ensures kinds { FailsBy (fault_of command_line (map string_bytes words.entry.now)) result }
-    // A command line that is well formed is refused for want of memory alone.
+    // A command line that is well formed fails only if memory runs out.
     ensures taken { IfErr result (λ error. takes command_line (map string_bytes words.entry.now) ≡ true → kind_of error ≡ ErrorKind.OutOfMemory) }
 {
     let matches = make_command(alloc)?.try_get_matches_from(words)?;

@@ -27,7 +27,7 @@ pub(crate) const CERTIFY: &str =
 /// What `exec` does.
 pub(crate) const EXEC: &str = "Runs a program as a test: its output and its exit status, and a report of its errors";
 
-/// A text with what ends the help of each command: statuses, of which these are done and these come last, and refusals.
+/// A text with the end of the help of each command: statuses, with these for success and these last, and refusals.
 macro_rules! with_statuses {
     ($text:literal, $done:literal, $last:literal) => {
         concat!(
@@ -56,14 +56,14 @@ Exit status:
     };
 }
 
-/// The same, of a command that ends well where it has written what it was asked for.
+/// The same, for a command that succeeds if it has written what it was asked for.
 macro_rules! with_refusals {
     ($text:literal) => {
         with_statuses!($text, "the report, the replies or the table was written", "")
     };
 }
 
-/// What ends the help of `run`.
+/// The end of the help of `run`.
 pub(crate) const AFTER_RUN: &str = with_refusals!(
     "\
 Example, the report after 5000 steps:
@@ -71,7 +71,7 @@ Example, the report after 5000 steps:
 "
 );
 
-/// What ends the help of `session`: its lines, and the numbers of its refusals.
+/// The end of the help of `session`: its lines, and the numbers of its refusals.
 pub(crate) const AFTER_SESSION: &str = with_refusals!(
     "\
 Lines, with one space between fields; a number is decimal, or hexadecimal after 0x:
@@ -115,7 +115,7 @@ Example, what another first byte of the input would have changed:
 "
 );
 
-/// What ends the help of `look`: the lines that it has beside those of a session.
+/// The end of the help of `look`: the lines that it has besides those of a session.
 pub(crate) const AFTER_LOOK: &str = with_refusals!(
     "\
 The lines of a session, which `replaycheck session --help` lists, and these, which change nothing
@@ -141,7 +141,7 @@ Example, the last write of a word before the first 5000 steps are over:
 "
 );
 
-/// What ends the help of `sweep`: its table.
+/// The end of the help of `sweep`: its table.
 pub(crate) const AFTER_SWEEP: &str = with_refusals!(
     "\
 With neither --bytes nor --words, all bytes of the input are edited; `--input -` is standard input.
@@ -172,7 +172,7 @@ Example, each other value of the first four bytes:
 "
 );
 
-/// What ends the help of `certify`: what its line says.
+/// The end of the help of `certify`: the meaning of its line.
 pub(crate) const AFTER_CERTIFY: &str = with_statuses!(
     "\
 Prints one line on the run up to the step. Where it is

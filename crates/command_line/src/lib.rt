@@ -1,14 +1,14 @@
-//! The command line: what its words ask for, by the parser `clap`.
+//! The command line: what its arguments ask for, by the parser `clap`.
 //!
-//! | Call | What it answers |
+//! | Call | What it returns |
 //! |---|---|
-//! | [`read_order`] | the [`Order`] of the words, with its [`Task`] and, of a sweep, the [`SweepWords`] as they were given, of `exec` the [`ExecWords`]; or the error of `clap`, whose kind says whether help, the version or a fault is shown |
+//! | [`read_order`] | the [`Order`] of the arguments, with its [`Task`] and, for a sweep, the [`SweepWords`] as they were given, for `exec` the [`ExecWords`]; or the error of `clap`, whose kind says whether help, the version or a fault is shown |
 //! | [`MOST_STEPS`] | the greatest step of a report |
 //!
-//! # What a caller relies on
+//! # What a caller can rely on
 //!
-//! An order is given exactly where `clap`'s model of the command line finds no fault in the words, and is then that of the words
-//! (`IsOrderFor`); an error is of a kind that the first fault may have. Only want of memory stands apart. The definitions stand in
+//! An order is returned exactly if `clap`'s model of the command line finds no fault in the arguments, and it is then their order
+//! (`IsOrderFor`). An error is of a kind that the first fault may have. The only exception is that memory runs out. The definitions are in
 //! `specs/Orders.antt`.
 #![tactic(auto)]
 

@@ -1,6 +1,6 @@
-//! What a command line asks for.
+//! The order of a command line.
 
-/// What is asked for: a command on a program, with an input and suppressions.
+/// An order: a command on a program, with an input and suppressions.
 #[derive(Drop)]
 pub struct Order<'a> {
     /// The program's file.
@@ -24,7 +24,7 @@ pub enum Task<'a> {
     Session,
     /// A session whose run can be looked at.
     Look,
-    /// Every edit alone.
+    /// Every edit, one at a time.
     Sweep(SweepWords<'a>),
     /// Whether the run is clean up to a step.
     Certify(u32),
@@ -32,7 +32,7 @@ pub enum Task<'a> {
     Exec(ExecWords<'a>),
 }
 
-/// The words that say which edits are made, as they were given.
+/// The arguments that say which edits are tried, as they were given.
 #[derive(Clone, Copy)]
 pub struct SweepWords<'a> {
     /// The step of the outcomes.
@@ -45,9 +45,9 @@ pub struct SweepWords<'a> {
     pub words: Option<&'a str>,
     /// Which values they get.
     pub word_values: &'a str,
-    /// Which part of the places is taken.
+    /// Which part of the places is swept.
     pub part: &'a str,
-    /// Whether an outcome tells how much was written.
+    /// Whether an outcome has the number of bytes written.
     pub with_output: bool,
 }
 

@@ -64,7 +64,7 @@ pub counted_where_digits : (base most : ℕ) (ds : List ℕ) → 0 < length ds �
     → number_in base most ds ≡ cond (nat_lt (digits_value base ds) (2 ^ 32)) (Some (digits_value base ds)) None
 counted_where_digits base most ds some short pass = counted base most ds (grind (arith, nat_tests))
 
--- one more digit
+-- another digit
 pub digit_more : (base i value digit : ℕ) (ds : List ℕ) → i < length ds → digit ≡ digit_value (get_or ds i 0)
     → digit < base
     → list_all (digit_of base) (take i ds) ≡ true → value ≡ digits_value base (take i ds)

@@ -1,4 +1,4 @@
--- The command language of a session: one line, its fields, and the command that they are.
+-- The command language of a session: one line, its fields, and their command.
 use Rattle.std.specs.Prelude.{ℕ, ◌≡◌, ◌⊎◌, IsOkAnd, ◌==◌, ◌&&◌, ◌^◌, nat_eq, nat_le, nat_lt, Bool, true, false}
 use Rattle.std.specs.Prelude.{if◌then◌else◌, List, [], ◌∷◌, length, drop, Option, Some, None, Result, Ok, Err, codes}
 use Rattle.std.specs.Char.{digit_value}
@@ -28,12 +28,12 @@ fields line = parts 32 line
 abbrev pub has_empty : List (List ℕ) → Bool
 has_empty words = list_any (λ word. length word == 0) words
 
--- is a field one to so many digits of a base, letters in either case?
+-- does a field have from one to this many digits of a base, with letters in either case, and nothing else?
 abbrev pub is_numeral : ℕ → ℕ → List ℕ → Bool
 is_numeral base most field =
     nat_lt 0 (length field) && (nat_le (length field) most && list_all (λ c. nat_lt (digit_value c) base) field)
 
--- the number of so many digits at most, where it is below 2^32
+-- the number of at most this many digits, if it is below 2^32
 unfoldable pub number_in : ℕ → ℕ → List ℕ → Option ℕ
 number_in base most field =
     if is_numeral base most field && nat_lt (digits_value base field) (2 ^ 32) then Some (digits_value base field)
@@ -43,17 +43,17 @@ number_in base most field =
 unfoldable pub number : List ℕ → Option ℕ
 number field = if starts_with nat_eq field (codes "0x") then number_in 16 8 (drop 2 field) else number_in 10 10 field
 
--- a number, where it is a byte's value
+-- a number, if it is a byte's value
 abbrev pub small : Option ℕ → Option ℕ
 small None = None
 small (Some n) = if nat_lt n 256 then Some n else None
 
--- the number that is the one field
+-- the number in the only field
 unfoldable pub one_number : List (List ℕ) → Option ℕ
 one_number (field ∷ []) = number field
 one_number _ = None
 
--- what a range is made
+-- the kind of a range
 unfoldable pub kind_of : List ℕ → Option RangeKind
 kind_of field =
     if bytes_eq field (codes "defined") then Some Defined
@@ -61,12 +61,12 @@ kind_of field =
     else if bytes_eq field (codes "noaccess") then Some NoAccess
     else None
 
--- a command, or fields that are none
+-- a command, or the fault of fields that aren't one
 abbrev pub taken : Option Command → Result Command Fault
 taken None = Err BadCommand
 taken (Some command) = Ok command
 
--- a command that takes no fields
+-- a command without fields
 unfoldable pub alone : Command → List (List ℕ) → Result Command Fault
 alone command [] = Ok command
 alone command (field ∷ more) = Err BadCommand
@@ -105,7 +105,7 @@ unfoldable pub cut_of : List (List ℕ) → Option Command
 cut_of [] = Some (Edit Cut)
 cut_of (field ∷ more) = None
 
--- what is done to the input
+-- an edit of the input
 unfoldable pub input_of : List (List ℕ) → Option Command
 input_of [] = None
 input_of (word ∷ more) =
@@ -206,6 +206,6 @@ abbrev pub IsAdd : Command → Type 0
 IsAdd (Edit (Add rule)) = Unit {0}
 IsAdd _ = ⊥
 
--- a line is read as the definition says, unless memory is wanting for its suppression
+-- a line is read as the definition says, unless memory runs out for its suppression
 abbrev pub Reads : Result Command Fault → Result Command Fault → Type 0
 Reads says result = (result ≡ says) ⊎ ((result ≡ Err Memory) × IsOkAnd says IsAdd)

@@ -1,4 +1,4 @@
--- The refusals of a line: their numbers, and those of an edit.
+-- The faults of a line: their numbers, and those of an edit.
 use Rattle.std.specs.Prelude.{ℕ}
 use Rattle.commands.specs.declared.refusal.Refusal.{Refusal}
 use Rattle.commands.specs.declared.refusal.Refusal.TheVariants as Edit
@@ -24,7 +24,7 @@ number_of TooManyCommands = 12
 number_of BadSuppression = 13
 number_of InputTooLarge = 14
 
--- the refusal of a line that asks for a refused edit
+-- the fault of a line that asks for a rejected edit
 abbrev pub fault_of : Refusal → Fault
 fault_of Edit.OutsideInput = OutsideInput
 fault_of Edit.InputTooLarge = InputTooLarge

@@ -10,6 +10,6 @@ pub enum Command {
     Report,
     /// Edits the scenario.
     Edit(Edit),
-    /// Asks how many steps were made so far.
+    /// Asks for the number of steps executed so far.
     Worked,
 }

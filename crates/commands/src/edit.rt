@@ -7,26 +7,26 @@ use suppressions::{LeakKinds, Suppression};
 pub enum Edit {
     /// Replaces a byte of the input.
     Input { offset: u32, byte: u8 },
-    /// Puts a byte at the end of the input.
+    /// Appends a byte to the input.
     Append(u8),
-    /// Takes the last byte off the input.
+    /// Removes the last byte of the input.
     Cut,
     /// Replaces a word of the loaded program.
     Patch { addr: u32, word: u32 },
-    /// Puts a mark at the end of the list.
+    /// Appends a mark to the list.
     Mark(Mark),
-    /// Takes the mark at an index out.
+    /// Removes the mark at an index.
     Unmark(u32),
     /// Switches the suppression at an index on or off.
     Switch { index: u32, on: bool },
-    /// Puts a suppression at the end of the list.
+    /// Appends a suppression to the list.
     Add(Suppression),
-    /// How many addresses of a trace are shown, and group errors.
+    /// Sets the number of addresses of a trace that are shown and group errors.
     Callers(u32),
-    /// How many bytes beside each block of the heap are inaccessible.
+    /// Sets the number of inaccessible bytes on each side of a heap block.
     Redzone(u32),
-    /// How many bytes the freed blocks may have that aren't used again yet.
+    /// Sets the number of bytes that freed blocks may have whose places aren't used again yet.
     Volume(u32),
-    /// Which kinds of leak are shown.
+    /// Sets the kinds of leak that are shown.
     Show(LeakKinds),
 }

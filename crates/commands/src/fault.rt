@@ -1,4 +1,4 @@
-//! Why a line is refused, and why no session begins.
+//! Why a line is rejected, and why no session begins.
 ghost use Rattle.std.specs.Prelude.{◌≡◌};
 ghost use Rattle.commands.specs.Faults.{number_of, fault_of};
 ghost use Rattle.commands.specs.declared.fault.Fault.TheVariants.{Memory};
@@ -8,11 +8,11 @@ use crate::refusal::Refusal;
 use std::alloc::{AllocError, AllocFailed};
 use thiserror::Error;
 
-/// Why a line is refused. A refused line changes nothing but the number of lines.
+/// Why a line is rejected. A rejected line changes nothing but the number of lines.
 #[derive(Clone, Copy, Debug, PartialEq, Eq, Error)]
 pub enum Fault {
-    /// Memory was wanting, at a report, a patch, a mark, a new suppression or a byte put at the end of the input that nothing else
-    /// refuses.
+    /// Memory ran out, at a report, a patch, a mark, a new suppression or a byte appended to the input, and there is no other reason to
+    /// reject the line.
     #[error("no memory")]
     Memory,
     /// An unknown word, another number of fields, an empty field, or one of another form.
@@ -48,7 +48,7 @@ pub enum Fault {
     /// 100,000 lines were given before.
     #[error("too many commands")]
     TooManyCommands,
-    /// Words that are no suppression's.
+    /// Arguments that are no suppression's.
     #[error("no suppression")]
     BadSuppression,
     /// The input has 1,048,576 bytes already.
@@ -57,7 +57,7 @@ pub enum Fault {
 }
 
 impl Fault {
-    /// The number of the refusal, from 1 to 14, as a reply writes it.
+    /// Returns the number of the fault, from 1 to 14, as a reply has it.
     pub fn number(self) -> u8
         ensures { result ≡ number_of self }
     {
@@ -88,7 +88,7 @@ impl From<AllocError> for Fault {
     }
 }
 
-/// The refusal of a line that asks for a refused edit.
+/// The fault of a line that asks for a rejected edit.
 impl From<Refusal> for Fault {
     ghost from_gives = { λ refusal fault. fault ≡ fault_of refusal };
 
@@ -118,7 +118,7 @@ impl<T: Drop> From<AllocFailed<T>> for Fault {
 /// Why no session begins.
 #[derive(Clone, Copy, Debug, PartialEq, Eq, Error)]
 pub enum BeginFault {
-    /// Memory was wanting.
+    /// Memory ran out.
     #[error("no memory")]
     Memory,
     /// An input of more than 1,048,576 bytes.

@@ -1,15 +1,16 @@
-//! The lines of a session, read: each as a [`Command`], or as the [`Fault`] for which it is refused.
+//! Reads the lines of a session: each as a [`Command`], or as the [`Fault`] for which it is rejected.
 //!
 //! | Item | What it is |
 //! |---|---|
 //! | [`parse`] | reads a line |
 //! | [`number`] | reads a field that is a number |
 //! | [`Command`], [`Edit`] | what a line asks for; an edit of a scenario |
-//! | [`Refusal`], [`Fault`] | why an edit is refused; why a line is, with its number |
+//! | [`Refusal`], [`Fault`] | why an edit is rejected; why a line is rejected, with its number |
 //! | [`BeginFault`] | why no session begins |
 //!
-//! They stand apart from `scenario`, which makes the edits, and from `replay_session`, which carries the commands out and lists the lines. In
-//! `specs/`: `Commands`, the language, a definition for each command over the fields of a line; `Faults`, the numbers of the refusals.
+//! This crate is separate from `scenario`, which applies the edits, and from `replay_session`, which carries out the commands and lists the
+//! lines. In `specs/`: `Commands`, the language, with a definition for each command over the fields of a line; `Faults`, the numbers of the
+//! faults.
 #![tactic(auto)]
 
 mod command;

@@ -17,7 +17,7 @@ fn digit_value(b: u8) -> u64
     }
 }
 
-/// A number of one to `most` digits in a base up to 16, where it is below 2^32.
+/// A number of one to `most` digits in a base up to 16, if it is below 2^32.
 fn number_in(base: u64, most: usize, field: &[u8]) -> Option<u32>
     requires base { base ≤ 16 }
     requires most { most ≤ 10 }
@@ -37,7 +37,7 @@ fn number_in(base: u64, most: usize, field: &[u8]) -> Option<u32>
     u32::try_from(value).ok()
 }
 
-/// A number: decimal, or hexadecimal after `0x`.
+/// Returns the number in a field: decimal, or hexadecimal after `0x`.
 #[tactic(auto, unfolding(crate::specs::Commands::number))]
 pub fn number(field: &[u8]) -> Option<u32>
     ensures { result ≡ number field.now }
@@ -48,7 +48,7 @@ pub fn number(field: &[u8]) -> Option<u32>
     }
 }
 
-/// A number, where it is a byte's value.
+/// A number, if it is a byte's value.
 pub(crate) fn byte(field: &[u8]) -> Option<u8>
     ensures { result ≡ small (number field.now) }
 {
@@ -56,7 +56,7 @@ pub(crate) fn byte(field: &[u8]) -> Option<u8>
     u8::try_from(value).ok()
 }
 
-/// The number that is the one field.
+/// The number in the only field.
 #[tactic(auto, unfolding(crate::specs::Commands::one_number))]
 pub(crate) fn one_number(mut fields: Parts<'_>) -> Option<u32>
     ensures { result ≡ one_number fields.entry }

@@ -80,7 +80,7 @@ fn kind_of(field: &[u8]) -> Option<RangeKind>
     }
 }
 
-/// A command, or fields that are none.
+/// A command, or the fault of fields that aren't one.
 fn taken(command: Option<Command>) -> Result<Command, Fault>
     ensures { result ≡ taken command }
 {
@@ -90,7 +90,7 @@ fn taken(command: Option<Command>) -> Result<Command, Fault>
     }
 }
 
-/// A command that takes no fields.
+/// A command without fields.
 #[tactic(auto, unfolding(crate::specs::Commands::alone))]
 fn alone(command: Command, mut fields: Parts<'_>) -> Result<Command, Fault>
     ensures { result ≡ alone command fields.entry }
@@ -139,7 +139,7 @@ fn cut_of(mut fields: Parts<'_>) -> Option<Command>
     }
 }
 
-/// What is done to the input.
+/// An edit of the input.
 #[tactic(auto, unfolding(crate::specs::Commands::input_of))]
 fn input_of(mut fields: Parts<'_>) -> Option<Command>
     ensures { result ≡ input_of fields.entry }
@@ -218,7 +218,7 @@ fn switch_of(mut fields: Parts<'_>) -> Option<Command>
     }
 }
 
-/// `supp add` with these words.
+/// `supp add` with these arguments.
 fn add_of(alloc: Global, words: &[u8]) -> Result<Command, Fault>
     ensures { Reads (add_with (added words.now)) result }
 {
@@ -301,7 +301,7 @@ fn command_of(word: &[u8], fields: Parts<'_>) -> Result<Command, Fault>
     }
 }
 
-/// The command of a line, or why it is none.
+/// Returns the command of a line, or why it is none.
 #[tactic(auto, unfolding(crate::specs::Commands::parsed))]
 pub fn parse(alloc: Global, line: &[u8]) -> Result<Command, Fault>
     ensures { Reads (parsed line.now) result }

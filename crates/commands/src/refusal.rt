@@ -1,6 +1,6 @@
-//! Why an edit is refused.
+//! Why an edit is rejected.
 
-/// Why an edit is refused. A refused edit changes nothing.
+/// Why an edit is rejected. A rejected edit changes nothing.
 #[derive(Clone, Copy)]
 pub enum Refusal {
     /// An offset at or above the input's length, or the last byte of an empty input.

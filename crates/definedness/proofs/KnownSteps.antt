@@ -1,4 +1,4 @@
--- Operands with no undefined bits: no test that tells undefined bits of a result holds at any bit of a word.
+-- Operands without undefined bits: no test for undefined bits of a result holds at any bit of a word.
 use Rattle.std.proofs.Common.{◌≡◌, ℕ, suc, ◌+◌, ◌-◌, ◌<◌, ◌||◌, ◌&&◌, not, min, Bool, true, false, eqb, refl, sym, ap}
 use Rattle.std.proofs.Common.{ap₂, ◌∙◌, arith}
 use Rattle.std.specs.Prelude.{nat_le, nat_lt}

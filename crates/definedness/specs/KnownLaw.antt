@@ -1,11 +1,11 @@
--- Operands with no undefined bits give results with none.
+-- Operands without undefined bits give results without any.
 use Rattle.std.specs.Prelude.{◌≡◌}
 use Rattle.definedness.specs.declared.Bits.{Bits}
 use Rattle.definedness.specs.declared.Shift.{Shift}
 use Rattle.definedness.specs.Undefined.{undef_add, undef_sub, undef_mul, undef_and, undef_or, undef_xor, undef_shift}
 use Rattle.definedness.specs.Undefined.{undef_less, undef_wide}
 
--- of x and y, each operation gives a result that has no undefined bit
+-- each operation on x and y gives a result that has no undefined bit
 pub record GivesDefined (x y : Bits) : Type 0 where
   pub add : undef_add x y ≡ 0
   pub sub : undef_sub x y ≡ 0

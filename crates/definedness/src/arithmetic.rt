@@ -9,7 +9,7 @@ ghost use Rattle.definedness.specs.Exact.{TakesBothValues};
 
 use crate::{Bits, undef_branch};
 
-/// The undefined bits of the sum `x + y` modulo 2^32 (ADD, ADDI).
+/// Returns the undefined bits of the sum `x + y` modulo 2^32 (ADD, ADDI).
 pub fn undef_add(x: Bits, y: Bits) -> u32
     ensures bits { result ≡ undef_add x y }
     ensures law { KeepsAgreement add_of x y result }
@@ -17,11 +17,11 @@ pub fn undef_add(x: Bits, y: Bits) -> u32
 {
     let least_sum = least_value(x).wrapping_add(least_value(y));
     let greatest_sum = greatest_value(x).wrapping_add(greatest_value(y));
-    // At a bit that is defined in both, the two sums differ just where the carries into it do.
+    // At a bit that is defined in both, the two sums differ exactly if the carries into it do.
     x.undef | y.undef | (least_sum ^ greatest_sum)
 }
 
-/// The undefined bits of the difference `x - y` modulo 2^32 (SUB).
+/// Returns the undefined bits of the difference `x - y` modulo 2^32 (SUB).
 pub fn undef_sub(x: Bits, y: Bits) -> u32
     ensures bits { result ≡ undef_sub x y }
     ensures law { KeepsAgreement sub_of x y result }
@@ -29,11 +29,11 @@ pub fn undef_sub(x: Bits, y: Bits) -> u32
 {
     let least_difference = least_value(x).wrapping_sub(greatest_value(y));
     let greatest_difference = greatest_value(x).wrapping_sub(least_value(y));
-    // At a bit that is defined in both, the two differ just where the borrows into it do.
+    // At a bit that is defined in both, the two differ exactly if the borrows into it do.
     x.undef | y.undef | (least_difference ^ greatest_difference)
 }
 
-/// The undefined bits of the lower word of the product `x * y` (MUL).
+/// Returns the undefined bits of the lower word of the product `x * y` (MUL).
 pub fn undef_mul(x: Bits, y: Bits) -> u32
     ensures bits { result ≡ undef_mul x y }
     ensures law { KeepsAgreement mul_of x y result }
@@ -42,8 +42,7 @@ pub fn undef_mul(x: Bits, y: Bits) -> u32
     from_lowest(multiplied)
 }
 
-/// The undefined bits of the upper word of a product, of a quotient and of a remainder
-/// (MULH, MULHSU, MULHU, DIV, DIVU, REM, REMU).
+/// Returns the undefined bits of the upper word of a product, of a quotient and of a remainder (MULH, MULHSU, MULHU, DIV, DIVU, REM, REMU).
 pub fn undef_wide(x: Bits, y: Bits) -> u32
     ensures bits { result ≡ undef_wide x y }
     ensures law_mulh { KeepsAgreement mulh_of x y result }
@@ -54,11 +53,11 @@ pub fn undef_wide(x: Bits, y: Bits) -> u32
     ensures law_rem { KeepsAgreement rem_of x y result }
     ensures law_remu { KeepsAgreement remu_of x y result }
 {
-    // 1 negated has every bit, and 0 none.
+    // 1 negated has every bit set, and 0 none.
     u32::from(undef_branch(x, y)).wrapping_neg()
 }
 
-/// The word that has each bit at or above the lowest set bit of `word`.
+/// Returns the word whose set bits are those at or above the lowest set bit of `word`.
 #[inline]
 fn from_lowest(word: u32) -> u32
     ensures { result ≡ word_of (λ i. some_below (bit_is_set word) (suc i)) }
@@ -66,7 +65,7 @@ fn from_lowest(word: u32) -> u32
     word | word.wrapping_neg()
 }
 
-/// `x` with each undefined bit 0.
+/// Returns `x` with each undefined bit 0.
 #[inline]
 fn least_value(x: Bits) -> u32
     ensures { result ≡ least_value x }
@@ -74,7 +73,7 @@ fn least_value(x: Bits) -> u32
     x.value & !x.undef
 }
 
-/// `x` with each undefined bit 1.
+/// Returns `x` with each undefined bit 1.
 #[inline]
 fn greatest_value(x: Bits) -> u32
     ensures { result ≡ greatest_value x }

@@ -1,4 +1,4 @@
--- What a number is read as where it is written in decimal.
+-- How a number that is written in decimal is read.
 use Rattle.std.proofs.Common.{◌≡◌, ℕ, ◌^◌, ◌<◌, ◌≤◌, nat_eq, List, [], ◌∷◌, false, Some, refl, length, arith, codes}
 use Rattle.std.proofs.Common.{decimal, bytes_eq}
 use Rattle.std.specs.List.{starts_with}

@@ -1,4 +1,4 @@
--- What a number is read as where it is written as an address is: `0x` and eight hexadecimal digits.
+-- How a number that is written as an address is read: `0x` and eight hexadecimal digits.
 use Rattle.std.proofs.Common.{◌≡◌, ℕ, zero, suc, ◌+◌, ◌*◌, ◌/◌, ◌%◌, ◌^◌, ◌<◌, List, [], ◌∷◌, map, false, Some, refl}
 use Rattle.std.proofs.Common.{sym, ap, ◌∙◌, length, arith, pow-suc, div-one}
 use Rattle.std.specs.Char.{digit_value}
@@ -17,7 +17,7 @@ glyph_value d low = grind (arith, nat_tests)
 hex_digit_value : (n k : ℕ) → digit_value (hex_digit n k) ≡ n / 16 ^ k % 16
 hex_digit_value n k = glyph_value (n / 16 ^ k % 16) (omega arith)
 
--- the places of so many digits, from the highest on
+-- the places of a number of digits, from the highest on
 abbrev places : ℕ → List ℕ
 places zero = []
 places (suc k) = k ∷ places k
@@ -26,7 +26,7 @@ all_hexadecimal : (n k : ℕ) → AllDigits 16 (map (hex_digit n) (places k))
 all_hexadecimal n zero = tt
 all_hexadecimal n (suc k) = (omega (arith, hex_digit_value n k), all_hexadecimal n k)
 
--- a number without its last k digits is one digit and what is left without one more
+-- a number without its last k digits is one digit and what is left without k + 1
 one_digit : (n k : ℕ) → n / 16 ^ suc k * 16 + n / 16 ^ k % 16 ≡ n / 16 ^ k
 one_digit n k =
     let less : n / 16 ^ suc k ≡ n / 16 ^ k / 16 = ap (λ m. n / m) (pow-suc 16 k)

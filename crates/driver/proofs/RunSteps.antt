@@ -1,4 +1,4 @@
--- One report of a run that nothing was done to.
+-- The report of a run without edits.
 use Rattle.std.proofs.Common.{◌≡◌, ℕ, List, [], ◌∷◌, true, false, subst}
 use Rattle.guest_elf.specs.declared.image.Image.{Image}
 use Rattle.guest_machine.specs.declared.setup.Setup.{Setup}

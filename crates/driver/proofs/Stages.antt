@@ -55,7 +55,7 @@ no-image gives path front bytes fault read same refused least = (
   ),
 )
 
--- where the file gives a program, what becomes of it is what becomes of the command
+-- where the file gives a program, its outcome is that of the command
 pub with-image : (gives : Giving) (order : Order) (action : Action) (front bytes : List ℕ) (image : ProgramImage)
     (old new : Streams) (end : End)
     → IsFront gives order.file.now most_judged front → bytes ≡ front → IsImageOf bytes image
@@ -63,7 +63,7 @@ pub with-image : (gives : Giving) (order : Order) (action : Action) (front bytes
 with-image gives order action front bytes image old new end read same is carried =
     inr (image, (front, read, subst (λ (xs : List ℕ). IsImageOf xs image) same is), carried)
 
--- where all files give what is wanted, what is asked for is done
+-- if all files give what the order names, what it asks for is done
 pub with-all : (gives : Giving) (order : Order) (action : Action) (front bytes : List ℕ) (image : ProgramImage)
     (list : List Rule) (input : List ℕ) (old new : Streams) (end : End)
     → IsFront gives order.file.now most_judged front → bytes ≡ front → IsImageOf bytes image
@@ -95,7 +95,7 @@ pub does-same : (action other : Action) (image : ProgramImage) (list : List Rule
 does-same action other image list input old new end is does =
     subst (λ (done : Action). Does done image list input old new end) (sym is) does
 
--- what a fault of a service comes to, where no lines have no replies
+-- the end for a fault of a service, if no lines have no replies
 pub serves-fault : (AreReplies : Relation) (none-of : (replies : List (List ℕ)) → AreReplies [] replies
     → replies ≡ []) (fault : ServeFault)
     (left-old left-new held-old held-new : Option (List ℕ))
@@ -115,8 +115,8 @@ serves-fault AreReplies none-of (ServedNoMemory replies bytes) left-old left-new
       subst (λ (rs : List (List ℕ)). Appends held-old held-new (joined rs)) no-replies whole.appended,
     )
 
--- a session to which nothing was said but what opened it, and of whose run nothing was made, has a fresh stage; so a
--- fault of what was served of its stage is one of that
+-- a session that was just opened, and of whose run no step was executed, has a fresh stage; so a fault of what was
+-- served of its stage is one of that
 abbrev stage-with : Turn → Work → Bool → Stage
 stage-with turn work short = record { turn = turn; work = work; short = short }
 
@@ -142,8 +142,8 @@ pub no-file : (gives : Giving) (path : List ℕ) (end : End) → NoBytes gives p
 no-file gives path (Image fault) none = absurd none
 no-file gives path end none = none
 
--- where the file gives a program, what becomes of a sweep of it is what becomes of the request; the bytes as they were
--- read, as the program was read of, and as they are swept
+-- where the file gives a program, the outcome of a sweep of it is that of the request; the bytes as they were read, as
+-- the program was read from them, and as they are swept
 pub with-program : (gives : Giving) (order : Order) (words : SweepWords) (request : Request) (front bytes file : List ℕ)
     (image : ProgramImage) (old : Streams) (held : Option (List ℕ)) (end : End)
     → IsFront gives order.file.now most_judged front → bytes ≡ front → IsImageOf bytes image → file ≡ front

@@ -1,4 +1,4 @@
--- The verdict on a run that nothing was done to.
+-- The verdict on a run without edits.
 use Rattle.std.proofs.Common.{◌≡◌, ℕ, ◌^◌, ◌<◌, List, [], All, Option, refl, subst, sym}
 use Rattle.std.specs.Io.KnownBytes.{Appends}
 use Rattle.checkpoints.specs.Trails.{IsRightFor}

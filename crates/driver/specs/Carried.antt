@@ -1,5 +1,5 @@
--- What becomes of a command on a program: its files are read in order, each judged before the next, and then a report
--- is printed or lines are answered.
+-- The outcome of a command on a program: its files are read in order, each judged before the next, and then a report is
+-- printed or lines are answered.
 use Rattle.std.specs.Prelude.{ℕ, ◌≡◌, ◌+◌, ◌<◌, ◌≤◌, ◌⊎◌, List, [], Option, Some, None, length, take}
 use Rattle.std.specs.Io.KnownBytes.{Appends, Consumes}
 use Rattle.command_line.specs.Orders.{input_path, rules_path}
@@ -29,15 +29,15 @@ use Rattle.suppressions.specs.Rules.{Rule}
 use Rattle.suppressions.specs.Texts.{faults, rules, IsLeast}
 use Rattle.suppressions.specs.declared.fault.SuppFault.TheVariants as Supp
 
--- a report was printed; or a front of one, after which a write failed; or nothing, for want of memory
+-- a report was printed; or a front of one, after which a write failed; or nothing, as memory ran out
 abbrev pub Reports : (List ℕ → Type 0) → Option (List ℕ) → Option (List ℕ) → End → Type 0
 Reports is_report old new Done = WritesReport is_report old new
 Reports is_report old new CannotWrite = (sent : ℕ) × StopsBy (ReportCut sent) is_report old new
 Reports is_report old new NoMemory = Appends old new []
 Reports is_report old new end = ⊥
 
--- lines were answered to their end; or up to where a read failed or found no end, or a write failed; or not at all, for
--- want of memory
+-- lines were answered to their end; or up to where a read failed or found no end, or a write failed; or not at all, as
+-- memory ran out
 abbrev pub Serves : Relation → Streams → Streams → End → Type 0
 Serves AreReplies old new Done =
     ServedAll AreReplies old.left old.held new.held × ServedRead AreReplies old.left new.left old.held new.held
@@ -48,8 +48,8 @@ Serves AreReplies old new CannotWrite =
 Serves AreReplies old new NoMemory = Untouched old new
 Serves AreReplies old new end = ⊥
 
--- what is asked for was done with a program, its suppressions and its input: the report of a step, a session, one that
--- can be looked at, or the verdict up to a step, on which suppressions have no say
+-- what an order asks for was done with a program, its suppressions and its input: the report of a step, a session, one
+-- that can be looked at, or the verdict up to a step, which doesn't depend on suppressions
 abbrev pub Does : Action → ProgramImage → List Rule → List ℕ → Streams → Streams → End → Type 0
 Does (Report step) image list input old new end =
     Consumes old.left new.left [] × Reports (IsReportOnce image input list step) old.held new.held end
@@ -58,7 +58,8 @@ Does Look image list input old new end = Serves (ViewsLines (fresh (opening imag
 Does (Certify step) image list input old new end =
     Consumes old.left new.left [] × Certifies image input step old.held new.held end
 
--- with the program and its suppressions: the input is read, and what is asked for done, or the input ends the program
+-- with the program and its suppressions: the input is read, and what the order asks for is done, or the input ends the
+-- program
 abbrev pub CarriedWithRules : Giving → Order → Action → ProgramImage → List Rule → Streams → Streams → End → Type 0
 CarriedWithRules gives order action image list old new end =
     (NoInput gives (input_path order) end × Untouched old new)

@@ -1,4 +1,4 @@
--- A sweep and a session: the line of a row makes the row's edit.
+-- A sweep and a session: the line of a row applies the row's edit.
 use Rattle.std.specs.Prelude.{◌≡◌, ℕ, ◌^◌, ◌<◌, List, Some}
 use Rattle.scenario.specs.Edits.{IsTaken, row}
 use Rattle.commands.specs.Commands.{input_with, patch_with, taken}
@@ -23,7 +23,7 @@ abbrev pub Makes : Turn → List ℕ → Change → Type 0
 Makes turn line change =
     IsAcceptedAs turn line change × ((applied turn line).scenario ≡ (row turn.scenario (edit_of change)).after)
 
--- while lines are answered, the line of a row makes the row's change, where its edit isn't refused
+-- while lines are answered, the line of a row applies the row's change, if its edit isn't rejected
 abbrev pub RowsAreLines : Type 0
 RowsAreLines =
     (turn : Turn) (change : Change) → turn.lines < most_lines → IsSmall change → IsTaken turn.scenario (edit_of change)

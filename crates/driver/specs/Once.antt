@@ -17,14 +17,14 @@ IsReportOnce image input rules step text = IsReportOf (at_step (begun image inpu
 abbrev pub WritesReport : (List ℕ → Type 0) → Option (List ℕ) → Option (List ℕ) → Type 0
 WritesReport is_report old new = (text : List ℕ) × is_report text × Appends old new text
 
--- a refused input and want of memory wrote nothing; a failed write stopped after so many bytes of a report
+-- a rejected input and a failed allocation wrote nothing; a failed write stopped after this number of bytes of a report
 abbrev pub StopsBy : RunFault → (List ℕ → Type 0) → Option (List ℕ) → Option (List ℕ) → Type 0
 StopsBy InputTooLarge is_report old new = Appends old new []
 StopsBy NoMemory is_report old new = Appends old new []
 StopsBy (WriteFailed sent) is_report old new =
     (text : List ℕ) × is_report text × (sent ≤ length text) × Appends old new (take sent text)
 
--- what a fault of a report comes to
+-- the end for a fault of a report
 abbrev pub end_of_run : RunFault → AnEnd
 end_of_run InputTooLarge = End.InputTooLarge
 end_of_run NoMemory = End.NoMemory

@@ -1,5 +1,5 @@
--- What becomes of a command for a sweep: its step, its words and its files are read in stages, each judged before the
--- next, and nothing is written before the last.
+-- The outcome of a command for a sweep: its step, its arguments and its files are read in stages, each judged before
+-- the next, and nothing is written before the last.
 use Rattle.std.specs.Prelude.{◌≡◌, ℕ, ◌<◌, ◌≤◌, ◌⊎◌, Bool, true, false, List, [], Option, Some, None, codes}
 use Rattle.std.specs.Prelude.{IfSome, length}
 use Rattle.std.specs.Str.{bytes_eq}
@@ -25,8 +25,8 @@ use Rattle.ends.specs.declared.ends.End.TheVariants.{CannotReadInput, InputTooLa
 use Rattle.ends.specs.declared.ends.End.TheVariants.{Suppressions, SuppressionsTooLong, Usage}
 use Rattle.sweep_plans.specs.declared.request.Request.{Request}
 
--- with a program and the text of its suppressions, which has no fault: the input is read, and the sweep made, or the
--- input ends the program
+-- with a program and the text of its suppressions, which has no fault: the input is read, and the sweep executed, or
+-- the input ends the program
 abbrev pub SweepsRules : Giving → Order → SweepWords → Request → List ℕ → ProgramImage → List ℕ → Streams
     → Option (List ℕ) → End → Type 0
 SweepsRules gives order words request file image text old held end =
@@ -58,13 +58,14 @@ SweepsRequest gives order words request old held end =
     ⊎ ((file : List ℕ) × (image : ProgramImage) × IsFront gives order.file.now most_judged file × IsImageOf file image
     × SweepsImage gives order words request file image old held end)
 
--- with a step that may be asked for: the words are read, and then the files, or the words make no request
+-- with a step that may be asked for: the arguments are read, and then the files, or the arguments make no request
 abbrev pub SweepsNear : Giving → Order → SweepWords → Streams → Option (List ℕ) → End → Type 0
 SweepsNear gives order words old held end =
     (IsNoRequest words end × Appends old.held held [])
     ⊎ ((request : Request) × IsRequestOf words request × SweepsRequest gives order words request old held end)
 
--- a command for a sweep was carried out: its step is judged, and then its words and its files, or the step is too great
+-- a command for a sweep was carried out: its step is judged, and then its arguments and its files, or the step is too
+-- great
 abbrev pub CarriedSweep : Giving → Order → SweepWords → Streams → Option (List ℕ) → End → Type 0
 CarriedSweep gives order words old held end =
     ((end ≡ Usage) × (most_steps < words.step) × Appends old.held held [])

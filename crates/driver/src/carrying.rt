@@ -1,4 +1,4 @@
-//! A command on a program is carried out: its files are read, and a report printed or a session served.
+//! Carries out a command on a program: reads its files, and prints a report or serves a session.
 ghost use Rattle.std.specs.Prelude.{◌≡◌, ◌≤◌, length};
 ghost use Rattle.replay_session.specs.Replies.{Answers};
 ghost use Rattle.replay_session.specs.Stages.{fresh};
@@ -76,7 +76,7 @@ fn serve_looks<'a, R: Read, W: Write>(
     Ok(looks::serve(session, reader, writer)?)
 }
 
-/// What is done with a program whose files were read.
+/// What to do with a program whose files were read.
 #[derive(Clone, Copy)]
 pub(crate) enum Action {
     /// The report of a step is printed.
@@ -89,7 +89,8 @@ pub(crate) enum Action {
     Certify(u32),
 }
 
-/// Follows an order for the report or the verdict of a step, or for a session: the program is read, then the suppressions, then the input, each judged before the next is read.
+/// Carries out an order for the report or the verdict of a step, or for a session: the program is read, then the suppressions, then the
+/// input, each judged before the next is read.
 fn follow_order<'a, F: Files, R: Read, W: Write>(
     alloc: Global,
     order: &Order<'a>,
@@ -113,7 +114,7 @@ fn follow_order<'a, F: Files, R: Read, W: Write>(
     }
 }
 
-/// Sweeps a program by what else an order names: the suppressions are read, then the input, each judged before the next.
+/// Sweeps a program by the rest of an order: the suppressions are read, then the input, each judged before the next is read.
 fn sweep_image<'a, F: Files, R: Read, W: Write>(
     alloc: Global,
     order: &Order<'a>,
@@ -146,7 +147,8 @@ fn sweep_image<'a, F: Files, R: Read, W: Write>(
     )
 }
 
-/// Follows an order for a sweep: its words are read, and then the program, the suppressions and the input, each judged before the next.
+/// Carries out an order for a sweep: its arguments are read, and then the program, the suppressions and the input, each judged before the
+/// next is read.
 fn follow_sweep<'a, F: Files, R: Read, W: Write>(
     alloc: Global,
     order: &Order<'a>,
@@ -178,7 +180,7 @@ fn ended<'a>(done: Result<(), End<'a>>) -> End<'a>
     }
 }
 
-/// Does what is asked for, and answers how the program ends.
+/// Carries out an order, and returns how the program ends.
 pub fn run_order<'a, F: Files, R: Read, W: Write>(
     alloc: Global,
     order: &Order<'a>,

@@ -1,7 +1,7 @@
-//! What joins a sweep to a session. The law is the contract of a function that does nothing; a caller has it after the call.
+//! A law that joins a sweep to a session. The law is the contract of a function that does nothing; a caller has it after the call.
 ghost use Rattle.driver.specs.Laws.{RowsAreLines};
 
-/// The line of a sweep's row, as a session reads it, makes the row's edit: so the state of its outcome is that of the session whose one
+/// The line of a sweep's row, as a session reads it, applies the row's edit. So the state of its outcome is that of the session whose only
 /// accepted line it is, at the same step.
 pub fn rows_are_lines()
     ensures { RowsAreLines }

@@ -1,16 +1,16 @@
-//! What the program does with an order: files are read, and a report or a verdict is printed or a session served, over any files, reader
-//! and writer.
+//! What the program does with an order: it reads files, and prints a report or a verdict or serves a session, over any files, reader and
+//! writer.
 //!
 //! | Call | What it does |
 //! |---|---|
-//! | [`run_order`] | follows an order of the command line, and answers how the program ends: an [`End`] |
+//! | [`run_order`] | carries out an order of the command line, and returns how the program ends: an [`End`] |
 //! | [`run_once`] | writes the report of a program at a step, or stops with a [`RunFault`] |
-//! | [`tell`] | writes the error line of an end, and answers the exit status |
-//! | [`Files`] | what gives files their bytes: the machine, or a test |
-//! | [`read_opened`] | the first bytes of a file that was opened, or a [`ReadFault`] |
-//! | [`laws::rows_are_lines`] | nothing: its contract says that the line of a sweep's row, as a session reads it, makes the row's edit |
+//! | [`tell`] | writes the error line of an end, and returns the exit status |
+//! | [`Files`] | the source of the files' bytes: the machine, or a test |
+//! | [`read_opened`] | returns the first bytes of an opened file, or a [`ReadFault`] |
+//! | [`laws::rows_are_lines`] | does nothing; its contract says that the line of a sweep's row, as a session reads it, applies the row's edit |
 //!
-//! # What a caller relies on
+//! # What a caller can rely on
 //!
 //! - [`run_order`]: the program is read, then the suppressions, then the input, each judged before the next is read; the report or the
 //!   replies are written, and nothing else; and the end is that of what stopped it (`Carried`). A sweep's step and arguments are judged before
@@ -18,9 +18,9 @@
 //! - [`run_once`]: the report of one run from step zero was written (`IsReportOnce`), or a front of it before a write that failed.
 //! - [`tell`]: the exit status is that of the end (`status_of`), and what was written is its line (`line_of`), or a front of it.
 //!
-//! A program's file is judged by its first 67,108,865 bytes, and so whole up to 67,108,864: the number of its refusal is the least that
-//! holds of the file. The definitions stand in `specs/`: `Once`, `Certified`, `Carried`, `Sweeping` and `Laws`; what files give in those of `program_files`, how the program ends in those of the crate
-//! `ends`, and what a sweep writes in those of `sweep_tables`.
+//! A program's file is judged by its first 67,108,865 bytes, and so as a whole up to 67,108,864: the number of its refusal is the least
+//! that holds for the file. The definitions are in `specs/`: `Once`, `Certified`, `Carried`, `Sweeping` and `Laws`. What files
+//! give is defined in the crate `program_files`, how the program ends in `ends`, and what a sweep writes in `sweep_tables`.
 #![tactic(auto)]
 
 mod carrying;

@@ -23,7 +23,7 @@ pub enum RunFault {
     /// Nothing was written.
     #[error("no memory")]
     NoMemory,
-    /// A write or the flush at the end failed, or a write took nothing; so many bytes of the report were taken.
+    /// A write or the flush at the end failed, or a write took nothing; this number of bytes of the report was taken.
     #[error("the write failed after {bytes} bytes")]
     WriteFailed { bytes: u64 },
 }

@@ -1,4 +1,4 @@
-//! How orders are carried out and what is told of it, over files, readers and writers that fail.
+//! How orders are carried out and what they write, over files, readers and writers that fail.
 use crate::shelf::Shelf;
 use command_line::{Order, SweepWords, Task};
 use driver::{End, ReadFault, RunFault, SweepOption, read_opened, run_once, run_order, tell};
@@ -28,7 +28,7 @@ suppressed: 0 bytes in 0 blocks
 ERROR SUMMARY: 0 errors from 0 contexts (suppressed: 0 from 0)
 ";
 
-/// What a report came to, and after how many bytes of it.
+/// The outcome of a report, and the number of its bytes that were taken.
 fn told(end: Result<(), RunFault>) -> (&'static str, u64) {
     match end {
         Ok(()) => ("done", 0),
@@ -38,8 +38,8 @@ fn told(end: Result<(), RunFault>) -> (&'static str, u64) {
     }
 }
 
-/// What a row shows; how much a writer takes and how many flushes; how long the input is; what the report comes to, and how many bytes
-/// of it are taken.
+/// A label; the number of bytes that a writer takes and of flushes; the length of the input; the outcome of the report, and the number of
+/// its bytes that are taken.
 type Report = (
     &'static str,
     usize,
@@ -63,7 +63,7 @@ const REPORTS: [Report; 4] = [
     ),
 ];
 
-/// Whether the report on an image comes to what a row says, with an input.
+/// Whether the report on an image, with an input, has the outcome of a row.
 fn is_cut_to(alloc: Global, image: &Image<'_>, input: Vec<u8>, report: &Report) -> bool {
     let mut writer = Room::new(alloc, report.1);
     writer.flushes = report.2;
@@ -80,7 +80,7 @@ fn is_cut_of(alloc: Global, file: &[u8], report: &Report) -> Result<bool, AllocE
     }
 }
 
-/// The same on a new one.
+/// The same on a new file.
 fn is_cut(alloc: Global, report: &Report) -> Result<bool, AllocError> {
     let file = program(alloc, &EXITS)?;
     is_cut_of(alloc, &file, report)
@@ -101,7 +101,7 @@ fn a_report_is_cut(rt: HostRuntime) {
 /// An end, with its status and its line.
 type Told = (End<'static>, u8, &'static [u8]);
 
-/// Whether a writer with so much room takes as much of an end's line, with its status.
+/// Whether a writer with this much room takes as much of an end's line, with its status.
 fn is_told(alloc: Global, row: &Told, room: usize) -> bool {
     let (end, status, line) = row;
     let mut writer = Room::new(alloc, room);
@@ -110,7 +110,7 @@ fn is_told(alloc: Global, row: &Told, room: usize) -> bool {
         && line.starts_with(&writer.taken)
 }
 
-/// Asserts that each end has its status and its line, and of a line a front where a write fails.
+/// Asserts that each end has its status and its line, and a front of the line if a write fails.
 fn assert_told(rt: &impl Abort, alloc: Global, rows: &[Told]) {
     for (i, row) in rows.iter().enumerate() {
         assert!(rt;
@@ -237,8 +237,8 @@ fn is_around(text: &[u8], before: &[u8], after: &[u8]) -> bool {
     }
 }
 
-/// What a row shows; a file, whether it has suppressions, a command, and these suppressions on the shelf; the status that an order for
-/// that ends with, and what it writes.
+/// A label; a file, whether it has suppressions, a command, and these suppressions on the shelf; the status with which an order for that
+/// ends, and what it writes.
 type Case = (
     &'static str,
     (&'static str, bool, Asked),
@@ -273,7 +273,7 @@ fn task_of(asked: &Asked) -> (Option<&'static str>, Task<'static>) {
     }
 }
 
-/// The status that an order ends with, whose line is told.
+/// The status with which an order ends, whose line is written.
 fn status_of(alloc: Global, order: &Order<'_>, shelf: &Shelf<'_>, writer: &mut Room) -> u8 {
     let mut reader = Script::new(b"goto 3\nreport\nlook last run 0x10008 4 0\n");
     let end = run_order(alloc, order, shelf, &mut reader, writer);
@@ -281,7 +281,7 @@ fn status_of(alloc: Global, order: &Order<'_>, shelf: &Shelf<'_>, writer: &mut R
     tell(&end, &mut line)
 }
 
-/// Whether an order on a program ends so.
+/// Whether an order on a program ends in this way.
 fn is_carried_on(alloc: Global, program: &[u8], case: &Case) -> bool {
     let (_, (file, has_rules, asked), rules, status, written) = case;
     let (input, task) = task_of(asked);
@@ -313,7 +313,7 @@ const GOOD_RULES: &[u8] = b"{\n  any\n  Memcheck:Cond\n  fun:*\n}\n";
 
 const BAD_RULES: &[u8] = b"# an empty block\n{\n}\n";
 
-/// A report, a session, one that looks and a verdict.
+/// A report, a session, one that also looks, and a verdict.
 const ORDERS: [Case; 5] = [
     (
         "a report",
@@ -357,7 +357,7 @@ fn orders_are_carried_out(rt: HostRuntime) {
     assert_carried(&rt, rt.alloc(), &ORDERS);
 }
 
-/// Files that keep one from being made.
+/// Files for which an order fails.
 const NO_ORDERS: [Case; 3] = [
     (
         "no such program",
@@ -387,7 +387,7 @@ fn files_keep_orders_from_it(rt: HostRuntime) {
     assert_carried(&rt, rt.alloc(), &NO_ORDERS);
 }
 
-/// The end of a table behind its digests: a word that makes the exit status 1; the values that stand there are no edits.
+/// The end of a table after its digests: a word that makes the exit status 1. Values equal to the word there are no edits.
 const WORD_TABLE: &[u8] = b"
 words 0x00010000..0x0001000b 0x00100513,0x513
 step 3
@@ -406,7 +406,7 @@ tally 1 1
 end 1 2 2
 ";
 
-/// Bytes that the program doesn't read: no step is made for them.
+/// Bytes that the program doesn't read: no step is executed for them.
 const BYTE_TABLE: &[u8] = b"
 bytes 0..1 0,97
 step 3
@@ -450,7 +450,7 @@ fn sweeps_are_made(rt: HostRuntime) {
     assert_carried(&rt, rt.alloc(), &SWEEPS);
 }
 
-/// Words that no sweep has.
+/// Arguments that no sweep has.
 const NO_SWEEPS: [Case; 4] = [
     (
         "bytes outside of the input",
@@ -491,14 +491,14 @@ fn sweeps_are_refused(rt: HostRuntime) {
     assert_carried(&rt, rt.alloc(), &NO_SWEEPS);
 }
 
-/// A file: one from which so many bytes are read before a read fails, one that isn't there, and one for which memory is wanting.
+/// A file: one from which a number of bytes are read before a read fails, one that isn't there, and one for which memory runs out.
 enum Opened {
     Script(usize),
     Missing,
     NoMemory,
 }
 
-/// A file of three bytes, how many are asked for, and what is given: `!` for a file that can't be read, `?` for want of memory.
+/// A file of three bytes, how many are asked for, and the result: `!` for a file that can't be read, `?` if memory ran out.
 const FILES: [(Opened, usize, &[u8]); 6] = [
     (Opened::Script(usize::MAX), 4, b"abc"),
     (Opened::Script(usize::MAX), 3, b"abc"),

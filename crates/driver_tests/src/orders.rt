@@ -1,10 +1,10 @@
-//! What lines of words ask for.
+//! The orders of command lines.
 use clap::error::ErrorKind;
 use command_line::{Order, SweepWords, Task, read_order};
 use std::alloc::{AllocError, Global};
 use std::process::Abort;
 
-/// The words of a line, after the program's name.
+/// The arguments of a line, after the program's name.
 fn words_of(alloc: Global, line: &[&str]) -> Result<Vec<String>, AllocError> {
     let mut words = Vec::new(alloc);
     words.push(String::from_str(alloc, "replaycheck")?)?;
@@ -54,10 +54,10 @@ fn is_order(asked: &Order<'_>, want: &Order<'_>) -> bool {
         && is_task(&asked.task, &want.task)
 }
 
-/// What a row shows, the words of a line, and its order.
+/// A label, the arguments of a line, and its order.
 type Line = (&'static str, &'static [&'static str], Order<'static>);
 
-/// Whether words give an order.
+/// Whether arguments give an order.
 fn give(alloc: Global, words: &[String], want: &Order<'_>) -> bool {
     match read_order(alloc, words) {
         Ok(order) => is_order(&order, want),
@@ -208,7 +208,7 @@ fn sweeps_are_ordered(rt: HostRuntime) {
     assert_given(&rt, rt.alloc(), &SWEEPS);
 }
 
-/// What a row shows, the words of a line, and why it has no order.
+/// A label, the arguments of a line, and why it has no order.
 type NoOrder = (&'static str, &'static [&'static str], ErrorKind);
 
 const NO_ORDERS: [NoOrder; 9] = [
@@ -239,7 +239,7 @@ const NO_ORDERS: [NoOrder; 9] = [
     ),
 ];
 
-/// Whether words are refused for this.
+/// Whether arguments are rejected for this.
 fn refuses(alloc: Global, words: &[String], want: ErrorKind) -> bool {
     match read_order(alloc, words) {
         Ok(_) => false,

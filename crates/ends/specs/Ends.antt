@@ -1,4 +1,4 @@
--- How the program ends: its exit statuses, its lines on standard error, and what faults come to.
+-- How the program ends: its exit statuses, its lines on standard error, and the ends for faults.
 use Rattle.std.specs.Prelude.{ℕ, ◌≤◌, List, [], ◌∷◌, ◌++◌, Option, Result, Ok, Err, codes, decimal, length, take}
 use Rattle.std.specs.Io.KnownBytes.{Appends}
 use Rattle.guest_elf.specs.Faults.{number_of}
@@ -17,7 +17,7 @@ use Rattle.line_server.specs.declared.fault.ServeFault.TheVariants as Serve
 use Rattle.suppressions.specs.declared.fault.SuppFault.TheVariants as Supp
 
 -- 0: done, 1: a file or standard input cannot be read, or the output written, 2: the command line, 3: the program, the
--- suppressions or the input is refused, 4: no memory, 5: the run isn't clean
+-- suppressions or the input is rejected, 4: out of memory, 5: the run isn't clean
 abbrev pub status_of : End → ℕ
 status_of Done = 0
 status_of (CannotRead path) = 1
@@ -57,8 +57,8 @@ complaint Sweep.Words = codes "replaycheck: no range, list or part: --words "
 complaint Sweep.WordsValues = codes "replaycheck: no range, list or part: --words-values "
 complaint Sweep.Part = codes "replaycheck: no range, list or part: --part "
 
--- the line on standard error: none where all is done, none for the command line, whose parser has written it, and none
--- where the run isn't clean, as standard output says why
+-- the line on standard error: none if all is done, none for the command line, whose parser has written it, and none if
+-- the run isn't clean, as standard output says why
 abbrev pub line_of : End → List ℕ
 line_of Done = []
 line_of (CannotRead path) = line_with (codes "replaycheck: cannot read ") path.now
@@ -82,7 +82,7 @@ line_of NotClean = []
 abbrev pub AppendsFront : Option (List ℕ) → Option (List ℕ) → List ℕ → Type 0
 AppendsFront old new line = (sent : ℕ) × (sent ≤ length line) × Appends old new (take sent line)
 
--- what a fault of a session's beginning comes to, and of its service
+-- the end for a fault of a session's beginning, and of its service
 abbrev pub end_of_begin : BeginFault → End
 end_of_begin Begin.Memory = NoMemory
 end_of_begin Begin.InputTooLarge = InputTooLarge
@@ -93,7 +93,7 @@ end_of_serve (Serve.WriteFailed replies bytes) = CannotWrite
 end_of_serve (Serve.NoMemory replies bytes) = NoMemory
 end_of_serve (Serve.Endless replies bytes) = CannotReadInput
 
--- what a result comes to: done, or the end that it has in the place of a value
+-- the end for a result: done, or the end that it has instead of a value
 abbrev pub end_of : {T : Type 0} → Result T End → End
 end_of (Ok value) = Done
 end_of (Err end) = end

@@ -12,7 +12,7 @@ use line_server::ServeFault;
 use std::io::Write;
 use suppressions::SuppFault;
 
-/// What follows the word of a line that is fixed.
+/// The rest of a line that is fixed.
 const NOTHING: &[u8] = b"";
 
 /// An option of a sweep whose text is read.
@@ -40,8 +40,7 @@ impl SweepOption {
     }
 }
 
-/// How the program ends. `Done` stands for help too, and `Usage` for a fault of the command line, whose text the command-line
-/// parser has written.
+/// How the program ends. `Done` includes help. `Usage` is a fault of the command line, whose text the command-line parser has written.
 #[derive(Clone, Copy)]
 pub enum End<'a> {
     Done,
@@ -51,9 +50,9 @@ pub enum End<'a> {
     CannotReadInput,
     CannotWrite,
     Usage,
-    /// A word of the command line is no UTF-8.
+    /// An argument isn't UTF-8.
     NotText,
-    /// What an option of a sweep was given is no range, list or part.
+    /// The text of an option of a sweep is no range, list or part.
     BadText { option: SweepOption, text: &'a str },
     /// The bytes of a sweep lie outside of the input.
     BytesRefused,
@@ -109,7 +108,7 @@ impl From<ServeFault> for End<'_> {
     }
 }
 
-/// Writes the error line, if the end has one, and answers the exit status, whatever becomes of the write.
+/// Writes the error line, if the end has one, and returns the exit status, whatever becomes of the write.
 pub fn tell<W: Write>(end: &End, writer: &mut W) -> u8
     ensures status { result ≡ status_of end.now }
     ensures line { AppendsFront (W.contents writer.old) (W.contents writer.new) (line_of end.now) }
@@ -130,7 +129,7 @@ pub fn tell<W: Write>(end: &End, writer: &mut W) -> u8
     }
 }
 
-/// Writes the error line, if the end has one, and tells whether all of it was taken.
+/// Writes the error line, if the end has one, and returns whether all of it was taken.
 pub(crate) fn write_line<W: Write>(end: &End, writer: &mut W) -> bool
     ensures line { AppendsFront (W.contents writer.old) (W.contents writer.new) (line_of end.now) }
     ensures whole { IsTrue result → Appends (W.contents writer.old) (W.contents writer.new) (line_of end.now) }

@@ -1,9 +1,9 @@
-//! How the program ends: an [`End`], which [`tell`] writes as a line of standard error and answers as an exit status.
+//! How the program ends: an [`End`], which [`tell`] writes as a line of standard error and returns as an exit status.
 //!
 //! [`tell`]: the exit status is that of the end (`status_of`), and what was written is its line (`line_of`), or a front of it. A
-//! [`SweepOption`] is one whose text is read, and named in the line where that is of no form. Faults become ends by `From`.
+//! [`SweepOption`] is an option whose text is read; the line names it if the text can't be read. Faults become ends by `From`.
 //!
-//! The definitions stand in `specs/Ends`.
+//! The definitions are in `specs/Ends`.
 #![tactic(auto)]
 
 mod ends;

@@ -6,7 +6,7 @@ ghost use Rattle.ends.specs.Ends.{AppendsFront, line_with};
 use line_server::send;
 use std::io::Write;
 
-/// Writes a line of two pieces, and tells whether all of it was taken. Nothing is written after a write that fails.
+/// Writes a line of two pieces, and returns whether all of it was taken. Nothing is written after a write that fails.
 pub(crate) fn send_line<W: Write>(writer: &mut W, word: &str, rest: &[u8]) -> bool
     ensures front { AppendsFront (W.contents writer.old) (W.contents writer.new) (line_with word.now rest.now) }
     ensures whole { IsTrue result → Appends (W.contents writer.old) (W.contents writer.new) (line_with word.now rest.now) }

@@ -25,7 +25,7 @@ like-unlike x g h p q = go (is_like x h) refl
     go true t = sym (like-trans g x h (like-symm x g p) t) ∙ q
     go false t = refl
 
--- one more group --
+-- another group --
 
 pub add-like : (h a : Group) (as' : List Group) → is_like h a ≡ true → add_group (a ∷ as') h ≡ raised h a ∷ as'
 unfolding add_group

@@ -1,4 +1,4 @@
--- Maps in order of age: none, one more, and two as one.
+-- Maps in order of age: none, another one, and two as one.
 use Rattle.std.proofs.Common.{◌≡◌, ℕ, ◌+◌, ◌≤◌, length, take, List, [], ◌∷◌, ◌++◌, Bool, Result, Ok, Err, refl, ap, ap₂}
 use Rattle.std.proofs.Common.{sym, subst, ◌∙◌, append_assoc, append-nil, length-append}
 use Rattle.std.specs.Prelude.{IfOk}
@@ -22,7 +22,7 @@ entries-merged before last young whole h =
     ∙ sym (append_assoc (entries_in before) last young)
     ∙ ap (λ front. front ++ young) (sym (entries-push before last)) ∙ sym (entries-push (before ++ last ∷ []) young)
 
--- some maps, cut and with one behind them
+-- some maps, cut and with one after them
 pub put-is : {X : Type 0} (read reserved cut new : List X) (kept : ℕ) (whole : X) → new ≡ cut ++ whole ∷ []
     → cut ≡ take kept reserved → read ≡ reserved → new ≡ take kept read ++ whole ∷ []
 put-is read reserved cut new kept whole d e f = d ∙ ap (λ maps. maps ++ whole ∷ []) (e ∙ ap (take kept) (sym f))
@@ -77,7 +77,7 @@ module _ {K V : Type 0} (eq : K → K → Bool) where
     apart-merged whole e (x ∷ xs) h =
         (subst (AreNew eq x) (sym (entries-merged xs last young whole e)) h.0, apart-merged whole e xs h.1)
 
-  -- maps, and a copy of a new one behind them
+  -- maps, and a copy of a new one after them
   pub apart-copied : (maps : List (List (K × V))) (old young copy : List (K × V)) → copy ≡ young → entries_in maps ≡ old
       → AreApart eq maps → AreNew eq old young → AreApart eq (maps ++ copy ∷ [])
   apart-copied maps old young copy h v a n =

@@ -1,4 +1,4 @@
--- Counts in chunks: the one at a place, one that is raised, and one more chunk.
+-- Counts in chunks: the one at a place, one that is raised, and another chunk.
 use Rattle.std.proofs.Common.{◌≡◌, ℕ, zero, suc, ◌+◌, ◌*◌, ◌^◌, ◌<◌, ◌≤◌, length, List, [], ◌∷◌, ◌++◌, Some, slice_get}
 use Rattle.std.proofs.Common.{slice_set, refl, ap, ap₂, sym, ◌∙◌, arith}
 use Rattle.std.proofs.Common.{append_assoc, append-nil, length-append}
@@ -36,7 +36,7 @@ full-there (x ∷ xs) zero c h s =
     let same : x ≡ c = cc in ap (λ (y : Chunk). length y.value.items) (sym same) ∙ full-first x xs h
 full-there (x ∷ xs) (suc k) c h s = full-there xs k c (full-rest x xs h) s
 
--- how many counts there are
+-- the number of counts
 pub length-chunks : (cs : List Chunk) → AreFull cs → length (in_chunks cs) ≡ 256 * length cs
 unfolding in_chunks
 length-chunks [] h = refl
@@ -51,7 +51,7 @@ length-counts counts =
     let e = length-append (in_chunks counts.chunks.items) counts.recent.items in
     let f = length-chunks counts.chunks.items counts.full in omega (arith, e, f)
 
--- one more chunk
+-- another chunk
 pub chunks-append : (cs : List Chunk) (c : Chunk) → in_chunks (cs ++ c ∷ []) ≡ in_chunks cs ++ c.value.items
 unfolding in_chunks
 chunks-append [] c = append-nil c.value.items

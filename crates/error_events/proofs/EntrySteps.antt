@@ -20,7 +20,7 @@ less-suc m n = grind (arith, nat_tests)
 less-zero : (n : ℕ) → nat_lt 0 (suc n) ≡ true
 less-zero n = grind (arith, nat_tests)
 
--- the first place at which a test passes, in a list with one more item in front
+-- the first place at which a test passes, in a list with another item in front
 pub position-first : {X : Type 0} (p : X → Bool) (x : X) (xs : List X) → p x ≡ true → position p (x ∷ xs) ≡ Some 0
 position-first p x xs h =
     ap (λ b. cond (nat_lt (cond (not b) (1 + position_or_len p xs) 0) (suc (length xs)))

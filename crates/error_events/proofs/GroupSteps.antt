@@ -82,7 +82,7 @@ none-counted seen (x ∷ xs) e h =
         (or-false-right (list_any (λ d. same_key d e) seen) _ parts) in
         not-counted (turned (same_key e x) refl theirs) (new regrouped)
 
--- groups, as one more error is counted --
+-- groups, as another error is counted --
 
 key-symm : (d e : Event) → same_key d e ≡ same_key e d
 unfolding same_key
@@ -145,7 +145,7 @@ raised-none e (g ∷ gs) h =
     kept : (b : Bool) → b ≡ false → cond b (raised (alone e) g) g ≡ g
     kept b k = rw k refl
 
--- one more error raises the group of its key, or makes a group
+-- another error raises the group of its key, or makes a group
 grouped-raised : (es : List Event) (e : Event)
     → grouped (es ++ e ∷ []) ≡ cond (list_any (is_like (alone e)) (grouped es)) (map (raised_if e) (grouped es))
     (grouped es ++ alone e ∷ [])
@@ -229,7 +229,7 @@ pub grouped-apart : (es : List Event) → Apart (grouped es)
 unfolding grouped firsts_after Apart
 grouped-apart es = apart-append [] es tt
 
--- one more error
+-- another error
 pub grouped-more : GroupsGrow
 grouped-more es e = grouped-raised es e ∙ add-apart (grouped es) e (grouped-apart es)
 

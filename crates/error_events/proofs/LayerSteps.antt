@@ -1,4 +1,4 @@
--- Entries of two maps, one after the other.
+-- Entries of two maps, one after another.
 use Rattle.std.proofs.Common.{◌≡◌, ℕ, suc, ◌+◌, length, List, [], ◌∷◌, ◌++◌, Bool, true, false, Option, Some, None}
 use Rattle.std.proofs.Common.{Result, Ok, Err, map, position, refl, ap, ap₂, sym}
 use Rattle.std.proofs.Common.{subst, ◌∙◌, arith, append_assoc, append-nil}
@@ -96,7 +96,7 @@ new-pushed eq k v old es new (Err x) h n done failed = subst (AreNew eq old) (sy
 -- all entries of one map inserted in another --
 
 module _ {K V : Type 0} (eq : K → K → Bool) (flips : (x y : K) → eq x y ≡ eq y x) where
-  -- one more entry in front of new ones, whose keys are not its key
+  -- another entry in front of new ones, whose keys are not its key
   new-after : (e : K × V) (old es : List (K × V)) → AreNew eq old es
       → AllByRecursion (λ y. eq e.0 y ≡ false) (map (λ x. x.0) es) → AreNew eq (old ++ e ∷ []) es
   unfolding AreNew

@@ -19,7 +19,7 @@ merged-drop callers zero done (k ∷ ks) (g ∷ gs) keep l h =
 merged-drop callers (suc i) done (k ∷ ks) (g ∷ gs) keep l h =
     let rest_long : length ks ≡ length gs = omega arith in merged-drop callers i done ks gs keep rest_long h
 
--- one more group
+-- another group
 pub merged-step : (callers : ℕ) (i : ℕ) (done new all : List Group) (keeps : List Bool) (gs : List Group)
     (group : Option Group) (d : Bool) → length keeps ≡ length gs → i < length keeps
     → merged callers done (drop i keeps) (drop i gs) ≡ all → group ≡ slice_get gs i

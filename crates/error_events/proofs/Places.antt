@@ -1,4 +1,4 @@
--- A place in one of two lists, one after the other.
+-- A place in one of two lists, one after another.
 use Rattle.std.proofs.Common.{◌≡◌, ℕ, zero, suc, ◌+◌, ◌-◌, ◌<◌, ◌≤◌, length, List, [], ◌∷◌, ◌++◌, slice_get, refl, ap}
 use Rattle.std.proofs.Common.{sym, ◌∙◌, arith}
 

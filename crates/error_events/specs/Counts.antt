@@ -1,4 +1,4 @@
--- Counts that are kept in chunks, and in a list after them.
+-- Counts in chunks, and in a list after the chunks.
 use Rattle.std.specs.Prelude.{◌≡◌, ℕ, ◌+◌, List, [], ◌∷◌, ◌++◌, length, map, min, replicate, slice_index, slice_set}
 use Rattle.std.specs.declared.rc.Rc.{Rc}
 use Rattle.std.specs.declared.vec.Vec.{Vec}
@@ -17,6 +17,6 @@ in_chunks (chunk ∷ chunks) = chunk.value.items ++ in_chunks chunks
 abbrev pub AreFull : List Chunk → Type 0
 AreFull chunks = map (λ chunk. length chunk.value.items) chunks ≡ replicate (length chunks) 256
 
--- counts, of which one counts so many more, up to the greatest number
+-- counts, one of which is raised by a number, at most to the greatest number
 abbrev pub raised_at : List ℕ → ℕ → ℕ → List ℕ
 raised_at counts i by = slice_set counts i (min (slice_index counts i + by) most)

@@ -1,6 +1,6 @@
--- Errors, and their groups: for each kind and trace, in order of first occurrence, how many there are, and the first
--- one's note (Valgrind user manual, section 2.4: an error is compared with the earlier ones, and one that is the same
--- is only counted).
+-- Errors, and their groups: for each kind and trace, in order of first occurrence, the number of errors, and the note
+-- of the first one (Valgrind user manual, section 2.4: an error is compared with the earlier ones, and one that is the
+-- same is only counted).
 use Rattle.std.specs.Prelude.{ℕ, ◌==◌, ◌&&◌, Bool, true, false, nat_eq, if◌then◌else◌, List, [], ◌∷◌, ◌++◌, map, min}
 use Rattle.std.specs.Prelude.{count_by}
 use Rattle.std.specs.List.{list_any}
@@ -20,7 +20,7 @@ same_fault Uninit Uninit = true
 same_fault Unaddressable Unaddressable = true
 same_fault _ _ = false
 
--- have two kinds one text?
+-- do two kinds have one text?
 abbrev pub same_kind : Kind → Kind → Bool
 same_kind (Read m) (Read n) = m == n
 same_kind (Write m) (Write n) = m == n
@@ -34,11 +34,11 @@ same_kind _ _ = false
 abbrev pub same_trace : List ℕ → List ℕ → Bool
 same_trace = pointwise nat_eq
 
--- have two errors one kind and one trace?
+-- do two errors have one kind and one trace?
 unfoldable pub same_key : Event → Event → Bool
 same_key d e = same_kind d.kind e.kind && same_trace d.trace e.trace
 
--- those errors that are the first of their key, after these
+-- of some errors, those that are the first of their key, after these
 unfoldable pub firsts_after : List Event → List Event → List Event
 firsts_after seen [] = []
 firsts_after seen (e ∷ es) =

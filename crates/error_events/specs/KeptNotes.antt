@@ -1,4 +1,4 @@
--- The note of which a map keeps a smaller form.
+-- The note that a map keeps in a smaller form.
 use Rattle.error_events.specs.declared.event.Note.{Note}
 use Rattle.error_events.specs.declared.event.Note.TheVariants.{Absent as NoAddress, Near as NearBlock}
 use Rattle.error_events.specs.declared.event.Note.TheVariants.{Stack as InStack, Elsewhere as InNoRegion}

@@ -1,4 +1,4 @@
--- Maps in order of age: their entries, and that no key stands in two of them.
+-- Maps in order of age: their entries, and that no key is in two of them.
 use Rattle.std.specs.Prelude.{Bool, List, [], ◌∷◌}
 use Rattle.std.specs.List.{flat_map}
 use Rattle.error_events.specs.Entries.{AreNew}

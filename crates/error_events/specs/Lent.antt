@@ -1,4 +1,4 @@
--- Notes that are lent, and groups whose parts are.
+-- Borrowed notes, and groups with borrowed parts.
 use denote.Ref.{Bor}
 use Rattle.std.specs.Prelude.{ℕ}
 use Rattle.error_events.specs.declared.event.Key.{Key}

@@ -6,11 +6,11 @@ use Rattle.error_events.specs.declared.kind.Kind.{Kind}
 use Rattle.error_events.specs.declared.event.Event.{Event}
 use Rattle.error_events.specs.declared.event.Group.{Group}
 
--- an error with the first addresses of its trace alone
+-- an error with only the first addresses of its trace
 abbrev pub cut : ℕ → Event → Event
 cut callers e = record { kind = e.kind; trace = take callers e.trace; note = e.note }
 
--- are the errors of a kind and a trace kept? `keeps` says of each group in turn whether its errors are
+-- are the errors of a kind and a trace kept? `keeps` says for each group in turn whether its errors are
 unfoldable pub is_kept : List Bool → List Group → Kind → List ℕ → Bool
 is_kept [] gs kind trace = false
 is_kept (keep ∷ keeps) [] kind trace = false

@@ -1,4 +1,4 @@
--- What `Groups` show: each key with its note and its count, in order.
+-- The groups that `Groups` show: each key with its note and its count, in order.
 use Rattle.std.specs.Prelude.{ℕ, List, [], ◌∷◌}
 use Rattle.error_events.specs.CountLists.{counts_of}
 use Rattle.error_events.specs.declared.event.Key.{Key}

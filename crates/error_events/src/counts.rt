@@ -1,34 +1,34 @@
-//! Counts in order. All but the last few lie in chunks, which copies share until they change.
+//! Counts in order. All but the last few are in chunks, which copies share until they change.
 ghost use Rattle.std.specs.Prelude.{◌≡◌, ◌<◌, ◌≤◌, length, slice_get, OnOk, OnErr};
 ghost use Rattle.error_events.specs.Counts.{raised_at, AreFull};
 
 use std::alloc::{AllocError, Global};
 use std::rc::Rc;
 
-/// How many counts a chunk has.
+/// The number of counts in a chunk.
 const CHUNK: usize = 256;
 
-/// How many chunks there are at most. No memory holds as many.
+/// The greatest number of chunks. No memory holds as many.
 const MOST_CHUNKS: usize = 1099511627776;
 
 /// The counts. Contracts see their list, `counts_of`.
 #[derive(Drop)]
 pub(crate) struct Counts {
     chunks: Vec<Rc<Vec<u64>>>,
-    // Those after the chunks, at most as many as one has.
+    // The counts after the chunks, at most as many as one chunk has.
     recent: Vec<u64>,
     ghost full: { AreFull chunks.items },
     ghost few: { length chunks.items ≤ 1099511627776 },
 }
 
-/// The count at a place.
+/// Returns the count at a place.
 fn count_at(counts: &[u64], index: usize) -> Option<u64>
     ensures { result ≡ slice_get counts.now index }
 {
     counts.get(index).copied()
 }
 
-/// So many more at a place.
+/// Adds a number to the count at a place.
 fn raise_at(counts: &mut Vec<u64>, index: usize, by: u64)
     requires { index < length counts.old.items }
     ensures { counts.new.items ≡ raised_at counts.old.items index by }
@@ -36,7 +36,7 @@ fn raise_at(counts: &mut Vec<u64>, index: usize, by: u64)
     counts[index] = counts[index].saturating_add(by);
 }
 
-/// So many more at a place of a chunk, in a chunk of its own.
+/// Adds a number to the count at a place of a chunk, which is copied first if others share it.
 fn raise_in(chunk: &mut Rc<Vec<u64>>, index: usize, by: u64) -> Result<(), AllocError>
     requires { index < length chunk.old.value.items }
     ensures long { length chunk.new.value.items ≡ length chunk.old.value.items }
@@ -54,7 +54,7 @@ impl Counts {
     ghost use Rattle.error_events.specs.Counts.{raised_at};
     ghost use Rattle.error_events.specs.CountLists.{counts_of, HasRoom};
 
-    /// No counts, which take no memory.
+    /// Returns no counts. Allocates nothing.
     pub(crate) fn new(alloc: Global) -> Self
         ensures { counts_of result ≡ [] }
     {
@@ -64,19 +64,19 @@ impl Counts {
         }
     }
 
-    /// Where memory comes from.
+    /// Returns the allocator.
     pub(crate) fn allocator(&self) -> Global {
         *self.recent.allocator()
     }
 
-    /// How many there are.
+    /// Returns the number of counts.
     pub(crate) fn len(&self) -> usize
         ensures { result ≡ length (counts_of self.now) }
     {
         CHUNK * self.chunks.len() + self.recent.len()
     }
 
-    /// The count at a place.
+    /// Returns the count at a place.
     pub(crate) fn get(&self, index: usize) -> Option<u64>
         ensures { result ≡ slice_get (counts_of self.now) index }
     {
@@ -87,7 +87,7 @@ impl Counts {
         count_at(&self.recent, index - CHUNK * self.chunks.len())
     }
 
-    /// So many more at a place. A refusal changes nothing.
+    /// Adds a number to the count at a place. A failure changes nothing.
     pub(crate) fn raise(&mut self, index: usize, by: u64) -> Result<(), AllocError>
         requires { index < length (counts_of self.old) }
         ensures ok { OnOk result (counts_of self.new ≡ raised_at (counts_of self.old) index by) }
@@ -102,7 +102,7 @@ impl Counts {
         Ok(())
     }
 
-    /// Takes the memory for one more.
+    /// Allocates the room for another count.
     pub(crate) fn make_room(&mut self) -> Result<(), AllocError>
         ensures same { counts_of self.new ≡ counts_of self.old }
         ensures room { OnOk result (HasRoom self.new) }
@@ -113,7 +113,7 @@ impl Counts {
         self.recent.reserve(1)
     }
 
-    /// The counts after the chunks become one.
+    /// Makes the counts after the chunks a chunk.
     fn close_chunk(&mut self) -> Result<(), AllocError>
         requires { length self.old.recent.items ≡ 256 }
         ensures { counts_of self.new ≡ counts_of self.old }
@@ -127,7 +127,7 @@ impl Counts {
         Ok(())
     }
 
-    /// One more, as the last.
+    /// Appends a count, for which there is room.
     pub(crate) fn push(&mut self, count: u64)
         requires { HasRoom self.old }
         ensures { counts_of self.new ≡ counts_of self.old ++ count ∷ [] }
@@ -135,7 +135,7 @@ impl Counts {
         self.recent.push(count).unwrap();
     }
 
-    /// A copy, which shares the chunks.
+    /// Returns a copy, which shares the chunks.
     pub(crate) fn share(&self) -> Result<Counts, AllocError>
         ensures { IfOk result (λ copy. counts_of copy ≡ counts_of self.now) }
     {

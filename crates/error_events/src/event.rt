@@ -5,41 +5,41 @@ use heap_blocks::Near;
 /// What an error says of an address (Memcheck manual, section 4.2.1).
 #[derive(Clone, Copy)]
 pub enum Note {
-    /// Nothing: it is about none.
+    /// Nothing: the error isn't about an address.
     Absent,
-    /// The address lies in a block of the heap, or near one.
+    /// The address is in a block of the heap, or near one.
     Near(u32, Near),
     /// The address is in the stack region.
     Stack(u32),
-    /// The address is in no region known.
+    /// The address is in no known region.
     Elsewhere(u32),
 }
 
 /// An error.
 #[derive(Clone, Copy)]
 pub struct Event {
-    /// What it is.
+    /// The kind.
     pub kind: Kind,
-    /// Where it was met.
+    /// The trace where it happened.
     pub trace: Trace,
-    /// What it says of an address.
+    /// The note on an address.
     pub note: Note,
 }
 
 /// The errors of one kind and one trace.
 #[derive(Clone, Copy)]
 pub struct Group {
-    /// What they are.
+    /// Their kind.
     pub kind: Kind,
-    /// Where they were met.
+    /// The trace where they happened.
     pub trace: Trace,
-    /// How many there are; the count stands still at the greatest `u64`.
+    /// Their number, at most the greatest `u64`.
     pub count: u64,
-    /// What the first one says of an address.
+    /// The note of the first one.
     pub note: Note,
 }
 
-/// What errors of one group share.
+/// What the errors of a group have in common.
 #[derive(Clone, Copy, PartialEq, Eq, Hash)]
 pub(crate) struct Key {
     pub(crate) kind: Kind,

@@ -22,7 +22,7 @@ pub struct Groups {
     ghost matched: { length known ≡ length (counts_of counts) },
 }
 
-/// A key with the first addresses of its trace alone.
+/// Returns a key with only the first addresses of its trace.
 fn cut(key: &Key, callers: u32) -> Key
     requires { 0 < callers }
     ensures kind { result.kind ≡ key.now.kind }
@@ -40,7 +40,7 @@ impl Groups {
     ghost use Rattle.error_events.specs.Groups.{grouped};
     ghost use Rattle.error_events.specs.Adding.{add_group, add_event};
 
-    /// No groups, which take no memory.
+    /// Returns no groups. Allocates nothing.
     pub fn new(alloc: Global) -> Self
         ensures { groups_of result ≡ [] }
     {
@@ -50,14 +50,14 @@ impl Groups {
         }
     }
 
-    /// How many groups there are.
+    /// Returns the number of groups.
     pub fn len(&self) -> usize
         ensures { result ≡ length (groups_of self.now) }
     {
         self.counts.len()
     }
 
-    /// The group at a place, in order of first occurrence.
+    /// Returns the group at a place, in order of first occurrence.
     pub fn get(&self, index: usize) -> Option<Group>
         ensures { result ≡ slice_get (groups_of self.now) index }
     {
@@ -70,7 +70,7 @@ impl Groups {
         })
     }
 
-    /// The key, the note and the count of the group at a place.
+    /// Returns the key, the note and the count of the group at a place.
     fn entry(&self, index: usize) -> Option<(&Key, &KeptNote, u64)>
         ensures { option_map lent_group result ≡ slice_get (groups_of self.now) index }
     {
@@ -79,7 +79,7 @@ impl Groups {
         Some((key, note, count))
     }
 
-    /// One more error. Where memory fails, the groups stay as they were.
+    /// Adds an error. If memory runs out, the groups stay as they were.
     pub fn add(&mut self, event: Event) -> Result<(), AllocError>
         ensures ok { OnOk result (groups_of self.new ≡ add_event (groups_of self.old) event) }
         ensures err { OnErr result (groups_of self.new ≡ groups_of self.old) }
@@ -91,7 +91,7 @@ impl Groups {
         self.add_group(&key, &NoteRef::Plain(&event.note), 1)
     }
 
-    /// The errors of one more group.
+    /// Adds the errors of another group.
     fn add_group(&mut self, key: &Key, note: &NoteRef<'_>, count: u64) -> Result<(), AllocError>
         ensures ok { OnOk result (groups_of self.new ≡ add_group (groups_of self.old) (group_with key.now (lent_note note.now) count)) }
         ensures err { OnErr result (groups_of self.new ≡ groups_of self.old) }
@@ -102,7 +102,7 @@ impl Groups {
         }
     }
 
-    /// So many more errors of a group.
+    /// Adds a number to the count of a group.
     fn raise(&mut self, index: usize, by: u64) -> Result<(), AllocError>
         requires { index < length self.old.known }
         ensures known { self.new.known ≡ self.old.known }
@@ -112,7 +112,7 @@ impl Groups {
         self.counts.raise(index, by)
     }
 
-    /// A new group. All that can fail comes before the count, so that keys and counts stay matched.
+    /// Adds a new group. Everything that can fail comes before the count, so keys and counts stay matched.
     fn begin(&mut self, key: &Key, note: &NoteRef<'_>, count: u64) -> Result<(), AllocError>
         requires { position (⟦<Key as PartialEq>⟧.eq key.now) (map (λ e. e.0) self.old.known) ≡ None }
         ensures known { OnOk result (self.new.known ≡ self.old.known ++ (key.now, lent_note note.now) ∷ []) }
@@ -128,9 +128,9 @@ impl Groups {
         Ok(())
     }
 
-    /// The errors of the groups that are kept, of which `keep` says for each group in turn whether it is, grouped by kind and the
-    /// first `callers` addresses of their traces (above 24 all addresses count): in order of first occurrence, each group with
-    /// its first error's note.
+    /// Returns the errors of the kept groups, grouped by kind and the first `callers` addresses of their traces, in order of first
+    /// occurrence, each group with its first error's note. `keep` says for each group whether it is kept. If `callers` is above 24, all
+    /// addresses count.
     pub fn regroup(&self, callers: u32, keep: &[bool]) -> Result<Vec<Group>, AllocError>
         requires each { length keep.now ≡ length (groups_of self.now) }
         requires some { 0 < callers }
@@ -139,7 +139,7 @@ impl Groups {
         self.regrouped(callers, keep)?.collected()
     }
 
-    /// The groups that `regroup` lists.
+    /// Returns the groups that `regroup` lists.
     pub fn regrouped(&self, callers: u32, keep: &[bool]) -> Result<Groups, AllocError>
         requires each { length keep.now ≡ length (groups_of self.now) }
         requires some { 0 < callers }
@@ -148,7 +148,7 @@ impl Groups {
         self.merged(callers, keep)
     }
 
-    /// The groups of the errors that are kept, by fewer addresses.
+    /// Returns the groups of the errors that are kept, by fewer addresses.
     fn merged(&self, callers: u32, keep: &[bool]) -> Result<Groups, AllocError>
         requires each { length keep.now ≡ length (groups_of self.now) }
         requires some { 0 < callers }
@@ -179,7 +179,7 @@ impl Groups {
         }
     }
 
-    /// All groups.
+    /// Returns all groups.
     fn collected(&self) -> Result<Vec<Group>, AllocError>
         ensures { IfOk result (λ groups. groups.items ≡ filter_map (slice_get (groups_of self.now)) (range_with_len 0 (length (groups_of self.now)))) }
     {
@@ -188,7 +188,7 @@ impl Groups {
             .collect(self.counts.allocator())
     }
 
-    /// A copy, which later errors of the other don't reach.
+    /// Returns a copy, which later errors of the original don't reach.
     pub fn share(&self) -> Result<Groups, AllocError>
         ensures { IfOk result (λ copy. groups_of copy ≡ groups_of self.now) }
     {

@@ -1,4 +1,4 @@
-//! Notes as maps keep them: most are small, and one with a block, which is large, lies behind a reference that copies share.
+//! Notes as maps keep them. Most are small. One with a block, which is large, is held by a reference that copies share.
 ghost use Rattle.std.specs.Prelude.{◌≡◌, IfOk};
 ghost use Rattle.error_events.specs.KeptNotes.{note_in};
 
@@ -8,7 +8,7 @@ use std::alloc::{AllocError, Global};
 use std::marker::Model;
 use std::rc::Rc;
 
-/// What is kept of a note.
+/// The kept form of a note.
 #[derive(Drop)]
 enum Form {
     Absent,
@@ -17,7 +17,7 @@ enum Form {
     Elsewhere(u32),
 }
 
-/// A note. Contracts see it as such.
+/// A kept note. Contracts see it as the note.
 #[derive(Drop)]
 pub(crate) struct KeptNote {
     form: Form,
@@ -36,7 +36,7 @@ impl Model for KeptNote {
     ghost view = { λ kept. note_in kept.form };
 }
 
-/// What to keep of a note.
+/// Returns the form to keep of a note.
 fn form_of(alloc: Global, note: &Note) -> Result<Form, AllocError>
     ensures { IfOk result (λ form. note_in form ≡ note.now) }
 {
@@ -48,7 +48,7 @@ fn form_of(alloc: Global, note: &Note) -> Result<Form, AllocError>
     }
 }
 
-/// The note of which this is kept.
+/// Returns the note of a kept form.
 fn note_in(form: &Form) -> Note
     ensures { result ≡ note_in form.now }
 {
@@ -61,7 +61,7 @@ fn note_in(form: &Form) -> Note
 }
 
 impl KeptNote {
-    /// A note to keep.
+    /// Returns a note to keep.
     pub(crate) fn of(alloc: Global, note: &Note) -> Result<KeptNote, AllocError>
         ensures { IfOk result (λ kept. kept ≡ note.now) }
     {
@@ -70,7 +70,7 @@ impl KeptNote {
         })
     }
 
-    /// The note.
+    /// Returns the note.
     pub(crate) fn note(&self) -> Note
         ensures { result ≡ self.now }
     {

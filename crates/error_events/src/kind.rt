@@ -11,12 +11,12 @@ pub enum ParameterFault {
     Unaddressable,
 }
 
-/// What an error is (Memcheck manual, section 4.2). Each kind has one text in a report.
+/// The kind of an error (Memcheck manual, section 4.2). Each kind has one text in a report.
 #[derive(Clone, Copy, PartialEq, Eq, Hash)]
 pub enum Kind {
-    /// A read, of so many bytes, of which one may not be accessed.
+    /// A read, of this number of bytes, of which one may not be accessed.
     Read(u8),
-    /// A write, of so many bytes, of which one may not be accessed.
+    /// A write, of this number of bytes, of which one may not be accessed.
     Write(u8),
     /// A use of undefined bits as an address, or an instruction word that has an undefined bit.
     Value,
@@ -24,7 +24,7 @@ pub enum Kind {
     Cond,
     /// A parameter of a call.
     Param(Parameter, ParameterFault),
-    /// A free or a realloc of what is no live block's start.
+    /// A free or a realloc of an address at which no live block starts.
     Free,
     /// A jump to bytes that may not be accessed.
     Jump,

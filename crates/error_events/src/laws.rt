@@ -2,13 +2,13 @@
 ghost use Rattle.error_events.specs.Adding.{GroupsGrow, GroupsGrowBy};
 ghost use Rattle.error_events.specs.Regrouping.{KeptByTest};
 
-/// The groups of a list of errors and one more are the groups of the list, with that error added.
+/// The groups of a list of errors and another error are the groups of the list, with that error added.
 pub fn groups_grow()
     ensures one { GroupsGrow }
     ensures several { GroupsGrowBy }
 {}
 
-/// The errors whose groups are kept by a test of kind and trace are the errors that pass the test.
+/// If groups are kept by a test of kind and trace, the errors of the kept groups are the errors that pass the test.
 pub fn kept_by_test()
     ensures { KeptByTest }
 {}

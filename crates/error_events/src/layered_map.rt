@@ -1,7 +1,7 @@
-//! A map from keys to notes in order of insertion that is copied at little cost, and takes new keys at little cost after it was copied.
+//! A map from keys to notes in order of insertion. Copying it costs little, and so does adding keys after it was copied.
 //!
-//! The entries lie in layers and then in one young map, all of which copies share. A new key goes into the young map, which a
-//! copy's owner has to copy first; once it has 64 entries, it is put among the layers instead.
+//! The entries are in layers and then in one young map, all of which copies share. A new key goes into the young map, which must be copied
+//! first if a copy shares it. If a shared young map has 64 entries, it becomes a layer instead.
 ghost use Rattle.std.specs.Prelude.{◌≡◌, ◌<◌, ◌^◌, [], ◌∷◌, ◌++◌, None, length, map, position, slice_get, OnOk, OnErr, IfOk};
 ghost use Rattle.std.specs.Map.Iter.{deref_pair};
 ghost use Rattle.std.specs.Option.{option_map};
@@ -13,7 +13,7 @@ use crate::shared_map::SharedMap;
 use std::alloc::{AllocError, Global};
 use std::marker::Model;
 
-/// From how many entries on a shared young map isn't copied for a new key.
+/// The number of entries from which on a shared young map isn't copied for a new key.
 const COPIED: usize = 64;
 
 /// The map. Contracts see it as the list of its entries.
@@ -37,7 +37,7 @@ impl Model for LayeredMap {
 }
 
 impl LayeredMap {
-    /// The empty map, which takes no memory.
+    /// Returns the empty map. Allocates nothing.
     pub(crate) fn new(alloc: Global) -> Self
         ensures { result ≡ [] }
     {
@@ -47,7 +47,7 @@ impl LayeredMap {
         }
     }
 
-    /// The index of a key.
+    /// Returns the index of a key.
     pub(crate) fn position(&self, key: &Key) -> Option<usize>
         requires { length self.now < 2 ^ 64 }
         ensures { result ≡ position (⟦<Key as PartialEq>⟧.eq key.now) (map (λ e. e.0) self.now) }
@@ -61,7 +61,7 @@ impl LayeredMap {
         }
     }
 
-    /// The entry at an index.
+    /// Returns the entry at an index.
     pub(crate) fn get(&self, index: usize) -> Option<(&Key, &KeptNote)>
         ensures { option_map deref_pair result ≡ slice_get self.now index }
     {
@@ -73,7 +73,7 @@ impl LayeredMap {
         }
     }
 
-    /// Adds a key that is not there, as the last.
+    /// Appends a key that isn't there yet.
     pub(crate) fn push(
         &mut self,
         alloc: Global,
@@ -88,7 +88,7 @@ impl LayeredMap {
         self.recent.push(alloc, key, note)
     }
 
-    /// Empties the young map where a new key would copy too much of it.
+    /// Empties the young map if a new key would copy too much of it.
     fn prepare(&mut self, alloc: Global) -> Result<(), AllocError>
         ensures { self.new ≡ self.old }
     {
@@ -98,7 +98,7 @@ impl LayeredMap {
         Ok(())
     }
 
-    /// Puts the young map among the layers.
+    /// Moves the young map to the layers.
     fn settle(&mut self, alloc: Global) -> Result<(), AllocError>
         ensures { self.new ≡ self.old }
     {
@@ -107,7 +107,7 @@ impl LayeredMap {
         Ok(())
     }
 
-    /// A copy, which shares the maps.
+    /// Returns a copy, which shares the maps.
     pub(crate) fn share(&self) -> Result<Self, AllocError>
         ensures { IfOk result (λ copy. copy ≡ self.now) }
     {

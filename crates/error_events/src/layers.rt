@@ -1,6 +1,6 @@
-//! Maps in order of age, each with at least twice the entries of the next, as the levels of a log-structured merge tree are. A
-//! map that is added takes up the smaller ones before it, so an entry is copied about as many times as the number of entries
-//! can be halved. Copies share each map.
+//! Maps in order of age, each with at least twice the entries of the next, as in the levels of a log-structured merge tree. An added map
+//! takes up the smaller ones before it, so an entry is copied about as many times as the number of entries can be halved. Copies share each
+//! map.
 ghost use Rattle.std.specs.Prelude.{◌≡◌, ◌≤◌, ◌<◌, ◌^◌, ◌∷◌, [], ◌++◌, length, map, position, slice_get, take, OnOk, OnErr, IfOk};
 ghost use Rattle.std.specs.List.{flat_map};
 ghost use Rattle.std.specs.Map.Iter.{deref_pair};
@@ -14,7 +14,7 @@ use crate::shared_map::SharedMap;
 use std::alloc::{AllocError, Global};
 use std::marker::Model;
 
-/// The maps, oldest entries first. Contracts see the list of all entries.
+/// The maps, the oldest entries first. Contracts see the list of all entries.
 #[derive(Drop)]
 pub(crate) struct Layers {
     maps: Vec<SharedMap>,
@@ -34,7 +34,7 @@ impl Model for Layers {
     ghost invariant = { λ layers. AreApart ⟦<Key as PartialEq>⟧.eq layers.maps.items × (layers.len ≡ length (entries_in layers.maps.items)) };
 }
 
-/// The index of a key among the entries of some maps.
+/// Returns the index of a key among the entries of some maps.
 fn position_in(maps: &[SharedMap], key: &Key) -> Option<usize>
     requires { length (entries_in maps.now) < 2 ^ 64 }
     ensures { result ≡ position (⟦<Key as PartialEq>⟧.eq key.now) (map (λ e. e.0) (entries_in maps.now)) }
@@ -49,7 +49,7 @@ fn position_in(maps: &[SharedMap], key: &Key) -> Option<usize>
     }
 }
 
-/// The entry at an index among those of some maps.
+/// Returns the entry at an index among those of some maps.
 fn entry_in(maps: &[SharedMap], index: usize) -> Option<(&Key, &KeptNote)>
     ensures { option_map deref_pair result ≡ slice_get (entries_in maps.now) index }
 {
@@ -62,7 +62,7 @@ fn entry_in(maps: &[SharedMap], index: usize) -> Option<(&Key, &KeptNote)>
     }
 }
 
-/// How many of some maps stay as a new one comes, and the map that takes up the others and the new one's entries.
+/// Returns the number of maps that stay when a new one comes, and the map that takes up the others and the new one's entries.
 fn taken_up(
     alloc: Global,
     maps: &[SharedMap],
@@ -82,7 +82,7 @@ fn taken_up(
     }
 }
 
-/// Puts a new map behind others. It takes up the smaller ones before it.
+/// Puts a new map after others. It takes up the smaller ones before it.
 fn put_behind(alloc: Global, maps: &mut Vec<SharedMap>, young: SharedMap) -> Result<(), AllocError>
     requires { AreApart ⟦<Key as PartialEq>⟧.eq (maps.old.items ++ young ∷ []) }
     ensures apart { OnOk result (AreApart ⟦<Key as PartialEq>⟧.eq maps.new.items) }
@@ -97,7 +97,7 @@ fn put_behind(alloc: Global, maps: &mut Vec<SharedMap>, young: SharedMap) -> Res
 }
 
 impl Layers {
-    /// No maps, which take no memory.
+    /// Returns no maps. Allocates nothing.
     pub(crate) fn new(alloc: Global) -> Self
         ensures { result ≡ [] }
     {
@@ -107,7 +107,7 @@ impl Layers {
         }
     }
 
-    /// The index of a key.
+    /// Returns the index of a key.
     pub(crate) fn position(&self, key: &Key) -> Option<usize>
         requires { length self.now < 2 ^ 64 }
         ensures { result ≡ position (⟦<Key as PartialEq>⟧.eq key.now) (map (λ e. e.0) self.now) }
@@ -115,21 +115,21 @@ impl Layers {
         position_in(&self.maps, key)
     }
 
-    /// The entry at an index.
+    /// Returns the entry at an index.
     pub(crate) fn get(&self, index: usize) -> Option<(&Key, &KeptNote)>
         ensures { option_map deref_pair result ≡ slice_get self.now index }
     {
         entry_in(&self.maps, index)
     }
 
-    /// How many entries there are.
+    /// Returns the number of entries.
     pub(crate) fn len(&self) -> usize
         ensures { result ≡ length self.now }
     {
         self.len
     }
 
-    /// Adds the entries of a map, whose keys are not there, as the last.
+    /// Appends the entries of a map, whose keys aren't there yet.
     pub(crate) fn push(&mut self, alloc: Global, young: &SharedMap) -> Result<(), AllocError>
         requires { AreNew ⟦<Key as PartialEq>⟧.eq self.old young.now }
         ensures ok { OnOk result (self.new ≡ self.old ++ young.now) }
@@ -143,7 +143,7 @@ impl Layers {
         Ok(())
     }
 
-    /// A copy, which shares the maps.
+    /// Returns a copy, which shares the maps.
     pub(crate) fn share(&self) -> Result<Self, AllocError>
         ensures { IfOk result (λ copy. copy ≡ self.now) }
     {

@@ -1,4 +1,4 @@
-//! Notes that are lent, of which one is kept only where a group is new.
+//! Borrowed notes. One is kept only if its group is new.
 ghost use Rattle.std.specs.Prelude.{◌≡◌, IfOk};
 ghost use Rattle.error_events.specs.Lent.{lent_note};
 
@@ -6,17 +6,17 @@ use crate::event::Note;
 use crate::kept_note::KeptNote;
 use std::alloc::{AllocError, Global};
 
-/// A note that is lent.
+/// A borrowed note.
 #[derive(Clone, Copy)]
 pub(crate) enum NoteRef<'a> {
-    /// An error's.
+    /// The note of an error.
     Plain(&'a Note),
-    /// One that a map keeps.
+    /// A note that a map keeps.
     Kept(&'a KeptNote),
 }
 
 impl NoteRef<'_> {
-    /// A note to keep. One that is kept already shares what it says of a block.
+    /// Returns a note to keep. A note that is kept already shares what it says of a block.
     pub(crate) fn kept(&self, alloc: Global) -> Result<KeptNote, AllocError>
         ensures { IfOk result (λ kept. kept ≡ lent_note self.now) }
     {

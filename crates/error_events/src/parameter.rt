@@ -22,7 +22,7 @@ pub enum Parameter {
 }
 
 impl Parameter {
-    /// The parameter's text.
+    /// Returns the parameter's text.
     pub fn text(self) -> &'static [u8]
         ensures { result.now ≡ parameter_text self }
     {

@@ -31,14 +31,14 @@ impl Model for SharedMap {
     ghost view = { λ m. entries_of m.map };
 }
 
-/// A copy of its own.
+/// Returns a copy that nothing shares.
 fn copy(map: &IndexMap<Key, KeptNote>) -> Result<IndexMap<Key, KeptNote>, AllocError>
     ensures { IfOk result (λ copy. copy.entries ≡ map.now.entries) }
 {
     map.clone()
 }
 
-/// Inserts a value at a copy of a key. What stood at the key is dropped.
+/// Inserts a value at a copy of a key. Drops the value that was at the key.
 fn put<K: Eq + Hash + Copy + Drop, V: Drop>(
     map: &mut IndexMap<K, V>,
     key: &K,
@@ -51,7 +51,7 @@ fn put<K: Eq + Hash + Copy + Drop, V: Drop>(
     Ok(())
 }
 
-/// Puts copies of a map's entries behind those of another.
+/// Appends copies of a map's entries to another.
 fn append(
     whole: &mut IndexMap<Key, KeptNote>,
     second: &IndexMap<Key, KeptNote>,
@@ -66,7 +66,7 @@ fn append(
     Ok(())
 }
 
-/// A map of the entries of two.
+/// Returns a map with the entries of two.
 fn join(
     first: &IndexMap<Key, KeptNote>,
     second: &IndexMap<Key, KeptNote>,
@@ -94,14 +94,14 @@ fn insert(
 }
 
 impl SharedMap {
-    /// The empty map, which takes no memory.
+    /// Returns the empty map. Allocates nothing.
     pub(crate) fn new() -> Self
         ensures { result ≡ [] }
     {
         SharedMap { map: None }
     }
 
-    /// The index of a key.
+    /// Returns the index of a key.
     pub(crate) fn position(&self, key: &Key) -> Option<usize>
         ensures { result ≡ position (⟦<Key as PartialEq>⟧.eq key.now) (map (λ e. e.0) self.now) }
     {
@@ -111,7 +111,7 @@ impl SharedMap {
         }
     }
 
-    /// The entry at an index.
+    /// Returns the entry at an index.
     pub(crate) fn get(&self, index: usize) -> Option<(&Key, &KeptNote)>
         ensures { option_map deref_pair result ≡ slice_get self.now index }
     {
@@ -121,7 +121,7 @@ impl SharedMap {
         }
     }
 
-    /// Adds a key that is not there, as the last.
+    /// Appends a key that isn't there yet.
     pub(crate) fn push(
         &mut self,
         alloc: Global,
@@ -141,7 +141,7 @@ impl SharedMap {
         }
     }
 
-    /// A map of one entry.
+    /// Returns a map of one entry.
     fn with_one(alloc: Global, key: &Key, note: KeptNote) -> Result<Self, AllocError>
         ensures { IfOk result (λ one. one ≡ (key.now, note) ∷ []) }
     {
@@ -150,7 +150,7 @@ impl SharedMap {
         Self::unshared(alloc, map)
     }
 
-    /// A map that nothing shares yet.
+    /// Returns a map that nothing shares yet.
     fn unshared(alloc: Global, map: IndexMap<Key, KeptNote>) -> Result<Self, AllocError>
         ensures { IfOk result (λ unshared. unshared ≡ map.entries) }
     {
@@ -159,7 +159,7 @@ impl SharedMap {
         })
     }
 
-    /// How many entries there are.
+    /// Returns the number of entries.
     pub(crate) fn len(&self) -> usize
         ensures { result ≡ length self.now }
     {
@@ -169,7 +169,7 @@ impl SharedMap {
         }
     }
 
-    /// Whether a new key makes a copy of the map.
+    /// Returns whether inserting a key would copy the map.
     pub(crate) fn is_shared(&self) -> bool {
         match &self.map {
             Some(map) => Rc::strong_count(map) != 1,
@@ -177,7 +177,7 @@ impl SharedMap {
         }
     }
 
-    /// A map of its own, with the entries of another after those of this one.
+    /// Returns a map that nothing shares, with the entries of another after those of this one.
     pub(crate) fn joined(&self, alloc: Global, other: &Self) -> Result<Self, AllocError>
         requires { AreNew ⟦<Key as PartialEq>⟧.eq self.now other.now }
         ensures { IfOk result (λ whole. whole ≡ self.now ++ other.now) }
@@ -189,7 +189,7 @@ impl SharedMap {
         }
     }
 
-    /// A copy, which shares the map.
+    /// Returns a copy, which shares the map.
     pub(crate) fn share(&self) -> Result<Self, AllocError>
         ensures { IfOk result (λ copy. copy ≡ self.now) }
     {

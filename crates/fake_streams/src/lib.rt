@@ -1,8 +1,8 @@
-//! For tests: a reader and a writer over memory that fail where they are told to.
+//! For tests: a reader and a writer over memory that fail when they should.
 //!
-//! A [`Script`] reads some bytes, and fails from a call or from a byte on; [`Interruptions`] says which reads are interrupted. A [`Room`]
-//! takes bytes up to a number of them, and answers what it doesn't take by a [`Refusal`]. Contracts see what a [`Script`] still has to
-//! give, and what a [`Room`] has taken.
+//! A [`Script`] reads bytes, and fails from a call or from a byte on; [`Interruptions`] says which reads are interrupted. A [`Room`] takes
+//! a number of bytes, and fails by a [`Refusal`] for what it doesn't take. Contracts see the bytes that a [`Script`] still has, and those
+//! that a [`Room`] has taken.
 #![tactic(auto)]
 
 use std::alloc::Global;
@@ -25,13 +25,13 @@ pub struct Script<'a> {
     pub rest: &'a [u8],
     /// Whether letters `a` follow without an end.
     pub endless: bool,
-    /// How many bytes a read gives at most; one in place of none.
+    /// The greatest number of bytes that a read gives; 0 counts as 1.
     pub most: usize,
-    /// How many reads were made.
+    /// The number of reads so far.
     pub reads: u64,
     /// The first read that fails, counted from 0; each later one does too.
     pub failing_read: u64,
-    /// How many bytes are still given before each read fails.
+    /// The number of bytes that are still given before each read fails.
     pub bytes: usize,
     /// Which of the reads that don't fail are interrupted.
     pub interruptions: Interruptions,
@@ -40,7 +40,7 @@ pub struct Script<'a> {
 impl<'a> Script<'a> {
     ghost use Rattle.std.specs.Prelude.{◌≡◌, ◌-◌, ◌^◌, false};
 
-    /// A reader of some bytes that doesn't fail.
+    /// Returns a reader of some bytes that doesn't fail.
     pub fn new(rest: &'a [u8]) -> Self
         ensures bytes { (result.rest.now ≡ rest.now) × (result.endless ≡ false) × (result.most ≡ 2 ^ 64 - 1) × (result.bytes ≡ 2 ^ 64 - 1) }
         ensures reads { (result.reads ≡ 0) × (result.failing_read ≡ 2 ^ 64 - 1) × (result.interruptions ≡ Interruptions.None) }
@@ -89,7 +89,7 @@ impl Read for Script<'_> {
     }
 }
 
-/// How a write that doesn't succeed is answered.
+/// How a write that doesn't succeed fails.
 #[derive(Clone, Copy, Debug, PartialEq, Eq)]
 pub enum Refusal {
     Fails,
@@ -97,29 +97,29 @@ pub enum Refusal {
     IsInterrupted,
 }
 
-/// A writer that refuses from a call or from a byte on, and whose flushes fail from one on.
+/// A writer that fails from a call or from a byte on, and whose flushes fail from one on.
 #[derive(Drop)]
 pub struct Room {
-    /// How many bytes are still taken.
+    /// The number of bytes that are still taken.
     pub left: usize,
-    /// How many bytes a write takes at most.
+    /// The greatest number of bytes that a write takes.
     pub most: usize,
-    /// How many writes are still taken.
+    /// The number of writes that are still taken.
     pub writes: u64,
-    /// How a write is answered that isn't taken.
+    /// How a write fails that isn't taken.
     pub refusal: Refusal,
-    /// How many flushes still succeed.
+    /// The number of flushes that still succeed.
     pub flushes: usize,
     /// The bytes that were taken.
     pub taken: Vec<u8>,
-    /// How many of them were flushed; the others would be lost.
+    /// The number of bytes that were flushed; the others would be lost.
     pub flushed: usize,
 }
 
 impl Room {
     ghost use Rattle.std.specs.Prelude.{◌≡◌, ◌-◌, ◌^◌, []};
 
-    /// A writer with room for so many bytes, of which each flush succeeds.
+    /// Returns a writer with room for a number of bytes, of which each flush succeeds.
     pub fn new(alloc: Global, left: usize) -> Self
         ensures bytes { (result.left ≡ left) × (result.most ≡ 2 ^ 64 - 1) × (result.taken.items ≡ []) × (result.flushed ≡ 0) }
         ensures calls { (result.writes ≡ 2 ^ 64 - 1) × (result.flushes ≡ 2 ^ 64 - 1) × (result.refusal ≡ Refusal.Fails) }

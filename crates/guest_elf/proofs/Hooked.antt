@@ -33,7 +33,7 @@ pub within_rises : (n end : ℕ) (es : List (ℕ × Hook)) → Within n end es �
 within_rises n end [] h = tt
 within_rises n end (e ∷ es) h = (h.0, within_rises (suc e.0) end es h.1)
 
--- one more at or past the end
+-- another one at or past the end
 pub within_more : (n end v : ℕ) (hook : Hook) (es : List (ℕ × Hook)) → end ≤ v → Within n end es
     → Within n (suc v) (es ++ (v, hook) ∷ [])
 within_more n end v hook [] past h = (omega (arith, past, h), omega arith)
@@ -295,7 +295,7 @@ hooks_of_sorted strings xs ys stable =
     hooks_are strings xs (hooks_by strings ys) (by_rises strings ys) (λ a. by_first strings ys a
     ∙ given_sorted strings a xs ys stable)
 
--- one symbol more, of symbols in the order of their addresses --
+-- another symbol, of symbols in the order of their addresses --
 
 -- a list of functions and what later symbols give
 abbrev pub found_at : List ℕ → List (ℕ × Hook) → List Symbol → ℕ → Option Hook
@@ -464,7 +464,7 @@ name_step n x xs ys name true short later = refl
 name_step n x xs ys [] false short later = refl
 name_step n x xs ys (c ∷ rest) false short later = ap (λ t. nat_eq x c && t) (later rest (omega (arith, short)))
 
--- a name shorter than n is told by the first n bytes
+-- a name shorter than n is known by its first n bytes
 pub by_front : (n : ℕ) (bytes name : List ℕ) → length name < n
     → bytes_eq (before_first is_zero (take n bytes)) name ≡ bytes_eq (before_first is_zero bytes) name
 by_front zero bytes name short = absurd (omega (arith, short))
@@ -484,7 +484,7 @@ named_by_front n bytes long = λ i.
     (cond (by_front n bytes (codes "calloc") (omega (arith, long)) i) (Some Hook.Calloc)
     (cond (by_front n bytes (codes "realloc") (omega (arith, long)) i) (Some Hook.Realloc) None)))
 
--- the first eight bytes from a place on tell it
+-- the first eight bytes from a place on determine it
 pub named_at_front : (strings : List ℕ) (start from len : ℕ) → from ≡ min (length strings) start
     → len ≡ min (length (take (length strings - from) (drop from strings))) 8
     → hook_named (name_from (take len (take (length strings - from) (drop from strings))) 0)

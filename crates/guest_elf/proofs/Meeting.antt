@@ -1,4 +1,4 @@
--- Whether segments share an address: by pairs, and by neighbours where they stand in the order of their addresses.
+-- Whether segments share an address: by pairs, and by neighbours in the order of their addresses.
 use Rattle.std.proofs.Common.{◌≡◌, ◌⊎◌, inl, inr, ℕ, suc, ◌+◌, ◌<◌, ◌≤◌, min, max, Bool, true, false, cond, not, ◌&&◌}
 use Rattle.std.proofs.Common.{◌||◌, ◌==◌, get_or, drop, nat_le, nat_lt, List, []}
 use Rattle.std.proofs.Common.{◌∷◌, length, refl, sym, ◌∙◌, ap, arith, All}

@@ -15,7 +15,7 @@ by_order start end b below past = grind (arith, nat_tests)
 no_zero : (byte : ℕ) → byte ≢ 0 → is_zero byte ≡ false
 no_zero byte other = grind (arith, nat_tests)
 
--- the last zero byte stands right below `end`: a name has an end just if it begins below it
+-- the last zero byte is directly below `end`: a name has an end exactly if it begins below it
 pub ends_below : (strings : List ℕ) (end : ℕ) → end ≤ length strings → (0 < end → get_or strings (end - 1) 0 ≡ 0) →
     ((k : ℕ) → end ≤ k → k < length strings → get_or strings k 0 ≢ 0) →
     (start : ℕ) → list_any is_zero (drop start strings) ≡ nat_lt start end

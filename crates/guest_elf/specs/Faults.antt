@@ -1,11 +1,11 @@
--- The numbers of the refusals.
+-- The numbers of the faults.
 use Rattle.std.specs.Prelude.{ℕ}
 use Rattle.guest_elf.specs.declared.fault.ElfFault.{ElfFault}
 use Rattle.guest_elf.specs.declared.fault.ElfFault.TheVariants.{Memory, NotElf, NotClass32, NotLittleEndian, BadVersion}
 use Rattle.guest_elf.specs.declared.fault.ElfFault.TheVariants.{NotExecutable, NotRiscV, BadTable, Interpreter}
 use Rattle.guest_elf.specs.declared.fault.ElfFault.TheVariants.{BadSegment, Overlap, TooLarge, BadSymbols}
 
--- the number of a refusal
+-- the number of a fault
 abbrev pub number_of : ElfFault → ℕ
 number_of Memory = 1
 number_of NotElf = 20

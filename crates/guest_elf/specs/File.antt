@@ -1,4 +1,4 @@
--- An ELF32 file as a list of bytes: its fields, the reasons to refuse it, and what it loads.
+-- An ELF32 file as a list of bytes: its fields, the reasons to reject it, and what it loads.
 -- Sources: System V ABI, edition 4.1, chapters 4 and 5 (ELF-32 object file format); RISC-V ELF psABI 1.0 (e_machine).
 use Rattle.std.specs.Prelude.{◌≡◌, ℕ, ◌+◌, ◌-◌, ◌*◌, ◌^◌, ◌<◌, ◌≤◌, min, max, Bool, false, not, ◌&&◌, ◌||◌, ◌==◌}
 use Rattle.std.specs.Prelude.{nat_eq, nat_lt, if◌then◌else◌, List, [], ◌∷◌, length, take, drop, map, filter, sum_by}
@@ -24,7 +24,7 @@ use Rattle.memory_map.specs.Regions.{heap_begin, heap_end, stack_begin, stack_en
 abbrev pub entry_in : List ℕ → ℕ
 entry_in file = word_at file 24
 
--- e_phoff: where the program header table begins
+-- e_phoff: the offset of the program header table
 abbrev pub table_offset : List ℕ → ℕ
 table_offset file = word_at file 28
 
@@ -66,7 +66,7 @@ is_load header = header.kind == 1 && not (header.filesz == 0 && header.memsz == 
 abbrev pub loads_of : List ℕ → List ProgramHeader
 loads_of file = filter is_load (headers_of file)
 
--- 20: fewer bytes than a header has, or another beginning than 7F 45 4C 46
+-- 20: fewer bytes than a header has, or a beginning other than 7F 45 4C 46
 unfoldable pub is_not_elf : List ℕ → Bool
 is_not_elf file = nat_lt (length file) 52 || not (starts_with nat_eq file (127 ∷ 69 ∷ 76 ∷ 70 ∷ []))
 
@@ -98,7 +98,7 @@ has_bad_program_table file =
     && (not (header_size file == 32)
     || nat_lt (length file) (table_offset file + 32 * header_count file)))
 
--- 26: the table of program headers is bad, or that of section headers
+-- 26: the table of program headers or that of section headers is bad
 unfoldable pub has_bad_table : List ℕ → Bool
 has_bad_table file = has_bad_program_table file || has_bad_section_table file
 
@@ -106,7 +106,7 @@ has_bad_table file = has_bad_program_table file || has_bad_section_table file
 unfoldable pub has_interpreter : List ℕ → Bool
 has_interpreter file = list_any is_interpreter (headers_of file)
 
--- more bytes of the file than of memory, or bytes past the end of a file of that length, or an end above 2^32
+-- more bytes in the file than in memory, or bytes past the end of a file of that length, or an end above 2^32
 unfoldable pub is_bad_segment : ℕ → ProgramHeader → Bool
 is_bad_segment file_length header =
     nat_lt header.memsz header.filesz
@@ -117,7 +117,8 @@ is_bad_segment file_length header =
 unfoldable pub has_bad_segment : List ℕ → Bool
 has_bad_segment file = list_any (is_bad_segment (length file)) (loads_of file)
 
--- whether the addresses from a start up to an end, not with it, and those of another such range have one in common
+-- whether the addresses from a start up to, but not including, an end, and those of another such range have one in
+-- common
 abbrev pub ranges_meet : ℕ → ℕ → ℕ → ℕ → Bool
 ranges_meet start end other_start other_end = nat_lt (max start other_start) (min end other_end)
 
@@ -137,11 +138,11 @@ abbrev pub any_two_meet : List ProgramHeader → Bool
 any_two_meet [] = false
 any_two_meet (header ∷ headers) = list_any (segments_meet header) headers || any_two_meet headers
 
--- 29: two loaded segments share an address, or one meets the heap's region or the stack's
+-- 29: two loaded segments share an address, or one shares an address with the heap's region or the stack's
 unfoldable pub has_overlap : List ℕ → Bool
 has_overlap file = list_any meets_region (loads_of file) || any_two_meet (loads_of file)
 
--- 30: the file, or what its segments take in memory, has more than 16 MiB
+-- 30: the file has, or its segments in memory have, more than 16 MiB
 unfoldable pub is_too_large : List ℕ → Bool
 is_too_large file =
     nat_lt 16777216 (length file) || nat_lt 16777216 (sum_by (λ header. header.memsz) (loads_of file))
@@ -150,7 +151,7 @@ is_too_large file =
 unfoldable pub has_bad_symbols : List ℕ → Bool
 has_bad_symbols file = is_bad_table file (symbol_table file)
 
--- of the conditions 20 to 28, which are tested before any memory is taken, the first that holds
+-- the first condition that holds, of the conditions 20 to 28, which are tested before any memory is allocated
 unfoldable pub early_refusal : List ℕ → Option ElfFault
 early_refusal file =
     if is_not_elf file then Some NotElf
@@ -164,7 +165,7 @@ early_refusal file =
     else if has_bad_segment file then Some BadSegment
     else None
 
--- of the conditions 29 to 31, the first that holds
+-- the first condition that holds, of the conditions 29 to 31
 unfoldable pub late_refusal : List ℕ → Option ElfFault
 late_refusal file =
     if has_overlap file then Some Overlap
@@ -172,7 +173,7 @@ late_refusal file =
     else if has_bad_symbols file then Some BadSymbols
     else None
 
--- why a file is refused: the first of the conditions 20 to 31 that holds
+-- why a file is rejected: the first of the conditions 20 to 31 that holds
 unfoldable pub refusal : List ℕ → Option ElfFault
 refusal file = option_or (early_refusal file) (late_refusal file)
 
@@ -229,8 +230,8 @@ name_in file address =
 unfoldable pub hooks_in : List ℕ → List (ℕ × Hook)
 hooks_in file = hooks_by (strings_of file (symbol_table file)) (naming_in file (symbol_table file))
 
--- the image is the file's: it is not refused, and the image has its segments in its order, loads what the file
--- does, begins where it does, names what it does and has its functions of the heap
+-- the image is the file's: the file isn't rejected, and the image has the file's segments in their order, loads what
+-- the file does, begins where the file does, names what it names and has its functions of the heap
 pub record IsImageOf (file : List ℕ) (image : Image) : Type 0 where
   pub accepted : refusal file ≡ None
   pub segments : contents_of image ≡ contents_in file

@@ -9,7 +9,7 @@ use Rattle.guest_elf.specs.declared.hook.Hook.{Hook}
 use Rattle.guest_elf.specs.declared.hook.Hook.TheVariants.{Malloc, Free, Calloc, Realloc}
 use Rattle.guest_elf.specs.declared.symbols.Symbol.{Symbol}
 
--- the function of the heap that a name is, byte for byte
+-- the function of the heap whose name this is, byte for byte
 unfoldable pub hook_named : List ℕ → Option Hook
 hook_named name =
     if bytes_eq name (codes "malloc") then Some Malloc
@@ -18,7 +18,7 @@ hook_named name =
     else if bytes_eq name (codes "realloc") then Some Realloc
     else None
 
--- addresses with functions in the order of the addresses, and one more, which takes the place of one at its address
+-- addresses with functions in the order of the addresses, and another, which replaces one at its address
 unfoldable pub hook_put : ℕ → Hook → List (ℕ × Hook) → List (ℕ × Hook)
 hook_put address hook [] = (address, hook) ∷ []
 hook_put address hook (entry ∷ entries) =
@@ -31,7 +31,8 @@ abbrev pub hook_put_if : ℕ → Option Hook → List (ℕ × Hook) → List (�
 hook_put_if address None entries = entries
 hook_put_if address (Some hook) entries = hook_put address hook entries
 
--- the functions of the heap that symbols in the order of their table name: one at an address, that of the lowest index
+-- the functions of the heap that symbols in the order of their table name: one at each address, that of the lowest
+-- index
 unfoldable pub hooks_by : List ℕ → List Symbol → List (ℕ × Hook)
 hooks_by strings [] = []
 hooks_by strings (symbol ∷ symbols) =

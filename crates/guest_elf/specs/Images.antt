@@ -23,7 +23,7 @@ entry_of image = image.entry
 unfoldable pub loaded_at : Image → ℕ → Option ℕ
 loaded_at image address = loaded (segments_of image) address
 
--- is the byte so far after an address loaded?
+-- is the byte at this distance after an address loaded?
 abbrev pub is_loaded : Image → ℕ → ℕ → Bool
 is_loaded image addr i = is_some (loaded_at image ((addr + i) % 2 ^ 32))
 

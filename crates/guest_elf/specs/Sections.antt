@@ -8,7 +8,7 @@ use Rattle.guest_elf.specs.Fields.{byte_at, half_at, word_at}
 use Rattle.guest_elf.specs.declared.sections.SectionHeader.{SectionHeader}
 use Rattle.guest_elf.specs.declared.symbols.Symbol.{Symbol}
 
--- e_shoff: where the section header table begins; 0 where there is none
+-- e_shoff: the offset of the section header table, or 0 if there is none
 abbrev pub section_table_offset : List ℕ → ℕ
 section_table_offset file = word_at file 32
 

@@ -13,11 +13,11 @@ pub record SegmentContent : Type 0 where
 unfoldable pub content_of : Segment → SegmentContent
 content_of segment = record { vaddr = segment.vaddr; memsz = segment.memsz; bytes = segment.bytes.now }
 
--- an address is among those of a segment
+-- an address is in a segment
 abbrev pub has_address : Segment → ℕ → Bool
 has_address segment address = nat_le segment.vaddr address && nat_lt address (segment.vaddr + segment.memsz)
 
--- the byte that a segment loads at an address: of its bytes, which `slice_index` follows by zeros
+-- the byte that a segment loads at an address: one of its bytes, or a zero after them (`slice_index`)
 unfoldable pub loaded_by : Segment → ℕ → Option ℕ
 loaded_by segment address =
     if has_address segment address

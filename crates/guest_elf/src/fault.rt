@@ -1,4 +1,4 @@
-//! The reasons to refuse a file.
+//! The reasons to reject a file.
 ghost use Rattle.std.specs.Prelude.{◌≡◌};
 ghost use Rattle.guest_elf.specs.Faults.{number_of};
 ghost use Rattle.guest_elf.specs.declared.fault.ElfFault.TheVariants.{Memory};
@@ -6,10 +6,10 @@ ghost use Rattle.guest_elf.specs.declared.fault.ElfFault.TheVariants.{Memory};
 use std::alloc::AllocError;
 use thiserror::Error;
 
-/// Why a file gives no image. But for `Memory`, the first that holds in the order of the numbers.
+/// Why a file gives no image. Except for `Memory`, it is the first reason that holds, in the order of the numbers.
 #[derive(Clone, Copy, Debug, PartialEq, Eq, Error)]
 pub enum ElfFault {
-    /// A growth of a list was refused.
+    /// Memory ran out as a list grew.
     #[error("no memory")]
     Memory,
     /// Fewer than 52 bytes, or another beginning than `7F 45 4C 46`.
@@ -34,22 +34,22 @@ pub enum ElfFault {
     /// the file; or there are sections and e_shentsize is not 40 or their table ends past the file.
     #[error("bad table of program or section headers")]
     BadTable,
-    /// A program header of type PT_INTERP.
+    /// There is a program header of type PT_INTERP.
     #[error("the file asks for an interpreter")]
     Interpreter,
-    /// A PT_LOAD with p_filesz above p_memsz, or bytes past the end of the file, or an end above 2^32.
+    /// There is a PT_LOAD with p_filesz above p_memsz, or bytes past the end of the file, or an end above 2^32.
     #[error("bad segment")]
     BadSegment,
-    /// A segment has an address of another, of the heap (from 0x40000000 up to 0x60000000) or of the
-    /// stack (from 0x7F000000 up to 0x80000000).
+    /// A segment shares an address with another, with the heap's region (from 0x40000000 up to 0x60000000) or with the stack's (from
+    /// 0x7F000000 up to 0x80000000).
     #[error("segments overlap")]
     Overlap,
     /// The file or the sum of p_memsz has more than 16,777,216 bytes.
     #[error("the file is too large")]
     TooLarge,
-    /// A symbol table with sh_entsize other than 16, a size that is no multiple of 16, or an end past the
-    /// file; its sh_link is not below e_shnum; its string table ends past the file; or a function (STT_FUNC
-    /// with st_shndx not 0) has a name without a zero byte before the string table's end.
+    /// There is a symbol table with sh_entsize other than 16, a size that is no multiple of 16, or an end past the file; its sh_link is not
+    /// below e_shnum; its string table ends past the file; or a function (STT_FUNC with st_shndx not 0) has a name without a zero byte
+    /// before the string table's end.
     #[error("bad symbol table")]
     BadSymbols,
 }
@@ -63,7 +63,7 @@ impl From<AllocError> for ElfFault {
 }
 
 impl ElfFault {
-    /// The number of the refusal: 1 or from 20 to 31.
+    /// Returns the number of the fault: 1 or from 20 to 31.
     pub fn number(self) -> u8
         ensures { result ≡ number_of self }
     {

@@ -21,9 +21,9 @@ pub(crate) const E_MACHINE: usize = 18;
 pub(crate) const E_VERSION: usize = 20;
 /// Four bytes: the address of the first instruction.
 pub(crate) const E_ENTRY: usize = 24;
-/// Four bytes: where the program header table begins.
+/// Four bytes: the offset of the program header table.
 pub(crate) const E_PHOFF: usize = 28;
-/// Four bytes: where the section header table begins, or 0 if there is none.
+/// Four bytes: the offset of the section header table, or 0 if there is none.
 pub(crate) const E_SHOFF: usize = 32;
 /// Two bytes: the size of a program header.
 pub(crate) const E_PHENTSIZE: usize = 42;
@@ -34,7 +34,7 @@ pub(crate) const E_SHENTSIZE: usize = 46;
 /// Two bytes: the number of section headers.
 pub(crate) const E_SHNUM: usize = 48;
 
-/// The byte at an offset.
+/// Returns the byte at an offset.
 #[tactic(auto, unfolding(crate::specs::Fields::byte_at))]
 pub(crate) fn byte_at(file: &[u8], offset: usize) -> u8
     requires { offset < length file.now }
@@ -43,7 +43,7 @@ pub(crate) fn byte_at(file: &[u8], offset: usize) -> u8
     file[offset]
 }
 
-/// The two bytes at an offset as a number.
+/// Returns the two bytes at an offset as a number.
 #[tactic(auto, unfolding(crate::specs::Fields::half_at))]
 pub(crate) fn half_at(file: &[u8], offset: usize) -> u16
     requires { offset + 2 ≤ length file.now }
@@ -52,7 +52,7 @@ pub(crate) fn half_at(file: &[u8], offset: usize) -> u16
     LittleEndian::read_u16(&file[offset..])
 }
 
-/// The four bytes at an offset as a number.
+/// Returns the four bytes at an offset as a number.
 #[tactic(auto, unfolding(crate::specs::Fields::word_at))]
 pub(crate) fn word_at(file: &[u8], offset: usize) -> u32
     requires { offset + 4 ≤ length file.now }

@@ -1,4 +1,4 @@
-//! The functions of the heap, by their names.
+//! The functions of the heap, and their names.
 ghost use Rattle.std.specs.Prelude.{◌≡◌};
 ghost use Rattle.guest_elf.specs.Hooks.{hook_named};
 ghost use Rattle.guest_elf.specs.Sections.{name_from};
@@ -8,13 +8,13 @@ use crate::lookups::name_from;
 /// A function of the heap of the C library, which a program may have under its name (ISO/IEC 9899, 7.22.3).
 #[derive(Clone, Copy, PartialEq, Eq)]
 pub enum Hook {
-    /// `malloc`, of a size.
+    /// `malloc`, with a size.
     Malloc,
-    /// `free`, of an address.
+    /// `free`, with an address.
     Free,
-    /// `calloc`, of a number of members and the size of one.
+    /// `calloc`, with a number of members and the size of one.
     Calloc,
-    /// `realloc`, of an address and a new size.
+    /// `realloc`, with an address and a new size.
     Realloc,
 }
 
@@ -26,10 +26,10 @@ const CALLOC: &[u8] = b"calloc";
 
 const REALLOC: &[u8] = b"realloc";
 
-/// One more than the longest of these names has: no more of a name is looked at.
+/// One more than the length of the longest of these names: the number of a name's bytes that are looked at.
 const ENOUGH: usize = 8;
 
-/// The function that a name is, byte for byte.
+/// Returns the function whose name this is, byte for byte.
 #[tactic(auto, unfolding(crate::specs::Hooks::hook_named))]
 fn hook_named(name: &[u8]) -> Option<Hook>
     ensures { result ≡ hook_named name.now }
@@ -47,7 +47,7 @@ fn hook_named(name: &[u8]) -> Option<Hook>
     }
 }
 
-/// The function that the name at an offset of a string table is. A long name costs no more than a short one.
+/// Returns the function whose name is at an offset of a string table. A long name costs no more than a short one.
 pub(crate) fn hook_from(strings: &[u8], start: u32) -> Option<Hook>
     ensures { result ≡ hook_named (name_from strings.now start) }
 {

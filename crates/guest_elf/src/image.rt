@@ -25,7 +25,7 @@ pub struct Image<'a> {
 }
 
 impl<'a> Image<'a> {
-    /// The image of these segments, which begins at `entry`, with these names.
+    /// Returns the image of these segments, which begins at `entry`, with these names.
     #[tactic(auto, unfolding(crate::specs::Images::segments_of, crate::specs::Images::entry_of, crate::specs::Images::name_at, crate::specs::Images::hooks_of))]
     pub(crate) fn new(segments: Vec<Segment<'a>>, entry: u32, names: FunctionNames<'a>) -> Self
         ensures segments { segments_of result ≡ segments.entry.items }
@@ -40,7 +40,7 @@ impl<'a> Image<'a> {
         }
     }
 
-    /// The loaded segments, in the order of the file's program headers.
+    /// Returns the loaded segments, in the order of the file's program headers.
     #[tactic(auto, unfolding(crate::specs::Images::segments_of))]
     pub fn segments(&self) -> &[Segment<'a>]
         ensures list { result.now ≡ segments_of self.now }
@@ -50,7 +50,7 @@ impl<'a> Image<'a> {
         self.segments.as_slice()
     }
 
-    /// The address of the first instruction.
+    /// Returns the address of the first instruction.
     #[tactic(auto, unfolding(crate::specs::Images::entry_of))]
     pub fn entry(&self) -> u32
         ensures { result ≡ entry_of self.now }
@@ -58,8 +58,8 @@ impl<'a> Image<'a> {
         self.entry
     }
 
-    /// The name of the function at an address, a slice of the file; `???` where no symbol names one. It may
-    /// outlive the image. Takes no memory.
+    /// Returns the name of the function at an address, a slice of the file; `???` if no symbol names one. It may outlive the image.
+    /// Allocates nothing.
     #[tactic(auto, unfolding(crate::specs::Images::name_at))]
     pub fn name_of(&self, addr: u32) -> &'a [u8]
         ensures { result.now ≡ name_at self.now addr }
@@ -67,9 +67,9 @@ impl<'a> Image<'a> {
         self.names.name_of(addr)
     }
 
-    /// The functions of the heap that the program has by name, with their addresses: those of type STT_FUNC that a section
-    /// defines and that are named exactly `malloc`, `free`, `calloc` or `realloc`. They are in the order of their addresses,
-    /// one at an address: that of the lowest index in the symbol table. The one call on an image that takes memory.
+    /// Returns the functions of the heap that the program has by name, with their addresses: those of type STT_FUNC that a section defines
+    /// and that are named exactly `malloc`, `free`, `calloc` or `realloc`. They are in the order of their addresses, one at each: the one
+    /// with the lowest index in the symbol table. This is the only call on an image that allocates memory.
     #[tactic(auto, unfolding(crate::specs::Images::hooks_of), using(crate::proofs::Hooked::hooks_rise))]
     pub fn hooks(&self, alloc: Global) -> Result<Vec<(u32, Hook)>, AllocError>
         ensures list { IfOk result (λ hooks. hooks.items ≡ hooks_of self.now) }
@@ -79,7 +79,7 @@ impl<'a> Image<'a> {
         self.names.hooks(alloc)
     }
 
-    /// Whether each byte of the word at an address is loaded. Addresses wrap at 2^32.
+    /// Returns whether each byte of the word at an address is loaded. Addresses wrap at 2^32.
     pub fn patchable(&self, addr: u32) -> bool
         ensures { IsTrue result
             ↔ ((i : ℕ) → i < 4 → IsSome (loaded_at self.now ((addr + i) % 2 ^ 32))) }
@@ -87,7 +87,7 @@ impl<'a> Image<'a> {
         (0..WORD_SIZE).all(|offset| self.is_loaded(addr.wrapping_add(offset)))
     }
 
-    /// Whether the byte at an address is loaded.
+    /// Returns whether the byte at an address is loaded.
     fn is_loaded(&self, addr: u32) -> bool
         ensures { result ≡ is_some (loaded_at self.now addr) }
     {
@@ -95,7 +95,7 @@ impl<'a> Image<'a> {
     }
 }
 
-/// Whether an address is among those of a segment of a list.
+/// Returns whether an address is in one of some segments.
 fn has_any(segments: &[Segment], addr: u32) -> bool
     ensures { result ≡ list_any (λ segment. has_address segment addr) segments.now }
 {

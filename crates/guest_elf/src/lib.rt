@@ -1,13 +1,12 @@
 //! Reads a static ELF32 executable for RV32 from bytes in memory: the layer between a program's file and
 //! the machine that runs it.
 //!
-//! [`read`] answers an [`Image`], whose segments and names are slices of the file, or the first of the
-//! reasons to refuse the file, in the order of their numbers. It returns on every file. The conditions 20
-//! to 28 are tested before any memory is taken; then lists grow, of the loaded program headers, of the
-//! segments and of the symbols that name: where one can't grow, it answers `Memory`. Of the other calls
-//! `hooks` alone takes memory.
+//! [`read`] returns an [`Image`], whose segments and names are slices of the file, or the first of the reasons to reject the file, in the
+//! order of their numbers. It returns for every file. It tests the conditions 20 to 28 before it allocates memory. Then lists grow: of the
+//! loaded program headers, of the segments and of the symbols that name. If one can't grow, it returns `Memory`. Of the other calls, only
+//! `hooks` allocates memory.
 //!
-//! | Call | What it answers |
+//! | Call | What it returns |
 //! |---|---|
 //! | [`read`] | the image of a file, or an [`ElfFault`] |
 //! | [`Image::segments`] | the loaded segments, in the order of the file's program headers |
@@ -15,37 +14,35 @@
 //! | [`Image::patchable`] | whether each byte of the word at an address is loaded |
 //! | [`Image::name_of`] | the name of the function at an address |
 //! | [`Image::hooks`] | the functions named `malloc`, `free`, `calloc` and `realloc`, by their addresses |
-//! | [`ElfFault::number`] | the number of a refusal: 1, or from 20 to 31 |
+//! | [`ElfFault::number`] | the number of a fault: 1, or from 20 to 31 |
 //!
-//! What is taken: a file with any number of PT_LOADs that share no address; one with p_memsz and p_filesz
-//! 0 is ignored. A file has sections where neither e_shoff nor e_shnum is 0. Its names are those of the
-//! first section of type SHT_SYMTAB, if it has one: the symbol of type STT_FUNC with st_shndx not 0, a name
-//! that is not empty and the greatest st_value not above the address, among equals the first in the table,
-//! names the address if st_size is 0 or the address is below st_value + st_size. Elsewhere the name is
-//! `???`. e_flags, e_ehsize, e_shstrndx, p_paddr, p_flags and p_align are ignored, as are program headers of
-//! other types than PT_LOAD and PT_INTERP.
+//! A file may have any number of PT_LOADs that share no address; one with p_memsz and p_filesz 0 is ignored. A file has sections if neither
+//! e_shoff nor e_shnum is 0. Its names are those of the first section of type SHT_SYMTAB, if it has one. Consider the symbols of type
+//! STT_FUNC with st_shndx not 0, a name that is not empty and st_value not above the address. The one with the greatest st_value, among
+//! equals the first in the table, names the address if st_size is 0 or the address is below st_value + st_size. Otherwise the name is
+//! `???`. e_flags, e_ehsize, e_shstrndx, p_paddr, p_flags and p_align are ignored, as are program headers of types other than PT_LOAD and
+//! PT_INTERP.
 //!
-//! Files of any content are answered fast: whether segments share an address is found on their headers in
-//! the order of their addresses, whether each name has an end by the last zero byte of the string table,
-//! and a name by two binary searches among symbols that `read` sorted once.
+//! Reading is fast for files of any content. Whether segments share an address is found from their headers in the order of their addresses.
+//! Whether each name has an end is found by the last zero byte of the string table. A name is found by two binary searches among symbols
+//! that `read` sorted once.
 //!
-//! The layer above uses one contract, that of [`read`]: an image is the file's (`IsImageOf`), which says
-//! that the file is not refused, that the image's segments are those of the loadable program headers in the
-//! order of their table, that at each address it loads what the file does and has the file's name, that it has
-//! the file's functions of the heap, and that it begins at e_entry; an error but `Memory` is the file's refusal,
-//! and a refusal from 20 to 28 is answered whatever memory there is. What callers see of an image are the words
-//! `segments_of`, `contents_of`, `entry_of`, `loaded_at`, `name_at` and `hooks_of`.
+//! The layer above uses one contract, that of [`read`]. An image is the file's (`IsImageOf`): the file isn't rejected; the image's segments
+//! are those of the loadable program headers in the order of their table; at each address it loads what the file does and has the file's
+//! name; it has the file's functions of the heap; and it begins at e_entry. A fault other than `Memory` is the file's refusal, and a
+//! refusal from 20 to 28 is returned whatever memory there is. Callers see of an image `segments_of`, `contents_of`, `entry_of`,
+//! `loaded_at`, `name_at` and `hooks_of`.
 //!
-//! Where the definitions stand, in `specs/`:
+//! Where the definitions are, in `specs/`:
 //!
 //! - `Fields`: a number in the file, which is a list of bytes.
-//! - `File`: each reason to refuse it (`is_not_elf` to `has_bad_symbols`), the first of them (`refusal`), and
-//!   what the file loads and names (`contents_in`, `loaded_in`, `entry_in`, `name_in`).
+//! - `File`: each reason to reject it (`is_not_elf` to `has_bad_symbols`), the first of them (`refusal`), and what the file loads and names
+//!   (`contents_in`, `loaded_in`, `entry_in`, `name_in`).
 //! - `Sections`: the section headers, the symbol table, its symbols and their names.
 //! - `Names`: the symbol that is nearest to an address, and the name by it (`nearest`, `name_by`).
 //! - `Hooks`: which names are functions of the heap, and those of a symbol table (`hook_named`, `hooks_by`).
 //! - `Images` and `Segments`: what an image loads and names, and a list of segments (`loaded`).
-//! - `Faults`: the numbers of the refusals.
+//! - `Faults`: the numbers of the faults.
 //!
 //! Sources: System V ABI, edition 4.1, chapters 4 and 5 (the ELF-32 object file format); RISC-V ELF
 //! psABI 1.0 (e_machine 243).

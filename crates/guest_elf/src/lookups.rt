@@ -7,7 +7,7 @@ ghost use Rattle.guest_elf.specs.declared.symbols.Symbol.{Symbol};
 
 use crate::symbols::Symbol;
 
-/// The first of the symbols with the greatest address not above `addr`.
+/// Returns the first of the symbols with the greatest address not above `addr`.
 pub(crate) fn nearest(symbols: &[Symbol], addr: u32) -> Option<Symbol>
     requires { IsNonDecreasingBy (λ (symbol : Symbol). symbol.value) symbols.now }
     ensures { result ≡ nearest symbols.now addr }
@@ -21,14 +21,14 @@ pub(crate) fn nearest(symbols: &[Symbol], addr: u32) -> Option<Symbol>
     Some(symbols[first])
 }
 
-/// Where the first zero byte of some bytes stands.
+/// Returns the place of the first zero byte.
 fn first_zero(bytes: &[u8]) -> Option<usize>
     ensures { result ≡ position is_zero bytes.now }
 {
     bytes.iter().position(|byte| *byte == 0)
 }
 
-/// The name that begins at an offset of a string table: the bytes before the next zero byte.
+/// Returns the name that begins at an offset of a string table: the bytes before the next zero byte.
 pub(crate) fn name_from(strings: &[u8], start: u32) -> &[u8]
     ensures { result.now ≡ name_from strings.now start }
 {

@@ -9,7 +9,7 @@ use crate::sections::symbol_table;
 use crate::symbols::{Symbol, naming_symbols, strings_in};
 use std::alloc::{AllocError, Global};
 
-/// The text in place of a name that is not known.
+/// The name where none is known.
 const UNKNOWN: &[u8] = b"???";
 
 /// The naming symbols of a file in the order of their addresses, those of one address in the order of the
@@ -27,7 +27,7 @@ impl<'a> FunctionNames<'a> {
     ghost use Rattle.guest_elf.specs.Names.{named_by};
     ghost use Rattle.guest_elf.specs.Sections.{symbol_table, HasNames, HasSections};
 
-    /// The names that a file gives.
+    /// Returns the names in a file.
     pub(crate) fn read(alloc: Global, file: &'a [u8]) -> Result<Self, AllocError>
         requires header { HasHeader file.now }
         requires sections { HasSections file.now }
@@ -49,7 +49,7 @@ impl<'a> FunctionNames<'a> {
         Ok(FunctionNames { symbols, strings })
     }
 
-    /// The name of the function at an address.
+    /// Returns the name of the function at an address.
     #[tactic(auto, unfolding(crate::specs::Names::named_by, crate::specs::Names::name_by))]
     pub(crate) fn name_of(&self, addr: u32) -> &'a [u8]
         ensures { result.now ≡ named_by self.now addr }
@@ -59,8 +59,8 @@ impl<'a> FunctionNames<'a> {
             _ => UNKNOWN,
         }
     }
-    /// The functions of the heap that the symbols name, in the order of their addresses: one at an address, that of the
-    /// first symbol of the table.
+    /// Returns the functions of the heap that the symbols name, in the order of their addresses: one at each address, the one of the
+    /// table's first symbol.
     pub(crate) fn hooks(&self, alloc: Global) -> Result<Vec<(u32, Hook)>, AllocError>
         ensures { IfOk result (λ hooks. hooks.items ≡ hooks_by self.now.strings.now self.now.symbols.items) }
     {

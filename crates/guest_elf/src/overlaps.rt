@@ -1,4 +1,4 @@
-//! Whether segments share an address: decided on their headers in the order of their addresses.
+//! Whether segments share an address, found from their headers in the order of their addresses.
 ghost use Rattle.std.specs.Prelude.{◌≡◌, ◌<◌, All, IfOk};
 ghost use Rattle.std.specs.List.Sorted.{IsNonDecreasingBy};
 ghost use Rattle.guest_elf.specs.File.{any_two_meet, has_overlap, loads_of, HasTable, HasSegments};
@@ -8,7 +8,7 @@ use crate::program::{ProgramHeader, header_at, header_count};
 use crate::segments::has_load_in_region;
 use std::alloc::{AllocError, Global};
 
-/// The program headers that are loaded.
+/// Returns the program headers that are loaded.
 fn loads_of(alloc: Global, file: &[u8]) -> Result<Vec<ProgramHeader>, AllocError>
     requires { HasTable file.now }
     ensures { IfOk result (λ loads. loads.items ≡ loads_of file.now) }
@@ -23,7 +23,7 @@ fn loads_of(alloc: Global, file: &[u8]) -> Result<Vec<ProgramHeader>, AllocError
     Ok(loads)
 }
 
-/// Whether two of the segments share an address, in one pass: one that begins before its predecessor ends.
+/// Returns whether two of the segments share an address: one begins before its predecessor ends. Needs one pass.
 fn any_two_meet(headers: &[ProgramHeader]) -> bool
     requires ascending { IsNonDecreasingBy (λ (header : ProgramHeader). header.vaddr) headers.now }
     requires some_bytes { All (λ (header : ProgramHeader). 0 < header.memsz) headers.now }
@@ -39,7 +39,7 @@ fn any_two_meet(headers: &[ProgramHeader]) -> bool
     false
 }
 
-/// A loaded segment meets another, or the heap's region or the stack's.
+/// Returns whether a loaded segment shares an address with another, or with the heap's region or the stack's.
 pub(crate) fn has_overlap(alloc: Global, file: &[u8]) -> Result<bool, AllocError>
     requires table { HasTable file.now }
     requires good { HasSegments file.now }

@@ -17,7 +17,7 @@ pub(crate) const PROGRAM_HEADER_SIZE: usize = 32;
 pub(crate) struct ProgramHeader {
     /// p_type.
     pub(crate) kind: u32,
-    /// p_offset: where its bytes begin in the file.
+    /// p_offset: the offset of its first byte in the file.
     pub(crate) offset: u32,
     /// p_vaddr: the address of its first byte.
     pub(crate) vaddr: u32,
@@ -28,7 +28,7 @@ pub(crate) struct ProgramHeader {
 }
 
 impl ProgramHeader {
-    /// Whether it is a PT_INTERP.
+    /// Returns whether it is a PT_INTERP.
     #[tactic(auto, unfolding(crate::specs::File::is_interpreter))]
     pub(crate) fn is_interpreter(self) -> bool
         ensures { result ≡ is_interpreter self }
@@ -36,7 +36,7 @@ impl ProgramHeader {
         self.kind == PT_INTERP
     }
 
-    /// Whether it is a PT_LOAD that is not empty.
+    /// Returns whether it is a PT_LOAD that is not empty.
     #[tactic(auto, unfolding(crate::specs::File::is_load))]
     pub(crate) fn is_load(self) -> bool
         ensures { result ≡ is_load self }
@@ -44,8 +44,8 @@ impl ProgramHeader {
         self.kind == PT_LOAD && !(self.filesz == 0 && self.memsz == 0)
     }
 
-    /// Whether it has more bytes in the file than in memory, or bytes past the end of a file of
-    /// `file_length` bytes, or an end above 2^32.
+    /// Returns whether it has more bytes in the file than in memory, or bytes past the end of a file of `file_length` bytes, or an end
+    /// above 2^32.
     #[tactic(auto, unfolding(crate::specs::File::is_bad_segment))]
     pub(crate) fn is_bad_segment(self, file_length: usize) -> bool
         ensures { result ≡ is_bad_segment file_length self }
@@ -55,7 +55,7 @@ impl ProgramHeader {
             || self.end() > 1 << 32
     }
 
-    /// Whether it has an address of the heap's region or of the stack's.
+    /// Returns whether it has an address of the heap's region or of the stack's.
     #[tactic(auto, unfolding(crate::specs::File::meets_region))]
     pub(crate) fn meets_region(self) -> bool
         ensures { result ≡ meets_region self }
@@ -63,14 +63,14 @@ impl ProgramHeader {
         self.meets(HEAP_BEGIN, HEAP_END) || self.meets(STACK_BEGIN, STACK_END)
     }
 
-    /// Whether it has an address from `start` up to `end`, not with it.
+    /// Returns whether it has an address from `start` up to, but not including, `end`.
     fn meets(self, start: u32, end: u32) -> bool
         ensures { result ≡ ranges_meet self.vaddr (self.vaddr + self.memsz) start end }
     {
         u64::from(self.vaddr.max(start)) < self.end().min(u64::from(end))
     }
 
-    /// The address after its last byte, as a whole number.
+    /// Returns the address after its last byte, as a whole number.
     pub(crate) fn end(self) -> u64
         ensures { result ≡ self.vaddr + self.memsz }
     {
@@ -78,7 +78,7 @@ impl ProgramHeader {
     }
 }
 
-/// The number of program headers.
+/// Returns the number of program headers.
 pub(crate) fn header_count(file: &[u8]) -> u16
     requires { HasHeader file.now }
     ensures { result ≡ header_count file.now }
@@ -86,7 +86,7 @@ pub(crate) fn header_count(file: &[u8]) -> u16
     half_at(file, E_PHNUM)
 }
 
-/// The program header at an index of the table.
+/// Returns the program header at an index of the table.
 #[tactic(auto, unfolding(crate::specs::File::header_from))]
 pub(crate) fn header_at(file: &[u8], index: u16) -> ProgramHeader
     requires table { HasTable file.now }

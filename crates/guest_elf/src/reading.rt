@@ -20,7 +20,7 @@ use crate::segments::{has_bad_segment, has_interpreter, is_too_large};
 use crate::symbols::has_bad_symbols;
 use std::alloc::{AllocError, Global};
 
-/// Of the conditions that are tested without memory, the first that holds.
+/// Returns the first condition that holds, of those that are tested without memory.
 #[tactic(auto, unfolding(crate::specs::File::early_refusal))]
 fn early_refusal(file: &[u8]) -> Option<ElfFault>
     ensures value { result ≡ early_refusal file.now }
@@ -52,7 +52,7 @@ fn early_refusal(file: &[u8]) -> Option<ElfFault>
     }
 }
 
-/// Of the other conditions the first that holds.
+/// Returns the first condition that holds, of the others.
 #[tactic(auto, unfolding(crate::specs::File::late_refusal))]
 fn late_refusal(alloc: Global, file: &[u8]) -> Result<Option<ElfFault>, AllocError>
     requires header { HasHeader file.now }
@@ -74,7 +74,7 @@ fn late_refusal(alloc: Global, file: &[u8]) -> Result<Option<ElfFault>, AllocErr
     Ok(None)
 }
 
-/// The bytes in the file of a program header that is not bad. Without any, p_offset may be anywhere.
+/// Returns the bytes of a program header in the file. The header is not bad. If there are none, p_offset may be anything.
 fn bytes_of(file: &[u8], header: ProgramHeader) -> &[u8]
     requires { is_bad_segment (length file.now) header ≡ false }
     ensures { result.now ≡ bytes_in file.now header }
@@ -86,7 +86,7 @@ fn bytes_of(file: &[u8], header: ProgramHeader) -> &[u8]
     &file[start..start + header.filesz as usize]
 }
 
-/// The segment of a program header that is not bad.
+/// Returns the segment of a program header that isn't bad.
 #[tactic(auto, unfolding(crate::specs::File::content_in, crate::specs::Segments::content_of))]
 fn segment_of<'a>(file: &'a [u8], header: ProgramHeader) -> Segment<'a>
     requires { is_bad_segment (length file.now) header ≡ false }
@@ -99,7 +99,7 @@ fn segment_of<'a>(file: &'a [u8], header: ProgramHeader) -> Segment<'a>
     }
 }
 
-/// The loaded segments, in the order of the program headers.
+/// Returns the loaded segments, in the order of the program headers.
 fn segments_of<'a>(alloc: Global, file: &'a [u8]) -> Result<Vec<Segment<'a>>, AllocError>
     requires table { HasTable file.now }
     requires good { HasSegments file.now }
@@ -121,14 +121,14 @@ fn segments_of<'a>(alloc: Global, file: &'a [u8]) -> Result<Vec<Segment<'a>>, Al
 ///
 /// # Errors
 ///
-/// The first condition that holds, in the order of `ElfFault::number`; or `Memory`, where a list could not
-/// grow: the first list grows once the conditions 20 to 28 are tested.
+/// Returns the first condition that holds, in the order of `ElfFault::number`, or `Memory` if a list could not grow. The first list grows
+/// after the conditions 20 to 28 are tested.
 #[tactic(auto, unfolding(crate::specs::File::refusal))]
 pub fn read<'a>(alloc: Global, file: &'a [u8]) -> Result<Image<'a>, ElfFault>
     ensures image { IfOk result (IsImageOf file.entry.now) }
     ensures refused { IfErr result (λ fault.
         (fault ≡ ElfFault.Memory) ⊎ (refusal file.entry.now ≡ Some fault)) }
-    // Want of memory hides no refusal that is found before the first growth.
+    // Running out of memory hides no condition that is tested before the first list grows.
     ensures least { (fault : ElfFault) → early_refusal file.entry.now ≡ Some fault → result ≡ Err fault }
 {
     if let Some(fault) = early_refusal(file) {

@@ -1,4 +1,4 @@
-//! The conditions under which a file is refused, each with the name of its definition.
+//! The conditions under which a file is rejected, each with the name of its definition.
 ghost use Rattle.std.specs.Prelude.{◌≡◌};
 ghost use Rattle.guest_elf.specs.File.{is_not_elf, is_not_class_32, is_not_little_endian, has_bad_version, is_not_executable, is_not_risc_v, has_bad_program_table, has_bad_table, HasHeader, HasTable};
 ghost use Rattle.guest_elf.specs.Sections.{HasSections};
@@ -24,10 +24,10 @@ const CURRENT_VERSION: u32 = 1;
 const EXECUTABLE: u16 = 2;
 /// EM_RISCV.
 const RISC_V: u16 = 243;
-/// PN_XNUM: the number of program headers stands elsewhere.
+/// PN_XNUM: the number of program headers is elsewhere.
 const COUNT_ELSEWHERE: u16 = 0xFFFF;
 
-/// Fewer bytes than a header has, or another beginning.
+/// Returns whether the file has fewer bytes than a header, or begins with other bytes.
 #[tactic(auto, unfolding(crate::specs::File::is_not_elf))]
 pub(crate) fn is_not_elf(file: &[u8]) -> bool
     ensures value { result ≡ is_not_elf file.now }
@@ -36,7 +36,7 @@ pub(crate) fn is_not_elf(file: &[u8]) -> bool
     file.len() < HEADER_SIZE || !file.starts_with(&MAGIC)
 }
 
-/// EI_CLASS is not ELFCLASS32.
+/// Returns whether EI_CLASS is not ELFCLASS32.
 #[tactic(auto, unfolding(crate::specs::File::is_not_class_32))]
 pub(crate) fn is_not_class_32(file: &[u8]) -> bool
     requires { HasHeader file.now }
@@ -45,7 +45,7 @@ pub(crate) fn is_not_class_32(file: &[u8]) -> bool
     byte_at(file, EI_CLASS) != CLASS_32
 }
 
-/// EI_DATA is not ELFDATA2LSB.
+/// Returns whether EI_DATA is not ELFDATA2LSB.
 #[tactic(auto, unfolding(crate::specs::File::is_not_little_endian))]
 pub(crate) fn is_not_little_endian(file: &[u8]) -> bool
     requires { HasHeader file.now }
@@ -54,7 +54,7 @@ pub(crate) fn is_not_little_endian(file: &[u8]) -> bool
     byte_at(file, EI_DATA) != LITTLE_ENDIAN
 }
 
-/// EI_VERSION or e_version is not EV_CURRENT.
+/// Returns whether EI_VERSION or e_version is not EV_CURRENT.
 #[tactic(auto, unfolding(crate::specs::File::has_bad_version))]
 pub(crate) fn has_bad_version(file: &[u8]) -> bool
     requires { HasHeader file.now }
@@ -64,7 +64,7 @@ pub(crate) fn has_bad_version(file: &[u8]) -> bool
         || word_at(file, E_VERSION) != CURRENT_VERSION
 }
 
-/// e_type is not ET_EXEC.
+/// Returns whether e_type is not ET_EXEC.
 #[tactic(auto, unfolding(crate::specs::File::is_not_executable))]
 pub(crate) fn is_not_executable(file: &[u8]) -> bool
     requires { HasHeader file.now }
@@ -73,7 +73,7 @@ pub(crate) fn is_not_executable(file: &[u8]) -> bool
     half_at(file, E_TYPE) != EXECUTABLE
 }
 
-/// e_machine is not EM_RISCV.
+/// Returns whether e_machine is not EM_RISCV.
 #[tactic(auto, unfolding(crate::specs::File::is_not_risc_v))]
 pub(crate) fn is_not_risc_v(file: &[u8]) -> bool
     requires { HasHeader file.now }
@@ -82,7 +82,7 @@ pub(crate) fn is_not_risc_v(file: &[u8]) -> bool
     half_at(file, E_MACHINE) != RISC_V
 }
 
-/// e_phnum is PN_XNUM; or there are program headers of another size, or that end past the file.
+/// Returns whether e_phnum is PN_XNUM, or program headers have another size or end past the file.
 #[tactic(auto, unfolding(crate::specs::File::has_bad_program_table))]
 pub(crate) fn has_bad_program_table(file: &[u8]) -> bool
     requires { HasHeader file.now }
@@ -97,7 +97,7 @@ pub(crate) fn has_bad_program_table(file: &[u8]) -> bool
     half_at(file, E_PHENTSIZE) as usize != PROGRAM_HEADER_SIZE || table_end > file.len()
 }
 
-/// The table of program headers is bad, or that of section headers.
+/// Returns whether the table of program headers or that of section headers is bad.
 #[tactic(auto, unfolding(crate::specs::File::has_bad_table))]
 pub(crate) fn has_bad_table(file: &[u8]) -> bool
     requires { HasHeader file.now }

@@ -16,18 +16,18 @@ const SYMBOL_TABLE: u32 = 2;
 pub(crate) struct SectionHeader {
     /// sh_type.
     pub(crate) kind: u32,
-    /// sh_offset: where its bytes begin in the file.
+    /// sh_offset: the offset of its first byte in the file.
     pub(crate) offset: u32,
     /// sh_size: the number of its bytes.
     pub(crate) size: u32,
-    /// sh_link: of a symbol table the index of its string table.
+    /// sh_link: for a symbol table, the index of its string table.
     pub(crate) link: u32,
     /// sh_entsize: the size of an entry.
     pub(crate) entry_size: u32,
 }
 
 impl SectionHeader {
-    /// Whether it is an SHT_SYMTAB.
+    /// Returns whether it is an SHT_SYMTAB.
     #[tactic(auto, unfolding(crate::specs::Sections::is_symbol_table))]
     fn is_symbol_table(self) -> bool
         ensures { result ≡ is_symbol_table self }
@@ -36,7 +36,7 @@ impl SectionHeader {
     }
 }
 
-/// The number of section headers.
+/// Returns the number of section headers.
 #[tactic(auto, unfolding(crate::specs::Sections::section_count))]
 pub(crate) fn section_count(file: &[u8]) -> u16
     requires { HasHeader file.now }
@@ -48,7 +48,7 @@ pub(crate) fn section_count(file: &[u8]) -> u16
     half_at(file, E_SHNUM)
 }
 
-/// There are section headers of another size, or that end past the file.
+/// Returns whether section headers have another size or end past the file.
 #[tactic(auto, unfolding(crate::specs::Sections::has_bad_section_table))]
 pub(crate) fn has_bad_section_table(file: &[u8]) -> bool
     requires { HasHeader file.now }
@@ -63,7 +63,7 @@ pub(crate) fn has_bad_section_table(file: &[u8]) -> bool
     half_at(file, E_SHENTSIZE) as usize != SECTION_HEADER_SIZE || table_end > file.len()
 }
 
-/// The section header at an index of the table.
+/// Returns the section header at an index of the table.
 #[tactic(auto, unfolding(crate::specs::Sections::section_from))]
 pub(crate) fn section_at(file: &[u8], index: u32) -> SectionHeader
     requires table { HasSections file.now }
@@ -80,7 +80,7 @@ pub(crate) fn section_at(file: &[u8], index: u32) -> SectionHeader
     }
 }
 
-/// The symbol table: the first section of that type.
+/// Returns the symbol table: the first section of that type.
 pub(crate) fn symbol_table(file: &[u8]) -> Option<SectionHeader>
     requires header { HasHeader file.now }
     requires table { HasSections file.now }

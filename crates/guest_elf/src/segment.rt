@@ -18,7 +18,7 @@ pub struct Segment<'a> {
 impl Segment<'_> {
     ghost use Rattle.guest_elf.specs.Segments.{has_address};
 
-    /// Whether an address is among the segment's.
+    /// Returns whether an address is among the segment's.
     pub fn has(&self, addr: u32) -> bool
         ensures { result ≡ has_address self.now addr }
     {

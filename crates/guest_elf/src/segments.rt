@@ -1,4 +1,4 @@
-//! The conditions on the program headers under which a file is refused.
+//! The conditions on the program headers under which a file is rejected.
 ghost use Rattle.std.specs.Prelude.{◌≡◌, length, sum_by};
 ghost use Rattle.std.specs.Bool.{OnFalse};
 ghost use Rattle.std.specs.List.{list_any};
@@ -6,10 +6,10 @@ ghost use Rattle.guest_elf.specs.File.{has_interpreter, has_bad_segment, is_too_
 
 use crate::program::{header_at, header_count};
 
-/// The most bytes of a file, and of its segments in memory: 16 MiB.
+/// The greatest size of a file, and of its segments in memory, in bytes: 16 MiB.
 pub const MOST_BYTES: usize = 16_777_216;
 
-/// A program header of type PT_INTERP.
+/// Returns whether there is a program header of type PT_INTERP.
 #[tactic(auto, unfolding(crate::specs::File::has_interpreter))]
 pub(crate) fn has_interpreter(file: &[u8]) -> bool
     requires { HasTable file.now }
@@ -23,7 +23,7 @@ pub(crate) fn has_interpreter(file: &[u8]) -> bool
     false
 }
 
-/// A loaded segment is bad.
+/// Returns whether a loaded segment is bad.
 #[tactic(auto, unfolding(crate::specs::File::has_bad_segment))]
 pub(crate) fn has_bad_segment(file: &[u8]) -> bool
     requires { HasTable file.now }
@@ -33,7 +33,7 @@ pub(crate) fn has_bad_segment(file: &[u8]) -> bool
     has_bad_load(file)
 }
 
-/// A loaded segment is bad: the loop over the program headers.
+/// Returns whether a loaded segment is bad, by a loop over the program headers.
 fn has_bad_load(file: &[u8]) -> bool
     requires { HasTable file.now }
     ensures { result ≡ list_any (is_bad_segment (length file.now)) (loads_of file.now) }
@@ -47,7 +47,7 @@ fn has_bad_load(file: &[u8]) -> bool
     false
 }
 
-/// A loaded segment meets the heap's region or the stack's.
+/// Returns whether a loaded segment shares an address with the heap's region or the stack's.
 pub(crate) fn has_load_in_region(file: &[u8]) -> bool
     requires { HasTable file.now }
     ensures { result ≡ list_any meets_region (loads_of file.now) }
@@ -61,7 +61,7 @@ pub(crate) fn has_load_in_region(file: &[u8]) -> bool
     false
 }
 
-/// The number of bytes that the loaded segments take in memory.
+/// Returns the number of bytes that the loaded segments need in memory.
 fn memory_size(file: &[u8]) -> u64
     requires { HasTable file.now }
     ensures { result ≡ sum_by (λ header. header.memsz) (loads_of file.now) }
@@ -76,7 +76,7 @@ fn memory_size(file: &[u8]) -> u64
     size
 }
 
-/// The file or what its segments take in memory has more than 16 MiB.
+/// Returns whether the file has, or its segments in memory have, more than 16 MiB.
 #[tactic(auto, unfolding(crate::specs::File::is_too_large))]
 pub(crate) fn is_too_large(file: &[u8]) -> bool
     requires { HasTable file.now }

@@ -19,7 +19,7 @@ const UNDEFINED: u16 = 0;
 /// The fields of a symbol that matter here (Elf32_Sym, figure 4-15).
 #[derive(Clone, Copy)]
 pub(crate) struct Symbol {
-    /// st_name: where its name begins in the string table.
+    /// st_name: the offset of its name in the string table.
     pub(crate) name: u32,
     /// st_value: its address.
     pub(crate) value: u32,
@@ -32,7 +32,7 @@ pub(crate) struct Symbol {
 }
 
 impl Symbol {
-    /// Whether it is an STT_FUNC of a section.
+    /// Returns whether it is an STT_FUNC that a section defines.
     #[tactic(auto, unfolding(crate::specs::Sections::is_function))]
     fn is_function(self) -> bool
         ensures { result ≡ is_function self }
@@ -40,21 +40,21 @@ impl Symbol {
         self.info % 16 == FUNCTION && self.section != UNDEFINED
     }
 
-    /// Whether it is a function whose name begins at `end` or past it.
+    /// Returns whether it is a function whose name begins at `end` or past it.
     fn is_function_from(self, end: usize) -> bool
         ensures { result ≡ (is_function self && nat_le end self.name) }
     {
         self.is_function() && self.name as usize >= end
     }
 
-    /// Whether its size is unknown, or it ends above an address.
+    /// Returns whether its size is unknown, or it ends above an address.
     pub(crate) fn has(self, addr: u32) -> bool
         ensures { result ≡ (self.size == 0 || nat_lt addr (self.value + self.size)) }
     {
         self.size == 0 || u64::from(addr) < u64::from(self.value) + u64::from(self.size)
     }
 
-    /// Whether it is a function with a name that is not empty.
+    /// Returns whether it is a function with a name that is not empty.
     #[tactic(auto, unfolding(crate::specs::Sections::is_naming))]
     fn is_naming(self, strings: &[u8]) -> bool
         ensures { result ≡ is_naming strings.now self }
@@ -64,7 +64,7 @@ impl Symbol {
     }
 }
 
-/// The symbol at an index of a table.
+/// Returns the symbol at an index of a table.
 #[tactic(auto, unfolding(crate::specs::Sections::symbol_from))]
 fn symbol_at(file: &[u8], table: SectionHeader, index: u32) -> Symbol
     requires inside { HasSymbols file.now table }
@@ -81,7 +81,7 @@ fn symbol_at(file: &[u8], table: SectionHeader, index: u32) -> Symbol
     }
 }
 
-/// The bytes of a symbol table's string table.
+/// Returns the bytes of a symbol table's string table.
 #[tactic(auto, unfolding(crate::specs::Sections::strings_in))]
 pub(crate) fn strings_in(file: &[u8], table: SectionHeader) -> &[u8]
     requires sections { HasSections file.now }
@@ -93,8 +93,8 @@ pub(crate) fn strings_in(file: &[u8], table: SectionHeader) -> &[u8]
     &file[start..start + section.size as usize]
 }
 
-/// How many bytes of a string table there are up to its last zero byte, with that: a name has an end just
-/// if it begins before that many.
+/// Returns the number of bytes of a string table up to and including its last zero byte. A name has an end exactly if it begins before
+/// that.
 fn names_end(strings: &[u8]) -> usize
     ensures { (start : ℕ) → list_any is_zero (drop start strings.now) ≡ nat_lt start result }
 {
@@ -107,7 +107,7 @@ fn names_end(strings: &[u8]) -> usize
     end
 }
 
-/// sh_entsize is not 16, or the size no multiple of it, or the table or its string table isn't in the file.
+/// Returns whether sh_entsize is not 16, or the size is no multiple of 16, or the table or its string table isn't in the file.
 #[tactic(auto, unfolding(crate::specs::Sections::is_damaged))]
 fn is_damaged(file: &[u8], table: SectionHeader) -> bool
     requires header { HasHeader file.now }
@@ -126,7 +126,7 @@ fn is_damaged(file: &[u8], table: SectionHeader) -> bool
     strings.offset as usize + strings.size as usize > file.len()
 }
 
-/// A function's name has no end in the string table.
+/// Returns whether a function's name has no end in the string table.
 fn has_endless_name(file: &[u8], table: SectionHeader) -> bool
     requires sections { HasSections file.now }
     requires inside { HasSymbols file.now table }
@@ -141,7 +141,7 @@ fn has_endless_name(file: &[u8], table: SectionHeader) -> bool
     false
 }
 
-/// The symbol table is damaged, or a function's name has no end.
+/// Returns whether the symbol table is damaged, or a function's name has no end.
 #[tactic(auto, unfolding(crate::specs::File::has_bad_symbols, crate::specs::Sections::is_bad_table))]
 pub(crate) fn has_bad_symbols(file: &[u8]) -> bool
     requires header { HasHeader file.now }
@@ -155,7 +155,7 @@ pub(crate) fn has_bad_symbols(file: &[u8]) -> bool
     }
 }
 
-/// The naming symbols of a table, in its order.
+/// Returns the naming symbols of a table, in its order.
 pub(crate) fn naming_symbols(
     alloc: Global,
     file: &[u8],

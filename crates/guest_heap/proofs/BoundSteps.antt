@@ -49,7 +49,7 @@ no_more_bounds old new redzone bounds kept hold i n there =
       between = no_more old new n.size redzone n.next n.until kept h.between;
     }
 
--- one more live block, where none begins
+-- another live block, where none begins
 pub no_more_put : (blocks : Blocks) (b : Block) (redzone : ℕ) (bounds : List Bound)
     → IsPlace blocks b.size b.redzone b.start → AreBounds blocks redzone bounds
     → AreBounds (with_block blocks b) redzone bounds

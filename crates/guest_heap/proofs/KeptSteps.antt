@@ -85,7 +85,7 @@ module _ (live freed : Entries) (queue : List Entry) (first : ℕ) (sound : AreS
       ap (λ n. beginning e.start (live n)) (placed-slot e.start k (sound.lives k e h).placed.start)
       ∙ ap (beginning e.start) h ∙ begins e.start e refl
 
-  -- the block at a place is kept, and stands there
+  -- the block at a place is kept, and begins there
   pub record StandsAt (b : Block) (k : ℕ) : Type 0 where
     pub kept : IsKept (shown live queue) b
     pub placed : IsPlaced b k

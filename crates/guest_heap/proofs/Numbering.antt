@@ -1,4 +1,4 @@
--- Places in a row of parts, numbered through: a number tells the part and the place in it.
+-- Places in a row of parts, numbered through: a number gives the part and the place in it.
 use Rattle.std.proofs.Common.{◌≡◌, ℕ, ◌+◌, ◌*◌, ◌/◌, ◌%◌, ◌<◌, ◌≤◌, ◌==◌, inl, inr, is_some, false}
 use Rattle.std.proofs.Common.{Bool, Option, refl, cond, mul_comm, ap, ap₂, sym, ◌∙◌, subst, arith, eq-eqb}
 use Rattle.std.proofs.Math.Path.{fun_ext}
@@ -27,7 +27,7 @@ end-same w part at i e = ap (λ b. cond b at w) (eq-eqb i part e)
 end-other : (w part at i : ℕ) → (i ≡ part → ⊥) → end_in w part at i ≡ w
 end-other w part at i h = ap (λ b. cond b at w) (differ i part h)
 
--- how places of so many parts, with w places each, are numbered
+-- how the places of a number of parts, with w places each, are numbered
 pub record IsNumbering (w count total : ℕ) (part place : ℕ → ℕ) (number : ℕ → ℕ → ℕ) : Type 0 where
   pub in_part : (k : ℕ) → place k < w
   pub grows : (a b : ℕ) → a ≤ b → part a ≤ part b

@@ -1,4 +1,4 @@
--- A part of its own behind a reference that copies share: the part itself, or a clone.
+-- A part of its own from a reference that copies share: the part itself, or a clone.
 use Rattle.std.proofs.Common.{◌≡◌, ◌⊎◌, inl, inr, ap, refl, sym, subst, Result, Ok}
 use Rattle.std.specs.Result.{IsOk}
 use Rattle.guest_heap.specs.Entries.{Entries}

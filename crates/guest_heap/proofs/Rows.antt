@@ -11,7 +11,7 @@ use Rattle.guest_heap.specs.Entries.{Entries, entries_at}
 use Rattle.guest_heap.specs.Rows.{Grid, grid_of, entries_along}
 use Rattle.guest_heap.specs.declared.table.row.Row.{Row}
 
--- one more part, which is absent
+-- another part, which is absent
 one-more : {T : Type 0} (xs : List (Option T)) (i : ℕ)
     → slice_index_or (xs ++ (None ∷ [])) i None ≡ slice_index_or xs i None
 one-more [] zero = refl
@@ -28,7 +28,7 @@ got-some : {T : Type 0} (xs : List T) (n : ℕ) (x : T) → slice_get xs n ≡ S
 got-some [] n x h = cc
 got-some (y ∷ ys) n x h = let some : 0 < suc (length ys) = omega arith in some
 
--- what `pop` answers of a list whose last item is known
+-- the result of `pop` on a list whose last item is known
 pub last_is : {T : Type 0} (xs : Vec T Global) (x : T) (last : Option T)
     → slice_get xs.items (length xs.items - 1) ≡ Some x
     → ((d : T) → 0 < vec_len xs → last ≡ Some (slice_index_or xs.items (vec_len xs - 1) d)) → last ≡ Some x
@@ -64,7 +64,7 @@ module _ {P : Type 0} (entries : P → Entries) where
       same_grid a b (λ i. ap (λ xs. entries_at entries (slice_index_or xs i None)) e
       ∙ ap (entries_at entries) (one-more a.parts.items i))
 
-  -- the last part, which is absent, leaves
+  -- the last part, which is absent, is removed
   pub shrunk_grid : (a b : Row P) (last : Option (Option (Rc P Global)))
       → a.parts.items ≡ b.parts.items ++ option_to_list last → last ≡ Some None
       → grid_of entries b ≡ grid_of entries a

@@ -1,7 +1,7 @@
--- What a heap holds, and what the heap calls do to it.
+-- The contents of a heap, and the effect of the heap calls.
 -- Sources: Memcheck manual, section 4.3, `--freelist-vol` (freed blocks are kept in a queue, whose sizes sum to at most
 -- a volume); Valgrind core manual, section 2.6, `--redzone-size` (padding before and after each block). Where blocks
--- lie is this project's own rule: each at the lowest place of all.
+-- lie is this project's own rule: each is at its lowest place.
 use Rattle.std.specs.Prelude.{ℕ, ◌+◌, ◌-◌, ◌%◌, ◌<◌, ◌≤◌, ◌≡◌, ◌==◌, ◌⊎◌, nat_lt, nat_le, max, Option, Some, None, List}
 use Rattle.std.specs.Prelude.{[], ◌∷◌, ◌++◌, Contains, drop, sum_by, if◌then◌else◌}
 use Rattle.heap_blocks.specs.declared.block.Block.{Block}
@@ -11,7 +11,7 @@ use Rattle.memory_map.specs.Regions.{heap_begin, heap_end}
 use Rattle.guest_heap.specs.declared.released.Released.{Released}
 use Rattle.guest_heap.specs.declared.released.Released.TheVariants.{Done, Nothing, Invalid}
 
--- the blocks that are kept: the live block that begins at an address, and those freed that are not forgotten yet,
+-- the blocks that are kept: the live block that begins at an address, and the freed ones that are not forgotten yet,
 -- oldest first
 pub record Blocks : Type 0 where
   pub live : ℕ → Option Block
@@ -23,20 +23,20 @@ no_blocks = record { live = λ _. None; queue = [] }
 abbrev pub IsKept : Blocks → Block → Type 0
 IsKept blocks b = (blocks.live b.start ≡ Some b) ⊎ Contains blocks.queue b
 
--- the interval of a block: its bytes, one where it has none, and a redzone on either side
+-- the interval of a block: its bytes, or one byte if it has none, and a redzone on either side
 abbrev pub low_end : Block → ℕ
 low_end b = b.start - b.redzone
 
 abbrev pub high_end : Block → ℕ
 high_end b = b.start + max b.size 1 + b.redzone
 
--- does the range from one address up to, not with, another meet a block's interval?
+-- does the range from one address up to, but not including, another meet a block's interval?
 abbrev pub Meets : ℕ → ℕ → Block → Type 0
 Meets low high b = (low < high_end b) × (low_end b < high)
 
 -- placement --
 
--- the bytes of the greatest block
+-- the size of the greatest block, in bytes
 abbrev pub greatest_size : ℕ
 greatest_size = 16777216
 
@@ -52,16 +52,16 @@ pub record IsLeastPlace (blocks : Blocks) (size redzone p : ℕ) : Type 0 where
   pub place : IsPlace blocks size redzone p
   pub least : (q : ℕ) → q < p → ¬ (IsPlace blocks size redzone q)
 
--- the least place, or none where there is none
+-- the least place, or none if there is no place
 abbrev pub Places : Blocks → ℕ → ℕ → Option ℕ → Type 0
 Places blocks size redzone None = (q : ℕ) → ¬ (IsPlace blocks size redzone q)
 Places blocks size redzone (Some p) = IsLeastPlace blocks size redzone p
 
--- the live blocks with that at an address changed
+-- the live blocks, with the one at an address changed
 abbrev pub with_live : (ℕ → Option Block) → ℕ → Option Block → ℕ → Option Block
 with_live live at block = λ a. if a == at then block else live a
 
--- one more live block
+-- the blocks with another live block
 abbrev pub with_block : Blocks → Block → Blocks
 with_block blocks b = record { live = with_live blocks.live b.start (Some b); queue = blocks.queue }
 
@@ -81,11 +81,11 @@ abbrev pub done_or : List ℕ → Option Block → Released
 done_or trace None = Invalid
 done_or trace (Some b) = Done (freed_by trace b)
 
--- what the release of an address answers
+-- what the release of an address returns
 abbrev pub released_at : Blocks → ℕ → List ℕ → Released
 released_at blocks ptr trace = if ptr == 0 then Nothing else done_or trace (blocks.live ptr)
 
--- a freed block is live no more, and is the last of the queue
+-- a freed block is no longer live, and is the last of the queue
 abbrev pub queue_with : Blocks → Block → Blocks
 queue_with blocks b = record { live = with_live blocks.live b.start None; queue = blocks.queue ++ b ∷ [] }
 
@@ -99,13 +99,13 @@ pub record IsLongestFitting (volume : ℕ) (whole suffix : List Block) : Type 0 
   pub fits : volume_of suffix ≤ volume
   pub longest : (n : ℕ) → n < dropped → volume < volume_of (drop n whole)
 
--- a suffix, where each longer one has too much
+-- a suffix, if each longer one sums to too much
 pub record Drops (volume : ℕ) (whole suffix : List Block) : Type 0 where
   pub dropped : ℕ
   pub suffix_of : suffix ≡ drop dropped whole
   pub longer : (n : ℕ) → n < dropped → volume < volume_of (drop n whole)
 
--- a block that is freed is live no more, and goes to the end of the queue, from which the oldest leave
+-- a block that is freed is no longer live, and goes to the end of the queue, from which the oldest leave
 pub record Frees (b : Block) (volume : ℕ) (old new : Blocks) : Type 0 where
   pub live : new.live ≡ with_live old.live b.start None
   pub queue : IsLongestFitting volume (old.queue ++ b ∷ []) new.queue

@@ -1,4 +1,4 @@
--- The bounds that a heap has.
+-- The bounds of a heap.
 use Rattle.std.specs.Prelude.{List}
 use Rattle.guest_heap.specs.Bounds.{listed}
 use Rattle.guest_heap.specs.declared.bounds.Bound.{Bound}

@@ -10,7 +10,7 @@ use Rattle.guest_heap.specs.States.{AreNoPlaces}
 use Rattle.guest_heap.specs.declared.bounds.Bound.{Bound}
 use Rattle.guest_heap.specs.declared.bounds.Opened.{Opened}
 
--- a bound holds: no block of its size has a place below the one address, nor between the two others
+-- a bound holds: no block of its size has a place below the first address, nor between the other two
 pub record Holds (blocks : Blocks) (redzone : ℕ) (b : Bound) : Type 0 where
   pub below : AreNoPlaces blocks b.size redzone 0 b.from
   pub between : AreNoPlaces blocks b.size redzone b.next b.until
@@ -18,7 +18,7 @@ pub record Holds (blocks : Blocks) (redzone : ℕ) (b : Bound) : Type 0 where
 abbrev pub AreBounds : Blocks → ℕ → List Bound → Type 0
 AreBounds blocks redzone bounds = (i : ℕ) (b : Bound) → slice_get bounds i ≡ Some b → Holds blocks redzone b
 
--- an address between the two
+-- an address between these two
 abbrev pub IsSkipped : Bound → ℕ → Type 0
 IsSkipped b q = (b.next ≤ q) × (q < b.until)
 
@@ -29,19 +29,19 @@ IsEmpty b = (b.from ≡ 0) × (b.until ≡ 0)
 abbrev pub AreFresh : List Bound → Type 0
 AreFresh bounds = (i : ℕ) (b : Bound) → slice_get bounds i ≡ Some b → IsEmpty b
 
--- where one of the bounds that hold of a size ends, or 0
+-- the end of one of the bounds that hold for a size, or 0
 abbrev pub IsKnown : List Bound → ℕ → ℕ → Type 0
 IsKnown bounds size from =
     (from ≡ 0) ⊎ ((i : ℕ) × (b : Bound) × (slice_get bounds i ≡ Some b) × (b.size ≤ size) × (from ≡ b.from))
 
--- one of the bounds, for a size that isn't less, or one that says nothing
+-- one of the bounds, for a size that isn't smaller, or one that says nothing
 abbrev pub IsTaken : List Bound → Bound → Type 0
 IsTaken bounds taken =
     (IsEmpty taken)
     ⊎ ((i : ℕ) × (b : Bound) × (slice_get bounds i ≡ Some b) × (b.size ≤ taken.size)
     × (taken.from ≡ b.from) × (taken.next ≡ b.next) × (taken.until ≡ b.until))
 
--- what stays of a bound after a range came free
+-- what stays of a bound after a range became free
 abbrev pub lowered : Opened → Bound → Bound
 lowered o b =
     if nat_lt o.room (max b.size 1) then b
@@ -51,7 +51,7 @@ lowered o b =
     then record { size = b.size; from = min b.from o.first; next = max b.next o.end; until = b.until }
     else record { size = b.size; from = min b.from o.first; next = b.next; until = min b.until o.first }
 
--- a range came free, or there are no bounds any more
+-- a range became free, or there are no bounds any more
 abbrev pub IsLowered : Opened → List Bound → List Bound → Type 0
 IsLowered o old new = (new ≡ map (lowered o) old) ⊎ (new ≡ [])
 

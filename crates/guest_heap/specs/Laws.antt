@@ -1,17 +1,17 @@
--- What the functions of the heap calls say, at all blocks.
+-- What the functions of the heap calls mean, for all blocks.
 use Rattle.std.specs.Prelude.{ℕ, ◌+◌, ◌≡◌, ◌↔◌, Some, None, IfSome, IfNone, List, [], ◌∷◌, Contains}
 use Rattle.heap_blocks.specs.declared.block.Block.{Block}
 use Rattle.guest_heap.specs.Blocks.{Blocks, IsKept, Holds, Places, near_of, no_blocks, IsLongestFitting}
 use Rattle.guest_heap.specs.Steps.{AreInRegion, AreApart, place, allocated_blocks, queue_after, released_blocks, near}
 use Rattle.guest_heap.specs.Steps.{live_from, live_list, live_above}
 
--- the place that is answered is the least
+-- the place of a new block is the least
 abbrev pub PlaceIsLeast : Type 0
 PlaceIsLeast =
     (blocks : Blocks) (size redzone : ℕ) →
     AreInRegion blocks → Places blocks size redzone (place blocks size redzone)
 
--- the queue that is left is the longest that fits, and the only such one
+-- the queue after a release is the longest that fits, and the only such one
 abbrev pub QueueIsLongest : Type 0
 QueueIsLongest =
     (volume : ℕ) (whole suffix : List Block)
@@ -25,7 +25,7 @@ pub record NearHolds : Type 0 where
   pub none : (blocks : Blocks) (a : ℕ) → AreInRegion blocks
       → IfNone (near blocks a) ((b : Block) → IsKept blocks b → ¬ (Holds b a))
 
--- the list of live blocks: it has them all and no others, and `live_from` goes along it
+-- the list of live blocks has all of them and no others, and `live_from` follows it
 pub record LiveGoesOn : Type 0 where
   pub listed : (blocks : Blocks) (b : Block) → AreInRegion blocks
       → Contains (live_list blocks) b ↔ (blocks.live b.start ≡ Some b)
@@ -57,7 +57,7 @@ pub record KeepsApart : Type 0 where
       (blocks : Blocks) (ptr : ℕ) (trace : List ℕ) (volume : ℕ) →
       AreInRegion blocks → AreApart blocks → AreApart (released_blocks blocks ptr trace volume)
 
--- so the kept block that has an address is the one that is near it
+-- so the kept block that has an address is the one near it
 abbrev pub NearIsOne : Type 0
 NearIsOne =
     (blocks : Blocks) (a : ℕ) (b : Block) →

@@ -1,4 +1,4 @@
--- The entries of parts in a row, by the number of a part and the place in it, and by places numbered through.
+-- The entries of consecutive parts, by the number of a part and the place in it, and by places numbered through.
 use Rattle.std.specs.Prelude.{ℕ, ◌+◌, ◌<◌, ◌≤◌, ◌==◌, ◌/◌, ◌%◌, Option, None}
 use Rattle.std.specs.Prelude.{if◌then◌else◌, slice_index_or}
 use Rattle.guest_heap.specs.Entries.{Entries, entries_at, with_entry, AreNone, FirstAt, LastAt}
@@ -19,7 +19,8 @@ with_cell grid part at entry = λ i. if i == part then with_entry (grid i) at en
 abbrev pub begin_in : ℕ → ℕ → ℕ → ℕ
 begin_in part at i = if i == part then at else 0
 
--- from a place of one part on there is none, in the parts up to, not with, another; each has so many places
+-- from a place of one part on there are no entries, in the parts up to, but not including, another; each has this
+-- number of places
 abbrev pub AreNoneUpTo : Grid → ℕ → ℕ → ℕ → ℕ → Type 0
 AreNoneUpTo grid places part at end =
     (i : ℕ) → part ≤ i → i < end → AreNone (grid i) (begin_in part at i) places
@@ -35,7 +36,7 @@ pub record FirstIn (grid : Grid) (places part at end i n : ℕ) : Type 0 where
 abbrev pub end_in : ℕ → ℕ → ℕ → ℕ → ℕ
 end_in places part at i = if i == part then at else places
 
--- below a place of one part there is none, in the parts from another on
+-- below a place of one part there are no entries, in the parts from another on
 abbrev pub AreNoneDownTo : Grid → ℕ → ℕ → ℕ → ℕ → Type 0
 AreNoneDownTo grid places part at begin =
     (i : ℕ) → begin ≤ i → i ≤ part → AreNone (grid i) 0 (end_in places part at i)

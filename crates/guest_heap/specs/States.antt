@@ -1,5 +1,5 @@
--- How a heap keeps its blocks: live ones in one table, freed ones in another, and the queue of the freed. The place of
--- a block is the number of its start among the multiples of 16 of the heap region.
+-- How a heap keeps its blocks: live ones in one table, freed ones in another, and the queue of the freed ones. The
+-- place of a block is the number of its start among the multiples of 16 of the heap region.
 use Rattle.std.specs.Prelude.{ℕ, ◌+◌, ◌-◌, ◌*◌, ◌/◌, ◌<◌, ◌≤◌, ◌≡◌, ◌==◌, ◌⊎◌, nat_le, Option, Some, None, List, map}
 use Rattle.std.specs.Prelude.{is_some, option_map, true, slice_get, if◌then◌else◌}
 use Rattle.heap_blocks.specs.declared.block.Block.{Block}
@@ -65,7 +65,7 @@ abbrev pub IsLastKept : (ℕ → Option Block) → ℕ → Option Block → Type
 IsLastKept kept to None = (k : ℕ) → k < to → kept k ≡ None
 IsLastKept kept to (Some b) = LastKept kept to b
 
--- a kept block that begins below a place and whose interval goes past an address
+-- a kept block that begins below a place and whose interval extends past an address
 pub record PastBelow (blocks : Blocks) (to low : ℕ) (b : Block) : Type 0 where
   pub kept : IsKept blocks b
   pub below : b.start + 16 ≤ heap_begin + 16 * to
@@ -87,16 +87,16 @@ abbrev pub MeetsFrom : Blocks → ℕ → ℕ → Option Block → Type 0
 MeetsFrom blocks from high None = (b : Block) → IsKept blocks b → heap_begin + 16 * from ≤ b.start → high ≤ low_end b
 MeetsFrom blocks from high (Some b) = BeforeFrom blocks from high b
 
--- from one address up to, not with, another no block of a size has a place with a redzone
+-- from one address up to, but not including, another no block of a size has a place with a redzone
 abbrev pub AreNoPlaces : Blocks → ℕ → ℕ → ℕ → ℕ → Type 0
 AreNoPlaces blocks size redzone from to = (q : ℕ) → from ≤ q → q < to → ¬ (IsPlace blocks size redzone q)
 
--- where a kept block's interval ends that begins below an address, or the region begins
+-- the end of the interval of the last kept block that begins below an address, or the region's begin
 abbrev pub EndsBelow : Blocks → ℕ → ℕ → Type 0
 EndsBelow blocks start end =
     (end ≡ heap_begin) ⊎ ((b : Block) × IsKept blocks b × (b.start < start) × (high_end b ≡ end))
 
--- where a kept block's interval begins that begins above an address, or the region ends
+-- the begin of the interval of the first kept block that begins above an address, or the region's end
 abbrev pub BeginsAbove : Blocks → ℕ → ℕ → Type 0
 BeginsAbove blocks start begin =
     (begin ≡ heap_end) ⊎ ((b : Block) × IsKept blocks b × (start < b.start) × (low_end b ≡ begin))
@@ -122,7 +122,7 @@ pub record IsQueuedAt (live freed : Entries) (first i : ℕ) (e : Entry) : Type 
   pub found : freed (slot_of e.start) ≡ Some e
   pub gone : live (slot_of e.start) ≡ None
 
--- a freed entry that isn't too old, where no live block stands, is in the queue
+-- a freed entry that isn't too old, where there is no live block, is in the queue
 pub record IsFoundAt (queue : List Entry) (first k : ℕ) (e : Entry) : Type 0 where
   pub queued : slice_get queue (e.number - first) ≡ Some e
   pub start : e.start ≡ heap_begin + 16 * k

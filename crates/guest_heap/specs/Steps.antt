@@ -14,12 +14,12 @@ use Rattle.guest_heap.specs.declared.released.Released.TheVariants.{Done, Nothin
 
 -- the blocks in a row --
 
--- so many multiples of 16, from one on
+-- a number of multiples of 16, from one on
 unfoldable pub multiples : ℕ → ℕ → List ℕ
 multiples from zero = []
 multiples from (suc n) = from ∷ multiples (from + 16) n
 
--- how many the heap region has, (heap_end - heap_begin) / 16; opaque, so that no proof counts them out
+-- the number of them in the heap region, (heap_end - heap_begin) / 16; opaque, so that no proof counts them
 unfoldable pub slots : ℕ
 slots = 33554432
 
@@ -31,7 +31,7 @@ starts = multiples heap_begin slots
 unfoldable pub live_list : Blocks → List Block
 live_list blocks = filter_map blocks.live starts
 
--- then the queue
+-- followed by the queue
 unfoldable pub kept_list : Blocks → List Block
 kept_list blocks = live_list blocks ++ blocks.queue
 
@@ -57,7 +57,7 @@ pub record AreApart (blocks : Blocks) : Type 0 where
 
 -- the calls --
 
--- does the range from one address up to, not with, another meet a block's interval?
+-- does the range from one address up to, but not including, another meet a block's interval?
 abbrev pub meets : ℕ → ℕ → Block → Bool
 meets low high b = nat_lt low (high_end b) && nat_lt (low_end b) high
 
@@ -86,7 +86,7 @@ unfoldable pub queue_after : ℕ → List Block → List Block
 queue_after volume [] = []
 queue_after volume (b ∷ bs) = if nat_le (volume_of (b ∷ bs)) volume then b ∷ bs else queue_after volume bs
 
--- the blocks after a release, by what it answers
+-- the blocks after a release, by what it returns
 abbrev pub after_release : Released → ℕ → Blocks → Blocks
 after_release (Done b) volume blocks = record {
   live = with_live blocks.live b.start None;

@@ -1,5 +1,6 @@
-//! What is known of places, by sizes, so that most allocations pass no kept block. For each class of sizes there is a bound below which its
-//! least size has no place, and a range further up with none either: after a low block leaves the queue, the range above its place stays known.
+//! Which places are known to be taken, for each class of sizes, so that most allocations look at no kept block. For each class there is a
+//! bound below which its least size has no place, and a range further up without a place either. When a low block leaves the queue, the
+//! range above its place stays known.
 ghost use Rattle.std.specs.Prelude.{◌≡◌, ◌<◌, ◌≤◌, ◌+◌, ◌%◌, ℕ, max, map, slice_set, OnOk, OnErr};
 ghost use Rattle.guest_heap.specs.Blocks.{greatest_size};
 ghost use Rattle.guest_heap.specs.Bounds.{listed, lowered, IsKnown, IsSkipped, IsTaken};
@@ -8,8 +9,8 @@ use crate::region::aligned;
 use std::alloc::{AllocError, Global};
 use std::rc::Rc;
 
-/// Sizes up to 4,096 are in classes of 16 in a row, since blocks begin at multiples of 16: with one redzone for all, the sizes of a
-/// class have the same places. Each further class has twice the sizes of the one before.
+/// Sizes up to 4,096 are in classes of 16 consecutive sizes. Blocks begin at multiples of 16, so with one redzone for all, the sizes of a
+/// class have the same places. Each further class has twice as many sizes as the one before.
 const STEP: u32 = 16;
 
 const FINE_SIZES: u32 = 4096;
@@ -20,14 +21,14 @@ const DOUBLINGS: usize = 11;
 
 pub(crate) const CLASSES: usize = 268;
 
-/// Sizes that share a bound: its number, and the least of them.
+/// Sizes that share a bound: the number of their class, and the least of them.
 #[derive(Clone, Copy)]
 pub(crate) struct SizeClass {
     pub(crate) index: usize,
     pub(crate) least: u32,
 }
 
-/// The class of a size.
+/// Returns the class of a size.
 pub(crate) fn class_of(size: u32) -> SizeClass
     requires { size ≤ greatest_size }
     ensures index { result.index < 268 }
@@ -54,7 +55,7 @@ pub(crate) fn class_of(size: u32) -> SizeClass
     }
 }
 
-/// Where no block of `size` bytes has a place: below `from`, and from `next` up to, not with, `until`.
+/// Where no block of `size` bytes has a place: below `from`, and from `next` up to, but not including, `until`.
 #[derive(Clone, Copy)]
 pub(crate) struct Bound {
     pub(crate) size: u32,
@@ -77,7 +78,7 @@ pub(crate) struct Bounds {
     list: Option<Rc<Vec<Bound>>>,
 }
 
-/// A range that came free, for blocks with a redzone: its first place, where it ends, and the greatest size that has a place in it.
+/// A range that became free, for blocks with a redzone: its first place, its end, and the greatest size that has a place in it.
 #[derive(Clone, Copy)]
 pub(crate) struct Opened {
     pub(crate) first: u64,
@@ -85,7 +86,8 @@ pub(crate) struct Opened {
     pub(crate) room: u64,
 }
 
-/// What stays known: of the range below, what lies below the new places, or above them where that is more than was known there.
+/// Returns what is still known. The bound goes down to the range that became free. Of the range further up, the part above that range or
+/// else the part below it stays known; if there was no range further up, the places from the end of that range up to the old bound.
 fn lowered(bound: Bound, opened: &Opened) -> Bound
     ensures { result ≡ lowered opened.now bound }
 {
@@ -117,7 +119,7 @@ fn lowered(bound: Bound, opened: &Opened) -> Bound
     }
 }
 
-/// The least multiple of 16 from one on that a bound leaves open.
+/// Returns the least multiple of 16 that is not below `at` and that a bound leaves open.
 pub(crate) fn past(at: u64, bound: &Bound) -> u64
     requires multiple { at % 16 ≡ 0 }
     requires below { at < 17179869184 }
@@ -132,7 +134,7 @@ pub(crate) fn past(at: u64, bound: &Bound) -> u64
     at
 }
 
-/// The bounds of a list that may be absent.
+/// Returns the bounds of a list, or none if it is absent.
 fn listed(list: &Option<Rc<Vec<Bound>>>) -> &[Bound]
     ensures { result.now ≡ listed list.now }
 {
@@ -142,7 +144,7 @@ fn listed(list: &Option<Rc<Vec<Bound>>>) -> &[Bound]
     }
 }
 
-/// The greatest bound known of a class: where a lesser size has no place, it has none.
+/// Returns the greatest known bound of a class. A class has no place where a smaller size has none.
 fn known_in(list: &[Bound], class: &SizeClass) -> u32
     requires { class.now.index < 268 }
     ensures { IsKnown list.now class.now.least result }
@@ -157,7 +159,7 @@ fn known_in(list: &[Bound], class: &SizeClass) -> u32
     known
 }
 
-/// What is known between places of a class, with the least size of it.
+/// Returns what is known of places for a class, with its least size.
 fn taken_from(list: &[Bound], class: &SizeClass) -> Bound
     ensures size { result.size ≡ class.now.least }
     ensures known { IsTaken list.now result }
@@ -180,7 +182,7 @@ fn taken_from(list: &[Bound], class: &SizeClass) -> Bound
     }
 }
 
-/// Writes one of the bounds.
+/// Sets a bound.
 fn put_at(list: &mut Vec<Bound>, index: usize, bound: Bound)
     ensures { list.new.items ≡ slice_set list.old.items index bound }
 {
@@ -189,7 +191,7 @@ fn put_at(list: &mut Vec<Bound>, index: usize, bound: Bound)
     }
 }
 
-/// Writes one of the bounds, in a list of its own.
+/// Sets a bound, in a copy if others share the list.
 fn put_in(shared: &mut Rc<Vec<Bound>>, index: usize, bound: Bound) -> Result<(), AllocError>
     ensures ok { OnOk result (shared.new.value.items ≡ slice_set shared.old.value.items index bound) }
     ensures err { OnErr result (shared.new.value.items ≡ shared.old.value.items) }
@@ -207,7 +209,7 @@ fn lower_all(list: &mut Vec<Bound>, opened: &Opened)
     }
 }
 
-/// Lowers the bounds, in a list of its own.
+/// Lowers the bounds, in a copy if others share the list.
 fn lower_in(shared: &mut Rc<Vec<Bound>>, opened: &Opened) -> Result<(), AllocError>
     ensures { OnOk result (shared.new.value.items ≡ map (lowered opened.now) shared.old.value.items) }
 {
@@ -221,21 +223,21 @@ impl Bounds {
     ghost use Rattle.guest_heap.specs.Bounds.{AreFresh, IsKnown, IsTaken, IsLowered};
     ghost use Rattle.guest_heap.specs.BoundLists.{bounds_in};
 
-    /// No bounds, which take no memory.
+    /// Returns no bounds. Allocates nothing.
     pub(crate) fn new() -> Bounds
         ensures { AreFresh (bounds_in result) }
     {
         Bounds { list: None }
     }
 
-    /// Are there no bounds yet?
+    /// Returns whether there are no bounds yet.
     pub(crate) fn are_absent(&self) -> bool
         ensures { result ≡ nat_eq (length (bounds_in self.now)) 0 }
     {
         listed(&self.list).is_empty()
     }
 
-    /// The greatest bound known of a class: where a lesser size has no place, it has none.
+    /// Returns the greatest known bound of a class. A class has no place where a smaller size has none.
     pub(crate) fn known(&self, class: &SizeClass) -> u32
         requires { class.now.index < 268 }
         ensures { IsKnown (bounds_in self.now) class.now.least result }
@@ -243,7 +245,7 @@ impl Bounds {
         known_in(listed(&self.list), class)
     }
 
-    /// What is known between places of a class, with the least size of it.
+    /// Returns what is known of places for a class, with its least size.
     pub(crate) fn get(&self, class: &SizeClass) -> Bound
         ensures size { result.size ≡ class.now.least }
         ensures known { IsTaken (bounds_in self.now) result }
@@ -251,7 +253,7 @@ impl Bounds {
         taken_from(listed(&self.list), class)
     }
 
-    /// Writes a bound, if there are any. Where memory for a list of its own fails they are as before.
+    /// Sets a bound, if there are any. If memory runs out for a copy of the list, the bounds stay as they were.
     pub(crate) fn put(&mut self, index: usize, bound: Bound) -> Result<(), AllocError>
         ensures ok { OnOk result (bounds_in self.new ≡ slice_set (bounds_in self.old) index bound) }
         ensures err { OnErr result (bounds_in self.new ≡ bounds_in self.old) }
@@ -262,7 +264,7 @@ impl Bounds {
         }
     }
 
-    /// A bound for each class, and nothing is known any more; where memory fails there are none.
+    /// Sets the bound of each class to one that says nothing. If memory runs out, there are no bounds.
     pub(crate) fn forget(&mut self, alloc: Global) -> Result<(), AllocError>
         ensures { AreFresh (bounds_in self.new) }
     {
@@ -272,7 +274,7 @@ impl Bounds {
         Ok(())
     }
 
-    /// A range came free. Where memory for a list of its own fails there are no bounds any more.
+    /// Takes account of a range that became free. If memory runs out for a copy of the list, there are no bounds any more.
     pub(crate) fn lower(&mut self, opened: &Opened)
         ensures { IsLowered opened.now (bounds_in self.old) (bounds_in self.new) }
     {

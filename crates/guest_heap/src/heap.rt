@@ -1,4 +1,4 @@
-//! The heap: what it holds, and its changes.
+//! The heap: its contents, and the changes to it.
 ghost use Rattle.std.specs.Prelude.{◌≡◌, ◌+◌, ◌≤◌, length};
 ghost use Rattle.guest_heap.specs.Tables.{entries_of};
 ghost use Rattle.guest_heap.specs.Queues.{queued};
@@ -18,18 +18,18 @@ pub(crate) mod reading;
 pub(crate) mod releasing;
 pub(crate) mod searches;
 
-/// The live blocks of a guest's heap, and the queue of those freed.
+/// The live blocks of a guest's heap, and the queue of the freed ones.
 #[derive(Drop)]
 pub struct Heap {
     live: Table,
     freed: Table,
     queue: Queue,
-    // How many left the queue, and how many were freed.
+    // The number of blocks that have left the queue, and the number that were freed.
     first: u64,
     next: u64,
     // The sum of the sizes in the queue.
     held: u64,
-    // Bounds of places with this redzone.
+    // The redzone of the bounds.
     redzone: u32,
     bounds: Bounds,
     traces: RecentTraces,
@@ -46,7 +46,7 @@ impl Heap {
     ghost use Rattle.guest_heap.specs.Blocks.{no_blocks};
     ghost use Rattle.guest_heap.specs.Steps.{AreInRegion, AreApart};
 
-    /// A heap with no blocks, which takes no memory.
+    /// Returns a heap with no blocks. Allocates nothing.
     pub fn new(alloc: Global) -> Heap
         ensures { blocks_of result ≡ no_blocks }
     {
@@ -68,7 +68,8 @@ impl Heap {
         }
     }
 
-    /// A heap that holds the same. Changes of one of the two don't reach the other. It takes memory for references, and none for blocks.
+    /// Returns a heap with the same contents. Changes of one of the two don't reach the other. Allocates memory for references, and none
+    /// for blocks.
     pub fn share(&self) -> Result<Heap, AllocError>
         ensures { IfOk result (λ copy. blocks_of copy ≡ blocks_of self.now) }
     {
@@ -90,7 +91,7 @@ impl Heap {
         })
     }
 
-    /// A trace for the entries of blocks, which those that have the same one share.
+    /// Returns a trace for the entries of blocks. Blocks with the same trace share it.
     fn share_trace(&mut self, alloc: Global, trace: &Trace) -> Result<SharedTrace, AllocError>
         ensures same { blocks_of self.new ≡ blocks_of self.old }
         ensures trace { IfOk result (λ shared. shared ≡ trace.now) }
@@ -98,12 +99,12 @@ impl Heap {
         self.traces.share(alloc, trace)
     }
 
-    /// Nothing: its contract says that the live blocks of a heap are in the heap region, which the laws of the heap calls ask for.
+    /// Does nothing. Its contract says that the live blocks of a heap are in the heap region, which the laws of the heap calls require.
     pub fn in_region(&self)
         ensures { AreInRegion (blocks_of self.now) }
     {}
 
-    /// Nothing: its contract says that the kept blocks of a heap are apart.
+    /// Does nothing. Its contract says that the kept blocks of a heap are apart.
     pub fn apart(&self)
         ensures { AreApart (blocks_of self.now) }
     {}

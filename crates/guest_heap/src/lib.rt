@@ -1,47 +1,50 @@
-//! The heap of a guest: its live blocks, and the queue of those freed that aren't forgotten yet.
+//! The heap of a guest: its live blocks, and the queue of the freed ones that aren't forgotten yet.
 //!
-//! A heap call of the guest asks a [`Heap`] for the lowest place of all, or frees the block at an address. A freed block is kept in a queue of
-//! bounded volume, so that uses of it are told with the block, and its place isn't given again before (Memcheck manual, section 4.3,
+//! A heap call of the guest asks a [`Heap`] for the lowest place, or frees the block at an address. A freed block is kept in a queue of
+//! bounded volume, so that errors can name it, and its place isn't used again before it leaves the queue (Memcheck manual, section 4.3,
 //! `--freelist-vol`). Either side of a block has a redzone (Valgrind core manual, section 2.6, `--redzone-size`).
 //!
 //! # Public items
 //!
-//! | Call | What it answers |
+//! | Call | What it does |
 //! |---|---|
-//! | [`Heap::new`] | a heap with no blocks |
-//! | [`Heap::allocate`] | the least place of all, where the new block then is, or none |
-//! | [`Heap::release`] | the block that is freed; the queue is then the longest suffix whose sizes sum to at most the volume |
-//! | [`Heap::live`] | the live block with the least start that isn't below an address |
-//! | [`Heap::block_near`] | the kept block whose interval holds an address, and where in it the address lies |
-//! | [`Heap::share`] | a copy, which later changes of the other don't reach |
-//! | [`Heap::in_region`], [`Heap::apart`] | nothing: their contracts say what the laws ask of a heap's blocks |
-//! | [`laws`] | nothing: their contracts say what the functions of the definitions mean |
+//! | [`Heap::new`] | returns a heap with no blocks |
+//! | [`Heap::allocate`] | allocates a block and returns its start, the least place of all, or none if there is no place |
+//! | [`Heap::release`] | frees a block and returns it; the queue is then the longest suffix whose sizes sum to at most the volume |
+//! | [`Heap::live`] | returns the live block with the least start that isn't below an address |
+//! | [`Heap::block_near`] | returns the kept block whose interval holds an address, and where in it the address lies |
+//! | [`Heap::share`] | returns a copy, which later changes of the original don't reach |
+//! | [`Heap::in_region`], [`Heap::apart`] | do nothing; their contracts say what the laws require of a heap's blocks |
+//! | [`laws`] | do nothing; their contracts say what the functions of the definitions mean |
 //!
-//! A [`Block`] is a block as it was given to the guest; [`Near`] is one whose interval holds an address, and [`Place`] on which side.
+//! A [`Block`] is a block as it was given to the guest. [`Near`] is a block whose interval holds an address, and [`Place`] the side of that
+//! address.
 //!
-//! `allocate`, `release` and `share` take memory; where there is none a heap holds what it held. The other calls are total.
+//! `allocate`, `release` and `share` allocate memory; if memory runs out, a heap keeps its contents. The other calls are total.
 //!
-//! # What a caller relies on
+//! # What a caller can rely on
 //!
-//! Contracts speak of `blocks_of` a heap: the live blocks by their starts, and the queue as a list. A caller keeps such a value in its
-//! own state and never unfolds the word. Each call is a function of it: `place` and `allocated`, `released_at` and `released_blocks`,
+//! Contracts speak of `blocks_of` a heap: the live blocks by their starts, and the queue as a list. A caller keeps such a value in its own
+//! state and never unfolds `blocks_of`. Each call is a function of it: `place` and `allocated`, `released_at` and `released_blocks`,
 //! `live_from`, `near`. Further clauses and the laws say the same as relations: the least place of all (`Places`), the longest suffix
 //! (`IsLongestFitting`), the one kept block that holds an address (`NearIsOne`).
 //!
-//! # Where the definitions stand
+//! # Where the definitions are
 //!
 //! - `specs/Blocks.antt`: blocks, intervals, places, the queue, what is near an address, as relations.
-//! - `specs/Steps.antt`: the calls as functions. `specs/Laws.antt`: what these mean, at all blocks.
+//! - `specs/Steps.antt`: the calls as functions. `specs/Laws.antt`: what these functions mean, for all blocks.
 //! - The others are for this crate's proofs: `Heaps` (`blocks_of`), `States` and `Bounds` (what a heap keeps true), and `Entries`, `Leaves`,
 //!   `Rows`, `Sizes`, `Tables`, `Runs`, `Queues`, `BoundLists`, `Unused` (how it stores these).
 //!
 //! # Costs
 //!
-//! Blocks are in two tables, live and freed, that are trees over the multiples of 16 of the heap region: a row of up to 128 rows of up to 64
-//! rows of up to 64 leaves, and a leaf has 64 places. The queue is in runs of 256; copies share what neither has changed. So a search is a few steps, a change after a copy copies one row of each kind and one leaf, and `share` copies a reference for
-//! each table, and one for each run. What is kept of a block has references to its traces, which blocks of the same calls share while the heap remembers
-//! them (`traces.rt`). `allocate` keeps a bound for each class of sizes, below which they have no place, and one range further up (`bounds.rt`):
-//! it looks at kept blocks only from there on, and forgets no more of this than a block that leaves the queue makes room for.
+//! Blocks are in two tables, live and freed, that are trees over the multiples of 16 of the heap region: a row of up to 128 rows of up to
+//! 64 rows of up to 64 leaves, and a leaf has 64 places. The queue is in runs of 256 blocks. Copies share what neither has changed. So a
+//! search is a few steps, a change after a copy copies one row of each kind and one leaf, and `share` copies a reference for each table and
+//! one for each run. What is kept of a block has references to its traces. Blocks of the same calls share these while the heap remembers
+//! them (`traces.rt`). `allocate` keeps a bound for each class of sizes, below which the class has no place, and one range further up
+//! (`bounds.rt`). It looks at kept blocks only from there on. When a block leaves the queue, it forgets no more of this than the room that
+//! the block leaves.
 #![tactic(auto)]
 
 mod bounds;

@@ -10,14 +10,14 @@ use std::rc::Rc;
 
 pub(crate) mod runs;
 
-/// How many freed blocks are one run. A share copies a reference for each run, and for each block of the last one.
+/// The number of freed blocks in a run. A share copies a reference for each run, and for each block of the last one.
 const RUN: usize = 256;
 
 #[derive(Drop)]
 pub(crate) struct Queue {
     runs: VecDeque<Rc<Vec<Rc<Entry>>>>,
     tail: Vec<Rc<Entry>>,
-    // How many at the front have left.
+    // The number of entries at the front that have left.
     skipped: usize,
     ghost within: { IsWithin runs.items tail.items skipped },
 }
@@ -39,7 +39,7 @@ impl Queue {
         }
     }
 
-    /// Takes the memory for one more.
+    /// Allocates the room for another entry.
     pub(crate) fn prepare(&mut self, alloc: Global) -> Result<(), AllocError>
         ensures same { queued self.new ≡ queued self.old }
         ensures room { OnOk result (HasRoom self.new) }
@@ -50,7 +50,7 @@ impl Queue {
         self.tail.reserve(1)
     }
 
-    /// The newest entries become a run, which copies share.
+    /// Makes the newest entries a run, which copies share.
     fn close_run(&mut self, alloc: Global) -> Result<(), AllocError>
         requires { 0 < tail_len self.old }
         ensures { queued self.new ≡ queued self.old }
@@ -62,7 +62,7 @@ impl Queue {
         Ok(())
     }
 
-    /// One more, the newest.
+    /// Appends an entry, the newest.
     pub(crate) fn push(&mut self, entry: Rc<Entry>)
         requires { HasRoom self.old }
         ensures { queued self.new ≡ queued self.old ++ entry.value ∷ [] }
@@ -70,7 +70,7 @@ impl Queue {
         let _ = self.tail.push(entry);
     }
 
-    /// The oldest.
+    /// Returns the oldest entry.
     pub(crate) fn front(&self) -> Option<&Entry>
         ensures { option_copied result ≡ first_of (queued self.now) }
     {
@@ -80,7 +80,7 @@ impl Queue {
         }
     }
 
-    /// The oldest leaves.
+    /// Removes the oldest entry.
     pub(crate) fn pop_front(&mut self)
         requires { 0 < length (queued self.old) }
         ensures { queued self.new ≡ drop 1 (queued self.old) }
@@ -92,7 +92,7 @@ impl Queue {
         }
     }
 
-    /// How many the first run has, or where there is none the tail.
+    /// Returns the number of entries in the first run, or in the tail if there is no run.
     fn front_len(&self) -> usize
         ensures { result ≡ front_len self.now.runs.items self.now.tail.items }
     {
@@ -102,7 +102,7 @@ impl Queue {
         }
     }
 
-    /// The first run leaves, or where there is none the tail.
+    /// Drops the first run, or the tail if there is no run.
     fn drop_run(&mut self)
         ensures { queued self.new ≡ queued_behind self.old }
     {

@@ -1,4 +1,4 @@
-//! The heap region, and the multiples of 16 in it, at which blocks begin.
+//! The heap region, and its multiples of 16, at which blocks begin.
 ghost use Rattle.std.specs.Prelude.{◌≡◌, ◌<◌, ◌≤◌, ◌+◌, ◌%◌};
 ghost use Rattle.memory_map.specs.Regions.{heap_begin};
 ghost use Rattle.guest_heap.specs.States.{slot_of};
@@ -6,16 +6,16 @@ ghost use Rattle.guest_heap.specs.States.{slot_of};
 /// The first address of the region.
 pub(crate) const HEAP_BEGIN: u64 = memory_map::HEAP_BEGIN as u64;
 
-/// The first address behind it.
+/// The first address after the region.
 pub(crate) const HEAP_END: u64 = memory_map::HEAP_END as u64;
 
-/// How many multiples of 16 the region has.
+/// The number of multiples of 16 in the region.
 pub(crate) const SLOTS: usize = 33554432;
 
-/// The number of bytes of the greatest block.
+/// The size of the greatest block, in bytes.
 pub(crate) const GREATEST_SIZE: u32 = 16777216;
 
-/// The slot of an address of the region: how many multiples of 16 of the region lie below it.
+/// Returns the slot of an address of the region: the number of multiples of 16 in the region that lie below it.
 pub(crate) fn slot_of(address: u32) -> usize
     requires { heap_begin ≤ address }
     ensures { result ≡ slot_of address }
@@ -23,7 +23,7 @@ pub(crate) fn slot_of(address: u32) -> usize
     ((u64::from(address) - HEAP_BEGIN) / 16) as usize
 }
 
-/// The least multiple of 16 that isn't below an address.
+/// Returns the least multiple of 16 that isn't below an address.
 pub(crate) fn aligned(address: u64) -> u64
     requires { address < 17179869184 }
     ensures multiple { result % 16 ≡ 0 }

@@ -1,6 +1,6 @@
 use heap_blocks::Block;
 
-/// What the release of an address did.
+/// The outcome of the release of an address.
 #[derive(Clone, Copy)]
 pub enum Released {
     /// The block that was live there is freed; it has the trace of the release.

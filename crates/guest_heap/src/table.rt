@@ -1,4 +1,4 @@
-//! Blocks by their places: the multiples of 16 of the heap region in order. Copies share what neither has changed.
+//! Blocks by their places: the multiples of 16 of the heap region, in order. Copies share what neither has changed.
 
 use crate::entry::Entry;
 use crate::table::leaf::Leaf;
@@ -52,7 +52,7 @@ impl Table {
         set_in(&mut self.root, alloc, at, entry)
     }
 
-    /// The first slot from this one on that has a block.
+    /// Returns the first slot from this one on that has a block.
     pub(crate) fn next_from(&self, at: usize) -> Option<usize>
         requires { at ≤ 33554432 }
         ensures { IsNext (entries_of self.now) at 33554432 result }
@@ -63,7 +63,7 @@ impl Table {
         }
     }
 
-    /// The last slot below this one that has a block.
+    /// Returns the last slot below this one that has a block.
     pub(crate) fn last_below(&self, at: usize) -> Option<usize>
         requires { at ≤ 33554432 }
         ensures { IsLast (entries_of self.now) at result }
@@ -74,7 +74,7 @@ impl Table {
         }
     }
 
-    /// A table that holds the same, for one reference.
+    /// Returns a table with the same contents, for the cost of one reference.
     pub(crate) fn share(&self) -> Result<Table, AllocError>
         ensures { IfOk result (λ copy. entries_of copy ≡ entries_of self.now) }
     {

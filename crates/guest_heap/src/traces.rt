@@ -1,4 +1,4 @@
-//! Traces that blocks share: a program allocates most of its blocks at few places, and frees them at few.
+//! Traces that blocks share. A program allocates most of its blocks at few places, and frees them at few.
 ghost use Rattle.std.specs.Prelude.{◌≡◌, IsTrue, IfOk, IfSome};
 
 use call_stacks::Trace;
@@ -52,10 +52,10 @@ impl Clone for SharedTrace {
     }
 }
 
-/// How many traces a heap remembers.
+/// The number of traces that a heap remembers.
 const RECENT: usize = 64;
 
-/// Where a trace is remembered. All its addresses count, since one instruction may be that of every allocation.
+/// Returns the slot in which a trace is remembered. All its addresses count, since every allocation may be by one instruction.
 fn slot_of(trace: &Trace) -> usize {
     let mut mixed: u32 = 0;
     for address in trace.addresses() {
@@ -64,7 +64,7 @@ fn slot_of(trace: &Trace) -> usize {
     mixed as usize % RECENT
 }
 
-/// Traces of blocks that were allocated or freed of late. Copies share them until one of them meets another trace.
+/// Traces of blocks that were allocated or freed recently. Copies share them until one of them meets another trace.
 #[derive(Drop)]
 pub(crate) struct RecentTraces {
     slots: Option<Rc<Vec<Option<SharedTrace>>>>,
@@ -75,7 +75,7 @@ impl RecentTraces {
         RecentTraces { slots: None }
     }
 
-    /// The trace that is remembered in a slot, if it is this one.
+    /// Returns the trace that is remembered in a slot, if it is this one.
     fn known(&self, slot: usize, trace: &Trace) -> Option<&SharedTrace>
         ensures { IfSome result (λ shared. shared.now ≡ trace.now) }
     {
@@ -107,7 +107,7 @@ impl RecentTraces {
         Ok(())
     }
 
-    /// The trace as it is remembered, or else a new one, which is remembered if there is memory for that.
+    /// Returns the trace as it is remembered, or else a new one, which is remembered if there is memory for that.
     pub(crate) fn share(&mut self, alloc: Global, trace: &Trace) -> Result<SharedTrace, AllocError>
         ensures { IfOk result (λ shared. shared ≡ trace.now) }
     {

@@ -47,7 +47,7 @@ taken-outside f g from to n e a out =
 same-outside : {X : Type 0} (f g : ℕ → X) (start n : ℕ) → g ≡ f → SameOutside f g start n
 same-outside f g start n e a out = ap (λ (h : ℕ → _). h a) e
 
--- a call changes the whole range or, where memory fails, a front of it
+-- a call changes the whole range or, if memory runs out, a front of it
 within : {T E : Type 0} (r : Result T E) (old new : Memory) (start n : ℕ) (W : ℕ → Type 0)
     → ((k : ℕ) → W k → Alters old new start k) → OnOk r (W n) → OnErr r (SomeFront n W) → Alters old new start n
 within (Ok x) old new start n W alters whole front = alters n whole

@@ -165,7 +165,7 @@ put-kept bytes shadows old new entry are has each k is = elim (are k is) [
   | inr new ↦ subst (λ (e : Decoded). HasRow bytes shadows e.addr e.row) (sym new) has
 ]
 
--- what stands in the place of an address is decoded from the word there
+-- the instruction in the place of an address is decoded from the word there
 pub decoded-has : (bytes : ℕ → ℕ) (shadows : ℕ → Shadow) (entries : List Decoded) (a : ℕ) (found : Option Instruction)
     → a % 4 ≡ 0 → HasEach bytes shadows entries → IfSome found (λ row. (row ≡ (entry_at entries (place_of a)).row)
     × ((entry_at entries (place_of a)).addr ≡ a)) → IfSome found (λ row. HasRow bytes shadows a row)

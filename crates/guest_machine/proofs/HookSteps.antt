@@ -57,7 +57,7 @@ hook_unmarked hooks sieve a marked none = hook_absent hooks a go
     go k e less same =
         true≢false (sym (ap (λ b. slice_index_or sieve (slot_of b) false) (sym same) ∙ marked k e less) ∙ none)
 
--- a mark more keeps those that are there
+-- another mark keeps those that are there
 mark-kept : (sieve : List Bool) (i j : ℕ) → i < length sieve → (i ≡ j) ⊎ (i ≡ j → ⊥)
     → slice_index_or sieve j false ≡ true → slice_index_or (slice_set sieve i true) j false ≡ true
 mark-kept sieve i j within (inl same) old =
@@ -67,7 +67,7 @@ mark-kept sieve i j within (inr apart) old = get_or-set_other sieve i j true fal
 same-or-not : (i j : ℕ) → (i ≡ j) ⊎ (i ≡ j → ⊥)
 same-or-not i j = grind arith
 
--- the mark of one function more
+-- the mark of another function
 pub marked_more : (sieve : List Bool) (hooks : List (ℕ × Hook)) (i slot : ℕ) (e : ℕ × Hook) → slot < length sieve
     → i < length hooks → slot ≡ slot_of (get_or hooks i e).0 → AreMarked sieve hooks i
     → AreMarked (slice_set sieve slot true) hooks (i + 1)

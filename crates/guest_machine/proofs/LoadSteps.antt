@@ -51,7 +51,7 @@ shadows-over s ss f now fits is = fun_ext (λ a.
     ∙ ap (λ g. cond (nat_le s.vaddr a && nat_lt a (s.vaddr + s.memsz)) (shadow_of Defined) (g a)) is
     ∙ choose-shadow (nat_le s.vaddr a && nat_lt a (s.vaddr + s.memsz)) (shadow_of Defined) (f a) _ (loaded ss a))
 
--- the rest of the list, with one more segment
+-- the rest of the list, with another segment
 next-segment : (ss : List Segment) (i : ℕ) (s : Segment) → 0 < i → i ≤ length ss → s ≡ get_or ss (i - 1) s
     → drop (i - 1) ss ≡ s ∷ drop i ss
 next-segment ss i s more within is =

@@ -1,4 +1,4 @@
--- A run with no marks: one step more, and the steps once it is halted.
+-- A run without marks: another step, and the steps once it is halted.
 use Rattle.std.proofs.Common.{◌≡◌, ℕ, zero, suc, ◌+◌, ◌-◌, ◌≤◌, false, [], ap, refl, sym, ◌∙◌, subst, arith}
 use Rattle.guest_machine.specs.State.{State}
 use Rattle.guest_machine.specs.Exec.{exec, is_running}

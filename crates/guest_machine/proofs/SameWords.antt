@@ -1,4 +1,4 @@
--- What of a table is right for another memory, place by place.
+-- Which entries of a table are right for another memory, place by place.
 use Rattle.std.proofs.Common.{◌≡◌, ℕ, ◌+◌, ◌%◌, ◌<◌, ◌≤◌, inl, inr, refl, sym, ap, ◌∙◌, subst, arith}
 use Rattle.std.proofs.Common.{List, length, slice_set, get_or-set_same, get_or-set_other}
 use Rattle.std.proofs.lemmas.Bool.{cases_eq, cases_lt}
@@ -47,7 +47,7 @@ pub fit_begun : (bytes others : ℕ → ℕ) (shadows : ℕ → Shadow) (entries
     → AreFit bytes others shadows entries entries 0
 fit_begun bytes others shadows entries k is = record { same = refl; has = λ below. absurd (omega (arith, below)) }
 
--- one place more
+-- another place
 pub fit_more : (bytes others : ℕ → ℕ) (shadows : ℕ → Shadow) (old mid new : List Decoded) (end : ℕ)
     → AreFit bytes others shadows old mid end
     → ((k : ℕ) → IsEntry (entry_at new k) → entry_at new k ≡ entry_at mid k)

@@ -1,4 +1,4 @@
--- A step goes the same way under setups that differ where it doesn't look.
+-- A step does the same under setups that differ where it doesn't look.
 use Rattle.std.proofs.Common.{◌≡◌, ℕ, zero, suc, ◌+◌, ◌-◌, ◌<◌, ◌≤◌, nat_lt, min, Bool, true, false, List, [], ◌∷◌}
 use Rattle.std.proofs.Common.{◌++◌, cond, refl, ap, ap₂, sym, ◌∙◌, take, drop}
 use Rattle.std.proofs.Common.{length, length-append, Option, Some, None, arith}
@@ -170,7 +170,7 @@ module _ (one other : Setup) (more : List ℕ) (s : State) (x : HasMore one othe
   longer : length other.input ≡ length one.input + length more
   longer = ap length x.input ∙ length-append one.input more
 
-  -- the step goes the same way where it doesn't see the end of the shorter input
+  -- the step does the same where it doesn't see the end of the shorter input
   end-same : (taken-under s one).ends ≡ false → (touches s one ≡ touches s other) × (exec s one ≡ exec s other)
   unfolding seen taken-under intake_at longer
   end-same e =

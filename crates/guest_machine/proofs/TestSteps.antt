@@ -11,12 +11,12 @@ use Rattle.guest_machine.specs.Errors.{parameter_errors}
 use Rattle.guest_machine.specs.Calls.{tested_from, errors_from}
 use Rattle.guest_machine.proofs.Showing.{note_events_append}
 
--- the rest of the list, with one more parameter
+-- the rest of the list, with another parameter
 rest : (ps : List Parameter) (i : ℕ) (p : Parameter) → i < length ps → drop i ps ≡ get_or ps i p ∷ drop (i + 1) ps
 rest ps i p within =
     let next : suc i ≡ i + 1 = omega arith in drop-cons ps i p within ∙ ap (λ n. get_or ps i p ∷ drop n ps) next
 
--- one more is tested
+-- another one is tested
 pub tested-step : (old new : Core) (s r i : ℕ) (p : Parameter) (ps : List Parameter) → i < length ps → s ≡ r
     → new ≡ tested old s
     → tested_from new (r + 1) (drop (i + 1) ps) ≡ tested_from old r (drop i ps)

@@ -1,4 +1,4 @@
--- A step goes the same way on states that differ in bytes that it doesn't touch. No instruction is named here.
+-- A step does the same on states that differ in bytes that it doesn't touch. No instruction is named here.
 use Rattle.std.proofs.Common.{◌≡◌, ℕ, ◌+◌, ◌<◌, ◌||◌, ◌++◌, Bool, true, false, cond, refl, ap, ap₂, ◌∙◌, List, Option}
 use Rattle.std.proofs.Common.{Some, None, subst, nat_lt, arith, length}
 use Rattle.std.proofs.Math.Path.{fun_ext}
@@ -66,7 +66,7 @@ written-outside W f g (Some span) made e a n =
 abbrev word_by : Bool → Core → (ℕ → ℕ) → Option ℕ
 word_by b core f = cond b (Some (little_word (window f core.pc 4))) None
 
--- what is done is the same: of the bytes it looks at the word at pc alone, and only where no function is called by name
+-- what is done is the same: it looks only at the word at pc, and only if no function is called by name
 deed-outside : (W : ℕ → Type 0) (core : Core) (hooks : List (ℕ × Hook)) (f g : ℕ → ℕ) → EqualOutside W f g
     → Avoids W (fetch_span core (deed_at core f hooks))
     → deed_at core f hooks ≡ deed_at core g hooks

@@ -1,6 +1,6 @@
 -- The calls that a program makes of its environment by ECALL (RISC-V Unprivileged ISA 20191213, section 2.8), numbered
--- as in Linux for RISC-V, and from 2001 on the heap's: the number is in a7 (x17), the arguments in a0 (x10) and on, and
--- the answer goes to a0.
+-- as in Linux for RISC-V, and from 2001 on the heap's. The number is in a7 (x17), the arguments are in a0 (x10) and on,
+-- and the result goes to a0.
 use Rattle.std.specs.Prelude.{ℕ, ◌+◌, ◌-◌, ◌^◌, ◌%◌, ◌==◌, ◌||◌, ◌&&◌, Bool, true, false, nat_le, min, if◌then◌else◌}
 use Rattle.std.specs.Prelude.{List, [], ◌∷◌, ◌++◌, map, slice_index}
 use Rattle.std.specs.List.{range_with_len}
@@ -57,7 +57,7 @@ heap_parameters Free = FreePointer ∷ []
 heap_parameters Calloc = CallocMembers ∷ CallocSize ∷ []
 heap_parameters Realloc = ReallocPointer ∷ ReallocSize ∷ []
 
--- and of any call's
+-- and those of any call
 unfoldable pub parameters_of : EnvironmentCall → List Parameter
 parameters_of Read = ReadFd ∷ ReadBuffer ∷ ReadCount ∷ []
 parameters_of Write = WriteFd ∷ WriteBuffer ∷ WriteCount ∷ []
@@ -89,7 +89,7 @@ call_errors core call = parameter_errors core 17 SyscallNumber ++ errors_from (t
 abbrev pub answered : Core → ℕ → Core
 answered core n = set_register core 10 (known n)
 
--- the answer of a call that fails with an error number, as Linux gives it: the number negated, modulo 2^32
+-- the result of a call that fails with an error number, as in Linux: the number negated, modulo 2^32
 abbrev pub failure : ℕ → ℕ
 failure errno = 2 ^ 32 - errno
 
@@ -103,13 +103,13 @@ enospc = 28
 abbrev pub enosys : ℕ
 enosys = 38
 
--- a call that only answers
+-- a call that only returns a result
 abbrev pub answers : Core → EnvironmentCall → ℕ → Effect
 answers core call n = raising (advanced (answered (call_tested core call) n)) (call_errors core call)
 
 -- read and write: the descriptor is in a0, the buffer in a1, the count in a2 --
 
--- the most bytes that one call moves
+-- the greatest number of bytes that one call moves
 abbrev pub most_moved : ℕ
 most_moved = 4096
 
@@ -118,7 +118,7 @@ unfoldable pub moved_len : Core → ℕ
 moved_len core = min (argument core 12) most_moved
 
 -- the buffer is tested for as many bytes as the call may move, and the n bytes that are given of the input are stored
--- all the same, with no undefined bits. Descriptor 0 is the input
+-- even so, with no undefined bits. Descriptor 0 is the input
 unfoldable pub read_call : Core → ℕ → List ℕ → Effect
 read_call core n given =
     if argument core 10 == 0
@@ -139,7 +139,7 @@ is_output descriptor = (descriptor == 1) || (descriptor == 2)
 abbrev pub output_room : ℕ
 output_room = 65536
 
--- does write append its bytes, where there are so many already?
+-- does write append its bytes, after this number of bytes so far?
 unfoldable pub appends : Core → ℕ → Bool
 appends core written = is_output (argument core 10) && nat_le (written + moved_len core) output_room
 
@@ -147,7 +147,7 @@ appends core written = is_output (argument core 10) && nat_le (written + moved_l
 abbrev pub bytes_taken : (ℕ → ℕ) → ℕ → List ℕ
 bytes_taken taken n = map taken (range_with_len 0 n)
 
--- the buffer is tested, and its bytes are appended all the same
+-- the buffer is tested, and its bytes are appended even so
 unfoldable pub write_call : Core → ℕ → (ℕ → ℕ) → Effect
 write_call core written taken =
     if is_output (argument core 10)

@@ -1,4 +1,4 @@
--- Instructions that were decoded lately, each beside the address of the word that it was decoded from.
+-- Instructions that were decoded recently, each with the address of the word that it was decoded from.
 use Rattle.std.specs.Prelude.{◌≡◌, ℕ, ◌+◌, ◌/◌, ◌%◌, ◌^◌, ◌<◌, ◌≤◌, false, Some, None, List, slice_index_or}
 use Rattle.shadow_memory.specs.Ranges.{is_in, little_word, window}
 use Rattle.shadow_memory.specs.Shadows.{Shadow, first_inaccessible, loaded_undef}
@@ -31,7 +31,7 @@ pub record IsEntryAt (k low high : ℕ) (entry : Decoded) : Type 0 where
 abbrev pub AreEntries : List Decoded → ℕ → ℕ → Type 0
 AreEntries entries low high = (k : ℕ) → IsEntry (entry_at entries k) → IsEntryAt k low high (entry_at entries k)
 
--- a range of whole words in which the word of each entry lies
+-- a range of whole words that has the word of each entry
 pub record CoversEntries (range : Span) (entries : List Decoded) : Type 0 where
   pub aligned : range.start % 4 ≡ 0
   pub whole : range.len % 4 ≡ 0
@@ -50,7 +50,8 @@ abbrev pub HasEach : (ℕ → ℕ) → (ℕ → Shadow) → List Decoded → Typ
 HasEach bytes shadows entries =
     (k : ℕ) → IsEntry (entry_at entries k) → HasRow bytes shadows (entry_at entries k).addr (entry_at entries k).row
 
--- entries of a table are left, and none of a word from one up to, not with, another, by quarters of their addresses
+-- the remaining entries of a table, none of a word from one up to, but not including, another, by quarters of their
+-- addresses
 pub record IsLeftBut (old new : List Decoded) (from to k : ℕ) : Type 0 where
   pub same : entry_at new k ≡ entry_at old k
   pub other : (word : ℕ) → from ≤ word → word < to → (entry_at new k).addr / 4 ≡ word → ⊥
@@ -62,7 +63,7 @@ AreLeftBut old new from to = (k : ℕ) → IsEntry (entry_at new k) → IsLeftBu
 abbrev pub IsClear : ℕ → ℕ → ℕ → Type 0
 IsClear start n a = (i : ℕ) → i < 4 → is_in start n (a + i) ≡ false
 
--- entries of a table are left, and none that has one of n bytes from an address on
+-- the remaining entries of a table, none of which has one of n bytes from an address on
 pub record IsLeft (old new : List Decoded) (start n k : ℕ) : Type 0 where
   pub same : entry_at new k ≡ entry_at old k
   pub clear : IsClear start n (entry_at new k).addr

@@ -33,7 +33,7 @@ use Rattle.guest_machine.specs.declared.setup.Touched.{Touched}
 abbrev pub noted_of : Noted → List Group × Bool
 noted_of noted = (groups_of noted.groups, noted.raised)
 
--- these errors noted, one after the other
+-- these errors noted, one after another
 unfoldable pub note_events : List Group × Bool → List Event → List Group × Bool
 note_events noted [] = noted
 note_events noted (e ∷ es) = note_events (add_event noted.0 e, true) es
@@ -42,7 +42,7 @@ note_events noted (e ∷ es) = note_events (add_event noted.0 e, true) es
 abbrev pub Raises : Guest → Guest → List Event → Type 0
 Raises old new events = noted_of new.noted ≡ note_events (noted_of old.noted) events
 
--- registers, pc, status and frames are set so, and nothing else is changed
+-- registers, pc, status and frames are set to these, and nothing else is changed
 pub record Sets (old new : Guest) (made : Core) : Type 0 where
   pub core : core_of new ≡ made
   pub memory : new.memory ≡ old.memory
@@ -72,7 +72,7 @@ pub record Reports (old new : Guest) (made : Core) (stored : ℕ → ℕ) (event
   pub progress : new.progress ≡ old.progress
   pub noted : Raises old new events
 
--- new is old after this effect, with these uses; a heap call is counted, and so is what is given of the input
+-- new is old after this effect, with these uses; a heap call is counted, and so are the bytes given of the input
 pub record Does (old new : Guest) (effect : Effect) (uses : Uses) (heap : Bool) (intake : Intake) : Type 0 where
   pub core : core_of new ≡ effect.core
   pub bytes : bytes_of new ≡ written_to (bytes_of old) uses.writes effect.made
@@ -82,13 +82,13 @@ pub record Does (old new : Guest) (effect : Effect) (uses : Uses) (heap : Bool) 
   pub heap_calls : new.progress.heap_calls ≡ counted old.progress.heap_calls heap
   pub noted : Raises old new effect.raised
 
--- the word at pc may be taken, is defined, and decodes to this
+-- the word at pc may be fetched, is defined, and decodes to this instruction
 pub record IsDecoded (core : Core) (bytes : ℕ → ℕ) (instruction : Instruction) : Type 0 where
   pub taken : fetches core ≡ true
   pub row : row_of (little_word (window bytes core.pc 4)) ≡ Some instruction
   pub undef : fetch_undef core ≡ 0
 
--- the effect of a store of a number at n bytes, with these errors; and where there is none
+-- the effect of a store of a number at n bytes, with these errors; and without errors
 abbrev pub storing : Core → ℕ → ℕ → Bits → List Event → Effect
 storing core start n bits raised = record {
   core = advanced (stored_core core start n bits.undef);
@@ -104,7 +104,7 @@ stored_at core start n bits = storing core start n bits []
 abbrev pub used_of : Uses → Used
 used_of uses = record { reads = uses.reads; writes = uses.writes }
 
--- these, beside the word that was taken, if one was
+-- these, besides the word that was fetched, if one was
 abbrev pub touched_in : Used → Option Span → Touched
 touched_in used fetch = record { fetch = fetch; reads = used.reads; writes = used.writes }
 
@@ -112,7 +112,7 @@ touched_in used fetch = record { fetch = fetch; reads = used.reads; writes = use
 abbrev pub used_in_move : Resizing → ℕ → ℕ → Used
 used_in_move what p size = record { reads = moved_from what p size; writes = moved_into what size }
 
--- an instruction carried out by a machine: what it sees of the setup, what it uses, and that new is old after it
+-- an instruction that a machine executes: what it sees of the setup, what it uses, and that new is old after it
 abbrev pub row_terms : Guest → Option Instruction → Setup → Terms
 row_terms m row setup =
     terms_of (calls_heap (core_of m) row) (row_asks (core_of m) row) m.progress.position m.progress.output_len setup
@@ -137,7 +137,7 @@ DoesRound old new row setup =
     let effect = row_effect (core_of old) row (row_terms old row setup) given (taken_from (bytes_of old) uses.reads) in
     Does old new (rounded (core_of old) effect) uses (calls_heap (core_of old) row) intake
 
--- a whole step made by a machine, and what it touches
+-- a whole step of a machine, and what it touches
 abbrev pub DoesStep : Guest → Guest → Setup → Type 0
 DoesStep old new setup =
     let progress = old.progress in
@@ -150,7 +150,7 @@ DoesStep old new setup =
 abbrev pub touched_by : Guest → Setup → Touched
 touched_by m setup = touched_at (core_of m) (bytes_of m) m.progress.position m.progress.output_len setup
 
--- read and write carried out
+-- read and write, executed, and what read is given of the input
 abbrev pub read_intake : Guest → Setup → Intake
 read_intake m setup = intake_of (call_asks (core_of m) Read) (left_at m.progress.position setup)
 

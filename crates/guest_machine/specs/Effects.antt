@@ -1,5 +1,5 @@
--- What each instruction does, as a function of what decides it, of the input that it reads and of the bytes that it
--- takes (RISC-V Unprivileged ISA 20191213, chapters 2 and 7; undefined bits as in Memcheck).
+-- What each instruction does, as a function of what decides it, of the input that it gets and of the bytes that it
+-- reads (RISC-V Unprivileged ISA 20191213, chapters 2 and 7; undefined bits as in Memcheck).
 use Rattle.std.specs.Prelude.{ℕ, ◌+◌, ◌*◌, ◌/◌, ◌%◌, ◌^◌, ◌==◌, Bool, true, false, not, if◌then◌else◌, List, [], ◌++◌}
 use Rattle.definedness.specs.declared.Bits.{Bits}
 use Rattle.shadow_memory.specs.Ranges.{little_word}
@@ -32,7 +32,7 @@ pub record Effect : Type 0 where
 abbrev pub no_bytes : ℕ → ℕ
 no_bytes i = 0
 
--- an effect on the core alone
+-- an effect only on the core
 abbrev pub quiet : Core → Effect
 quiet core = record { core = core; raised = []; made = no_bytes; output = [] }
 
@@ -74,12 +74,12 @@ compute_immediate core operation rd rs1 imm = results_in core rd (computed opera
 abbrev pub compute : Core → Operation → ℕ → ℕ → ℕ → Effect
 compute core operation rd rs1 rs2 = results_in core rd (computed operation (register core rs1) (register core rs2))
 
--- rs1 plus the immediate: where a load, a store or JALR goes
+-- rs1 plus the immediate: the address of a load, a store or JALR
 unfoldable pub target : Core → ℕ → ℕ → ℕ
 target core rs1 imm = ((register core rs1).value + imm) % 2 ^ 32
 
--- loads (section 2.6): rs1 is tested, and then the bytes; they are taken all the same, and the sign bit and its
--- undefined bit are repeated together
+-- loads (section 2.6): rs1 is tested, and then the bytes; they are loaded even so, and the sign bit and its undefined
+-- bit are extended together
 abbrev pub load : Core → Width → Bool → ℕ → ℕ → ℕ → (ℕ → ℕ) → Effect
 load core width signed rd rs1 imm taken =
     let now = tested core rs1 in
@@ -92,7 +92,7 @@ load core width signed rd rs1 imm taken =
     raising (advanced (set_register now rd bits)) (value_errors core rs1
     ++ access_errors now (Read (width_len width)) start (width_len width))
 
--- stores (section 2.6): rs1 is tested, and then the bytes; the low bytes of rs2 are stored all the same, with their
+-- stores (section 2.6): rs1 is tested, and then the bytes; the low bytes of rs2 are stored even so, with their
 -- undefined bits
 abbrev pub store : Core → Width → ℕ → ℕ → ℕ → Effect
 store core width rs1 rs2 imm =
@@ -113,7 +113,7 @@ jumped core to = if to % 4 == 0 then moved_to core to else stopped core Misalign
 abbrev pub is_undefined : Core → Comparison → ℕ → ℕ → Bool
 is_undefined core test rs1 rs2 = is_undecided test (register core rs1) (register core rs2)
 
--- after the test of a branch: where it depends on undefined bits, both registers are made defined, else they stay
+-- after the test of a branch: if it depends on undefined bits, both registers are made defined, otherwise they stay
 unfoldable pub branch_tested : Core → Comparison → ℕ → ℕ → Core
 branch_tested core test rs1 rs2 = if is_undefined core test rs1 rs2 then defined (defined core rs1) rs2 else core
 

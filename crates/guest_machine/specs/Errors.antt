@@ -32,7 +32,7 @@ event_of trace kind note = record { kind = kind; trace = trace; note = note }
 abbrev pub in_stack_region : ℕ → Bool
 in_stack_region a = nat_le stack_begin a && nat_lt a stack_end
 
--- what is said of an address that is near no block
+-- the note on an address that is near no block
 abbrev pub region_note : ℕ → Note
 region_note a = if in_stack_region a then Stack a else Elsewhere a
 
@@ -40,11 +40,11 @@ abbrev pub note_by : ℕ → Option NearBlock → Note
 note_by a None = region_note a
 note_by a (Some found) = Near a found
 
--- what is said of an address: the kept block whose interval holds it, or else its region
+-- the note on an address: the kept block whose interval holds it, or else its region
 unfoldable pub note_at : Blocks → ℕ → Note
 note_at blocks a = note_by a (near blocks a)
 
--- an error that is about no address, unless all is fine
+-- an error that isn't about an address, unless all is fine
 unfoldable pub event_unless : Bool → List ℕ → Kind → List Event
 event_unless fine trace kind = if fine then [] else event_of trace kind Absent ∷ []
 
@@ -65,7 +65,7 @@ value_errors core r = register_errors core r Value
 abbrev pub parameter_errors : Core → ℕ → Parameter → List Event
 parameter_errors core r parameter = register_errors core r (Param parameter Contains)
 
--- of n bytes that are accessed, the first that may not be (section 4.2.1)
+-- the first of n accessed bytes that may not be accessed (section 4.2.1)
 abbrev pub access_errors : Core → Kind → ℕ → ℕ → List Event
 access_errors core kind start n = event_about core.blocks (here core) kind (first_inaccessible core.shadow start n)
 
@@ -78,12 +78,12 @@ buffer_event blocks trace parameter None = []
 buffer_event blocks trace parameter (Some bad) =
     event_of trace (Param parameter (fault_of bad)) (note_at blocks bad.addr) ∷ []
 
--- of the n bytes of a buffer, the first that may not be accessed or, where its value is asked for, has an undefined bit
+-- the first of the n bytes of a buffer that may not be accessed or, if its value is asked for, has an undefined bit
 abbrev pub buffer_errors : Core → Parameter → Bool → ℕ → ℕ → List Event
 buffer_errors core parameter need_defined start n =
     buffer_event core.blocks (here core) parameter (first_bad core.shadow start n need_defined)
 
--- the undefined bits of n bytes that are taken as a number
+-- the undefined bits of n bytes that are loaded as a number
 abbrev pub taken_undef : Core → ℕ → ℕ → ℕ
 taken_undef core start n = little_word (window (λ a. loaded_undef (core.shadow a)) start n)
 

@@ -1,6 +1,6 @@
 -- One step, in three parts: what it does, by the word at pc and the functions that are called by name; what it uses, by
--- this and what decides the step; and what it leaves, by these, the input that it reads and the bytes that it takes. No
--- other byte value and no other part of the setup enters.
+-- this and what decides the step; and what it leaves, by these, the input that it gets and the bytes that it reads. It
+-- depends on no other byte value and no other part of the setup.
 use Rattle.std.specs.Prelude.{nat_lt, ◌≡◌, ℕ, ◌+◌, ◌-◌, ◌*◌, ◌%◌, ◌==◌, ◌&&◌, ◌||◌, Bool, true, false, if◌then◌else◌}
 use Rattle.std.specs.Prelude.{List, ◌++◌, take, drop, length, min, Option, Some, None, is_none}
 use Rattle.shadow_memory.specs.Ranges.{window, little_word, written}
@@ -61,15 +61,15 @@ is_aligned a = a % 4 == 0
 abbrev pub fetch_fault : Core → Option ℕ
 fetch_fault core = first_inaccessible core.shadow core.pc 4
 
--- may the word at pc be taken?
+-- may the word at pc be fetched?
 unfoldable pub fetches : Core → Bool
 fetches core = is_running core.status && (is_aligned core.pc && is_none (fetch_fault core))
 
--- the word at pc, if it may be taken
+-- the word at pc, if it may be fetched
 unfoldable pub fetched : Core → (ℕ → ℕ) → Option ℕ
 fetched core bytes = if fetches core then Some (little_word (window bytes core.pc 4)) else None
 
--- this is the word that may be taken, with its undefined bits
+-- this is the word that may be fetched, with its undefined bits
 pub record IsFetched (core : Core) (bytes : ℕ → ℕ) (word : Bits) : Type 0 where
   pub taken : fetches core ≡ true
   pub value : word.value ≡ little_word (window bytes core.pc 4)
@@ -77,7 +77,7 @@ pub record IsFetched (core : Core) (bytes : ℕ → ℕ) (word : Bits) : Type 0 
 
 -- what a step does --
 
--- it takes a word, and carries it out; or it does the heap call in place of a function, which is called by name; or
+-- it fetches a word, and executes it; or it does the heap call in place of a function, which is called by name; or
 -- neither
 pub data Deed : Type 0 where
   Takes : ℕ → Deed
@@ -99,12 +99,13 @@ deed_at core bytes hooks = deed_by (called_here core hooks) (fetched core bytes)
 
 -- what a step uses --
 
--- the range of bytes that it takes and the one that it writes, if any
+-- the range of bytes that it reads and the one that it writes, if any
 pub record Uses : Type 0 where
   pub reads : Option Span
   pub writes : Option Span
 
--- what a step is given of the input: how many bytes, and whether it sees the end, as it is given fewer than it asks for
+-- what a step is given of the input: the number of bytes, and whether it sees the end, if it is given fewer than it
+-- asks for
 pub record Intake : Type 0 where
   pub count : ℕ
   pub ends : Bool
@@ -117,8 +118,8 @@ abbrev pub intake_of : Option ℕ → ℕ → Intake
 intake_of None left = no_intake
 intake_of (Some asked) left = record { count = min asked left; ends = nat_lt (min asked left) asked }
 
--- what a step may see of the setup and of what adds up: what it is given of the input, how much output there is, and,
--- at a heap call alone, the redzone and the volume
+-- what a step may see of the setup and of what only increases: what it is given of the input, how much output there is,
+-- and, only at a heap call, the redzone and the volume
 pub record Terms : Type 0 where
   pub intake : Intake
   pub written : ℕ
@@ -128,7 +129,7 @@ pub record Terms : Type 0 where
 abbrev pub nothing : Uses
 nothing = record { reads = None; writes = None }
 
--- a range read, and a range written, alone
+-- only a range read, and only a range written
 abbrev pub reading : Span → Uses
 reading span = record { reads = Some span; writes = None }
 
@@ -144,7 +145,7 @@ abbrev pub read_uses : Core → ℕ → Uses
 read_uses core count =
     record { reads = None; writes = if argument core 10 == 0 then Some (span_at (argument core 11) count) else None }
 
--- write takes what it appends
+-- write reads what it appends
 abbrev pub write_uses : Core → ℕ → Uses
 write_uses core written =
     record {
@@ -158,7 +159,7 @@ abbrev pub calloc_uses : Blocks → ℕ → ℕ → Uses
 calloc_uses blocks size redzone =
     record { reads = None; writes = option_map (λ p. span_at p size) (place blocks size redzone) }
 
--- realloc takes the bytes that go along, and writes them at their new place
+-- realloc reads the bytes that are moved, and writes them at their new place
 abbrev pub moved_from : Resizing → ℕ → ℕ → Option Span
 moved_from (Moves b q) p size = Some (span_at p (moved_size b size))
 moved_from _ p size = None
@@ -182,7 +183,7 @@ work_uses Realloc blocks x y redzone = realloc_uses blocks x y redzone
 abbrev pub heap_uses : Hook → Core → ℕ → Uses
 heap_uses function core redzone = work_uses function core.blocks (argument core 10) (argument core 11) redzone
 
--- one by name, which does its work only where it returns
+-- one by name, which does its work only if it returns
 unfoldable pub named_uses_by : Bool → Hook → Core → ℕ → Uses
 named_uses_by true function core redzone = heap_uses function core redzone
 named_uses_by false function core redzone = nothing
@@ -204,7 +205,7 @@ unfoldable pub calls_heap : Core → Option Instruction → Bool
 calls_heap core (Some CallRow) = is_heap (call_at core)
 calls_heap core _ = false
 
--- how much of the input a call asks for: read does so, of descriptor 0
+-- how much of the input a call asks for: read does so, for descriptor 0
 unfoldable pub call_asks : Core → EnvironmentCall → Option ℕ
 call_asks core ReadCall = if argument core 10 == 0 then Some (moved_len core) else None
 call_asks core _ = None
@@ -214,7 +215,7 @@ unfoldable pub row_asks : Core → Option Instruction → Option ℕ
 row_asks core (Some CallRow) = call_asks core (call_at core)
 row_asks core _ = None
 
--- what an instruction reads, writes and takes of the input
+-- what an instruction reads, writes and gets of the input
 unfoldable pub row_uses : Core → Option Instruction → Terms → Uses
 row_uses core (Some (Load width signed rd rs1 imm)) terms = reading (accessed core rs1 imm width)
 row_uses core (Some (Store width rs1 rs2 imm)) terms = writing (accessed core rs1 imm width)
@@ -260,7 +261,7 @@ unfetched core =
 
 -- the three parts together --
 
--- is it a heap call? One by name is, where it returns
+-- is it a heap call? A call by name is one if it returns
 abbrev pub is_heap_deed : Core → Deed → Bool
 is_heap_deed core (Takes word) = calls_heap core (row_of word)
 is_heap_deed core (CallsByName function) = returns core
@@ -312,7 +313,7 @@ abbrev pub deed_terms : Core → Deed → ℕ → ℕ → Setup → Terms
 deed_terms core deed position written setup =
     terms_of (is_heap_deed core deed) (deed_asks core deed) position written setup
 
--- so much of the input, from a position on
+-- a number of bytes of the input, from a position on
 abbrev pub given_at : ℕ → ℕ → Setup → List ℕ
 given_at position n setup = take n (drop position setup.input)
 
@@ -343,7 +344,7 @@ effect_at core bytes position written setup =
     let terms = deed_terms core deed position written setup in
     outcome core terms deed (given_at position terms.intake.count setup) (taken_from bytes (plan core terms deed).reads)
 
--- one more of a count, which stands still at the greatest 64-bit number
+-- a count with another item; it stops at the greatest 64-bit number
 abbrev pub counted : ℕ → Bool → ℕ
 counted n false = n
 counted n true = min (n + 1) 18446744073709551615
@@ -371,13 +372,13 @@ exec s setup =
 
 -- which addresses a step touches --
 
--- the four addresses at pc, where the word there is taken
+-- the four addresses at pc, if the word there is fetched
 abbrev pub fetch_span : Core → Deed → Option Span
 fetch_span core (Takes word) = Some (span_at core.pc 4)
 fetch_span core (CallsByName function) = None
 fetch_span core Halts = None
 
--- the ranges whose bytes a step takes or writes
+-- the ranges whose bytes a step reads or writes
 unfoldable pub touched_at : Core → (ℕ → ℕ) → ℕ → ℕ → Setup → Touched
 touched_at core bytes position written setup =
     let uses = uses_at core bytes position written setup in
@@ -391,6 +392,6 @@ has_touched t a = covers t.fetch a || (covers t.reads a || covers t.writes a)
 abbrev pub touched_of : State → Setup → Touched
 touched_of s setup = touched_at s.core s.bytes s.position (length s.output) setup
 
--- does the step of a state take or write the byte at an address?
+-- does the step of a state read or write the byte at an address?
 unfoldable pub touches : State → Setup → ℕ → Bool
 touches s setup = has_touched (touched_of s setup)

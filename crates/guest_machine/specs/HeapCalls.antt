@@ -1,4 +1,4 @@
--- The calls of the heap: malloc, free, calloc and realloc as the C standard (ISO/IEC 9899, 7.22.3) has them, over
+-- The calls of the heap: malloc, free, calloc and realloc as the C standard (ISO/IEC 9899, 7.22.3) defines them, over
 -- blocks that are kept as Memcheck's replacement of malloc keeps them (Memcheck manual, section 4.1): redzones round
 -- each, freed ones in a queue. A program asks for them by number or by name; what they do is the same.
 use Rattle.std.specs.Prelude.{ℕ, ◌+◌, ◌-◌, ◌*◌, ◌==◌, min, max, if◌then◌else◌, List, [], ◌++◌, Option, Some, None, Bool}
@@ -24,7 +24,7 @@ use Rattle.guest_machine.specs.declared.environment_call.EnvironmentCall.TheVari
 
 -- allocating --
 
--- one more block at a place, if there is one, allocated here
+-- another block at a place, if there is one, allocated here
 abbrev pub placed : Core → Option ℕ → ℕ → ℕ → Core
 placed core found size redzone = record core { blocks = allocated core.blocks found size (here core) redzone }
 
@@ -32,14 +32,14 @@ placed core found size redzone = record core { blocks = allocated core.blocks fo
 abbrev pub IsClearOf : Blocks → ℕ → ℕ → ℕ → Type 0
 IsClearOf blocks size redzone p = (b : Block) → IsKept blocks b → ¬ (Meets (p - redzone) (p + max size 1 + redzone) b)
 
--- the interval of a block made inaccessible, and then its bytes made so
+-- the interval of a block made inaccessible, and then its bytes given a kind
 abbrev pub closed : Core → ℕ → ℕ → ℕ → Core
 closed core p size redzone = ranged core (p - redzone) (redzone + max size 1 + redzone) NoAccess
 
 abbrev pub carved : Core → ℕ → ℕ → ℕ → RangeKind → Core
 carved core p size redzone kind = ranged (closed core p size redzone) p size kind
 
--- a block at a place, if there is one; its address is the answer, or 0
+-- a block at a place, if there is one; its address is the result, or 0
 unfoldable pub block_at : Core → Option ℕ → ℕ → ℕ → RangeKind → Core
 block_at core None size redzone kind = answered core 0
 block_at core (Some p) size redzone kind = answered (carved (placed core (Some p) size redzone) p size redzone kind) p
@@ -50,7 +50,7 @@ given_block core size redzone kind = block_at core (place core.blocks size redzo
 
 -- freeing --
 
--- a block that was live is inaccessible, and goes to the queue; else nothing changes
+-- a block that was live is inaccessible, and goes to the queue; otherwise nothing changes
 unfoldable pub freed : Core → Released → ℕ → Core
 freed core (Done b) volume =
     record (ranged core b.start b.size NoAccess) { blocks = after_release (Done b) volume core.blocks }
@@ -74,7 +74,7 @@ free_errors core Invalid p = event_about core.blocks (here core) FreeError (Some
 
 -- resizing --
 
--- what realloc comes to: an allocation; an error; a release; nothing, for want of a place; or a move of a block to a
+-- the outcome of realloc: an allocation; an error; a release; nothing, if there is no place; or a move of a block to a
 -- place
 pub data Resizing : Type 0 where
   Allocates : Resizing
@@ -99,11 +99,11 @@ resizing_block blocks (Some b) size redzone = if size == 0 then Frees else movin
 unfoldable pub resizing : Blocks → ℕ → ℕ → ℕ → Resizing
 resizing blocks p size redzone = if p == 0 then Allocates else resizing_block blocks (blocks.live p) size redzone
 
--- how many bytes go along
+-- the number of bytes that are moved
 abbrev pub moved_size : Block → ℕ → ℕ
 moved_size b size = min b.size size
 
--- the undefined bits of the bytes go along too
+-- the undefined bits of the bytes are moved too
 abbrev pub copied : Core → ℕ → ℕ → ℕ → Core
 copied core from to n = record core { shadow = copied_undef core.shadow from to n }
 
@@ -127,9 +127,8 @@ resize_errors core p _ = []
 
 -- what the calls do --
 
--- at the core that the tests have left, with the values of a0 and a1: the answer is in a0, and pc stays. Of malloc the
--- bytes are undefined; calloc takes the product of its two numbers as a whole number, and its bytes are zeros, and
--- defined
+-- at the core after the tests, with the values of a0 and a1: the result is in a0, and pc stays. The bytes of malloc are
+-- undefined. calloc takes the product of its two numbers as a whole number, and its bytes are zeros, and defined
 unfoldable pub heap_work : Hook → Core → ℕ → ℕ → ℕ → ℕ → (ℕ → ℕ) → Effect
 heap_work Malloc core x y redzone volume taken = quiet (given_block core x redzone Undefined)
 heap_work Free core x y redzone volume taken =

@@ -11,7 +11,7 @@ use Rattle.guest_machine.specs.declared.setup.Setup.{Setup}
 abbrev pub InWord : ℕ → ℕ → Type 0
 InWord word a = a / 4 ≡ word / 4
 
--- two states differ in byte values alone, and only at these addresses
+-- two states differ only in byte values, and only at these addresses
 pub record DifferWithin (W : ℕ → Type 0) (s t : State) : Type 0 where
   pub bytes : (a : ℕ) → (W a → ⊥) → s.bytes a ≡ t.bytes a
   pub core : s.core ≡ t.core
@@ -25,7 +25,7 @@ pub record DifferWithin (W : ℕ → Type 0) (s t : State) : Type 0 where
 abbrev pub TouchesNone : (ℕ → Type 0) → State → Setup → Type 0
 TouchesNone W s setup = (a : ℕ) → W a → touches s setup a ≡ false
 
--- a step that doesn't touch a word goes the same way whatever its bytes are, touches the same, and leaves them
+-- a step that doesn't touch a word does the same whatever the word's bytes are, touches the same, and leaves them
 abbrev pub KeepsWords : Type 0
 KeepsWords =
     (setup : Setup) (word : ℕ) (s t : State) → DifferWithin (InWord word) s t → TouchesNone (InWord word) s setup
@@ -50,7 +50,7 @@ KeepsInput =
 abbrev pub is_heap_step : State → List (ℕ × Hook) → Bool
 is_heap_step s hooks = is_heap_deed s.core (deed_at s.core s.bytes hooks)
 
--- a step that is no heap call doesn't look at the redzone nor at the volume; and the state counts its heap calls
+-- a step that is no heap call doesn't look at the redzone or at the volume; and the state counts its heap calls
 pub record KeepsHeap : Type 0 where
   pub same : (one other : Setup) (s : State) → one.input ≡ other.input → one.hooks ≡ other.hooks
       → is_heap_step s one.hooks ≡ false
@@ -69,14 +69,14 @@ KeepsPokes =
 abbrev pub ReadsOn : Type 0
 ReadsOn = (setup : Setup) (s : State) → s.position ≤ (exec s setup).position
 
--- the other setup has one byte of input more, at its end
+-- the other setup has another byte of input, at its end
 pub record Extends (one other : Setup) : Type 0 where
   pub redzone : one.redzone ≡ other.redzone
   pub volume : one.volume ≡ other.volume
   pub hooks : one.hooks ≡ other.hooks
   pub input : (byte : ℕ) × (other.input ≡ one.input ++ byte ∷ [])
 
--- a step goes the same way with one byte more at the end of the input where it hasn't seen the end without that byte
+-- a step does the same with another byte at the end of the input, if it hasn't seen the end without that byte
 abbrev pub KeepsEnd : Type 0
 KeepsEnd =
     (one other : Setup) (s : State) → Extends one other → (exec s one).end_seen ≡ false

@@ -1,7 +1,7 @@
 -- The calls of the heap by name: a step at the first address of a function that is called malloc, free, calloc or
 -- realloc does what the heap call does, in place of the function, and returns to the function's caller (Valgrind
--- replaces these functions by name too: Memcheck manual, section 4.1). Arguments and answer are in a0 and a1, and the
--- address to return to is in ra, x1 (RISC-V ELF psABI specification, "Integer Calling Convention").
+-- replaces these functions by name too: Memcheck manual, section 4.1). Arguments and result are in a0 and a1, and the
+-- return address is in ra, x1 (RISC-V ELF psABI specification, "Integer Calling Convention").
 use Rattle.std.specs.Prelude.{ℕ, ◌*◌, ◌/◌, ◌%◌, ◌==◌, Bool, true, false, List, ◌++◌}
 use Rattle.error_events.specs.declared.event.Event.{Event}
 use Rattle.guest_elf.specs.declared.hook.Hook.{Hook}
@@ -14,11 +14,11 @@ use Rattle.guest_machine.specs.HeapCalls.{heap_work, between}
 use Rattle.instructions.specs.declared.hint.StackHint.TheVariants.{Pop}
 use Rattle.run_values.specs.declared.status.Stop.TheVariants.{Misaligned}
 
--- where the function returns to: x1 with its lowest bit cleared, as JALR clears it
+-- the return address: x1 with its lowest bit cleared, as JALR clears it
 abbrev pub return_address : Core → ℕ
 return_address core = argument core 1 / 2 * 2
 
--- can it return there? Only then it does its work
+-- can it return there? Only then does it do its work
 abbrev pub returns : Core → Bool
 returns core = return_address core % 4 == 0
 

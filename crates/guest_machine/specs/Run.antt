@@ -48,7 +48,7 @@ start_state image =
       events = [];
     }
 
--- a range of a state made so
+-- a range of a state given a kind
 abbrev pub made_state : State → ℕ → ℕ → RangeKind → State
 made_state s start len kind = record s { core = record s.core { shadow = made_so s.core.shadow start len kind } }
 

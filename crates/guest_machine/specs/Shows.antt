@@ -8,7 +8,7 @@ use Rattle.error_events.specs.Shown.{groups_of}
 use Rattle.guest_machine.specs.declared.machine.Guest.{Guest}
 use Rattle.guest_machine.specs.declared.machine.Machine.{Machine}
 
--- what decides a step, beside the byte values
+-- what decides a step, besides the byte values
 abbrev pub core_of : Guest → Core
 core_of g = record {
   shadow = shadows_in g.memory;
@@ -37,6 +37,6 @@ pub record Holds (g : Guest) (s : State) : Type 0 where
 unfoldable pub Shows : Machine → State → Type 0
 Shows m s = Holds m.guest.value s
 
--- what a machine tells: did its last step raise an error?
+-- did the last step of a machine raise an error?
 unfoldable pub has_raised : Machine → Bool
 has_raised m = m.guest.value.noted.raised

@@ -1,5 +1,5 @@
--- A sieve of functions: marks that tell of most addresses at once that no function begins there. Of this crate's proofs
--- alone.
+-- A sieve of functions: marks that show for most addresses at once that no function begins there. It is only for this
+-- crate's proofs.
 use Rattle.std.specs.Prelude.{◌≡◌, ℕ, ◌/◌, ◌%◌, ◌<◌, Bool, true, false, List, slice_index_or}
 use Rattle.guest_elf.specs.declared.hook.Hook.{Hook}
 

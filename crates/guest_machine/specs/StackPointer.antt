@@ -1,6 +1,6 @@
 -- The stack pointer rule: bytes that the stack pointer passes become part of the stack, or leave it (Valgrind user
--- manual, section 4.5.2; `--main-stacksize` and `--max-stackframe` of section 2.6 tell a new stack frame from a switch
--- of stacks).
+-- manual, section 4.5.2; `--main-stacksize` and `--max-stackframe` of section 2.6 distinguish a new stack frame from a
+-- switch of stacks).
 use Rattle.std.specs.Prelude.{ℕ, ◌-◌, ◌==◌, ◌&&◌, Bool, nat_le, nat_lt, if◌then◌else◌}
 use Rattle.definedness.specs.declared.Bits.{Bits}
 use Rattle.shadow_memory.specs.Shadows.{made_so}
@@ -18,15 +18,16 @@ is_in_stack a = nat_le stack_begin a && nat_le a stack_end
 abbrev pub is_stack_pointer : Bits → Bool
 is_stack_pointer bits = (bits.undef == 0) && is_in_stack bits.value
 
--- the most bytes that a frame may have: Memcheck's default for `--max-stackframe`
+-- the greatest number of bytes of a frame: Memcheck's default for `--max-stackframe`
 abbrev pub largest_frame : ℕ
 largest_frame = 2000000
 
--- a range made so
+-- a range given a kind
 abbrev pub ranged : Core → ℕ → ℕ → RangeKind → Core
 ranged core start n kind = record core { shadow = made_so core.shadow start n kind }
 
--- the bytes from one address up to, not with, a higher one made so, if they are no more than a frame may have
+-- the bytes from one address up to, but not including, a higher one given a kind, if they are no more than a frame may
+-- have
 unfoldable pub framed : Core → ℕ → ℕ → RangeKind → Core
 framed core low high kind = if nat_le (high - low) largest_frame then ranged core low (high - low) kind else core
 
@@ -38,7 +39,7 @@ stack_moved core old new =
     else if nat_lt old new then framed core old new NoAccess
     else core
 
--- after an instruction that found x2 so
+-- after an instruction before which x2 had this value
 unfoldable pub stack_ruled : Bits → Core → Core
 stack_ruled old core =
     let new = register core 2 in

@@ -1,4 +1,4 @@
--- What a run is at a moment: the byte values, what decides a step beside them, and what only adds up.
+-- A run at one moment: the byte values, what else decides a step, and what only increases.
 use Rattle.std.specs.Prelude.{ℕ, Bool, List}
 use Rattle.definedness.specs.declared.Bits.{Bits}
 use Rattle.shadow_memory.specs.Shadows.{Shadow}
@@ -7,7 +7,7 @@ use Rattle.call_stacks.specs.declared.stack.Frame.{Frame}
 use Rattle.guest_heap.specs.Blocks.{Blocks}
 use Rattle.error_events.specs.declared.event.Event.{Event}
 
--- what decides a step, beside the byte values: of each address whether it may be accessed and its undefined bits, the
+-- what decides a step, besides the byte values: for each address whether it may be accessed and its undefined bits, the
 -- 32 registers with their undefined bits, pc, whether the machine runs, the calls that it is in, newest first, and the
 -- blocks of the heap
 pub record Core : Type 0 where
@@ -18,8 +18,8 @@ pub record Core : Type 0 where
   pub frames : List Frame
   pub blocks : Blocks
 
--- a state: beside the core, the byte at each address, how many bytes of input were read, whether some read asked for
--- more than was left of it, the bytes that were written out, how many heap calls were made, and all errors so far
+-- a state: besides the core, the byte at each address, the number of bytes of input read, whether some read asked for
+-- more than was left of it, the bytes that were written, the number of heap calls, and all errors so far
 pub record State : Type 0 where
   pub bytes : ℕ → ℕ
   pub core : Core

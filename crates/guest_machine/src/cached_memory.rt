@@ -1,4 +1,4 @@
-//! A memory, beside the instructions that were decoded from it lately.
+//! A memory, with the instructions that were decoded from it recently.
 ghost use Rattle.std.specs.Prelude.{◌≡◌};
 ghost use Rattle.shadow_memory.specs.Memories.{bytes_in, shadows_in};
 ghost use Rattle.guest_machine.specs.DecodeCaches.{HasEach};
@@ -11,7 +11,8 @@ use std::alloc::{AllocError, Global};
 use std::marker::Model;
 use std::mem;
 
-/// A memory with a decode cache. Each change of the memory takes out of the cache what it makes wrong. Contracts see the memory.
+/// A memory with a decode cache. Each change of the memory removes from the cache the entries that it makes wrong. Contracts see the
+/// memory.
 #[derive(Drop)]
 pub(crate) struct CachedMemory {
     memory: Memory,
@@ -56,7 +57,7 @@ impl CachedMemory {
         &self.memory
     }
 
-    /// What the word at a multiple of 4 decodes to, where that is known; it may be accessed then, and is defined.
+    /// Returns the instruction of the word at a multiple of 4, if it is known; the word may then be accessed, and is defined.
     #[inline(always)]
     pub(crate) fn decoded(&self, addr: u32) -> Option<Instruction>
         requires { addr % 4 ≡ 0 }
@@ -65,7 +66,7 @@ impl CachedMemory {
         self.cache.at(addr)
     }
 
-    /// Keeps what the word at a multiple of 4 decodes to, all of which may be accessed and is defined.
+    /// Keeps the instruction of the word at a multiple of 4, all of which may be accessed and is defined.
     pub(crate) fn keep(&mut self, addr: u32, row: Instruction)
         requires aligned { addr % 4 ≡ 0 }
         requires there { HasRow (bytes_in self.old) (shadows_in self.old) addr row }
@@ -74,7 +75,7 @@ impl CachedMemory {
         self.cache.put(Decoded { addr, row });
     }
 
-    /// As [`Memory::load`].
+    /// See [`Memory::load`].
     #[inline(always)]
     pub(crate) fn load(&self, addr: u32, n: u32) -> Loaded
         requires { IsWidth n }
@@ -87,7 +88,7 @@ impl CachedMemory {
         self.memory.load(addr, n)
     }
 
-    /// As [`Memory::defined`].
+    /// See [`Memory::defined`].
     #[inline(always)]
     pub(crate) fn defined(&self, addr: u32, n: u32) -> Option<u32>
         requires { IsWidth n }
@@ -97,14 +98,14 @@ impl CachedMemory {
         self.memory.defined(addr, n)
     }
 
-    /// As [`Memory::first_bad`].
+    /// See [`Memory::first_bad`].
     pub(crate) fn first_bad(&self, addr: u32, len: u32, need_defined: bool) -> Option<Bad>
         ensures { result ≡ first_bad (shadows_in self.now) addr len need_defined }
     {
         self.memory.first_bad(addr, len, need_defined)
     }
 
-    /// As [`Memory::store_at_once`].
+    /// See [`Memory::store_at_once`].
     #[inline(always)]
     pub(crate) fn store_at_once(&mut self, addr: u32, n: u32, bits: Bits) -> bool
         requires { IsWidth n }
@@ -118,7 +119,7 @@ impl CachedMemory {
         self.memory.store_at_once(addr, n, bits)
     }
 
-    /// As [`Memory::store`].
+    /// See [`Memory::store`].
     #[inline(always)]
     pub(crate) fn store(&mut self, addr: u32, n: u32, bits: Bits) -> Result<Option<u32>, AllocError>
         requires { IsWidth n }
@@ -130,7 +131,7 @@ impl CachedMemory {
         self.memory.store(addr, n, bits)
     }
 
-    /// As [`Memory::set_range`].
+    /// See [`Memory::set_range`].
     pub(crate) fn set_range(
         &mut self,
         addr: u32,
@@ -144,7 +145,7 @@ impl CachedMemory {
         self.memory.set_range(addr, len, kind)
     }
 
-    /// As [`Memory::fill`].
+    /// See [`Memory::fill`].
     pub(crate) fn fill(&mut self, addr: u32, len: u32, bytes: &[u8]) -> Result<(), AllocError>
         ensures bytes { OnOk result (bytes_in self.new ≡ written (bytes_in self.old) addr len (slice_index bytes.now)) }
         ensures shadows { OnOk result (shadows_in self.new ≡ made_so (shadows_in self.old) addr len RangeKind.Defined) }
@@ -153,7 +154,7 @@ impl CachedMemory {
         self.memory.fill(addr, len, bytes)
     }
 
-    /// As [`Memory::store_bytes`].
+    /// See [`Memory::store_bytes`].
     pub(crate) fn store_bytes(&mut self, addr: u32, bytes: &[u8]) -> Result<(), AllocError>
         requires { length bytes.now < 2 ^ 32 }
         ensures bytes { OnOk result (bytes_in self.new ≡ written (bytes_in self.old) addr (length bytes.now) (slice_index bytes.now)) }
@@ -163,7 +164,7 @@ impl CachedMemory {
         self.memory.store_bytes(addr, bytes)
     }
 
-    /// As [`Memory::copy_with_shadow`].
+    /// See [`Memory::copy_with_shadow`].
     pub(crate) fn copy_with_shadow(
         &mut self,
         from: u32,
@@ -178,7 +179,7 @@ impl CachedMemory {
         self.memory.copy_with_shadow(from, to, len)
     }
 
-    /// As [`Memory::poke_word`].
+    /// See [`Memory::poke_word`].
     pub(crate) fn poke_word(&mut self, addr: u32, word: u32) -> Result<(), AllocError>
         ensures bytes { OnOk result (bytes_in self.new ≡ written (bytes_in self.old) addr 4 (byte_of word)) }
         ensures shadows { shadows_in self.new ≡ shadows_in self.old }
@@ -187,7 +188,7 @@ impl CachedMemory {
         self.memory.poke_word(addr, word)
     }
 
-    /// As [`Memory::share`], with nothing decoded.
+    /// See [`Memory::share`]. The copy has nothing decoded.
     pub(crate) fn share(&self, alloc: Global) -> Result<CachedMemory, AllocError>
         ensures bytes { IfOk result (λ copy. bytes_in copy ≡ bytes_in self.now) }
         ensures shadows { IfOk result (λ copy. shadows_in copy ≡ shadows_in self.now) }
@@ -196,7 +197,7 @@ impl CachedMemory {
         Ok(CachedMemory::new(alloc, memory))
     }
 
-    /// As [`Memory::share`]. The copy has decoded the same.
+    /// See [`Memory::share`]. The copy has decoded the same.
     pub(crate) fn share_ready(&self, alloc: Global) -> Result<CachedMemory, AllocError>
         ensures bytes { IfOk result (λ copy. bytes_in copy ≡ bytes_in self.now) }
         ensures shadows { IfOk result (λ copy. shadows_in copy ≡ shadows_in self.now) }
@@ -206,7 +207,7 @@ impl CachedMemory {
         Ok(CachedMemory { memory, cache })
     }
 
-    /// Has decoded what another memory has, of the words that it has the same.
+    /// Copies what another memory has decoded, for the words that are the same in both.
     #[tactic(auto, using(crate::proofs::SameWords::each_left))]
     pub(crate) fn learn(&mut self, alloc: Global, other: &CachedMemory)
         ensures { self.new ≡ self.old }
@@ -216,7 +217,7 @@ impl CachedMemory {
         self.cache = cache;
     }
 
-    /// Takes over what another memory has decoded, of the words that it has the same, where it has decoded nothing itself.
+    /// Takes over what another memory has decoded, for the words that are the same in both, unless this one has decoded something itself.
     pub(crate) fn take_over(&mut self, alloc: Global, other: &mut CachedMemory)
         ensures same { self.new ≡ self.old }
         ensures other { other.new ≡ other.old }
@@ -228,7 +229,7 @@ impl CachedMemory {
         }
     }
 
-    /// As [`Memory::share`]. What was decoded goes over to the copy.
+    /// See [`Memory::share`]. What was decoded moves to the copy.
     pub(crate) fn hand_on(&mut self, alloc: Global) -> Result<CachedMemory, AllocError>
         ensures same { self.new ≡ self.old }
         ensures bytes { IfOk result (λ copy. bytes_in copy ≡ bytes_in self.old) }

@@ -1,4 +1,4 @@
-//! Instructions that were decoded lately, by the addresses of their words.
+//! Instructions that were decoded recently, by the addresses of their words.
 ghost use Rattle.std.specs.Prelude.{◌≡◌, ◌^◌, ◌%◌, ◌<◌, ◌≤◌};
 ghost use Rattle.guest_machine.specs.DecodeCaches.{place_of, AreEntries};
 
@@ -6,13 +6,13 @@ use instructions::Instruction;
 use run_values::Span;
 use std::alloc::Global;
 
-/// How many instructions there is room for.
+/// The greatest number of instructions in the table.
 const ROOM: usize = 4096;
-/// For how many at once room is made.
+/// The number of instructions for which room is made at once.
 const AT_ONCE: usize = 256;
-/// The most bytes of a range whose words are taken out one by one.
+/// The greatest number of bytes of a range whose words are removed individually.
 const FEW: u32 = 1024;
-/// The most bytes from the first word of a table to the last one that are compared at once with those of another memory.
+/// The greatest number of bytes, from the first word of a table to the last one, that are compared at once with those of another memory.
 const NEAR: u64 = 16 * ROOM as u64;
 
 /// An instruction, and the address of the word that it was decoded from.
@@ -64,7 +64,7 @@ impl DecodeCache {
         }
     }
 
-    /// A table of its own with the same entries. Without memory for them it has none.
+    /// A table of its own with the same entries. If memory runs out for them, it has none.
     pub(crate) fn share(&self, alloc: Global) -> Self
         ensures { (k : ℕ) → IsEntry (entry_at result.entries.items k) → entry_at result.entries.items k ≡ entry_at self.now.entries.items k }
     {
@@ -86,7 +86,7 @@ impl DecodeCache {
         self.entries.is_empty()
     }
 
-    /// A range of whole words in which the words of all entries lie, if there are some and they lie near each other.
+    /// A range of whole words that has the words of all entries, if there are entries and they lie near each other.
     pub(crate) fn range(&self) -> Option<Span>
         ensures { IfSome result (λ range. CoversEntries range self.now.entries.items) }
     {
@@ -124,7 +124,7 @@ impl DecodeCache {
         self.high = 0;
     }
 
-    /// Makes room for a place and those about it. Without memory there is none after it either.
+    /// Makes room for a place and those around it. If memory runs out, there is no room afterwards either.
     fn make_room(&mut self, place: usize)
         requires { place < 4096 }
         ensures { (k : ℕ) → entry_at self.new.entries.items k ≡ entry_at self.old.entries.items k }
@@ -162,7 +162,7 @@ impl DecodeCache {
         }
     }
 
-    /// Takes out the entry of a place.
+    /// Removes the entry of a place.
     pub(crate) fn drop_at(&mut self, place: usize)
         requires { place < length self.old.entries.items }
         ensures { self.new.entries.items ≡ slice_set self.old.entries.items place no_entry }
@@ -170,7 +170,7 @@ impl DecodeCache {
         self.entries[place] = NO_ENTRY;
     }
 
-    /// Takes out the entry of a word, by a quarter of its address.
+    /// Removes the entry of a word, by a quarter of its address.
     fn drop_word(&mut self, word: u32)
         requires { word < 2 ^ 30 }
         ensures { AreLeftBut self.old.entries.items self.new.entries.items word (word + 1) }
@@ -181,7 +181,7 @@ impl DecodeCache {
         }
     }
 
-    /// Whether no entry's word has a byte among so many from an address on, as far as the bounds of the table tell.
+    /// Whether the bounds of the table show that no entry's word has one of the `len` bytes from an address on.
     #[inline(always)]
     fn lies_apart(&self, start: u32, len: u32) -> bool
         ensures { IsTrue result → AreLeft self.now.entries.items self.now.entries.items start len }
@@ -190,7 +190,7 @@ impl DecodeCache {
         end <= u64::from(self.low) || (self.high <= u64::from(start) && end <= 1 << 32)
     }
 
-    /// Takes out the entries whose words have one of at most four bytes from an address on.
+    /// Removes the entries whose words have one of at most four bytes from an address on.
     #[inline(always)]
     pub(crate) fn forget(&mut self, start: u32, len: u32)
         requires { len ≤ 4 }
@@ -215,7 +215,7 @@ impl DecodeCache {
         }
     }
 
-    /// Takes out the entries whose words have one of the bytes of a range; all, where it is long.
+    /// Removes the entries whose words have one of the bytes of a range; all entries, if the range is long.
     #[inline(always)]
     pub(crate) fn forget_range(&mut self, start: u32, len: u32)
         ensures { AreLeft self.old.entries.items self.new.entries.items start len }

@@ -1,4 +1,4 @@
-//! What of a table of decoded instructions is right for another memory.
+//! Which entries of a table of decoded instructions are right for another memory.
 ghost use Rattle.std.specs.Prelude.{◌≡◌, ℕ, ◌<◌, IsTrue, length};
 ghost use Rattle.shadow_memory.specs.Memories.{bytes_in, shadows_in};
 ghost use Rattle.shadow_memory.specs.Ranges.{little_word, window};
@@ -8,7 +8,7 @@ ghost use Rattle.guest_machine.specs.DecodeCaches.{entry_at, HasEach, IsEntry};
 use crate::decode_cache::DecodeCache;
 use shadow_memory::Memory;
 
-/// Whether a memory has the word at an address as another one has it, as far as one look-up tells that it is accessible and defined.
+/// Whether one look-up shows that a memory has the same word at an address as another one, and that it is accessible and defined.
 fn has_word_of(memory: &Memory, other: &Memory, addr: u32) -> bool
     ensures { IsTrue result → HasDefined (bytes_in memory.now) (shadows_in memory.now) addr 4 (little_word (window (bytes_in other.now) addr 4)) }
 {
@@ -19,7 +19,7 @@ fn has_word_of(memory: &Memory, other: &Memory, addr: u32) -> bool
 }
 
 impl DecodeCache {
-    /// Whether a memory has the words of all entries as another one has them, where these lie near each other.
+    /// Whether a memory has the same words as another one for all entries, if these lie near each other.
     fn fits(&self, memory: &Memory, other: &Memory) -> bool
         ensures { IsTrue result → HasEach (bytes_in other.now) (shadows_in other.now) self.now.entries.items
             → HasEach (bytes_in memory.now) (shadows_in memory.now) self.now.entries.items }
@@ -30,7 +30,7 @@ impl DecodeCache {
         }
     }
 
-    /// Takes out the entry of a place, unless a memory has its word as another one has it.
+    /// Removes the entry of a place, unless a memory has the same word as another one.
     #[tactic(auto, using(crate::proofs::SameWords::dropped_same, crate::proofs::SameWords::dropped_none))]
     fn fit_at(&mut self, place: usize, memory: &Memory, other: &Memory)
         requires { place < length self.old.entries.items }
@@ -45,7 +45,7 @@ impl DecodeCache {
         }
     }
 
-    /// Takes out each entry, unless a memory has its word as another one has it.
+    /// Removes each entry, unless a memory has the same word as another one.
     #[tactic(auto, using(crate::proofs::SameWords::fit_begun, crate::proofs::SameWords::fit_more, crate::proofs::SameWords::fit_each))]
     fn fit_each(&mut self, memory: &Memory, other: &Memory)
         ensures { HasEach (bytes_in other.now) (shadows_in other.now) self.old.entries.items
@@ -56,8 +56,8 @@ impl DecodeCache {
         }
     }
 
-    /// Leaves those entries of another memory's table whose words a memory has the same: all at once, where they lie near each other and none
-    /// has changed, else one by one.
+    /// Leaves those entries of another memory's table whose words a memory has too: all at once, if they lie near each other and none has
+    /// changed, and otherwise individually.
     pub(crate) fn fit(&mut self, memory: &Memory, other: &Memory)
         ensures { HasEach (bytes_in other.now) (shadows_in other.now) self.old.entries.items
             → HasEach (bytes_in memory.now) (shadows_in memory.now) self.new.entries.items }

@@ -7,7 +7,7 @@ ghost use Rattle.guest_machine.specs.Sieve.{slot_of, AreMarked};
 use guest_elf::Hook;
 use std::marker::Model;
 
-/// How many marks a sieve has room for.
+/// The number of marks in a sieve.
 const SLOTS: usize = 64;
 
 /// The functions of the heap that a program has under their own names, each with its first address. Contracts see them as their
@@ -15,7 +15,7 @@ const SLOTS: usize = 64;
 #[derive(Drop)]
 pub struct Hooks {
     entries: Vec<(u32, Hook)>,
-    // A mark in the place of each entry's address: where there is none, no function begins.
+    // A mark in the place of each entry's address. Where there is no mark, no function begins.
     sieve: [bool; SLOTS],
 }
 
@@ -34,7 +34,7 @@ impl Model for Hooks {
 }
 
 impl Hooks {
-    /// The functions at these addresses, which are in order.
+    /// Returns the functions at these addresses, which are in order.
     pub fn new(entries: Vec<(u32, Hook)>) -> Self
         requires { IsNonDecreasingBy (λ (entry : ℕ × HookOf). entry.0) entries.items }
         ensures { result ≡ entries.items }
@@ -43,7 +43,7 @@ impl Hooks {
         Hooks { entries, sieve }
     }
 
-    /// The function that begins at an address: of several, the first.
+    /// Returns the function that begins at an address; if there are several, the first.
     #[inline(always)]
     pub fn at(&self, addr: u32) -> Option<Hook>
         ensures { result ≡ hook_at self.now addr }

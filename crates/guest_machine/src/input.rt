@@ -3,7 +3,7 @@ ghost use Rattle.std.specs.Prelude.{◌≡◌, ◌-◌, ◌++◌, ◌∷◌, [],
 use std::alloc::AllocError;
 use std::marker::Model;
 
-/// The bytes that a run may read, in order. Contracts see it as their list. It is made from a vector and gives it back.
+/// The bytes that a run may read, in order. Contracts see their list. An input is made from a vector and gives it back.
 #[derive(Drop)]
 pub struct Input {
     bytes: Vec<u8>,
@@ -18,14 +18,14 @@ impl Model for Input {
 }
 
 impl Input {
-    /// The input with these bytes.
+    /// Returns the input with these bytes.
     pub fn new(bytes: Vec<u8>) -> Self
         ensures { result ≡ bytes.items }
     {
         Input { bytes }
     }
 
-    /// How many bytes it has.
+    /// Returns the number of bytes.
     pub fn len(&self) -> usize
         ensures { result ≡ length self.now }
     {
@@ -38,7 +38,7 @@ impl Input {
         &self.bytes
     }
 
-    /// Puts a byte at its end. Where memory fails, it stays as it is.
+    /// Appends a byte. If memory runs out, the input stays as it is.
     pub fn push(&mut self, byte: u8) -> Result<(), AllocError>
         ensures ok { OnOk result (self.new ≡ self.old ++ byte ∷ []) }
         ensures err { OnErr result (self.new ≡ self.old) }
@@ -47,14 +47,14 @@ impl Input {
         Ok(())
     }
 
-    /// Takes the last byte off, if there is one.
+    /// Removes the last byte, if there is one.
     pub fn pop(&mut self)
         ensures { self.new ≡ take (length self.old - 1) self.old }
     {
         let _last = self.bytes.pop();
     }
 
-    /// Its bytes.
+    /// Returns the bytes.
     pub fn into_vec(self) -> Vec<u8>
         ensures { result.items ≡ self }
     {

@@ -1,71 +1,70 @@
-//! One step of an RV32IM program, with what Memcheck knows of each byte and of each bit: the layer between a program's image
-//! and the runs of it.
+//! One step of an RV32IM program, with what Memcheck knows of each byte and of each bit: the layer between a program's image and its runs.
 //!
-//! A [`Machine`] holds, of each of the 2^32 addresses, a byte, whether it may be accessed, and which of its bits are undefined;
-//! the 32 registers with their undefined bits; pc; whether it runs; the frames of the calls that it is in; the blocks of the
-//! heap; how much of the input was read, of the output written, and how many heap calls were made; and the errors so far,
-//! counted by kind and trace. It is moved by [`Machine::step`], one instruction, ECALL included, or one call of a function of the heap
-//! that the setup names by its first address, and by [`Machine::run`], many steps; between steps a range can be marked and a word poked.
-//! Once it is halted a step changes nothing, and `run` carries none out.
+//! A [`Machine`] holds for each of the 2^32 addresses a byte, whether the byte may be accessed, and which of its bits are undefined; the 32
+//! registers with their undefined bits; pc; whether it runs; the frames of the calls that it is in; the blocks of the heap; how much of the
+//! input was read, how much output was written, and the number of heap calls; and the errors so far, counted by kind and trace.
+//! [`Machine::step`] executes one instruction (ECALL included), or one call of a function of the heap that the setup names by its first
+//! address. [`Machine::run`] executes many steps. Between steps a range can be marked and a word poked. Once the machine is halted, a step
+//! changes nothing, and `run` executes none.
 //!
 //! # Public items
 //!
-//! | Call | What it answers |
+//! | Call | What it does |
 //! |---|---|
-//! | [`Machine::start`] | the machine before the first step of an image |
-//! | [`Machine::step`] | the machine after one step, and the ranges whose bytes it took or wrote |
-//! | [`Machine::step_on`] | the same, on no meter, and doesn't tell whether it raised an error |
-//! | [`Machine::run`] | the machine many steps later |
-//! | [`Machine::mark`] | the machine with a range made inaccessible, undefined or defined |
-//! | [`Machine::poke_word`] | the machine with the four bytes at an address changed |
-//! | [`Machine::share`] | a copy, which later changes of the other don't reach |
-//! | [`Machine::hand_on`] | likewise, for the copy that goes on with the run: what was decoded goes over to it |
+//! | [`Machine::start`] | returns the machine before the first step of an image |
+//! | [`Machine::step`] | returns the machine after one step, and the ranges whose bytes it read or wrote |
+//! | [`Machine::step_on`] | the same without a meter; doesn't say whether the step raised an error |
+//! | [`Machine::run`] | returns the machine many steps later |
+//! | [`Machine::mark`] | returns the machine with a range made inaccessible, undefined or defined |
+//! | [`Machine::poke_word`] | returns the machine with the four bytes at an address changed |
+//! | [`Machine::share`] | returns a copy, which later changes of the original don't reach |
+//! | [`Machine::hand_on`] | likewise, for the copy that continues the run: what was decoded moves to it |
 //! | [`Machine::share_ready`] | likewise, for one of several such copies: it has decoded what this one has |
-//! | [`Machine::learn`], [`Machine::take_over`] | nothing: the machine has decoded what another has, of the words that it has the same; by `take_over` the other has it no more |
-//! | [`Machine::status`], [`Machine::pc`], [`Machine::register`] | whether it runs, and its registers |
-//! | [`Machine::position`], [`Machine::end_seen`] | how much of the input was read so far, and whether its end was seen |
-//! | [`Machine::output_len`], [`Machine::heap_calls`] | what was written and called so far |
-//! | [`Machine::has_raised`] | whether the last step by [`Machine::step`] raised an error |
-//! | [`Machine::memory`], [`Machine::heap`] | the bytes with what is known of them, and the blocks of the heap |
-//! | [`Machine::groups`] | the errors so far, in order of first occurrence |
-//! | [`Hooks::new`], [`Hooks::at`] | the functions of the heap that are called by name, from a list in order of address; the one that begins at an address |
-//! | [`Input::new`], [`Input::len`], [`Input::into_vec`] | the bytes that can be read, from a vector; how many; the vector again |
-//! | [`Input::push`], [`Input::pop`] | nothing: the input has one byte more, or one less, at its end |
+//! | [`Machine::learn`], [`Machine::take_over`] | copy or move what another machine has decoded, for the words that are the same in both |
+//! | [`Machine::status`], [`Machine::pc`], [`Machine::register`] | return whether it runs, and its registers |
+//! | [`Machine::position`], [`Machine::end_seen`] | return how much of the input was read so far, and whether its end was seen |
+//! | [`Machine::output_len`], [`Machine::heap_calls`] | return the number of bytes written and of heap calls so far |
+//! | [`Machine::has_raised`] | returns whether the last step by [`Machine::step`] raised an error |
+//! | [`Machine::memory`], [`Machine::heap`] | return the bytes with what is known of them, and the blocks of the heap |
+//! | [`Machine::groups`] | returns the errors so far, in order of first occurrence |
+//! | [`Hooks::new`], [`Hooks::at`] | return the functions of the heap that are called by name, from a list in order of address; the one that begins at an address |
+//! | [`Input::new`], [`Input::len`], [`Input::into_vec`] | return the bytes that can be read, from a vector; their number; the vector again |
+//! | [`Input::push`], [`Input::pop`] | append a byte to the input, or remove its last one |
 //! | [`Register::new`] | the register of a number below 32 |
 //! | [`Meter::new`], [`Meter::read`], [`Meter::rise_by`] | a count of steps, raised by `step`, by `run` and by the steps that a caller counted |
-//! | [`laws::keeps_words`], [`laws::keeps_input`], [`laws::keeps_heap`], [`laws::keeps_pokes`] | nothing: their contracts are laws of one step |
+//! | [`laws::keeps_words`], [`laws::keeps_input`], [`laws::keeps_heap`], [`laws::keeps_pokes`] | do nothing; their contracts are laws of one step |
 //! | [`laws::reads_on`], [`laws::keeps_end`], [`laws::end_stays`], [`laws::stays_halted`] | likewise |
 //!
-//! [`Setup`], [`Input`], [`Hooks`], [`Mark`], [`Touched`], [`Span`], [`Register`], [`Status`] and [`Stop`] are the values that these take and
-//! answer, [`USUAL_REDZONE`] and [`USUAL_VOLUME`] Memcheck's settings of the heap; those of memory, traces, blocks and errors are of the
-//! crates `shadow_memory`, `call_stacks`, `guest_heap` and `error_events`. What consumes a machine and finds no memory drops it and answers
-//! `AllocError`; nothing else fails.
+//! [`Setup`], [`Input`], [`Hooks`], [`Mark`], [`Touched`], [`Span`], [`Register`], [`Status`] and [`Stop`] are the values that these take
+//! and return. [`USUAL_REDZONE`] and [`USUAL_VOLUME`] are Memcheck's settings of the heap. The values for memory, traces, blocks and errors
+//! are in the crates `shadow_memory`, `call_stacks`, `guest_heap` and `error_events`. If memory runs out, what consumes a machine drops it
+//! and returns `AllocError`; nothing else fails.
 //!
-//! # What a caller relies on
+//! # What a caller can rely on
 //!
-//! The contract of [`Machine::step`]. A machine shows a state, which is a value of `specs/` and no code (`Shows`); for each
-//! state that it shows,
+//! The contract of [`Machine::step`]. A machine shows a state, which is a value of `specs/` and no code (`Shows`). For each state that it
+//! shows:
 //!
 //! - `shows`: the machine after the step shows `exec` of that state and the setup;
-//! - `touched`: the spans answered are those that the step touches (`touched_of`): its word's, what it reads beside that, what it writes;
-//! - `raised`: the machine after the step tells, by `has_raised`, whether the step's errors are more than those before it;
+//! - `touched`: the returned spans are those that the step touches (`touched_of`): its word's, what it reads besides that, what it writes;
+//! - `raised`: the machine after the step says, by `has_raised`, whether the step's errors are more than those before it;
 //! - `meter`: the meter has risen by one, up to the greatest `u64`;
-//! - `unmoved`: where memory failed, the meter stands where it stood.
+//! - `unmoved`: if memory ran out, the meter is where it was.
 //!
-//! The calls between steps have the same form: `start` shows `start_state`, `mark` goes from a state to `marked`, `poke_word`
-//! to `poked`, `share` to the same state, and each observer but `has_raised` answers a field of it. So a run of any length is the
-//! definition `pre` or `post`, by as many calls. The laws let a caller replay less after an edit: a step is the same if the edit changed
-//! only a word that it doesn't touch, input that it hasn't come to, or, where it is no heap call, the heap's options; a word
-//! that it doesn't touch may as well be poked after it; and a step of a halted machine need not be made.
+//! The calls between steps have the same form: `start` shows `start_state`, `mark` leads from a state to `marked`, `poke_word` to `poked`,
+//! `share` to the same state, and each observer except `has_raised` returns a field of it. So a run of any length is the definition `pre`
+//! or `post`, by as many calls. The laws let a caller replay less after an edit. A step is the same if the edit changed only a word that it
+//! doesn't touch, input that it hasn't come to, or, if it is no heap call, the heap's options. A word that it doesn't touch may as well be
+//! poked after it. A step of a halted machine need not be executed.
 //!
-//! # Where the definitions stand
+//! # Where the definitions are
 //!
-//! In `specs/`, from the outside in:
+//! They are in `specs/`, here from the outside in:
 //!
 //! - `Run`: the state at the start, marks, pokes, and the states before and after the marks of each step.
-//! - `Exec`: one step (`exec`) and what it touches (`touched_of`, `touches`), in three parts: what the step does (`deed_at`: it takes
-//!   the word at pc, calls a function by name, or neither), what it uses, and what it leaves. No other byte and no other part of the setup
-//!   enters; the laws follow from this form.
+//! - `Exec`: one step (`exec`) and what it touches (`touched_of`, `touches`), in three parts: what the step does (`deed_at`: it fetches the
+//!   word at pc, calls a function by name, or neither), what it uses, and what it leaves. It depends on no other byte and no other part of
+//!   the setup; the laws follow from this form.
 //! - `Effects` and `Calls`: what each class of instruction and each call of the environment leaves; `Alu`: what instructions
 //!   compute; `Instructions`: the class of each row of the instruction table; `Widths`: of accesses.
 //! - `HeapCalls`: `malloc`, `calloc`, `free` and `realloc` over the blocks of the crate `guest_heap`; `NamedCalls`: what a call of

@@ -1,4 +1,4 @@
-//! The machine: what it keeps, and (in the modules below) what is done to it.
+//! The machine: what it keeps, and (in the modules below) what changes it.
 ghost use Rattle.std.specs.Prelude.{◌≡◌, slice_index_or};
 ghost use Rattle.guest_machine.specs.Registers.{known};
 
@@ -26,7 +26,7 @@ use std::alloc::{AllocError, Global};
 /// The bytes of output that there is room for.
 const OUTPUT_ROOM: u64 = 65_536;
 
-/// How far a program has come, which only adds up: bytes of input read and whether its end was seen, bytes of output, heap calls made.
+/// How far a program has come, which only increases: bytes of input read and whether its end was seen, bytes of output, heap calls.
 #[derive(Clone, Copy)]
 pub(crate) struct Progress {
     position: u64,
@@ -54,7 +54,7 @@ impl Progress {
         }
     }
 
-    /// Is there room for so many more bytes of output?
+    /// Whether there is room for `len` further bytes of output.
     fn has_room(&self, len: u32) -> bool
         requires { len ≤ most_moved }
         ensures { result ≡ nat_le (self.now.output_len + len) output_room }
@@ -83,7 +83,7 @@ impl Noted {
     ghost use Rattle.std.specs.Prelude.{◌∷◌, [], OnOk};
     ghost use Rattle.guest_machine.specs.Doing.{noted_of, note_events};
 
-    /// One error more.
+    /// Adds an error.
     #[tactic(auto, unfolding(crate::specs::Doing::note_events))]
     fn add(&mut self, event: Event) -> Result<(), AllocError>
         ensures { OnOk result (noted_of self.new ≡ note_events (noted_of self.old) (event ∷ [])) }
@@ -94,7 +94,7 @@ impl Noted {
     }
 }
 
-/// A guest machine between two steps. What it holds stands on the heap, so that a step moves one pointer.
+/// A guest machine between two steps. Its contents are on the heap, so that a step moves one pointer.
 #[derive(Drop)]
 pub struct Machine {
     guest: Box<Guest>,

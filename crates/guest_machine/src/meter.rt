@@ -2,7 +2,7 @@ ghost use Rattle.std.specs.Prelude.{◌≡◌, ◌+◌, ◌≤◌, min};
 
 use std::marker::Model;
 
-/// How many steps were made on it. It has no copy, and stands still at the greatest `u64`.
+/// A count of steps. It can't be copied, and stops at the greatest `u64`.
 #[derive(Drop)]
 pub struct Meter {
     steps: u64,
@@ -17,14 +17,14 @@ impl Model for Meter {
 }
 
 impl Meter {
-    /// A meter at 0.
+    /// Returns a meter at 0.
     pub fn new() -> Self
         ensures { result ≡ 0 }
     {
         Meter { steps: 0 }
     }
 
-    /// How many steps were made on it.
+    /// Returns the number of steps executed on it.
     pub fn read(&self) -> u64
         ensures { result ≡ self.now }
     {
@@ -38,7 +38,7 @@ impl Meter {
         self.steps = self.steps.saturating_add(1);
     }
 
-    /// So many steps more.
+    /// Adds a number of steps.
     #[inline(always)]
     pub fn rise_by(&mut self, steps: u32)
         ensures { self.new ≡ min (self.old + steps) u64.MAX }

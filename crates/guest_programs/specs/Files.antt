@@ -26,7 +26,7 @@ load_front = 1 ∷ 0 ∷ 0 ∷ 0 ∷ 0x54 ∷ 0 ∷ 0 ∷ 0 ∷ 0 ∷ 0 ∷ 1 �
 abbrev pub load_back : List ℕ
 load_back = 5 ∷ 0 ∷ 0 ∷ 0 ∷ 4 ∷ 0 ∷ 0 ∷ 0 ∷ []
 
--- the file of these words, with so many bytes in memory
+-- the file of these words, with this number of bytes in memory
 unfoldable pub file_of : List ℕ → ℕ → List ℕ
 file_of words memsz =
     elf_header ++ load_front ++ to_le_bytes w32 (words_size (length words)) ++ to_le_bytes w32 memsz ++ load_back

@@ -1,12 +1,12 @@
-//! Small guest programs as ELF files, assembled from instruction words: what tests run.
+//! Small guest programs as ELF files, assembled from instruction words, for tests to run.
 //!
-//! | Call | What it answers |
+//! | Call | What it does |
 //! |---|---|
-//! | [`program`] | the file of a program of words |
-//! | [`sized_program`] | the same, with more memory than words |
-//! | [`push_words`] | words appended to a file that is made by hand |
+//! | [`program`] | returns the file of a program of some words |
+//! | [`sized_program`] | returns the same, with more memory than words |
+//! | [`push_words`] | appends words to a file that is built by hand |
 //!
-//! The contracts say the file byte for byte, by the definitions of `specs/Files.antt` (System V ABI, edition 4.1, chapters 4 and 5).
+//! The contracts define the file byte for byte, by the definitions of `specs/Files.antt` (System V ABI, edition 4.1, chapters 4 and 5).
 #![tactic(auto)]
 
 ghost use Rattle.std.specs.Prelude.{◌≡◌, ◌++◌, IfOk, OnOk, length};
@@ -14,7 +14,7 @@ ghost use Rattle.guest_programs.specs.Files.{words_size, file_of, bytes_of};
 
 use std::alloc::{AllocError, Global};
 
-/// The ELF header, and the program header up to p_filesz: one segment at 0x10000, whose bytes stand at offset 84.
+/// The ELF header, and the program header up to p_filesz: one segment at 0x10000, whose bytes are at offset 84.
 const FRONT: [u8; 68] = [
     0x7F, 0x45, 0x4C, 0x46, 0x01, 0x01, 0x01, 0x00, 0x00, 0x00, 0x00, 0x00, 0x00, 0x00, 0x00, 0x00,
     0x02, 0x00, 0xF3, 0x00, 0x01, 0x00, 0x00, 0x00, 0x00, 0x00, 0x01, 0x00, 0x34, 0x00, 0x00, 0x00,
@@ -26,14 +26,14 @@ const FRONT: [u8; 68] = [
 /// p_flags (readable and executable) and p_align, which follow p_filesz and p_memsz.
 const BACK: [u8; 8] = [0x05, 0x00, 0x00, 0x00, 0x04, 0x00, 0x00, 0x00];
 
-/// How many bytes so many words have, in a field of the file.
+/// Returns the number of bytes of the words, for a field of the file.
 fn words_size(words: &[u32]) -> u32
     ensures { result ≡ words_size (length words.now) }
 {
     u32::try_from(words.len().saturating_mul(4)).unwrap_or(u32::MAX)
 }
 
-/// The file of a program: its words at 0x10000, which is its entry, and nothing else.
+/// Returns the file of a program: its words at 0x10000, which is its entry, and nothing else.
 pub fn program(alloc: Global, words: &[u32]) -> Result<Vec<u8>, AllocError>
     ensures { IfOk result (λ file. file.items ≡ file_of words.now (words_size (length words.now))) }
 {
@@ -41,7 +41,7 @@ pub fn program(alloc: Global, words: &[u32]) -> Result<Vec<u8>, AllocError>
     sized_program(alloc, words, size)
 }
 
-/// The file of a program whose segment has so many bytes in memory (p_memsz): its words at 0x10000, and zeros after them.
+/// Returns the file of a program whose segment has `memsz` bytes in memory (p_memsz): its words at 0x10000, and zeros after them.
 #[tactic(auto, unfolding(crate::specs::Files::file_of))]
 pub fn sized_program(alloc: Global, words: &[u32], memsz: u32) -> Result<Vec<u8>, AllocError>
     ensures { IfOk result (λ file. file.items ≡ file_of words.now memsz) }

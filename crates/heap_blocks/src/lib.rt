@@ -1,7 +1,7 @@
-//! The blocks of a guest's heap, as the heap gives them out and as errors and leaks tell of them: a [`Block`] as it was given to the guest,
-//! and [`Near`], one whose interval holds an address, with the [`Place`] of that address.
+//! The blocks of a guest's heap, as the heap returns them and as errors and leaks describe them: a [`Block`] as it was given to the guest,
+//! and [`Near`], a block whose interval holds an address, with the [`Place`] of that address.
 //!
-//! They stand apart from `guest_heap`, so that what tells of blocks doesn't stand on what allocates them.
+//! This crate is separate from `guest_heap`, so that what describes blocks doesn't depend on what allocates them.
 #![tactic(auto)]
 
 mod block;

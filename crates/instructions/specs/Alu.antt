@@ -1,5 +1,5 @@
--- What an instruction computes of two numbers, with the undefined bits of the result; what a branch compares; and the
--- sign extension of what a load takes.
+-- What an instruction computes from two numbers, with the undefined bits of the result; what a branch compares; and the
+-- sign extension of a loaded number.
 use Rattle.std.specs.Prelude.{ℕ, ◌+◌, ◌-◌, ◌*◌, ◌^◌, ◌==◌, nat_lt, not, Bool, true, false, if◌then◌else◌}
 use Rattle.definedness.specs.declared.Bits.{Bits}
 use Rattle.definedness.specs.declared.Shift.TheVariants.{Left, Right, Arith}
@@ -82,11 +82,11 @@ is_undecided GreaterEqual x y = Undef.undef_branch x y
 is_undecided LessUnsigned x y = Undef.undef_branch x y
 is_undecided GreaterEqualUnsigned x y = Undef.undef_branch x y
 
--- a number of some bits, its top bit repeated upwards to 32 bits
+-- a number of some bits, sign-extended to 32 bits
 abbrev pub sign_extended : ℕ → ℕ → ℕ
 sign_extended bits x = if nat_lt x (2 ^ (bits - 1)) then x else x + (2 ^ 32 - 2 ^ bits)
 
--- what a load puts in the register, of the number that it took (section 2.6)
+-- what a load puts in the register, given the number that it loaded (section 2.6)
 unfoldable pub extended : Width → Bool → ℕ → ℕ
 extended width true x = sign_extended (8 * width_len width) x
 extended width false x = x

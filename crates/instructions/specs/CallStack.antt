@@ -17,7 +17,7 @@ hint_by true false same = Push
 hint_by true true false = PopPush
 hint_by true true true = Push
 
--- JAL pushes where rd is a link
+-- JAL pushes if rd is a link register
 abbrev pub jal_hint : ℕ → StackHint
 jal_hint rd = hint_by (is_link rd) false false
 

@@ -1,5 +1,5 @@
--- The instructions in classes: each of the 48 names of the instruction table, with what tells it from the others of its
--- class.
+-- The instructions in classes: each of the 48 names of the instruction table, with what distinguishes it from the
+-- others of its class.
 use Rattle.std.specs.Prelude.{ℕ, true, false, Option, Some, None}
 use Rattle.rv_decode.specs.Table.{insn}
 use Rattle.rv_decode.specs.declared.Insn.{Insn}

@@ -1,4 +1,4 @@
--- How many bytes an access has, and what its numbers are below.
+-- The number of bytes of an access, and the limit of its numbers.
 use Rattle.std.specs.Prelude.{ℕ, ◌*◌, ◌^◌}
 use Rattle.instructions.specs.declared.width.Width.{Width}
 use Rattle.instructions.specs.declared.width.Width.TheVariants.{Byte, Half, Word}
@@ -8,6 +8,6 @@ width_len Byte = 1
 width_len Half = 2
 width_len Word = 4
 
--- what the numbers of so many bytes are below
+-- the numbers of an access of this width are below this one
 abbrev pub width_limit : Width → ℕ
 width_limit width = 2 ^ (8 * width_len width)

@@ -1,4 +1,4 @@
-//! What an instruction computes of two numbers, with the undefined bits of the result.
+//! What an instruction computes from two numbers, with the undefined bits of the result.
 ghost use Rattle.std.specs.Prelude.{◌≡◌, ◌<◌, ◌^◌};
 ghost use Rattle.instructions.specs.Widths.{width_limit};
 ghost use Rattle.definedness.specs.Operations.{less_signed, shift_of, upper_word, mulh_of, mulhsu_of, mulhu_of, div_of, rem_of};
@@ -39,7 +39,7 @@ fn undef_of(operation: Operation, x: Bits, y: Bits) -> u32
     }
 }
 
-/// 1 for true.
+/// Returns 1 for true and 0 for false.
 #[inline(always)]
 fn number_of(holds: bool) -> u32
     ensures { result ≡ number_of holds }
@@ -70,7 +70,7 @@ fn shifted(shift: Shift, x: u32, amount: u32) -> u32
     }
 }
 
-/// The upper half of a product of 64 bits.
+/// Returns the upper half of a product of 64 bits.
 #[inline(always)]
 fn upper_word(product: i64) -> u32
     ensures { result ≡ upper_word product }
@@ -78,7 +78,7 @@ fn upper_word(product: i64) -> u32
     (product.cast_unsigned() >> 32) as u32
 }
 
-/// The upper half of the product of two signed numbers.
+/// Returns the upper half of the product of two signed numbers.
 #[inline(always)]
 #[tactic(auto, unfolding(definedness::specs::Operations::mulh_of))]
 fn mulh(x: u32, y: u32) -> u32
@@ -87,7 +87,7 @@ fn mulh(x: u32, y: u32) -> u32
     upper_word(i64::from(x.cast_signed()).wrapping_mul(i64::from(y.cast_signed())))
 }
 
-/// The upper half of the product of a signed and an unsigned number.
+/// Returns the upper half of the product of a signed and an unsigned number.
 #[inline(always)]
 #[tactic(auto, unfolding(definedness::specs::Operations::mulhsu_of))]
 fn mulhsu(x: u32, y: u32) -> u32
@@ -96,7 +96,7 @@ fn mulhsu(x: u32, y: u32) -> u32
     upper_word(i64::from(x.cast_signed()).wrapping_mul(i64::from(y)))
 }
 
-/// The upper half of the product of two unsigned numbers.
+/// Returns the upper half of the product of two unsigned numbers.
 #[inline(always)]
 #[tactic(auto, unfolding(definedness::specs::Operations::mulhu_of))]
 fn mulhu(x: u32, y: u32) -> u32
@@ -105,7 +105,7 @@ fn mulhu(x: u32, y: u32) -> u32
     (u64::from(x).wrapping_mul(u64::from(y)) >> 32) as u32
 }
 
-/// The signed quotient, rounded towards zero; all ones by zero.
+/// Returns the signed quotient, rounded towards zero; all ones for division by zero.
 #[inline(always)]
 #[tactic(auto, unfolding(definedness::specs::Operations::div_of))]
 fn div(x: u32, y: u32) -> u32
@@ -119,7 +119,7 @@ fn div(x: u32, y: u32) -> u32
         .cast_unsigned()
 }
 
-/// The signed remainder, with the sign of the dividend; the dividend by zero.
+/// Returns the signed remainder, with the sign of the dividend; the dividend for division by zero.
 #[inline(always)]
 #[tactic(auto, unfolding(definedness::specs::Operations::rem_of))]
 fn rem(x: u32, y: u32) -> u32
@@ -160,7 +160,8 @@ fn value_of(operation: Operation, x: u32, y: u32) -> u32
     }
 }
 
-/// The result of an operation of two numbers of which some bits are undefined. Out of line, as most numbers have none.
+/// Returns the result of an operation on two numbers some of whose bits are undefined. Out of line, since most numbers have no undefined
+/// bits.
 #[inline(never)]
 #[tactic(auto, unfolding(crate::specs::Alu::computed))]
 fn computed_in_part(operation: Operation, x: Bits, y: Bits) -> Bits
@@ -172,7 +173,7 @@ fn computed_in_part(operation: Operation, x: Bits, y: Bits) -> Bits
     }
 }
 
-/// Where no bit of `x` and `y` is undefined, no bit of the result is.
+/// If no bit of `x` and `y` is undefined, no bit of the result is.
 #[inline(always)]
 fn leaves_none(operation: Operation, x: Bits, y: Bits)
     requires x_defined { x.undef ≡ 0 }
@@ -182,7 +183,7 @@ fn leaves_none(operation: Operation, x: Bits, y: Bits)
     defined_results(x, y);
 }
 
-/// The result of an operation, with its undefined bits.
+/// Returns the result of an operation, with its undefined bits.
 #[inline(always)]
 #[tactic(auto, unfolding(crate::specs::Alu::computed), using(std::proofs::lemmas::Nat::le_or_l, std::proofs::lemmas::Nat::le_or_r))]
 pub fn computed(operation: Operation, x: Bits, y: Bits) -> Bits
@@ -198,7 +199,7 @@ pub fn computed(operation: Operation, x: Bits, y: Bits) -> Bits
     }
 }
 
-/// Whether a branch is taken.
+/// Returns whether a branch is taken.
 #[inline(always)]
 #[tactic(auto, unfolding(crate::specs::Alu::passes, definedness::specs::Operations::less_unsigned))]
 pub fn passes(comparison: Comparison, x: u32, y: u32) -> bool
@@ -214,7 +215,7 @@ pub fn passes(comparison: Comparison, x: u32, y: u32) -> bool
     }
 }
 
-/// Whether a branch depends on undefined bits.
+/// Returns whether a branch depends on undefined bits.
 #[inline(always)]
 #[tactic(auto, unfolding(crate::specs::Alu::is_undecided))]
 pub fn is_undecided(comparison: Comparison, x: Bits, y: Bits) -> bool
@@ -229,7 +230,7 @@ pub fn is_undecided(comparison: Comparison, x: Bits, y: Bits) -> bool
     }
 }
 
-/// What a load puts in a register: the number of its bytes, its sign repeated upwards where the load is signed.
+/// Returns what a load puts in a register: the number of its bytes, sign-extended if the load is signed.
 #[inline(always)]
 #[tactic(auto, unfolding(crate::specs::Alu::extended))]
 pub fn extended(width: Width, signed: bool, x: u32) -> u32

@@ -1,4 +1,4 @@
-//! What jumps say of calls and returns.
+//! What jumps mean for the stack of calls.
 ghost use Rattle.std.specs.Prelude.{◌≡◌};
 ghost use Rattle.instructions.specs.CallStack.{is_link, jal_hint, jalr_hint};
 
@@ -22,7 +22,7 @@ fn is_link(r: Register) -> bool
 
 #[tactic(auto, unfolding(crate::specs::CallStack::hint_by))]
 impl StackHint {
-    /// The hint of JAL, by the register that it links to.
+    /// Returns the hint of JAL, by the register that it links to.
     pub fn of_jal(rd: Register) -> StackHint
         ensures { result ≡ jal_hint rd }
     {
@@ -33,7 +33,7 @@ impl StackHint {
         }
     }
 
-    /// The hint of JALR, by the register that it links to and the one that it takes the address from.
+    /// Returns the hint of JALR, by the register that it links to and the register that has the address.
     pub fn of_jalr(rd: Register, rs1: Register) -> StackHint
         ensures { result ≡ jalr_hint rd rs1 }
     {

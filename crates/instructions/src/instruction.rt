@@ -17,7 +17,7 @@ pub enum Comparison {
     GreaterEqualUnsigned,
 }
 
-/// What an instruction computes of two numbers (sections 2.4 and 7).
+/// What an instruction computes from two numbers (sections 2.4 and 7).
 #[derive(Clone, Copy)]
 pub enum Operation {
     Add,
@@ -40,7 +40,7 @@ pub enum Operation {
     RemUnsigned,
 }
 
-/// An instruction. Immediates are modulo 2^32, their sign repeated upwards; a shift's amount is its immediate.
+/// An instruction. Immediates are modulo 2^32 and sign-extended; the amount of a shift is its immediate.
 #[derive(Clone, Copy)]
 pub enum Instruction {
     LoadUpper {
@@ -96,7 +96,7 @@ pub enum Instruction {
     Breakpoint,
 }
 
-/// The operands of a row of the table, and the instructions that are made of them.
+/// The operands of a row of the table, from which instructions are made.
 #[derive(Clone, Copy)]
 struct Operands {
     rd: Register,
@@ -175,7 +175,7 @@ impl Operands {
     }
 }
 
-/// The instruction of a row of the table.
+/// Returns the instruction of a row of the table.
 #[inline(always)]
 #[tactic(auto, unfolding(crate::specs::Instructions::instruction_of))]
 fn instruction_of(insn: Insn) -> Instruction
@@ -241,7 +241,7 @@ fn instruction_of(insn: Insn) -> Instruction
     }
 }
 
-/// The instruction of a word, if it is one.
+/// Returns the instruction of a word, if it is one.
 #[inline(always)]
 #[tactic(auto, unfolding(crate::specs::Instructions::row_of))]
 pub fn row_of(word: u32) -> Option<Instruction>

@@ -1,13 +1,13 @@
-//! What a word of RV32IM asks for: its [`Instruction`], by the row of the instruction table, and what instructions compute of numbers of which
-//! some bits are undefined.
+//! What a word of RV32IM means: its [`Instruction`], by the row of the instruction table, and what instructions compute from numbers some
+//! of whose bits are undefined.
 //!
-//! | Call | What it does |
+//! | Call | What it returns |
 //! |---|---|
 //! | [`row_of`] | the instruction of a word, if it is one |
 //! | [`computed`] | the result of an [`Operation`], with its undefined bits |
 //! | [`passes`], [`is_undecided`] | whether a branch is taken, by its [`Comparison`]; whether that depends on undefined bits |
 //! | [`extended`] | what a load puts in a register, by its [`Width`] |
-//! | [`StackHint::of_jal`], [`StackHint::of_jalr`] | what a jump says of calls and returns |
+//! | [`StackHint::of_jal`], [`StackHint::of_jalr`] | what a jump does to the stack of calls |
 //! | [`Register::new`], [`Register::number`] | the register of a number below 32, and its number |
 //!
 //! In `specs/`: `Instructions` (the class of each row of the table), `Alu` (values and undefined bits), `Widths`, `CallStack` (the hints, and

@@ -21,7 +21,7 @@ impl Model for Register {
 }
 
 impl Register {
-    /// x`number`, for a number below 32.
+    /// Returns the register x`number`, for a number below 32.
     #[inline(always)]
     pub fn new(number: u8) -> Self
         requires { number < 32 }
@@ -30,7 +30,7 @@ impl Register {
         Register { number }
     }
 
-    /// The number, below 32.
+    /// Returns the number, below 32.
     #[inline(always)]
     pub fn number(self) -> usize
         ensures value { result ≡ self }

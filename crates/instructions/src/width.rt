@@ -1,7 +1,7 @@
 ghost use Rattle.std.specs.Prelude.{◌≡◌};
 ghost use Rattle.instructions.specs.Widths.{width_len};
 
-/// How many bytes a load or a store has.
+/// The number of bytes of a load or a store.
 #[derive(Clone, Copy)]
 pub enum Width {
     Byte,
@@ -10,7 +10,7 @@ pub enum Width {
 }
 
 impl Width {
-    /// The number of bytes, as an error names it.
+    /// Returns the number of bytes, as an error has it.
     pub fn byte_len(self) -> u8
         ensures { result ≡ width_len self }
     {
@@ -21,7 +21,7 @@ impl Width {
         }
     }
 
-    /// The number of bytes: 1, 2 or 4.
+    /// Returns the number of bytes: 1, 2 or 4.
     pub fn len(self) -> u32
         ensures { result ≡ width_len self }
     {

@@ -1,14 +1,14 @@
--- The leak kind of each block: what points to what decides, by paths (Memcheck manual, section 4.2, "Memory leak
--- detection"). Of a ring that no other lost block leads to, the block of lowest address is definitely lost, which is
--- this project's own rule.
+-- The leak kind of each block, which paths of pointers define (Memcheck manual, section 4.2, "Memory leak detection").
+-- In a ring that no other lost block leads to, the block with the lowest address is definitely lost, which is this
+-- project's own rule.
 use Rattle.std.specs.Prelude.{ℕ, ◌<◌, ◌≢◌, ◌⊎◌}
 use Rattle.leak_graph.specs.Paths.{HasPath, IsReached}
 use Rattle.leak_graph.specs.declared.leak_kind.LeakKind.{LeakKind}
 use Rattle.leak_graph.specs.declared.leak_kind.LeakKind.TheVariants.{Definite, Indirect, Possible, Reachable}
 
--- What points to what, where the blocks are numbered from 0 in the order of their addresses.
+-- Which block points to which; the blocks are numbered from 0 in the order of their addresses.
 pub record Links : Type 1 where
-  -- how many blocks there are
+  -- the number of blocks
   pub count : ℕ
   -- a root has a start-pointer to this block; a root has a pointer of either sort to it
   pub start_root : ℕ → Type 0

@@ -1,4 +1,4 @@
--- What the private functions say of their marks: lists of one `Bool` a block.
+-- What the private functions say of their marks: lists with one `Bool` for each block.
 use Rattle.std.specs.Prelude.{◌≡◌, ℕ, ◌+◌, ◌<◌, ◌≤◌, ◌≢◌, Bool, true, false, List, length, ◌⊎◌, slice_index_or}
 use Rattle.std.specs.Prelude.{slice_get, Some, not, count_by}
 use Rattle.std.specs.Prelude.{if◌then◌else◌}
@@ -20,7 +20,7 @@ IsClosed edge marks = (a b : ℕ) → IsMarked marks a → edge a b → IsMarked
 unfoldable pub unmarked : List Bool → ℕ
 unmarked marks = count_by not marks
 
--- the marks grew by the targets alone, and what was not marked before waits
+-- the marks grew only by the targets, and those that weren't marked before are on the work list
 pub record Grows (target : ℕ → Type 0) (old new : List Bool) (before after : List ℕ) : Type 0 where
   pub keeps : (b : ℕ) → IsMarked old b → IsMarked new b
   pub marks : (b : ℕ) → target b → IsMarked new b
@@ -42,13 +42,13 @@ pub record Reaches (root : ℕ → Type 0) (edge : ℕ → ℕ → Type 0) (mark
   pub roots : (a : ℕ) → root a → IsMarked marks a
   pub sound : (b : ℕ) → IsMarked marks b → IsReached root edge b
 
--- of the n nodes that are not marked: a node is a head just where no lesser head leads to it
+-- among the n nodes that aren't marked, a node is a head exactly if no lesser head leads to it
 pub record HeadsOf (edge : ℕ → ℕ → Type 0) (n : ℕ) (found heads : List Bool) : Type 0 where
   pub lost : (h : ℕ) → IsMarked heads h → IsMarked found h → ⊥
   pub apart : (h k : ℕ) → IsMarked heads h → IsMarked heads k → h < k → HasPath edge h k → ⊥
   pub owned : (c : ℕ) → c < n → IsMarked found c ⊎ ((h : ℕ) × IsMarked heads h × (h ≤ c) × HasPath edge h c)
 
--- of the heads, those to which no other leads
+-- among the heads, those to which no other head leads
 pub record DefiniteOf (edge : ℕ → ℕ → Type 0) (heads definite : List Bool) : Type 0 where
   pub among : (h : ℕ) → IsMarked definite h → IsMarked heads h
   pub alone : (h k : ℕ) → IsMarked definite h → IsMarked heads k → k ≢ h → HasPath edge k h → ⊥

@@ -9,7 +9,7 @@ use crate::leak_kind::LeakKind;
 use crate::passes::{definite_heads, lost_heads, reached};
 use std::alloc::{AllocError, Global};
 
-/// The kind that the marks of a block say.
+/// Returns the kind of a block with these marks.
 #[tactic(auto, unfolding(crate::specs::Marks::kind_by))]
 fn kind_of(reachable: bool, found: bool, definite: bool) -> LeakKind
     ensures { result ≡ kind_by reachable found definite }
@@ -25,7 +25,7 @@ fn kind_of(reachable: bool, found: bool, definite: bool) -> LeakKind
     }
 }
 
-/// The kinds that the marks of all blocks say.
+/// Returns the kinds of all blocks by their marks.
 fn sort_out(
     alloc: Global,
     reachable: &[bool],
@@ -44,8 +44,8 @@ fn sort_out(
     Ok(kinds)
 }
 
-/// The leak kind of each block, from the pointers of the roots and those of each block. The time that it takes grows with the
-/// number of blocks and pointers together.
+/// Returns the leak kind of each block, from the pointers of the roots and those of each block. The time needed grows with the number of
+/// blocks and pointers together.
 pub fn leak_kinds(
     alloc: Global,
     roots: &[Pointer],

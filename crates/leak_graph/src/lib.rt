@@ -1,33 +1,33 @@
 //! Leak kinds of blocks that point to one another: the graph below a leak search.
 //!
-//! Blocks are numbered from 0 in order of address. A [`Pointer`] goes to a block, to its start or to its inside; the roots have a
-//! list of pointers, and so has each block. A [`LeakKind`] is a kind of the Memcheck manual (section 4.2, "Memory leak detection").
+//! Blocks are numbered from 0 in order of address. A [`Pointer`] goes to the start or the inside of a block. The roots have a list of
+//! pointers, and so has each block. A [`LeakKind`] is a kind of the Memcheck manual (section 4.2, "Memory leak detection").
 //!
 //! # Public items
 //!
-//! | Call | What it answers |
+//! | Call | What it returns |
 //! |---|---|
 //! | [`leak_kinds`] | the kind of each block, by the pointers of the roots and of each block |
-//! | [`Pointer::counts`] | whether a pointer counts where all do, or only those to starts |
+//! | [`Pointer::counts`] | whether a pointer counts, where either all do, or only those to starts |
 //!
-//! `leak_kinds` takes memory, and answers `AllocError` where there is none; nothing else fails.
+//! `leak_kinds` allocates memory, and returns `AllocError` if memory runs out; nothing else fails.
 //!
-//! # What a caller relies on
+//! # What a caller can rely on
 //!
-//! The clause `kinds` of [`leak_kinds`]: each answer is the block's kind by `HasKind`, which speaks of paths alone. `HasKind` is over
-//! any links (`Links`); `links_of` are those of the lists that the call is given.
+//! The clause `kinds` of [`leak_kinds`]: each result is the block's kind by `HasKind`, which speaks only of paths. `HasKind` is over any
+//! links (`Links`); `links_of` are those of the lists that are passed to the call.
 //!
-//! # Where the definitions stand
+//! # Where the definitions are
 //!
 //! In `specs/`: `Paths` (a path along edges), `Leaks` (the kind of a block), `Graphs` (the links of lists of pointers). `Marks` is for
 //! this crate's proofs.
 //!
 //! # How it is done
 //!
-//! A walk with a work list marks what has a path from a block (`spread`); no block is marked twice by one walk, and none recurses. Two
-//! walks from the roots find what is reachable and what is found at all. Of the lost blocks those to which no earlier one leads are
-//! heads; they are taken again from the last one down, and those to which no other head leads are definitely lost. So each pointer is
-//! followed at most four times.
+//! A walk with a work list marks what has a path from a block (`spread`). No walk marks a block twice, and none recurses. Two walks from
+//! the roots find what is reachable and what is found at all. The lost blocks to which no earlier lost block leads are heads. The heads are
+//! visited again from the last one down, and those to which no other head leads are definitely lost. So each pointer is followed at most
+//! four times.
 #![tactic(auto)]
 
 mod graph;

@@ -1,4 +1,4 @@
--- Which block a value points to, and whose a word is.
+-- Which block a value points to, and where a word lies.
 use Rattle.std.proofs.Common.{◌≡◌, ℕ, ◌+◌, ◌-◌, ◌<◌, ◌≤◌, ◌%◌, inl, inr, Bool, List, true, false, Some, length}
 use Rattle.std.proofs.Common.{get_or, arith, refl, sym, ◌∙◌, subst, slice_get, nat_le}
 use Rattle.std.proofs.lemmas.Bool.{cases_lt, cases_eq, false≢true}

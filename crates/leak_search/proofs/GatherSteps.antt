@@ -88,7 +88,7 @@ edges_as target other old new to back p = record {
   sound = λ starts a b h. elim (p.sound starts a b h) [ inl o ↦ inl o | inr t ↦ inr (to starts a b t) ];
 }
 
--- one row of the edges has one pointer more
+-- one row of the edges has another pointer
 row_same : (edges : List (Vec Pointer Global)) (block : ℕ) (row : Vec Pointer Global) → block < length edges
     → slice_get (set edges block row) block ≡ Some row
 row_same edges block row h =
@@ -260,7 +260,7 @@ edges_all read blocks from old new none p =
     (λ starts a b r. (r.1.0, r.0, under_all read from r.1.0 r.0 none r.1.1, r.1.1, r.1.2, r.2))
     p
 
--- one register more
+-- another register
 pub registers_step : (register : ℕ → Bits) (blocks : List Block) (number : ℕ) (old mid new : List Pointer)
     → 1 ≤ number
     → Gains (RegisterBelow register blocks number) old mid

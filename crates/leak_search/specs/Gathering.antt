@@ -22,7 +22,7 @@ use Rattle.leak_search.specs.Words.{word_at}
 use Rattle.leak_search.specs.Search.{Scene, IsWordRoot, IsHeldIn}
 use Rattle.leak_search.specs.Pointing.{PointsTo, IsInNoBlock, IsWordIn}
 
--- of two blocks the one of lower number lies wholly below, and each starts at a multiple of 4 above 0
+-- of two blocks, the one with the lower number lies wholly below the other, and each starts at a multiple of 4 above 0
 pub record AreOrdered (blocks : List Block) : Type 0 where
   pub lower : (j k : ℕ) (a b : Block) → j < k → slice_get blocks j ≡ Some a → slice_get blocks k ≡ Some b
       → a.start < b.start
@@ -31,24 +31,25 @@ pub record AreOrdered (blocks : List Block) : Type 0 where
   pub aligned : (k : ℕ) (b : Block) → slice_get blocks k ≡ Some b → b.start % 4 ≡ 0
   pub positive : (k : ℕ) (b : Block) → slice_get blocks k ≡ Some b → 0 < b.start
 
--- a list of blocks goes on by the first live one at an address or above, and then from the address after its first byte
+-- a list of blocks continues with the first live one at an address or above, and the next address is the one after its
+-- first byte
 abbrev pub GoesOn : Blocks → ℕ → Option ℕ → List Block → List Block → Type 0
 GoesOn blocks from None old new = (live_from blocks from ≡ None) × (new ≡ old)
 GoesOn blocks from (Some next) old new =
     (b : Block) × (live_from blocks from ≡ Some b) × IsFirstLive blocks.live from b × (next ≡ b.start + 1)
     × (new ≡ old ++ b ∷ [])
 
--- the words of a memory
+-- the words in a memory
 abbrev pub words_in : Memory → ℕ → Option ℕ
 words_in memory = word_at (bytes_in memory) (shadows_in memory)
 
--- the words whose values lie from low up to, not with, high
+-- the words whose values lie from low up to, but not including, high
 unfoldable pub word_within : (ℕ → ℕ) → (ℕ → Shadow) → ℕ → ℕ → ℕ → Option ℕ
 word_within bytes shadows low high w =
     if nat_lt w (2 ^ 32) && (w % 4 == 0 && holds_in_range bytes shadows low high w) then Some (value_at bytes w)
     else None
 
--- those of a memory
+-- those in a memory
 abbrev pub words_within : Memory → ℕ → ℕ → ℕ → Option ℕ
 words_within memory low high = word_within (bytes_in memory) (shadows_in memory) low high
 
@@ -59,7 +60,7 @@ pub record IsNextIn (words : ℕ → Option ℕ) (from : ℕ) (word : Word) : Ty
   pub aligned : word.address % 4 ≡ 0
   pub least : (v : ℕ) → from ≤ v → v < word.address → words v ≡ None
 
--- the registers of a list; past its end there is none
+-- the registers of a list; past its end there are none
 abbrev pub listed : List Bits → ℕ → Bits
 listed registers r = slice_index_or registers r (record { value = 0; undef = 0 })
 
@@ -78,7 +79,7 @@ pub record Finds (blocks : List Block) (value : ℕ) (pointer : Pointer) : Type 
   pub to : (starts : Bool) (b : ℕ) → LeadsTo starts pointer b → PointsTo starts blocks value b
   pub back : (starts : Bool) (b : ℕ) → PointsTo starts blocks value b → LeadsTo starts pointer b
 
--- whose the word at w is
+-- where the word at w lies
 abbrev pub IsOwner : List Block → ℕ → Owner → Type 0
 IsOwner blocks w Outside = IsInNoBlock blocks w × ((a : ℕ) → IsWordIn blocks w a → ⊥)
 IsOwner blocks w (Inside k) = IsWordIn blocks w k × ((a : ℕ) → IsWordIn blocks w a → k ≡ a) × (IsInNoBlock blocks w → ⊥)

@@ -1,4 +1,4 @@
--- A search has one answer.
+-- A search has one result.
 use Rattle.std.specs.Prelude.{◌≡◌, List}
 use Rattle.guest_machine.specs.State.{State}
 use Rattle.leak_search.specs.declared.record.LeakRecord.{LeakRecord}

@@ -1,6 +1,6 @@
 -- What a value points to, and which words are a block's (Memcheck manual, section 4.2, "Memory leak detection":
--- start-pointers and interior-pointers). That a value one past a block, or a word half in one, counts for nothing is
--- this project's own rule.
+-- start-pointers and interior-pointers). That a value one past a block doesn't count, nor a word partly in one, is this
+-- project's own rule.
 use Rattle.std.specs.Prelude.{◌≡◌, ℕ, ◌+◌, ◌<◌, ◌≤◌, ◌⊎◌, Bool, true, false, List, Some, slice_get}
 use Rattle.heap_blocks.specs.declared.block.Block.{Block}
 
@@ -15,7 +15,7 @@ abbrev pub IsPointer : Bool → ℕ → Block → Type 0
 IsPointer true value block = IsStartPointer value block
 IsPointer false value block = IsStartPointer value block ⊎ IsInteriorPointer value block
 
--- the value is a pointer to the block of number b
+-- the value is a pointer to the block with number b
 abbrev pub PointsTo : Bool → List Block → ℕ → ℕ → Type 0
 PointsTo starts blocks value b = (block : Block) × (slice_get blocks b ≡ Some block) × IsPointer starts value block
 
@@ -27,7 +27,7 @@ abbrev pub IsInNoBlock : List Block → ℕ → Type 0
 IsInNoBlock blocks w =
     (a : ℕ) (block : Block) → slice_get blocks a ≡ Some block → (i : ℕ) → i < 4 → HoldsByte block (w + i) → ⊥
 
--- the four bytes from w on lie wholly in the block of number a
+-- the four bytes from w on lie wholly in the block with number a
 abbrev pub IsWordIn : List Block → ℕ → ℕ → Type 0
 IsWordIn blocks w a =
     (block : Block) × (slice_get blocks a ≡ Some block) × (block.start ≤ w) × (w + 4 ≤ block.start + block.size)

@@ -1,5 +1,5 @@
--- The records of a leak search (Memcheck manual, section 4.2, "Memory leak detection"), of what it looks at. A word
--- that lies half in a block is neither a root nor a word of the block.
+-- The records of a leak search (Memcheck manual, section 4.2, "Memory leak detection"), given what it looks at. A word
+-- that lies partly in a block is neither a root nor a word of the block.
 use Rattle.std.specs.Prelude.{◌≡◌, ℕ, ◌<◌, ◌≤◌, ◌⊎◌, Bool, true, false, List, Option, Some, slice_get, length}
 use Rattle.definedness.specs.declared.Bits.{Bits}
 use Rattle.heap_blocks.specs.declared.block.Block.{Block}
@@ -7,8 +7,8 @@ use Rattle.leak_graph.specs.Leaks.{Links, HasKind}
 use Rattle.leak_search.specs.declared.record.LeakRecord.{LeakRecord}
 use Rattle.leak_search.specs.Pointing.{PointsTo, IsInNoBlock, IsWordIn}
 
--- what a search looks at: the value of the word at each address, where there is one, the registers by their numbers,
--- and the live blocks in order of address
+-- what a search looks at: the value of the word at each address, if there is one, the registers by their numbers, and
+-- the live blocks in order of address
 pub record Scene : Type 0 where
   pub word : ℕ → Option ℕ
   pub register : ℕ → Bits
@@ -22,7 +22,7 @@ IsRegisterRoot register value = (r : ℕ) × (1 ≤ r) × (r < 32) × ((register
 abbrev pub IsWordRoot : (ℕ → Option ℕ) → List Block → ℕ → Type 0
 IsWordRoot word blocks value = (w : ℕ) × (word w ≡ Some value) × IsInNoBlock blocks w
 
--- the value of a word of the block of number a
+-- the value of a word of the block with number a
 abbrev pub IsHeldIn : (ℕ → Option ℕ) → List Block → ℕ → ℕ → Type 0
 IsHeldIn word blocks a value = (w : ℕ) × (word w ≡ Some value) × IsWordIn blocks w a
 

@@ -8,7 +8,7 @@ use guest_heap::laws::live_goes_on;
 use guest_heap::{Block, Heap};
 use std::alloc::{AllocError, Global};
 
-/// Adds the first live block at an address or above, if there is one, and answers the address after its first byte.
+/// Adds the first live block at an address or above, if there is one, and returns the address after its first byte.
 fn add_live(heap: &Heap, from: u32, blocks: &mut Vec<Block>) -> Result<Option<u32>, AllocError>
     ensures { IfOk result (λ next. GoesOn (blocks_of heap.now) from next blocks.old.items blocks.new.items) }
 {
@@ -25,7 +25,7 @@ fn add_live(heap: &Heap, from: u32, blocks: &mut Vec<Block>) -> Result<Option<u3
     }
 }
 
-/// The live blocks of a heap, in order of address.
+/// Returns the live blocks of a heap, in order of address.
 pub(crate) fn live_blocks(alloc: Global, heap: &Heap) -> Result<Vec<Block>, AllocError>
     ensures all { IfOk result (λ blocks. blocks.items ≡ live_list (blocks_of heap.now)) }
     ensures ordered { IfOk result (λ blocks. AreOrdered blocks.items) }

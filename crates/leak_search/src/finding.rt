@@ -7,21 +7,21 @@ ghost use Rattle.leak_search.specs.Gathering.{AreOrdered, IsLastAt, Finds, IsOwn
 use guest_heap::Block;
 use leak_graph::Pointer;
 
-/// Whose a word is: it lies in no block, wholly in one, or half in one.
+/// Where a word lies: in no block, wholly in one, or partly in one.
 pub(crate) enum Owner {
     Outside,
     Inside(usize),
     Across,
 }
 
-/// A range of values: from low up to, not with, high.
+/// A range of values from `low` up to, but not including, `high`.
 #[derive(Clone, Copy)]
 pub(crate) struct Reach {
     pub(crate) low: u32,
     pub(crate) high: u64,
 }
 
-/// A range in which all values lie that point to a block: from the first one's start up to the last one's end.
+/// Returns a range that has all values that point to a block: from the first block's start up to the last one's end.
 #[tactic(auto, using(crate::proofs::ReachSteps::to_nothing))]
 pub(crate) fn reach_of(blocks: &[Block]) -> Option<Reach>
     requires { AreOrdered blocks.now }
@@ -35,14 +35,14 @@ pub(crate) fn reach_of(blocks: &[Block]) -> Option<Reach>
     }
     let first = &blocks[0];
     let last = &blocks[blocks.len() - 1];
-    // The start of a block of no bytes points to it too.
+    // The start of a block of size 0 points to it, too.
     Some(Reach {
         low: first.start,
         high: u64::from(last.start) + u64::from(last.size) + 1,
     })
 }
 
-/// How many of the blocks start at an address or below.
+/// Returns the number of blocks that start at an address or below.
 fn up_to(blocks: &[Block], addr: u32) -> usize
     requires { IsPartitionedBy (λ b. nat_le b.start addr) blocks.now }
     ensures bound { result ≤ length blocks.now }
@@ -51,7 +51,7 @@ fn up_to(blocks: &[Block], addr: u32) -> usize
     blocks.partition_point(|b| b.start <= addr)
 }
 
-/// The last block that starts at an address or below.
+/// Returns the last block that starts at an address or below.
 #[tactic(auto, using(crate::proofs::FindSteps::partitioned, crate::proofs::FindSteps::last_none, crate::proofs::FindSteps::last_some))]
 fn last_at(blocks: &[Block], addr: u32) -> Option<usize>
     requires { AreOrdered blocks.now }
@@ -62,7 +62,7 @@ fn last_at(blocks: &[Block], addr: u32) -> Option<usize>
     if count == 0 { None } else { Some(count - 1) }
 }
 
-/// What a value points to.
+/// Returns what a value points to.
 pub(crate) fn pointer_to(blocks: &[Block], value: u32) -> Option<Pointer>
     requires { AreOrdered blocks.now }
     ensures none { IfNone result ((starts : Bool) (b : ℕ) → PointsTo starts blocks.now value b → ⊥) }
@@ -89,7 +89,7 @@ pub(crate) fn pointer_to(blocks: &[Block], value: u32) -> Option<Pointer>
     }
 }
 
-/// Whose the word at an address is.
+/// Returns where the word at an address lies.
 pub(crate) fn owner_of(blocks: &[Block], word: u32) -> Owner
     requires ordered { AreOrdered blocks.now }
     requires aligned { word % 4 ≡ 0 }

@@ -24,7 +24,7 @@ pub(crate) fn add_edge(
     Ok(())
 }
 
-/// Adds what the word at an address points to, to the roots or to the pointers of its block.
+/// Adds the pointer in the word at an address, if it has one, to the roots or to the pointers of its block.
 fn gather_word(
     blocks: &[Block],
     word: u32,
@@ -54,7 +54,7 @@ fn gather_word(
     }
 }
 
-/// Adds what the words with values in a range point to, in one pass.
+/// Adds the pointers in the words whose values lie in a range, in one pass.
 fn gather_within(
     memory: &Memory,
     blocks: &[Block],
@@ -79,7 +79,7 @@ fn gather_within(
     Ok(())
 }
 
-/// Adds what all words point to; those that can't point to a block are passed over.
+/// Adds the pointers in all words; words that can't point to a block are skipped.
 pub(crate) fn gather_words(
     memory: &Memory,
     blocks: &[Block],
@@ -97,7 +97,7 @@ pub(crate) fn gather_words(
     }
 }
 
-/// Adds what a register points to, if it is wholly defined.
+/// Adds the pointer in a register, if the register is wholly defined.
 fn add_register(
     register: Bits,
     blocks: &[Block],
@@ -116,7 +116,7 @@ fn add_register(
     Ok(())
 }
 
-/// Adds what x1 to x31 point to: x0 holds no value of the guest's.
+/// Adds the pointers in x1 to x31. x0 holds no value of the guest.
 pub(crate) fn gather_registers(
     registers: &[Bits],
     blocks: &[Block],

@@ -1,4 +1,4 @@
-//! What the records of a search are. The law is the contract of a function that does nothing; a caller has it after the call.
+//! A law of the records of a search. The law is the contract of a function that does nothing; a caller has it after the call.
 ghost use Rattle.leak_search.specs.Laws.{RecordsAreOne};
 
 /// Two lists of records of one state are equal.

@@ -1,34 +1,34 @@
-//! The leak search: of each live block of a machine's heap, whether a pointer leads to it. It lies between the machine and the report.
+//! The leak search: whether a pointer leads to each live block of a machine's heap. It lies between the machine and the report.
 //!
-//! The roots are the values of x1 to x31, where they are defined, and the words outside live blocks. A word is the four bytes at a
-//! multiple of 4, all accessible and defined. A value is a start-pointer to a block where it is its address, and an interior-pointer
-//! where it is that of a later byte of it. From these follow the four kinds of the Memcheck manual (section 4.2, "Memory leak
+//! The roots are the values of x1 to x31, where they are defined, and the words outside live blocks. A word is the four bytes at a multiple
+//! of 4, all accessible and defined. A value is a start-pointer to a block if it is the block's address, and an interior-pointer if it is
+//! the address of a later byte of the block. From these follow the four kinds of the Memcheck manual (section 4.2, "Memory leak
 //! detection").
 //!
 //! # Public items
 //!
-//! | Call | What it answers |
+//! | Call | What it does |
 //! |---|---|
-//! | [`search`] | a [`LeakRecord`] for each live block, in order of address |
-//! | [`laws::records_are_one`] | nothing: its contract says that a search has one answer |
+//! | [`search`] | returns a [`LeakRecord`] for each live block, in order of address |
+//! | [`laws::records_are_one`] | does nothing; its contract says that a search has one result |
 //!
-//! `search` takes memory, and answers `AllocError` where there is none; nothing else fails.
+//! `search` allocates memory, and returns `AllocError` if memory runs out; nothing else fails.
 //!
-//! # What a caller relies on
+//! # What a caller can rely on
 //!
 //! The contract of [`search`]: for each state that the machine shows, the records are `AreRecordsOf` the state. That is a relation, by
-//! paths of pointers; by the law no two lists of records are one state's.
+//! paths of pointers; by the law, a state has no two lists of records.
 //!
-//! # Where the definitions stand
+//! # Where the definitions are
 //!
-//! In `specs/`: `Words` (the words of a state), `Pointing` (what a value points to, and whose a word is), `Search` (roots, links and
-//! records), `Records` (those of a state), `Laws`. The kind of a block by its links is `HasKind` of the crate `leak_graph`. `Gathering`
-//! is for this crate's proofs.
+//! In `specs/`: `Words` (the words of a state), `Pointing` (what a value points to, and where a word lies), `Search` (roots, links and
+//! records), `Records` (those of a state), `Laws`. The kind of a block by its links is `HasKind` of the crate `leak_graph`. `Gathering` is
+//! for this crate's proofs.
 //!
 //! # Costs
 //!
-//! Each word is looked at once, blank pages and directories are passed at a step each, and for a value from the first live block's start
-//! up to the last one's end a block is found by binary search. Without a live block no word is looked at. Nothing recurses.
+//! Each word is looked at once, blank pages and directories are passed in one step each, and for a value from the first live block's start
+//! up to the last one's end, binary search finds the block. If there is no live block, no word is looked at. Nothing recurses.
 #![tactic(auto)]
 
 mod blocks;

@@ -27,7 +27,7 @@ struct Graph {
     edges: Vec<Vec<Pointer>>,
 }
 
-/// A list of no pointers for each block.
+/// Returns an empty list of pointers for each block.
 fn no_edges(alloc: Global, count: usize) -> Result<Vec<Vec<Pointer>>, AllocError>
     ensures len { IfOk result (λ edges. length edges.items ≡ count) }
     ensures none { IfOk result (λ edges. HasNoEdge edges.items) }
@@ -39,7 +39,7 @@ fn no_edges(alloc: Global, count: usize) -> Result<Vec<Vec<Pointer>>, AllocError
     Ok(edges)
 }
 
-/// Adds what the roots and the words of the blocks point to.
+/// Adds the pointers of the roots and of the words of the blocks.
 fn gather(
     memory: &Memory,
     registers: &[Bits],
@@ -58,7 +58,7 @@ fn gather(
     Ok(())
 }
 
-/// The records of the blocks with these kinds.
+/// Returns the records of the blocks with these kinds.
 fn records(
     alloc: Global,
     blocks: &[Block],
@@ -80,7 +80,7 @@ fn records(
     Ok(entries)
 }
 
-/// The pointers of the roots and of each block.
+/// Returns the pointers of the roots and of each block.
 fn graph_of(
     alloc: Global,
     memory: &Memory,
@@ -99,7 +99,7 @@ fn graph_of(
     Ok(Graph { roots, edges })
 }
 
-/// One record for each live block of a heap, in order of address.
+/// Returns a record for each live block of a heap, in order of address.
 pub(crate) fn search_in(
     alloc: Global,
     memory: &Memory,
@@ -115,7 +115,7 @@ pub(crate) fn search_in(
     records(alloc, &blocks, &kinds)
 }
 
-/// The registers of a machine, by their numbers.
+/// Returns the registers of a machine, by their numbers.
 fn registers_of(machine: &Machine) -> [Bits; 32]
     ensures { (s : State) → Shows machine.now s → (r : ℕ) → r < 32 → listed result r ≡ register s.core r }
 {
@@ -126,8 +126,12 @@ fn registers_of(machine: &Machine) -> [Bits; 32]
     registers
 }
 
-/// One record for each live block, in order of address. The time that it takes grows with the number of words and of live blocks, times
-/// the logarithm of the number of live blocks. Fails where there is no memory for the records, or for what points to what.
+/// Returns a record for each live block, in order of address. The time needed grows with the number of words and of live blocks, times the
+/// logarithm of the number of live blocks.
+///
+/// # Errors
+///
+/// Fails if there is no memory for the records, or for the pointers between blocks.
 pub fn search(alloc: Global, machine: &Machine) -> Result<Vec<LeakRecord>, AllocError>
     ensures { IfOk result (λ entries. (s : State) → Shows machine.now s → AreRecordsOf s entries.items) }
 {

@@ -4,14 +4,14 @@ ghost use Rattle.leak_search.specs.Gathering.{words_within, IsNextIn};
 
 use shadow_memory::Memory;
 
-/// A word: where it is, and its value.
+/// The address of a word, and its value.
 #[derive(Clone, Copy)]
 pub(crate) struct Word {
     pub(crate) address: u32,
     pub(crate) value: u32,
 }
 
-/// The first word at an address or above whose value is from low up to, not with, high.
+/// Returns the first word at an address or above whose value is from `low` up to, but not including, `high`.
 pub(crate) fn next_word(memory: &Memory, from: u32, low: u32, high: u64) -> Option<Word>
     requires { 0 < low }
     ensures none { IfNone result ((w : ℕ) → from ≤ w → words_within memory.now low high w ≡ None) }

@@ -1,4 +1,4 @@
--- What was served, said of other relations between lines and replies, and of what listeners stand for.
+-- What was served, for other relations between lines and replies, and for what listeners represent.
 use Rattle.std.proofs.Common.{◌≡◌, ℕ, List, [], ◌∷◌, Bool, true, false, Option, None, Some, inl, inr, sym, subst}
 use Rattle.std.specs.Bool.{MatchBool}
 use Rattle.line_server.specs.Answers.{Answers, AnswersBy, Relation}
@@ -12,7 +12,7 @@ under : (t : Bool) (P Q R : Type 0) → (Q → R) → MatchBool t P Q → MatchB
 under true P Q R f h = h
 under false P Q R f h = f h
 
--- listeners that stand for something: what they answer is answered there
+-- listeners that represent something: what they answer is answered there
 module _ {L S : Type 0} (answers : L → List ℕ → L → Type 0) (reply : L → List ℕ) (over : L → Bool)
     (Replies : S → List ℕ → List ℕ → S → Type 0) (is_over : S → Bool) (stands : L → S) where
   pub stand-for : ((l m : L) (line : List ℕ) → answers l line m → Replies (stands l) line (reply m) (stands m))

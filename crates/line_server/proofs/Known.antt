@@ -56,7 +56,7 @@ appends-keeps (Some x) None c p f k = absurd f
 appends-keeps (Some x) (Some y) None p f k = absurd k
 appends-keeps (Some x) (Some y) (Some z) p f k = k ∙ f
 
--- what holds at any result holds at a refusal
+-- what holds for any result holds for a fault
 pub at_refusal : {T E P : Type 0} (r : Result T E) → P → OnErr r P
 at_refusal (Ok x) p = tt
 at_refusal (Err e) p = p

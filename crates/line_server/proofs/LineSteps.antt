@@ -1,4 +1,4 @@
--- The lines of bytes, of the first of which a front stands already.
+-- The lines of bytes, where a front of the first line is there already.
 use Rattle.std.proofs.Common.{◌≡◌, ℕ, List, [], ◌∷◌, ◌++◌, Bool, true, false, not, refl, sym, ap, ◌∙◌, cond, append-nil}
 use Rattle.std.proofs.Common.{append_assoc}
 use Rattle.std.proofs.Common.{◌==◌, length, map}

@@ -27,7 +27,7 @@ appends-none (Some xs) = sym (append-nil xs)
 joined-one : (reply : List ℕ) → joined (reply ∷ []) ≡ reply
 joined-one reply = append-nil reply
 
--- what stands under a test that is known
+-- the branch of a test that is known
 under-true : (t : Bool) (P Q : Type 0) → t ≡ true → P → MatchBool t P Q
 under-true true P Q e p = p
 under-true false P Q e p = absurd (let e' : false ≡ true = e in cc)

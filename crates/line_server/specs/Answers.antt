@@ -7,9 +7,9 @@ use Rattle.line_server.specs.Lines.{longest_line}
 abbrev pub Relation : Type 1
 Relation = List (List ℕ) → List (List ℕ) → Type 0
 
--- one reply for each line, up to the first that is told that there were too many; the next line meets what is left
--- after it. What lines meet and leave is of any type: `Replies` says which reply to a line leaves what, and `is_over`
--- whether all were given that are answered
+-- one reply for each line, up to the first that is rejected because there were too many; the next line meets what is
+-- left after it. What lines meet and leave is of any type: `Replies` says which reply to a line leaves what, and
+-- `is_over` whether the limit of lines is reached
 abbrev pub AnswersBy : {S : Type 0} → (S → List ℕ → List ℕ → S → Type 0) → (S → Bool) → S → Relation
 AnswersBy Replies is_over stage [] replies = replies ≡ []
 AnswersBy Replies is_over stage (line ∷ lines) [] = ⊥
@@ -17,7 +17,7 @@ AnswersBy {S} Replies is_over stage (line ∷ lines) (reply ∷ replies) =
     (after : S) × Replies stage line reply after
     × MatchBool (is_over stage) (replies ≡ []) (AnswersBy Replies is_over after lines replies)
 
--- a listener is left so after a line, and this is the text of its reply
+-- a listener after a line, and the text of its reply
 abbrev pub Says : {L : Type 0} → (L → List ℕ → L → Type 0) → (L → List ℕ) → L → List ℕ → List ℕ → L → Type 0
 Says answers reply listener line text after = answers listener line after × (text ≡ reply after)
 

@@ -1,4 +1,4 @@
--- What serving some bytes does, between two reads.
+-- The effect of serving bytes, between two reads.
 use Rattle.std.specs.Prelude.{ℕ, ◌≡◌, ◌+◌, ◌^◌, ◌<◌, ◌≤◌, ◌==◌, ◌⊎◌, List, [], ◌∷◌, ◌++◌, Bool, true, false, Option}
 use Rattle.std.specs.Prelude.{length, take}
 use Rattle.std.specs.Prelude.{if◌then◌else◌}
@@ -25,8 +25,8 @@ pub record Cut (old new : Written) (held-old held-new : Option (List ℕ)) (repl
   pub replies : new.replies ≡ standing (old.replies + (if sent == length reply then 1 else 0))
   pub bytes : new.bytes ≡ standing (old.bytes + sent)
 
--- the bytes are served, and more may come: replies were written, to which those to the first lines of what comes are
--- joined. What is answered from the first of these bytes on, and what after them, are two relations
+-- the bytes are served, and more may come: replies were written, followed by those to the first lines of what comes.
+-- The replies from the first of these bytes on, and those after the bytes, are two relations
 pub record Fed (from after : Relation) (old new : Server) (held-old held-new : Option (List ℕ)) (bytes : List ℕ) : Type
     0 where
   pub done : List (List ℕ)
@@ -37,7 +37,7 @@ pub record Fed (from after : Relation) (old new : Server) (held-old held-new : O
       → after (take n (lines_by last new.kept.items more)) rs
       → from (take all (lines_by last old.kept.items (bytes ++ more))) (done ++ rs)
 
--- all lines were given that are answered: whatever comes, these are all the replies
+-- the limit of lines was reached: whatever comes, these are all the replies
 pub record Over (from : Relation) (old : Server) (held-old held-new : Option (List ℕ)) (bytes : List ℕ) : Type 0 where
   pub done : List (List ℕ)
   pub appended : Appends held-old held-new (joined done)
@@ -66,12 +66,12 @@ pub record Ended (from : Relation) (old : Server) (held-old held-new : Option (L
 abbrev pub IsFresh : Server → Type 0
 IsFresh server = (server.kept.items ≡ []) × (server.written.replies ≡ 0) × (server.written.bytes ≡ 0)
 
--- some bytes were read, of which something holds
+-- some bytes were read, for which something holds
 abbrev pub Reads : Option (List ℕ) → Option (List ℕ) → (List ℕ → Type 0) → Type 0
 Reads left-old left-new P = (seen : List ℕ) × Consumes left-old left-new seen × P seen
 
--- it has ended with the bytes that were read: all lines were given that are answered, or they are none since there are
--- no more
+-- it has ended with the bytes that were read: the limit of lines was reached, or there are no bytes since there are no
+-- more
 abbrev pub Ends : Relation → Server → Option (List ℕ) → Option (List ℕ) → Option (List ℕ) → List ℕ → Type 0
 Ends from old left held-old held-new seen =
     Over from old held-old held-new seen ⊎ ((seen ≡ []) × IsAtEnd left × Ended from old held-old held-new)
@@ -81,12 +81,12 @@ abbrev pub Counts : Written → ℕ → ℕ → Type 0
 Counts written replies bytes =
     (replies ≡ written.replies) × (bytes ≡ written.bytes) × (replies < 2 ^ 64) × (bytes < 2 ^ 64)
 
--- a fault tells that a write failed, and what was written
+-- a fault says that a write failed, and what was written
 abbrev pub IsWriteFailure : Written → ServeFault → Type 0
 IsWriteFailure written (WriteFailed replies bytes) = Counts written replies bytes
 IsWriteFailure written fault = ⊥
 
--- a fault tells that no end was found, and what was written
+-- a fault says that no end was found, and what was written
 abbrev pub IsEndlessFault : Written → ServeFault → Type 0
 IsEndlessFault written (Endless replies bytes) = Counts written replies bytes
 IsEndlessFault written fault = ⊥

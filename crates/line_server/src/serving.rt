@@ -1,4 +1,4 @@
-//! Lines of any reader, answered to any writer.
+//! Reads lines from any reader and writes the replies to any writer.
 mod answer;
 mod line_end;
 pub(crate) mod send;
@@ -15,30 +15,31 @@ use crate::serving::server::Server;
 use std::alloc::Global;
 use std::io::{Read, Write};
 
-/// How many calls of `read` are made at most.
+/// The greatest number of calls of `read`.
 pub const READS: u32 = 500_000_000;
 
-/// How many bytes a line may have that is told from others. Of a longer one a front is kept that is longer too.
+/// The greatest number of bytes of a line that is distinguished from others. Of a longer line, a front is kept that is longer than this,
+/// too.
 pub const LONGEST_LINE: usize = 4096;
 
-/// Has each line of a reader answered, writes its reply, and flushes after each. One carriage return before a newline is dropped; bytes
-/// after the last newline are a line. It ends at the reader's end, or after the first reply to a line that was given when all lines had
-/// been given that are answered. A read that was interrupted is tried again, a write isn't.
+/// Has each line of a reader answered, writes its reply, and flushes after each. Drops one carriage return before a newline; bytes after
+/// the last newline are a line. Ends at the reader's end, or after the reply to the first line that is given after the limit of lines was
+/// reached. Tries an interrupted read again, but not an interrupted write.
 pub fn serve<L: Listener, R: Read, W: Write>(
     alloc: Global,
     listener: &mut L,
     reader: &mut R,
     writer: &mut W,
 ) -> Result<(), ServeFault>
-    // To the end, the replies to the lines of all bytes were written, and nothing else.
+    // At the end, the replies to the lines of all bytes were written, and nothing else.
     ensures ok { OnOk result (ServedAll (Answers L.answers L.reply L.over listener.old) (R.remaining reader.old) (W.contents writer.old)
         (W.contents writer.new)) }
 
-    // Of a reader that doesn't tell its bytes: these are the replies to the lines of some bytes.
+    // For a reader that doesn't say which bytes it has: these are the replies to the lines of some bytes.
     ensures read { OnOk result (ServedRead (Answers L.answers L.reply L.over listener.old) (R.remaining reader.old) (R.remaining reader.new)
         (W.contents writer.old) (W.contents writer.new)) }
 
-    // Some bytes were read and the others stay, and the fault says what was written for those.
+    // On a fault, some bytes were read and the others stay, and the fault says what was written for those that were read.
     ensures fault { IfErr result (λ fault. StoppedBy fault (Answers L.answers L.reply L.over listener.old) (R.remaining reader.old)
         (R.remaining reader.new) (W.contents writer.old) (W.contents writer.new)) }
 {
@@ -51,7 +52,7 @@ pub fn serve<L: Listener, R: Read, W: Write>(
     serve_from(&mut server, listener, reader, writer)
 }
 
-/// Serves the bytes of a reader.
+/// Serves the lines of a reader's bytes.
 fn serve_from<L: Listener, R: Read, W: Write>(
     server: &mut Server,
     listener: &mut L,

@@ -7,7 +7,7 @@ pub no_more : (text : ℕ → List ℕ) (begun out : List ℕ) → out ≡ begun
 unfolding joined_below
 no_more text begun out so = so ∙ sym (append-nil begun)
 
--- one text more
+-- another text
 pub one_more : (text : ℕ → List ℕ) (n : ℕ) (begun out new : List ℕ) → out ≡ begun ++ joined_below text n
     → new ≡ out ++ text n
     → new ≡ begun ++ joined_below text (n + 1)

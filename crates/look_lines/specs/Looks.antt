@@ -14,7 +14,8 @@ use Rattle.look_lines.specs.declared.look.Look.{Look}
 use Rattle.look_lines.specs.declared.look.Search.{Search}
 use Rattle.look_lines.specs.declared.look.Look.TheVariants.{Registers, Memory, Next, Last, Certify}
 
--- how many bytes a look at memory may show, and a search for a change of what is known of them may watch
+-- the greatest number of bytes that a look at memory may show, and that a search for a change of what is known of them
+-- may watch
 abbrev pub longest_view : ℕ
 longest_view = 4096
 
@@ -81,7 +82,7 @@ abbrev pub look_among : List (List ℕ) → Option Look
 look_among (first ∷ word ∷ more) = look_of word more
 look_among _ = None
 
--- has a range some bytes, and does it end at 2^32 or below?
+-- does a range have at least one byte, and end at 2^32 or below?
 abbrev pub is_range : Span → Bool
 is_range range = nat_lt 0 range.len && nat_le (range.start + range.len) (2 ^ 32)
 
@@ -89,7 +90,7 @@ is_range range = nat_lt 0 range.len && nat_le (range.start + range.len) (2 ^ 32)
 abbrev pub is_view : Span → Bool
 is_view range = is_range range && nat_le range.len longest_view
 
--- may a step be watched so in a range? What is known of its bytes is compared at each step, and no more of them than
+-- may a search watch a range for this? What is known of its bytes is compared at each step, and no more of them than
 -- may be shown
 abbrev pub may_watch : Watch → Span → Bool
 may_watch Run range = is_range range
@@ -98,14 +99,14 @@ may_watch Write range = is_range range
 may_watch Shadow range = is_view range
 may_watch Error range = is_range range
 
--- why a search is refused, if it is
+-- why a search is rejected, if it is
 abbrev pub search_refusal : Search → Option Fault
 search_refusal search =
     if nat_lt most_steps search.bound then Some StepLimit
     else if may_watch search.sought.watch search.sought.range then None
     else Some BadRange
 
--- why a look is refused, if it is
+-- why a look is rejected, if it is
 abbrev pub look_refusal : Look → Option Fault
 look_refusal Registers = None
 look_refusal (Memory range) = if is_view range then None else Some BadRange
@@ -121,6 +122,6 @@ abbrev pub taken : Option Look → Result Look Fault
 taken None = Err BadCommand
 taken (Some look) = unless (look_refusal look) look
 
--- the look that a line asks for, or why it is refused
+-- the look that a line asks for, or why it is rejected
 unfoldable pub asked : List ℕ → Result Look Fault
 asked line = taken (look_among (fields line))

@@ -1,4 +1,4 @@
--- What a look tells of a state.
+-- The reply to a look, for a state.
 use Rattle.std.specs.Prelude.{ℕ, zero, suc, ◌+◌, if◌then◌else◌, List, [], ◌++◌, Option, Some, None, codes, decimal}
 use Rattle.definedness.specs.declared.Bits.{Bits}
 use Rattle.guest_machine.specs.Registers.{register}
@@ -8,7 +8,7 @@ use Rattle.report_lines.specs.Lines.{state_line}
 use Rattle.report_lines.specs.Text.{address_text, byte_text, newline}
 use Rattle.shadow_memory.specs.Shadows.{Shadow}
 
--- the texts of so many numbers from 0 on, one after another
+-- the texts of the numbers from 0 up to another, one after another
 unfoldable pub joined_below : (ℕ → List ℕ) → ℕ → List ℕ
 joined_below text zero = []
 joined_below text (suc n) = joined_below text n ++ text n
@@ -18,19 +18,19 @@ unfoldable pub register_line : ℕ → Bits → List ℕ
 register_line r bits =
     codes "x" ++ decimal r ++ codes " " ++ address_text bits.value ++ codes " " ++ address_text bits.undef ++ newline
 
--- x1 and those after it, so many
+-- the lines of a number of registers, from x1 on
 abbrev pub register_lines : Core → ℕ → List ℕ
 register_lines core n = joined_below (λ i. register_line (i + 1) (register core (i + 1))) n
 
--- whether the machine runs, as a report tells it, and x1 to x31
+-- whether the machine runs, as a report says it, and x1 to x31
 unfoldable pub registers_text : State → List ℕ
 registers_text s = state_line s.core.status s.core.pc ++ register_lines s.core 31
 
--- the undefined bits of a byte, and `__` where it is inaccessible, as Valgrind's gdbserver tells them
+-- the undefined bits of a byte, or `__` if it is inaccessible, as Valgrind's gdbserver prints them
 abbrev pub undef_text : Shadow → List ℕ
 undef_text shadow = if shadow.accessible then byte_text shadow.undef else codes "__"
 
--- the bytes from an address on, so many, and their undefined bits
+-- a number of bytes from an address on, and their undefined bits
 abbrev pub bytes_text : (ℕ → ℕ) → ℕ → ℕ → List ℕ
 bytes_text bytes start n = joined_below (λ i. byte_text (bytes (start + i))) n
 

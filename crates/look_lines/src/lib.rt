@@ -1,13 +1,13 @@
-//! What a line asks of the run of a session at its chosen step, and what it is told.
+//! What a line asks of the run of a session at its chosen step, and the reply to it.
 //!
 //! | Item | What it is |
 //! |---|---|
-//! | [`asked`] | reads a line as a [`Look`], or says why it is refused |
+//! | [`asked`] | reads a line as a [`Look`], or returns why it is rejected |
 //! | [`Look`], [`Search`] | what is asked: registers, memory, the next or the last step that does something, whether the run is clean |
-//! | [`push_registers`], [`push_memory`], [`push_step`] | append what is told: of a machine, or of a step that was found |
+//! | [`push_registers`], [`push_memory`], [`push_step`] | append the reply: on a machine, or on a step that was found |
 //!
-//! They stand apart from `looks`, which lists the lines and serves them over a session. In `specs/`: `Looks`, the lines; `Texts`, what they are
-//! told.
+//! This crate is separate from `looks`, which lists the lines and serves them over a session. In `specs/`: `Looks`, the lines; `Texts`, the
+//! replies to them.
 //!
 //! Source of `__`: Valgrind's gdbserver, `monitor get_vbits` (Memcheck manual, section 4.6).
 #![tactic(auto)]

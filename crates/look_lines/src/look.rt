@@ -5,9 +5,9 @@ use run_values::Span;
 /// A search among the steps of a run, from the chosen one on to another one.
 #[derive(Clone, Copy)]
 pub struct Search {
-    /// What a step does that is looked for.
+    /// What a step has to do.
     pub sought: Sought,
-    /// The first step after those that are asked forwards, and the first of those that are asked backwards.
+    /// In a search forwards, the first step that isn't searched any more; in a search backwards, the first step that is searched.
     pub bound: u32,
 }
 

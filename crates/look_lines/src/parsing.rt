@@ -30,7 +30,7 @@ const LAST: &[u8] = b"last";
 
 const CERTIFY: &[u8] = b"certify";
 
-/// How many bytes a look at memory may show, and a search for a change of what is known of them may watch.
+/// The greatest number of bytes that a look at memory may show, and that a search for a change of what is known of them may watch.
 const LONGEST_VIEW: u32 = 4096;
 
 /// The range of a first address and a number of bytes.
@@ -147,7 +147,7 @@ fn look_among(mut fields: Parts<'_>) -> Option<Look>
     look_of(word, fields)
 }
 
-/// Whether a range has some bytes, and ends at 2^32 or below.
+/// Whether a range has at least one byte, and ends at 2^32 or below.
 fn is_range(range: Span) -> bool
     ensures { result ≡ is_range range }
 {
@@ -161,7 +161,7 @@ fn is_view(range: Span) -> bool
     is_range(range) && range.len <= LONGEST_VIEW
 }
 
-/// Whether a step may be watched so in a range.
+/// Whether a search may watch a range for this.
 fn may_watch(watch: Watch, range: Span) -> bool
     ensures { result ≡ may_watch watch range }
 {
@@ -171,7 +171,7 @@ fn may_watch(watch: Watch, range: Span) -> bool
     }
 }
 
-/// Why a search is refused, if it is.
+/// Why a search is rejected, if it is.
 fn search_refusal(search: Search) -> Option<Fault>
     ensures { result ≡ search_refusal search }
 {
@@ -184,7 +184,7 @@ fn search_refusal(search: Search) -> Option<Fault>
     }
 }
 
-/// Why a look is refused, if it is.
+/// Why a look is rejected, if it is.
 fn look_refusal(look: Look) -> Option<Fault>
     ensures { result ≡ look_refusal look }
 {
@@ -201,7 +201,7 @@ fn look_refusal(look: Look) -> Option<Fault>
     }
 }
 
-/// The look that a line asks for, or why it is refused.
+/// Returns the look that a line asks for, or why it is rejected.
 #[tactic(auto, unfolding(crate::specs::Looks::asked))]
 pub fn asked(line: &[u8]) -> Result<Look, Fault>
     ensures asked { result ≡ asked line.now }

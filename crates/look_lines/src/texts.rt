@@ -1,4 +1,4 @@
-//! What a look tells, as text.
+//! The replies to looks, as text.
 ghost use Rattle.std.specs.Prelude.{◌≡◌, ◌+◌, ◌++◌, ◌≤◌, ◌^◌, OnOk};
 ghost use Rattle.guest_machine.specs.State.{State};
 ghost use Rattle.guest_machine.specs.Shows.{Shows};
@@ -13,7 +13,7 @@ use run_values::Span;
 use shadow_memory::{Cell, Memory};
 use std::alloc::AllocError;
 
-/// How many registers are shown: all but x0, which is 0.
+/// The number of registers that are shown: all except x0, which is 0.
 const SHOWN: u8 = 31;
 
 /// Appends a register's line.

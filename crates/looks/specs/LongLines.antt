@@ -1,4 +1,4 @@
--- Lines that are too long are answered alike: a lemma for the server of lines, which keeps a front of such a line.
+-- Lines that are too long are all answered alike: a lemma for the server of lines, which keeps a front of such a line.
 use Rattle.std.proofs.Common.{◌≡◌, ◌<◌, ◌&&◌, ℕ, List, Bool, true, false, refl, subst, sym, length}
 use Rattle.std.proofs.lemmas.Bool.{lt-leb}
 use Rattle.std.specs.Prelude.{codes, nat_eq, not}

@@ -20,12 +20,12 @@ use Rattle.look_lines.specs.declared.look.Look.{Look}
 use Rattle.look_lines.specs.declared.look.Look.TheVariants.{Registers, Memory, Next, Last, Certify}
 use Rattle.looks.specs.declared.viewer.Viewer.{Viewer}
 
--- does a line look? One that is too long doesn't, and none does once all lines were given that are answered
+-- does a line look? One that is too long doesn't, and none does once the limit of lines is reached
 unfoldable pub looks : Turn → List ℕ → Bool
 looks turn line = starts_with nat_eq line (codes "look ") && not (is_over turn) && nat_le (length line) longest_line
 
--- a text is what a look tells at the chosen step of one run from step zero: of its state; which step from it on is the
--- first, or before it the last, that does what is sought; or the verdict on the run up to it
+-- a text is the reply to a look at the chosen step of one run from step zero: on its state; on which step from it on is
+-- the first, or before it the last, that does what is sought; or the verdict on the run up to it
 abbrev pub Tells : Scenario → Look → List ℕ → Type 0
 Tells sc Registers text = text ≡ registers_text (chosen_state sc)
 Tells sc (Memory range) text = text ≡ memory_text (chosen_state sc) range
@@ -35,32 +35,32 @@ Tells sc (Last search) text =
     (found : Option ℕ) × IsLast (Finds sc search.sought) search.bound sc.step found × (text ≡ step_text found)
 Tells sc Certify text = IsVerdictOf sc text
 
--- how a look at a step moves the work: as a report there does. A verdict makes further steps to find the first use
+-- how a look at a step moves the work: as a report there does. A verdict executes further steps to find the first use
 abbrev pub LookMoves : Look → ℕ → Work → Work → Type 0
 LookMoves Certify n old new = new.last ≡ reached old.last n
 LookMoves look n old new = ReportMoves n old new
 
--- a look changes nothing that was said, nor whether the trail is short
+-- a look changes neither the turn nor whether the trail is short
 pub record Leaves (old new : Stage) : Type 0 where
   pub turn : new.turn ≡ old.turn
   pub short : new.short ≡ old.short
 
--- the reply to a look: what it tells, and how the work is moved; or memory was wanting
+-- the reply to a look: its text, and how the work is moved; or memory ran out
 abbrev pub Told : Stage → Look → List ℕ → Stage → Type 0
 Told old look text new =
     (Tells old.turn.scenario look text × LookMoves look old.turn.scenario.step old.work new.work)
     ⊎ (text ≡ refused_line Memory)
 
--- the reply to a line that looks, or would but is refused
+-- the reply to a line that looks, or that would but is rejected
 abbrev pub Looked : Stage → Result Look Fault → List ℕ → Stage → Type 0
 Looked old (Ok look) text new = Told old look text new × Leaves old new
 Looked old (Err fault) text new = (text ≡ refused_line fault) × (new ≡ old)
 
--- a line that looks is answered so, and any other as in a session
+-- the reply to a line that looks is this, and to any other that of a session
 abbrev pub Views : Stage → List ℕ → List ℕ → Stage → Type 0
 Views old line text new = MatchBool (looks old.turn line) (Looked old (asked line) text new) (Replies old line text new)
 
--- the replies to one line after another, up to the first that is told that there were too many
+-- the replies to one line after another, up to the first that is rejected because there were too many
 abbrev pub ViewsLines : Stage → List (List ℕ) → List (List ℕ) → Type 0
 ViewsLines = AnswersBy Views (λ stage. is_over stage.turn)
 

@@ -9,21 +9,21 @@ use line_server::ServeFault;
 use replay_session::Session;
 use std::io::{Read, Write};
 
-/// Answers each line of a reader to a writer as [`replay_session::serve`] does, and those that look at the run of the session by what
-/// they ask for. These change nothing, and aren't counted.
+/// Reads lines and writes the replies as [`replay_session::serve`] does, and for lines that look at the run of the session the replies to
+/// what they ask for. These lines change nothing, and aren't counted.
 pub fn serve<R: Read, W: Write>(
     session: Session<'_>,
     reader: &mut R,
     writer: &mut W,
 ) -> Result<(), ServeFault>
-    // To the end, the replies to the lines of all bytes were written, and nothing else.
+    // At the end, the replies to the lines of all bytes were written, and nothing else.
     ensures ok { OnOk result (ServedAll (ViewsLines (stage_of session.entry)) (R.remaining reader.old) (W.contents writer.old) (W.contents writer.new)) }
 
-    // Of a reader that doesn't tell its bytes: these are the replies to the lines of some bytes.
+    // For a reader that doesn't say which bytes it has: these are the replies to the lines of some bytes.
     ensures read { OnOk result (ServedRead (ViewsLines (stage_of session.entry)) (R.remaining reader.old) (R.remaining reader.new)
         (W.contents writer.old) (W.contents writer.new)) }
 
-    // Some bytes were read and the others stay, and the fault says what was written for those.
+    // On a fault, some bytes were read and the others stay, and the fault says what was written for those that were read.
     ensures fault { IfErr result (λ fault. StoppedBy fault (ViewsLines (stage_of session.entry)) (R.remaining reader.old) (R.remaining reader.new)
         (W.contents writer.old) (W.contents writer.new)) }
 {

@@ -1,4 +1,4 @@
-//! A session that lines are given to one after another, of which some look at its run.
+//! A session that gets one line after another, some of which look at its run.
 ghost use Rattle.std.specs.Prelude.{◌≡◌, [], None, OnOk, true};
 ghost use Rattle.checkpoints.specs.Trails.{is_short};
 ghost use Rattle.replay_session.specs.Session.{scenario_of, trail_of, turn_of};
@@ -19,7 +19,7 @@ fn looks(session: &Session<'_>, line: &[u8]) -> bool
     line.starts_with(b"look ") && !session.is_over() && line.len() <= LONGEST_LINE
 }
 
-/// Puts what a look tells into an empty text.
+/// Writes the reply to a look into an empty text.
 fn show(session: &mut Session<'_>, look: Look, text: &mut Vec<u8>) -> Result<(), AllocError>
     requires taken { look_refusal look ≡ None }
     requires empty { text.old.items ≡ [] }
@@ -55,7 +55,7 @@ pub struct Viewer<'a> {
     session: Session<'a>,
     texts: Texts,
     shown: Vec<u8>,
-    /// Whether the last reply is what a look showed.
+    /// Whether the last reply is that to a look.
     is_shown: bool,
 }
 
@@ -79,7 +79,7 @@ impl<'a> Viewer<'a> {
         })
     }
 
-    /// Tells why a line is refused.
+    /// Replies why a line is rejected.
     #[tactic(auto, unfolding(crate::specs::Views::reply_of))]
     fn refuse(&mut self, fault: Fault)
         ensures reply { reply_of self.new ≡ refused_line fault }
@@ -89,7 +89,7 @@ impl<'a> Viewer<'a> {
         self.is_shown = false;
     }
 
-    /// Shows what a look tells.
+    /// Replies to a look.
     #[tactic(auto, unfolding(crate::specs::Views::reply_of))]
     fn show(&mut self, look: Look)
         requires { look_refusal look ≡ None }

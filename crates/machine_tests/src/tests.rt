@@ -1,4 +1,4 @@
-//! The public calls of the machine, once each with ample memory, and a few short programs. What else becomes of programs is seen from
+//! The public calls of the machine, once each with ample memory, and a few short programs. Other behaviour of programs is tested from
 //! outside (`tools/test/test-guests`).
 use crate::trials::{COUNT, NO_STREAMS, Row, Trial, are_hooks, assert_so};
 use guest_machine::laws::{
@@ -174,7 +174,7 @@ const TOUCHES: [Row; 3] = [
             NO_STREAMS,
         ),
     ),
-    // `addi a0, x0, 8; addi a1, x0, 16`, `calloc` by name, which returns to 0, and `realloc` there: no word is taken.
+    // `addi a0, x0, 8; addi a1, x0, 16`, `calloc` by name, which returns to 0, and `realloc` there: no word is fetched.
     (
         "functions called by name",
         &[0x0080_0513, 0x0100_0593],
@@ -223,7 +223,7 @@ const TOUCHES: [Row; 3] = [
             NO_STREAMS,
         ),
     ),
-    // `addi a7, x0, 63; addi a2, x0, 3; ecall`, of an input of two bytes: it has seen the end. `addi a7, x0, 64; addi a0, x0, 1; ecall`:
+    // `addi a7, x0, 63; addi a2, x0, 3; ecall`, with an input of two bytes: it has seen the end. `addi a7, x0, 64; addi a0, x0, 1; ecall`:
     // what was read is written. Both calls name bytes at 0, which are inaccessible.
     (
         "an input to its end, and output",
@@ -288,7 +288,7 @@ fn the_laws_can_be_called() {
     stays_halted();
 }
 
-/// Whether a byte is left of an input of three whose last two are taken off.
+/// Returns whether an input of three bytes has one byte left after its last two were removed.
 fn is_shrunk(three: Input) -> bool {
     let mut input = three;
     input.pop();
@@ -297,7 +297,7 @@ fn is_shrunk(three: Input) -> bool {
     bytes.as_slice() == b"a".as_slice()
 }
 
-/// Whether a byte is put at the end of one.
+/// Returns whether a byte is appended to an input.
 fn is_grown(alloc: Global) -> Result<bool, AllocError> {
     let mut input = Input::new(b"ab".to_vec(alloc)?);
     input.push(b'c')?;

@@ -1,4 +1,4 @@
-//! What is asked of the machines of programs.
+//! Trials of programs' machines.
 use definedness::Bits;
 use guest_elf::{Hook, Image, read};
 use guest_machine::{Hooks, Input, Machine, Mark, Meter, Register, Setup, Span, Status, Touched};
@@ -7,42 +7,42 @@ use shadow_memory::RangeKind;
 use std::alloc::{AllocError, Global};
 use std::process::Abort;
 
-/// `addi a0, a0, 1`, and by 2.
+/// `addi a0, a0, 1`, and the same by 2.
 pub(crate) const COUNT: u32 = 0x0015_0513;
 
 const COUNT_BY_2: u32 = 0x0025_0513;
 
-/// Where a machine is: its status and pc, a0, how many errors there are, and how many calls of the heap.
+/// The state of a machine: its status and pc, a0, the number of errors, and the number of heap calls.
 pub(crate) type State = (Status, u32, u32, usize, u64);
 
-/// How many bytes of input were read, how many of output written, and whether the end was seen.
+/// The number of bytes of input read, the number of bytes of output written, and whether the end was seen.
 pub(crate) type Streams = (u64, u64, bool);
 
 /// What a step touches: its word, what it reads and what it writes.
 pub(crate) type Touches = (Option<Span>, Option<Span>, Option<Span>);
 
-/// What is asked of a program's machine.
+/// What is tested of a program's machine.
 pub(crate) enum Trial {
-    /// Whether each register is defined before the first step, and 0 but for the stack pointer.
+    /// Each register is defined before the first step, and 0 except for the stack pointer.
     Registers,
-    /// What each step touches, and how many steps follow; and where it is then.
+    /// What each step touches; the number of steps after that; and the state and streams then.
     Steps(&'static [Touches], u32, State, Streams),
-    /// Whether it rests where it has ended.
+    /// It stays where it has ended.
     Rests,
-    /// Whether a mark and a word that is written are seen.
+    /// A mark and a written word take effect.
     Marks,
-    /// Whether a copy stays as it was.
+    /// A copy stays as it was.
     Copies,
-    /// Whether what was decoded is taken over.
+    /// Decoded instructions are taken over.
     Learns,
 }
 
-/// A label, a program's words, its input, whether functions of the heap have names, and what is asked of its machine.
+/// A label, a program's words, its input, whether functions of the heap have names, and what is tested of its machine.
 pub(crate) type Row = (&'static str, &'static [u32], &'static [u8], bool, Trial);
 
 pub(crate) const NO_STREAMS: Streams = (0, 0, false);
 
-/// Two functions of the heap by their addresses, or none.
+/// Returns two functions of the heap by their addresses, or none.
 fn hooks_of(alloc: Global, are_named: bool) -> Result<Hooks, AllocError> {
     if !are_named {
         return Ok(Hooks::new(Vec::new(alloc)));
@@ -51,13 +51,13 @@ fn hooks_of(alloc: Global, are_named: bool) -> Result<Hooks, AllocError> {
     Ok(Hooks::new(named))
 }
 
-/// Whether one of them is found.
+/// Returns whether a function is found by its address, and none at another address.
 pub(crate) fn are_hooks(alloc: Global) -> Result<bool, AllocError> {
     let hooks = hooks_of(alloc, true)?;
     Ok(hooks.at(0x10008) == Some(Hook::Calloc) && hooks.at(0x10004) == None)
 }
 
-/// The input and the functions of a row, and a heap with Memcheck's redzone and volume of freed blocks.
+/// Returns the input and the functions of a row, and a heap with Memcheck's redzone and volume of freed blocks.
 fn setup_of(alloc: Global, row: &Row) -> Result<Setup, AllocError> {
     let input = Input::new(row.2.to_vec(alloc)?);
     Ok(Setup {
@@ -68,12 +68,12 @@ fn setup_of(alloc: Global, row: &Row) -> Result<Setup, AllocError> {
     })
 }
 
-/// The value and the undefined bits of x`number`.
+/// Returns the value and the undefined bits of x`number`.
 fn bits_of(machine: &Machine, number: u8) -> Bits {
     machine.register(Register::new(number % 32))
 }
 
-/// Whether a machine is there.
+/// Returns whether a machine is in a state.
 fn is_at(machine: &Machine, state: &State) -> bool {
     let (status, pc, answer, errors, calls) = state;
     machine.status() == *status
@@ -83,7 +83,7 @@ fn is_at(machine: &Machine, state: &State) -> bool {
         && machine.heap_calls() == *calls
 }
 
-/// Whether it has read and written so much.
+/// Returns whether it has read and written this much.
 fn has_streams(machine: &Machine, streams: &Streams) -> bool {
     let (position, output_len, end_seen) = streams;
     machine.position() == *position
@@ -91,13 +91,13 @@ fn has_streams(machine: &Machine, streams: &Streams) -> bool {
         && machine.end_seen() == *end_seen
 }
 
-/// Whether a step touches what it should.
+/// Returns whether a step touches what it should.
 fn is_touched(touched: Touched, want: &Touches) -> bool {
     let (fetch, reads, writes) = want;
     touched.fetch == *fetch && touched.reads == *reads && touched.writes == *writes
 }
 
-/// The machine after a step for each row, if each touches what its row says.
+/// Returns the machine after a step for each row, if each touches what its row says.
 fn touching(
     start: Machine,
     setup: &Setup,
@@ -115,7 +115,7 @@ fn touching(
     Ok(Some(machine))
 }
 
-/// The machine after some steps.
+/// Returns the machine after a number of steps.
 fn stepped(
     start: Machine,
     setup: &Setup,
@@ -130,7 +130,7 @@ fn stepped(
     Ok(machine)
 }
 
-/// Whether a machine is where a trial says after its steps, each of which is counted.
+/// Returns whether a machine is in the state of a trial after its steps, each of which is counted.
 fn goes(
     start: Machine,
     setup: &Setup,
@@ -149,7 +149,7 @@ fn goes(
     }
 }
 
-/// Whether a machine that has ended after two steps makes three more, and stays.
+/// Returns whether a machine that has ended after two steps executes three more, and stays.
 fn rests(start: Machine, setup: &Setup) -> Result<bool, AllocError> {
     let ended = stepped(start, setup, &mut Meter::new(), 2)?;
     let mut meter = Meter::new();
@@ -157,13 +157,13 @@ fn rests(start: Machine, setup: &Setup) -> Result<bool, AllocError> {
     Ok(meter.read() == 3 && matches!(rested.status(), Status::Exited(_)))
 }
 
-/// The value and the undefined bits of a0 after some steps.
+/// Returns the value and the undefined bits of a0 after a number of steps.
 fn answer(start: Machine, setup: &Setup, steps: u32) -> Result<Bits, AllocError> {
     let machine = stepped(start, setup, &mut Meter::new(), steps)?;
     Ok(bits_of(&machine, 10))
 }
 
-/// Whether a word that is written at the stack pointer, and marked before the first step, is loaded.
+/// Returns whether a word that is written at the stack pointer, and marked before the first step, is loaded.
 fn marks(start: Machine, setup: &Setup) -> Result<bool, AllocError> {
     let poked = start.poke_word(0x7FFF_FFF0, 0x8765_4321)?;
     let marked = poked.mark(&Mark {
@@ -176,7 +176,7 @@ fn marks(start: Machine, setup: &Setup) -> Result<bool, AllocError> {
     Ok(bits.value == 0x8765_4321 && bits.undef == u32::MAX)
 }
 
-/// Whether a machine loads another word, and then a copy the word as it was.
+/// Returns whether a machine loads the new word, and then a copy the old one.
 fn loads(machine: Machine, copy: Machine, setup: &Setup) -> Result<bool, AllocError> {
     let later = answer(machine, setup, 1)?;
     let pc = copy.pc();
@@ -184,26 +184,26 @@ fn loads(machine: Machine, copy: Machine, setup: &Setup) -> Result<bool, AllocEr
     Ok(pc == 0x10000 && later.value == 5 && again.value == 0)
 }
 
-/// Whether a copy stays as it was.
+/// Returns whether a copy stays as it was.
 fn copies(start: Machine, setup: &Setup) -> Result<bool, AllocError> {
     let copy = start.share()?;
     loads(start.poke_word(0x7FFF_FFF0, 5)?, copy, setup)
 }
 
-/// The machine of a program before the first step, with another first word.
+/// Returns the machine of a program before the first step, with another first word.
 fn begun_with(alloc: Global, image: &Image, first: u32) -> Result<Machine, AllocError> {
     let start = Machine::start(alloc, image)?;
     start.poke_word(0x10000, first)
 }
 
-/// Whether a step of the program with another first word adds so much, where it takes over what a machine has decoded.
+/// Returns whether a step of the program with another first word adds this much, after it took over what a machine has decoded.
 fn adds(start: Machine, setup: &Setup, decoded: &Machine, want: u32) -> Result<bool, AllocError> {
     let mut machine = start;
     machine.learn(decoded);
     Ok(answer(machine, setup, 1)?.value == want)
 }
 
-/// The same of a new machine.
+/// Returns the same for a new machine.
 fn adds_anew(
     alloc: Global,
     image: &Image,
@@ -215,13 +215,13 @@ fn adds_anew(
     adds(start, setup, decoded, want)
 }
 
-/// Whether two more steps of a copy that is ready add to the two from before.
+/// Returns whether two more steps of a ready copy add to the two before.
 fn goes_on(setup: &Setup, decoded: &Machine) -> Result<bool, AllocError> {
     let copy = decoded.share_ready()?;
     Ok(answer(copy, setup, 2)?.value == 3)
 }
 
-/// Whether three steps of the program that adds 2 add 4, where all that is decoded is taken over.
+/// Returns whether three steps of the program that adds 2 add 4, if everything decoded is taken over.
 fn takes_over(
     alloc: Global,
     image: &Image,
@@ -233,7 +233,7 @@ fn takes_over(
     Ok(answer(machine, setup, 3)?.value == 4)
 }
 
-/// Whether instructions are taken over where a machine has the same words, and not where it has others.
+/// Returns whether decoded instructions are taken over if a machine has the same words, and not if it has others.
 fn is_learnt(
     alloc: Global,
     image: &Image,
@@ -251,13 +251,13 @@ fn is_learnt(
     takes_over(alloc, image, setup, decoded)
 }
 
-/// Whether they are of the program after three steps.
+/// Returns whether they are taken over from the program after three steps.
 fn learns(alloc: Global, image: &Image, start: Machine, setup: &Setup) -> Result<bool, AllocError> {
     let mut decoded = stepped(start, setup, &mut Meter::new(), 3)?;
     is_learnt(alloc, image, setup, &mut decoded)
 }
 
-/// Whether each register of a machine before its first step is defined, and 0 but for the stack pointer.
+/// Returns whether each register of a machine before its first step is defined, and 0 except for the stack pointer.
 fn has_registers(machine: &Machine) -> bool {
     for number in 0..32 {
         let value = if number == 2 { 0x7FFF_FFF0 } else { 0 };
@@ -269,7 +269,7 @@ fn has_registers(machine: &Machine) -> bool {
     true
 }
 
-/// Whether a trial goes well on an image.
+/// Returns whether a trial passes on an image.
 fn goes_well(
     alloc: Global,
     image: &Image,
@@ -289,7 +289,7 @@ fn goes_well(
     }
 }
 
-/// Whether a row is so on a file.
+/// Returns whether a row holds for a file.
 fn is_so_of(alloc: Global, file: &[u8], row: &Row) -> Result<bool, AllocError> {
     let setup = setup_of(alloc, row)?;
     match read(alloc, file) {
@@ -298,13 +298,13 @@ fn is_so_of(alloc: Global, file: &[u8], row: &Row) -> Result<bool, AllocError> {
     }
 }
 
-/// Whether it is on a new one.
+/// Returns whether it holds for a new file.
 fn is_so(alloc: Global, row: &Row) -> Result<bool, AllocError> {
     let file = program(alloc, row.1)?;
     is_so_of(alloc, &file, row)
 }
 
-/// Asserts that rows are so.
+/// Asserts that rows hold.
 pub(crate) fn assert_so(rt: &impl Abort, alloc: Global, rows: &[Row]) {
     for row in rows {
         assert!(rt; matches!(is_so(alloc, row), Ok(true)), "{}", row.0);

@@ -1,5 +1,5 @@
--- The regions of memory that aren't a program's own: the heap's and the stack's. Each reaches from its begin up to its
--- end, not with it.
+-- The regions of memory that aren't a program's own: the heap's and the stack's. Each reaches from its begin up to, but
+-- not including, its end.
 use Rattle.std.specs.Prelude.{ℕ}
 
 abbrev pub heap_begin : ℕ

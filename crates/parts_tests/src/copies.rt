@@ -1,11 +1,11 @@
-//! Copies of bytes with what is known of them, each beside a plain copy byte by byte.
+//! Copies of bytes with their undefined bits, each compared with a plain copy byte by byte.
 use crate::comes;
 use definedness::Bits;
 use shadow_memory::{Cell, Memory, RangeKind};
 use std::alloc::{AllocError, Global};
 
-/// A page that is held, with some bytes inaccessible, undefined and defined in part; two blank pages of undefined bytes; one of
-/// zeros; and inaccessible ones after them. The same stands at each base.
+/// Writes a held page, with some bytes inaccessible, undefined and partly defined; two blank pages of undefined bytes; one page of zeros;
+/// and inaccessible ones after them. The same is at each base.
 fn lay_out(memory: &mut Memory, base: u32) -> Result<(), AllocError> {
     memory.fill(base, 0x1000, b"abcdefghijklmnopqrstuvw")?;
     memory.set_range(base.wrapping_add(0x1000), 0x2000, RangeKind::Undefined)?;
@@ -19,7 +19,7 @@ fn lay_out(memory: &mut Memory, base: u32) -> Result<(), AllocError> {
     Ok(())
 }
 
-/// A word that is defined in part, and undefined and inaccessible bytes after it.
+/// Writes a partly defined word, with undefined and inaccessible bytes after it.
 fn lay_out_group(memory: &mut Memory, at: u32, group: u32) -> Result<(), AllocError> {
     let bits = Bits {
         value: group | 0x4433_2200,
@@ -30,7 +30,7 @@ fn lay_out_group(memory: &mut Memory, at: u32, group: u32) -> Result<(), AllocEr
     memory.set_range(at.wrapping_add(16), group & 3, RangeKind::NoAccess)
 }
 
-/// Copies, if the ranges are apart.
+/// Copies, if the ranges don't overlap.
 pub(crate) fn copy_apart(
     memory: &mut Memory,
     from: u32,
@@ -44,7 +44,7 @@ pub(crate) fn copy_apart(
     Ok(true)
 }
 
-/// What a target's byte is after a copy of a source's.
+/// Returns a target's byte after a source's was copied to it.
 fn copied(source: Cell, target: Cell) -> Cell {
     Cell {
         byte: source.byte,
@@ -53,7 +53,7 @@ fn copied(source: Cell, target: Cell) -> Cell {
     }
 }
 
-/// The first offset of 16 more bytes than were copied whose byte isn't what it should be.
+/// Returns the first offset at which a byte isn't as it should be, of the bytes copied and 16 more.
 fn first_wrong(old: &Memory, new: &Memory, from: u32, to: u32, len: u32) -> Option<u32> {
     for i in 0..len.wrapping_add(16) {
         let at = to.wrapping_add(i);
@@ -70,7 +70,7 @@ fn first_wrong(old: &Memory, new: &Memory, from: u32, to: u32, len: u32) -> Opti
     None
 }
 
-/// Where a copy leaves a memory that is laid out at both bases as it shouldn't; none where all is well.
+/// Returns where a copy leaves a memory that is laid out at both bases as it shouldn't; `None` if all is well.
 fn wrong_in(memory: &mut Memory, from: u32, to: u32, len: u32) -> Result<Option<u32>, AllocError> {
     lay_out(memory, 0x1_0000)?;
     lay_out(memory, 0x3_0000)?;
@@ -81,17 +81,17 @@ fn wrong_in(memory: &mut Memory, from: u32, to: u32, len: u32) -> Result<Option<
     Ok(first_wrong(&old, memory, from, to, len))
 }
 
-/// The same, in a new memory.
+/// Returns the same for a new memory.
 fn wrong_copy(alloc: Global, from: u32, to: u32, len: u32) -> Result<Option<u32>, AllocError> {
     let mut memory = Memory::new(alloc);
     wrong_in(&mut memory, from, to, len)
 }
 
-/// What a row shows; from where, to where and how many bytes are copied; and at how many pairs of offsets in 16 bytes, of a source and of
-/// a target.
+/// A label; from where, to where and how many bytes are copied; and the number of pairs of offsets in 16 bytes, of a source and of a
+/// target.
 type Copy = (&'static str, u32, u32, u32, u32);
 
-/// Whether a copy goes well at each pair.
+/// Returns whether a copy is right for each pair.
 fn is_copied(alloc: Global, copy: &Copy) -> Result<bool, AllocError> {
     let (_, from, to, len, pairs) = copy;
     for pair in 0..*pairs {

@@ -1,4 +1,4 @@
-//! Texts that are counted, with numbers and counts by hand.
+//! Counted texts, with numbers and counts worked out by hand.
 use crate::comes;
 use std::alloc::{AllocError, Global};
 use tallies::Tallies;
@@ -12,7 +12,7 @@ const TEXTS: [(&[u8], usize, bool); 5] = [
     (b"running\n", 1, true),
 ];
 
-/// Whether each of the texts is found.
+/// Returns whether each of the texts is found.
 fn are_met(tallies: &mut Tallies) -> Result<bool, AllocError> {
     for (text, number, is_met) in &TEXTS {
         let found = tallies.meet(text)?;
@@ -23,7 +23,7 @@ fn are_met(tallies: &mut Tallies) -> Result<bool, AllocError> {
     Ok(true)
 }
 
-/// Whether the texts are found and counted.
+/// Returns whether the texts are found and counted.
 fn are_counted(alloc: Global, tallies: &mut Tallies) -> Result<bool, AllocError> {
     if !are_met(tallies)? {
         return Ok(false);
@@ -31,7 +31,7 @@ fn are_counted(alloc: Global, tallies: &mut Tallies) -> Result<bool, AllocError>
     Ok(tallies.counts(alloc)?.as_slice() == [1, 3, 1].as_slice())
 }
 
-/// The same, from no text but the first.
+/// Returns the same, starting with only the first text.
 fn are_counted_from_one(alloc: Global) -> Result<bool, AllocError> {
     let mut tallies = Tallies::begin(alloc, b"exited 0\n".to_vec(alloc)?)?;
     are_counted(alloc, &mut tallies)

@@ -1,7 +1,7 @@
 //! Words of the manual and of an assembler, and the whole table against a slow search.
 use rv_decode::{Insn, Op, decode, one_row};
 
-/// A word, and the operation, `rd`, `rs1`, `rs2` and immediate that an assembler made it from.
+/// A word, and the operation, `rd`, `rs1`, `rs2` and immediate from which an assembler made it.
 const ASSEMBLED: [(u32, Op, u8, u8, u8, u32); 55] = [
     // lui x31, 0x80001
     (0x8000_1FB7, Op::Lui, 31, 0, 0, 0x8000_1000),
@@ -167,8 +167,7 @@ const LISTING: [(u32, u32, Op); 48] = [
     (0xFFFF_FFFF, 0x0010_0073, Op::Ebreak),
 ];
 
-/// Whether `decode` finds the operation of the one row whose fixed bits the word has, and nothing
-/// where there is no such row.
+/// Returns whether `decode` finds the operation of the one row whose fixed bits the word has, and `None` if there is no such row.
 fn agrees(word: u32) -> bool {
     let mut found = None;
     for (mask, value, op) in &LISTING {
@@ -185,7 +184,7 @@ fn agrees(word: u32) -> bool {
     }
 }
 
-/// Whether `decode` agrees with the listing at each opcode, funct3 and funct7, with these other bits.
+/// Returns whether `decode` agrees with the listing at each opcode, funct3 and funct7, with these other bits.
 fn all_agree(others: u32) -> bool {
     for key in 0..1 << 17u32 {
         if !agrees(others | (key & 0x7F) | ((key >> 7 & 0x7) << 12) | ((key >> 10) << 25)) {
@@ -195,7 +194,7 @@ fn all_agree(others: u32) -> bool {
     true
 }
 
-/// Whether a row's word is decoded to its other fields.
+/// Returns whether a row's word is decoded to its other fields.
 fn is_decoded(row: &(u32, Op, u8, u8, u8, u32)) -> bool {
     let (word, op, rd, rs1, rs2, imm) = *row;
     decode(word)
@@ -208,7 +207,7 @@ fn is_decoded(row: &(u32, Op, u8, u8, u8, u32)) -> bool {
         })
 }
 
-/// A shift with another funct7, BGE's opcode with funct3 2, a whole word but one bit, and no word.
+/// A shift with another funct7, BGE's opcode with funct3 2, a whole word except for one bit, and other words that aren't instructions.
 const NO_WORDS: [u32; 6] = [
     0x6015_5513,
     0x0205_2063,

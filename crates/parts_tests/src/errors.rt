@@ -1,4 +1,4 @@
-//! Errors with their groups, by hand.
+//! Errors with their groups, worked out by hand.
 use crate::comes;
 use call_stacks::Trace;
 use error_events::{Event, Group, Groups, Kind, Note, Parameter, ParameterFault};
@@ -11,7 +11,7 @@ const PARAM: Kind = Kind::Param(Parameter::ReadBuffer, ParameterFault::Unaddress
 /// A group's kind, addresses, count, and the address of its note.
 type Row = (Kind, &'static [u32], u64, u32);
 
-/// Whether a group is a row's.
+/// Returns whether a group is a row's.
 fn is_row(group: Option<Group>, row: &Row) -> bool {
     let (kind, addresses, count, at) = row;
     match group {
@@ -25,7 +25,7 @@ fn is_row(group: Option<Group>, row: &Row) -> bool {
     }
 }
 
-/// Whether the groups are those of rows.
+/// Returns whether the groups are those of rows.
 fn are_rows(groups: &Groups, rows: &[Row]) -> bool {
     for (i, row) in rows.iter().enumerate() {
         if !is_row(groups.get(i), row) {
@@ -53,7 +53,7 @@ fn add_all(groups: &mut Groups, added: &[Added]) -> Result<(), AllocError> {
     Ok(())
 }
 
-/// Errors and their groups; errors after them, and all groups then, of which a copy from before has none.
+/// Errors and their groups; then further errors, and all groups after them. An earlier copy has none of the further errors.
 type Case = (
     &'static [Added],
     &'static [Row],
@@ -83,26 +83,26 @@ const GROUPS: [Row; 3] = [
     (READ, &[8, 24], 1, 3),
 ];
 
-/// Those by the first address alone.
+/// The groups by only the first address.
 const REGROUPED: [Row; 2] = [(READ, &[8], 3, 1), (PARAM, &[8], 1, 2)];
 
-/// The last of them alone.
+/// Only the last of them, by the first address.
 const LAST_REGROUPED: [Row; 1] = [(READ, &[8], 1, 3)];
 
-/// Whether groups and an early copy are a case's, once its later errors are added.
+/// Returns whether groups and an earlier copy are those of a case, after its further errors were added.
 fn are_apart(groups: &mut Groups, early: &Groups, case: &Case) -> Result<bool, AllocError> {
     add_all(groups, case.2)?;
     Ok(are_rows(early, case.1) && are_rows(groups, case.3))
 }
 
-/// The same of groups without an error.
+/// Returns the same for groups without errors.
 fn are_counted(groups: &mut Groups, case: &Case) -> Result<bool, AllocError> {
     add_all(groups, case.0)?;
     let early = groups.share()?;
     are_apart(groups, &early, case)
 }
 
-/// One more read, at an address.
+/// Adds a read at an address.
 fn add_read(groups: &mut Groups, address: u32) -> Result<(), AllocError> {
     let trace = Trace::of(address);
     groups.add(Event {
@@ -112,7 +112,7 @@ fn add_read(groups: &mut Groups, address: u32) -> Result<(), AllocError> {
     })
 }
 
-/// Whether the group of reads at an address counts so many.
+/// Returns whether the group of reads at an address has this count.
 fn counts(groups: &Groups, address: u32, count: u64) -> bool {
     match groups.get(address as usize) {
         Some(group) => {
@@ -125,19 +125,19 @@ fn counts(groups: &Groups, address: u32, count: u64) -> bool {
     }
 }
 
-/// Whether a copy keeps its count of a group that has one more error then.
+/// Returns whether a copy keeps its count of a group to which an error is added.
 fn is_kept(groups: &mut Groups, early: &Groups, address: u32) -> Result<bool, AllocError> {
     add_read(groups, address)?;
     Ok(counts(early, address, 1) && counts(groups, address, 2))
 }
 
-/// The same, of a new copy.
+/// Returns the same for a new copy.
 fn is_raised_apart(groups: &mut Groups, address: u32) -> Result<bool, AllocError> {
     let early = groups.share()?;
     is_kept(groups, &early, address)
 }
 
-/// Whether of 600 groups these are: one in the first chunk of counts, one at the end of a chunk, and one after the chunks.
+/// Returns whether this holds in 600 groups: for one in the first chunk of counts, one at the end of a chunk, and one after the chunks.
 fn are_raised_apart(groups: &mut Groups) -> Result<bool, AllocError> {
     for address in 0..600 {
         add_read(groups, address)?;
@@ -150,7 +150,7 @@ fn are_raised_apart(groups: &mut Groups) -> Result<bool, AllocError> {
     Ok(true)
 }
 
-/// Whether the groups that are kept, by the first address alone, are these.
+/// Returns whether the groups that are kept, by only the first address, are these.
 fn regroups(groups: &Groups, keep: &[bool], wanted: &[Row]) -> Result<bool, AllocError> {
     if groups.len() != keep.len() {
         return Ok(false);
@@ -164,7 +164,7 @@ fn regroups(groups: &Groups, keep: &[bool], wanted: &[Row]) -> Result<bool, Allo
     Ok(regrouped.len() == wanted.len())
 }
 
-/// Whether all and the last of the groups above are.
+/// Returns whether they are, for all and for the last of the groups above.
 fn are_regrouped(groups: &mut Groups) -> Result<bool, AllocError> {
     add_all(groups, &ADDED)?;
     if !regroups(groups, &[true, true, true], &REGROUPED)? {
@@ -173,14 +173,14 @@ fn are_regrouped(groups: &mut Groups) -> Result<bool, AllocError> {
     regroups(groups, &[false, false, true], &LAST_REGROUPED)
 }
 
-/// What is tried with groups.
+/// A trial with groups.
 enum Trial {
     Counted(&'static Case),
     RaisedApart,
     Regrouped,
 }
 
-/// Whether a trial goes well with groups without an error.
+/// Returns whether a trial passes with groups without errors.
 fn goes_well(groups: &mut Groups, trial: &Trial) -> Result<bool, AllocError> {
     match trial {
         Trial::Counted(case) => are_counted(groups, case),
@@ -189,7 +189,7 @@ fn goes_well(groups: &mut Groups, trial: &Trial) -> Result<bool, AllocError> {
     }
 }
 
-/// Whether it does with new ones.
+/// Returns whether it passes with new groups.
 fn goes_well_anew(alloc: Global, trial: &Trial) -> Result<bool, AllocError> {
     let mut groups = Groups::new(alloc);
     goes_well(&mut groups, trial)

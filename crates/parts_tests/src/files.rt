@@ -1,4 +1,4 @@
-//! Files by hand, and what becomes of them. By which number a cut or changed file is refused, `tools/test/test-files` compares.
+//! Files by hand, and their images. `tools/test/test-files` tests with which number a cut or changed file is rejected.
 use crate::{comes, holds};
 use byteorder::{ByteOrder, LittleEndian};
 use guest_elf::{ElfFault, Hook, Image, Segment, read};
@@ -15,8 +15,8 @@ const PROGRAM: [u8; 96] = [
     0x04, 0x00, 0x00, 0x00, 0x93, 0x08, 0xD0, 0x05, 0x13, 0x05, 0x00, 0x00, 0x73, 0x00, 0x00, 0x00,
 ];
 
-/// Eight words at 0x10000, with two functions: `main` from 0x10000, 24 bytes, and `max` from 0x10018, 8 bytes. Behind them names of
-/// the heap's functions, from 296 on, which no section has.
+/// Eight words at 0x10000, with two functions: `main` from 0x10000, 24 bytes, and `max` from 0x10018, 8 bytes. After them, from 296 on,
+/// names of the heap's functions, which are in no section.
 const NAMED: [u8; 336] = [
     0x7F, 0x45, 0x4C, 0x46, 0x01, 0x01, 0x01, 0x00, 0x00, 0x00, 0x00, 0x00, 0x00, 0x00, 0x00, 0x00,
     0x02, 0x00, 0xF3, 0x00, 0x01, 0x00, 0x00, 0x00, 0x00, 0x00, 0x01, 0x00, 0x34, 0x00, 0x00, 0x00,
@@ -41,10 +41,10 @@ const NAMED: [u8; 336] = [
     0x6C, 0x6F, 0x63, 0x00, 0x6D, 0x61, 0x6C, 0x6C, 0x6F, 0x63, 0x73, 0x00, 0x6D, 0x61, 0x6C, 0x00,
 ];
 
-/// A word of a file that is another: its offset and its value.
+/// A changed word of a file: its offset and its new value.
 type Change = (usize, u32);
 
-/// No word: no file is so long.
+/// No word: no file is as long.
 const NONE: Change = (usize::MAX, 0);
 
 /// The fields of the program that are changed.
@@ -64,7 +64,7 @@ fn change(file: &mut [u8], change: Change) {
     }
 }
 
-/// Whether segments are that of the program above alone.
+/// Returns whether the only segment is that of the program above.
 fn are_code(segments: &[Segment<'_>]) -> bool {
     match segments {
         [segment] => {
@@ -74,7 +74,7 @@ fn are_code(segments: &[Segment<'_>]) -> bool {
     }
 }
 
-/// Whether the program is read.
+/// Returns whether the program is read.
 fn is_read(alloc: Global) -> bool {
     match read(alloc, &PROGRAM) {
         Ok(image) => {
@@ -86,11 +86,10 @@ fn is_read(alloc: Global) -> bool {
     }
 }
 
-/// Two words of the program changed, an address, whether the word there can be patched, and whether the segment has bytes.
+/// Two changed words of the program, an address, whether the word there can be patched, and whether the segment has bytes.
 type Patchable = (Change, Change, u32, bool, bool);
 
-/// Where there are zeros after the bytes; where the segment goes up to the last address; and where there are no bytes, whatever their
-/// offset.
+/// The segment has zeros after its bytes; it reaches up to the last address; or it has no bytes, whatever their offset.
 const LARGE: Change = (MEMSZ, 0x0100_0000);
 
 const LAST: Change = (VADDR, 0xFFFF_FFF4);
@@ -112,7 +111,7 @@ const PATCHABLE: [Patchable; 12] = [
     (EMPTY, (OFFSET, 0xFFFF_FFFF), 0x10000, true, false),
 ];
 
-/// Whether segments are one with bytes or without.
+/// Returns whether there is one segment, with bytes or without.
 fn have_bytes(segments: &[Segment<'_>], want: bool) -> bool {
     match segments {
         [segment] => segment.bytes.is_empty() != want,
@@ -120,7 +119,7 @@ fn have_bytes(segments: &[Segment<'_>], want: bool) -> bool {
     }
 }
 
-/// Whether a row is so.
+/// Returns whether a row holds.
 fn is_patchable(alloc: Global, row: &Patchable) -> bool {
     let (one, two, addr, want, bytes) = row;
     let mut file = PROGRAM;
@@ -138,7 +137,7 @@ const MAX: &[u8] = b"max";
 
 const UNKNOWN: &[u8] = b"???";
 
-/// Two words changed each, an address, and the name of its function then.
+/// Two changed words, an address, and the name of its function then.
 type Named = (Change, Change, u32, &'static [u8]);
 
 /// The fields of the two symbols.
@@ -168,7 +167,7 @@ const NAMES: [Named; 15] = [
     ((MAX_SIZE, 0), NONE, 0x10018, MAX),
     ((MAX_VALUE, 0x10010), (MAX_SIZE, 8), 0x10018, UNKNOWN),
     ((MAX_VALUE, 0x10010), (MAX_SIZE, 9), 0x10018, MAX),
-    // No function, then one that is undefined.
+    // One that is no function, and one that is undefined.
     ((MAX_KIND, 0xFFF1_0011), (MAIN_SIZE, 0), 0x10018, MAIN),
     ((MAX_KIND, 0x0000_0012), (MAIN_SIZE, 0), 0x10018, MAIN),
     // An empty name.
@@ -182,7 +181,7 @@ const NAMES: [Named; 15] = [
     ),
 ];
 
-/// Whether a row is so.
+/// Returns whether a row holds.
 fn is_named(alloc: Global, row: &Named) -> bool {
     let (one, two, addr, name) = row;
     let mut file = NAMED;
@@ -194,13 +193,12 @@ fn is_named(alloc: Global, row: &Named) -> bool {
     }
 }
 
-/// Of a symbol where its name begins, its address and its type with its section.
+/// A symbol: the offset of its name, its address, and its type with its section.
 type Symbol = (u32, u32, u32);
 
 const FUNCTION: u32 = 0xFFF1_0012;
 
-/// What a row shows; two symbols, whose names begin at 1, 8, 13, 20, 28 and 36 (`alloc` at 22); the functions of the heap that are known
-/// then.
+/// A label; two symbols, whose names begin at 1, 8, 13, 20, 28 and 36 (`alloc` at 22); the functions of the heap that are known then.
 type Hooks = (&'static str, Symbol, Symbol, &'static [(u32, Hook)]);
 
 /// Changes the name, the address, and the type with the section of the symbol at an offset.
@@ -211,16 +209,16 @@ fn change_symbol(file: &mut [u8], offset: usize, symbol: &Symbol) {
     change(file, (offset.saturating_add(12), *kind));
 }
 
-/// Whether an image has these functions of the heap.
+/// Returns whether an image has these functions of the heap.
 fn has_hooks(alloc: Global, image: &Image<'_>, want: &[(u32, Hook)]) -> Result<bool, AllocError> {
     let hooks = image.hooks(alloc)?;
     Ok(hooks.as_slice() == want)
 }
 
-/// Whether a row is so.
+/// Returns whether a row holds.
 fn are_hooks(alloc: Global, row: &Hooks) -> Result<bool, ElfFault> {
     let mut file = NAMED;
-    // Of section 2 sh_offset and sh_size.
+    // sh_offset and sh_size of section 2.
     change(&mut file, (272, 296));
     change(&mut file, (276, 40));
     change_symbol(&mut file, 132, &row.1);
@@ -236,7 +234,7 @@ fn set_program(file: &mut [u8]) {
     }
 }
 
-/// Whether a file has this answer: the number of a refusal, or 0.
+/// Returns whether reading a file gives this result: the number of a fault, or 0.
 fn is_answered(alloc: Global, file: &[u8], want: u8) -> bool {
     match read(alloc, file) {
         Ok(_image) => want == 0,
@@ -244,7 +242,7 @@ fn is_answered(alloc: Global, file: &[u8], want: u8) -> bool {
     }
 }
 
-/// Whether the program in a file of `len` bytes, with zeros after it, has.
+/// Returns whether the program in a file of `len` bytes, with zeros after it, does.
 fn is_sized_answered(alloc: Global, len: usize, want: u8) -> Result<bool, AllocError> {
     let mut file = vec![in alloc; 0u8; len]?;
     set_program(&mut file);
@@ -280,7 +278,7 @@ fn the_nearest_function_names_an_address(rt: HostRuntime) {
     }
 }
 
-/// Asserts that rows are so.
+/// Asserts that rows hold.
 fn assert_hooks(rt: &impl Abort, alloc: Global, rows: &[Hooks]) {
     for row in rows {
         holds(rt, row.0, matches!(are_hooks(alloc, row), Ok(true)));

@@ -5,29 +5,28 @@ use guest_heap::{Block, Heap, Place, Released};
 use std::alloc::{AllocError, Global};
 use std::process::Abort;
 
-/// Where all calls come from.
+/// The address from which all calls come.
 const SITE: u32 = 0x10008;
 
-/// What is done to a heap or looked up in it, and its answer.
+/// A change or a look-up of a heap, and its result.
 enum Act {
-    /// So many bytes with a redzone are allocated: where the block is placed.
+    /// Bytes with a redzone are allocated: the place of the block.
     Allocate(u32, u32, Option<u32>),
-    /// An address is released, where the queue of freed blocks has a volume: where the block starts that is freed, and whether it is
-    /// an error.
+    /// An address is released, with a volume of the queue of freed blocks: the start of the freed block, and whether it is an error.
     Release(u32, u32, Option<u32>, bool),
     /// What is near an address.
     Near(u32, Option<(Place, u32)>),
-    /// Where the block starts that is live from an address on.
+    /// The start of the first live block from an address on.
     Live(u32, Option<u32>),
 }
 
 /// A block of 8 bytes at 0x40000010 with a redzone of 16.
 const ONE: Act = Act::Allocate(8, 16, Some(0x4000_0010));
 
-/// What a row shows; what is done to a new heap, and then to a copy of it.
+/// A label; the acts on a new heap, and then those on a copy of it.
 type Case = (&'static str, &'static [Act], &'static [Act]);
 
-/// Where the block starts that an address which is released frees, and whether its release is an error.
+/// Releases an address. Returns the start of the freed block, and whether the release is an error.
 fn release(
     alloc: Global,
     heap: &mut Heap,
@@ -41,7 +40,7 @@ fn release(
     }
 }
 
-/// Whether a block is near an address in this way.
+/// Returns whether a block is near an address in this way.
 fn is_near(heap: &Heap, address: u32, want: Option<(Place, u32)>) -> bool {
     match (heap.block_near(address), want) {
         (Some(near), Some((place, distance))) => near.place == place && near.distance == distance,
@@ -57,7 +56,7 @@ fn start_of(block: Option<Block>) -> Option<u32> {
     }
 }
 
-/// Whether an act has its answer.
+/// Returns whether an act has its result.
 fn is_answered(alloc: Global, heap: &mut Heap, act: &Act) -> Result<bool, AllocError> {
     match act {
         Act::Allocate(size, redzone, place) => {
@@ -73,7 +72,7 @@ fn is_answered(alloc: Global, heap: &mut Heap, act: &Act) -> Result<bool, AllocE
     }
 }
 
-/// Whether each act has, one after another.
+/// Returns whether each act has its result, one after another.
 fn are_answered(alloc: Global, heap: &mut Heap, acts: &[Act]) -> Result<bool, AllocError> {
     for act in acts {
         if !is_answered(alloc, heap, act)? {
@@ -83,13 +82,13 @@ fn are_answered(alloc: Global, heap: &mut Heap, acts: &[Act]) -> Result<bool, Al
     Ok(true)
 }
 
-/// Whether each has on a copy.
+/// Returns whether each act has its result on a copy.
 fn are_answered_by_copy(alloc: Global, heap: &Heap, acts: &[Act]) -> Result<bool, AllocError> {
     let mut copy = heap.share()?;
     are_answered(alloc, &mut copy, acts)
 }
 
-/// Whether the acts of a case have their answers, on a heap that is lent.
+/// Returns whether the acts of a case have their results, on a borrowed heap.
 fn are_answered_by_both(alloc: Global, heap: &mut Heap, case: &Case) -> Result<bool, AllocError> {
     if !are_answered(alloc, heap, case.1)? {
         return Ok(false);
@@ -97,13 +96,13 @@ fn are_answered_by_both(alloc: Global, heap: &mut Heap, case: &Case) -> Result<b
     are_answered_by_copy(alloc, heap, case.2)
 }
 
-/// Whether they have on a new one.
+/// Returns whether they do on a new heap.
 fn is_so(alloc: Global, case: &Case) -> Result<bool, AllocError> {
     let mut heap = Heap::new(alloc);
     are_answered_by_both(alloc, &mut heap, case)
 }
 
-/// Asserts that cases are so.
+/// Asserts that cases hold.
 fn assert_so(rt: &impl Abort, alloc: Global, cases: &[Case]) {
     for case in cases {
         comes(rt, case.0, is_so(alloc, case));

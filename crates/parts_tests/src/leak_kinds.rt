@@ -7,7 +7,7 @@ use leak_graph::LeakKind::{Definite, Indirect, Possible, Reachable};
 use leak_graph::{LeakKind, Pointer, leak_kinds};
 use std::alloc::{AllocError, Global};
 
-// A label; the roots' pointers and those of the blocks, by the block that has each, the block that it goes to, and whether to its
+// A label; the pointers of the roots; the pointers of the blocks, by the block that has each, the block that it goes to, and whether to its
 // start; and the kinds of the blocks.
 type Case = (
     &'static str,
@@ -65,7 +65,7 @@ const CASES: [Case; 6] = [
     ),
 ];
 
-/// The pointers of each of so many blocks.
+/// Returns the pointers of each of `count` blocks.
 fn rows(
     alloc: Global,
     count: usize,
@@ -95,7 +95,7 @@ fn row(
     Ok(row)
 }
 
-/// Whether each pointer goes to one of so many blocks.
+/// Returns whether each pointer goes to one of `count` blocks.
 fn all_go_within(edges: &[Vec<Pointer>], count: usize) -> bool
     ensures { IsTrue result → AllGoWithin edges.now count }
 {
@@ -113,7 +113,7 @@ fn go_within(row: &[Pointer], count: usize) -> bool
     row.iter().all(|p| p.block < count)
 }
 
-/// The kinds of blocks; none where a pointer goes to no block.
+/// Returns the kinds of blocks, or an empty list if a pointer goes to no block.
 fn kinds_of(
     alloc: Global,
     roots: &[Pointer],
@@ -128,7 +128,7 @@ fn kinds_of(
     leak_kinds(alloc, roots, edges)
 }
 
-/// Whether the blocks of a case have its kinds.
+/// Returns whether the blocks of a case have its kinds.
 fn is_decided(alloc: Global, case: &Case) -> Result<bool, AllocError> {
     let (_, roots, pointers, kinds) = case;
     let edges = rows(alloc, kinds.len(), pointers)?;

@@ -1,7 +1,7 @@
 //! Tests of the crates below the machine, by their public calls: undefined bits, instructions, program files, memory, call stacks, the
 //! heap, errors, kinds of leaks, suppressions and counted texts.
 //!
-//! They stand apart from the crates that they test, since a crate with tests is proved a second time with them.
+//! This crate is separate from those that it tests, since a crate with tests is proved a second time with them.
 #![tactic(auto)]
 
 #[cfg(test)]
@@ -34,13 +34,13 @@ use std::alloc::AllocError;
 #[cfg(test)]
 use std::process::Abort;
 
-/// Asserts that what a row says is so, by its label.
+/// Asserts that a row holds, by its label.
 #[cfg(test)]
 fn holds(rt: &impl Abort, label: &str, is_so: bool) {
     assert!(rt; is_so, "{label}");
 }
 
-/// The same of what may run out of memory.
+/// Asserts the same of a test for which memory may run out.
 #[cfg(test)]
 fn comes(rt: &impl Abort, label: &str, is_so: Result<bool, AllocError>) {
     holds(rt, label, matches!(is_so, Ok(true)));

@@ -7,18 +7,18 @@ use shadow_memory::laws::{all_are, first_not};
 use shadow_memory::{Bad, Memory, RangeKind};
 use std::alloc::{AllocError, Global};
 
-/// Whether an address holds this byte with what is known of it.
+/// Returns whether an address holds this byte, with this accessibility and these undefined bits.
 fn is_cell(memory: &Memory, addr: u32, byte: u8, accessible: bool, undef: u8) -> bool {
     let cell = memory.byte(addr);
     cell.byte == byte && cell.accessible == accessible && cell.undef == undef
 }
 
-/// Whether the word at an address has this value.
+/// Returns whether the word at an address has this value.
 fn has_word(memory: &Memory, addr: u32, value: u32) -> bool {
     memory.load(addr, 4).value == value
 }
 
-/// So many copies of a memory, which share its pages.
+/// Returns `count` copies of a memory, which share its pages.
 fn copies_of(alloc: Global, memory: &Memory, count: u32) -> Result<Vec<Memory>, AllocError> {
     let mut copies = Vec::new(alloc);
     for _copy in 0..count {
@@ -27,7 +27,7 @@ fn copies_of(alloc: Global, memory: &Memory, count: u32) -> Result<Vec<Memory>, 
     Ok(copies)
 }
 
-/// Whether the first so many copies have their byte, and the others none.
+/// Returns whether the first `written` copies have their byte, and the others don't.
 fn are_written(copies: &[Memory], written: usize) -> bool {
     for (i, copy) in copies.iter().enumerate() {
         let want = if i < written { (i & 0x7f) as u8 } else { b'b' };
@@ -38,7 +38,7 @@ fn are_written(copies: &[Memory], written: usize) -> bool {
     true
 }
 
-/// Writes a byte into each copy in turn; whether it is in that copy alone.
+/// Writes a byte into each copy in turn. Returns whether it is only in that copy.
 fn are_apart(copies: &mut [Memory]) -> Result<bool, AllocError> {
     for i in 0..copies.len() {
         if let Some(copy) = copies.get_mut(i) {
@@ -51,15 +51,15 @@ fn are_apart(copies: &mut [Memory]) -> Result<bool, AllocError> {
     Ok(true)
 }
 
-/// One byte is written into each of 1,025 memories that share their pages; after each write, the ones before it have theirs and
-/// the ones after it have none.
+/// Writes a byte into each of 1,025 memories that share their pages. After each write, the memories before it have their byte and those
+/// after it don't.
 fn shares_are_apart(alloc: Global, first: &mut Memory) -> Result<bool, AllocError> {
     first.fill(0x1000_0000, 8192, b"abcd")?;
     let mut copies = copies_of(alloc, first, 1025)?;
     Ok(are_apart(&mut copies)? && has_word(first, 0x1000_0000, 0x6463_6261))
 }
 
-/// Whether a word is stored at an address, all but its last byte, which isn't accessible; `next` is two bytes on.
+/// Stores a word at an address, all but its last byte, which isn't accessible; `next` is two bytes further. Returns whether it is there.
 fn is_stored(memory: &mut Memory, addr: u32, next: u32) -> Result<bool, AllocError> {
     memory.set_range(addr, 3, RangeKind::Defined)?;
     let bits = Bits {
@@ -75,7 +75,7 @@ fn is_stored(memory: &mut Memory, addr: u32, next: u32) -> Result<bool, AllocErr
     )
 }
 
-/// Whether that word is loaded.
+/// Returns whether that word is loaded.
 fn is_loaded(memory: &Memory, addr: u32, next: u32) -> bool {
     let loaded = memory.load(addr, 4);
     loaded.value == 0x4433_2211
@@ -84,7 +84,7 @@ fn is_loaded(memory: &Memory, addr: u32, next: u32) -> bool {
         && memory.load(next, 2).value == 0x4433
 }
 
-/// Whether it is copied to inaccessible bytes, and then to accessible ones.
+/// Returns whether it is copied to inaccessible bytes, and then to accessible ones.
 fn is_copied(memory: &mut Memory, addr: u32) -> Result<bool, AllocError> {
     let first = copy_apart(memory, addr, 0x5FFF, 4)? && is_cell(memory, 0x6000, 0x22, false, 0);
     memory.set_range(0x5FFF, 4, RangeKind::Undefined)?;
@@ -96,7 +96,7 @@ fn is_copied(memory: &mut Memory, addr: u32) -> Result<bool, AllocError> {
     )
 }
 
-/// Whether there are loads, stores and copies from one address on; `next` is two bytes on.
+/// Returns whether loads, stores and copies from an address on are right; `next` is two bytes further.
 fn accesses(memory: &mut Memory, addr: u32, next: u32) -> Result<bool, AllocError> {
     if !is_stored(memory, addr, next)? || !is_loaded(memory, addr, next) {
         return Ok(false);
@@ -104,7 +104,7 @@ fn accesses(memory: &mut Memory, addr: u32, next: u32) -> Result<bool, AllocErro
     is_copied(memory, addr)
 }
 
-/// Splits two pages of one kind by a range and by a partly defined byte; whether the bytes there are as they should be.
+/// Splits two pages of one kind by a range and by a partly defined byte. Returns whether the bytes there are as they should be.
 fn split(memory: &mut Memory) -> Result<bool, AllocError> {
     memory.fill(0x4000, 0x2000, b"xyz")?;
     memory.set_range(0x4010, 16, RangeKind::NoAccess)?;
@@ -121,7 +121,7 @@ fn split(memory: &mut Memory) -> Result<bool, AllocError> {
     )
 }
 
-/// Whether the bad bytes of pages that are split are found.
+/// Returns whether the bad bytes of split pages are found.
 fn are_split(memory: &Memory) -> bool {
     let inaccessible = Bad {
         addr: 0x4010,
@@ -136,14 +136,14 @@ fn are_split(memory: &Memory) -> bool {
         && memory.first_bad(0x4020, 0x1000, false) == None
 }
 
-/// Whether the words between those bytes are found.
+/// Returns whether the words between those bytes are found.
 fn are_passed_over(memory: &Memory) -> bool {
     memory.next_word(0x400D) == Some(0x4020)
         && memory.next_word(0x402D) == Some(0x4034)
         && memory.next_word(0x6000) == None
 }
 
-/// Whether pages that were split are defined again, with their bytes.
+/// Returns whether pages that were split are defined again, with their bytes.
 fn fold(memory: &mut Memory) -> Result<bool, AllocError> {
     memory.set_range(0x4000, 0x1000, RangeKind::Defined)?;
     Ok(
@@ -153,7 +153,7 @@ fn fold(memory: &mut Memory) -> Result<bool, AllocError> {
     )
 }
 
-/// Whether pages are split, and made one again.
+/// Returns whether pages are split, and then of one kind again.
 fn split_and_fold(memory: &mut Memory) -> Result<bool, AllocError> {
     if !split(memory)? || !are_split(memory) || !are_passed_over(memory) {
         return Ok(false);
@@ -161,8 +161,8 @@ fn split_and_fold(memory: &mut Memory) -> Result<bool, AllocError> {
     fold(memory)
 }
 
-/// Whether the words of two pages are told to be those of a copy, also up to one that is another, and not where one is or has an undefined
-/// byte.
+/// Returns whether the words of two pages are found to be those of a copy, also up to one that differs, and not if one differs or has an
+/// undefined byte.
 fn are_told(memory: &Memory, copy: &mut Memory) -> Result<bool, AllocError> {
     copy.poke_word(0x6FFC, 1)?;
     copy.set_range(0x5005, 1, RangeKind::Undefined)?;
@@ -174,7 +174,7 @@ fn are_told(memory: &Memory, copy: &mut Memory) -> Result<bool, AllocError> {
     )
 }
 
-/// The same of a new copy.
+/// Returns the same for a new copy.
 fn tells_words(memory: &mut Memory) -> Result<bool, AllocError> {
     memory.fill(0x5000, 0x2000, b"words of code")?;
     memory.poke_word(0x6004, 7)?;
@@ -182,14 +182,14 @@ fn tells_words(memory: &mut Memory) -> Result<bool, AllocError> {
     are_told(memory, &mut copy)
 }
 
-/// Whether bytes from outside are stored, the last of them to an inaccessible place.
+/// Returns whether bytes from outside are stored, the last of them to an inaccessible place.
 fn are_stored(memory: &mut Memory) -> Result<bool, AllocError> {
     memory.set_range(0x8FFE, 3, RangeKind::Undefined)?;
     memory.store_bytes(0x8FFE, b"pqrs")?;
     Ok(is_cell(memory, 0x9000, b'r', true, 0) && is_cell(memory, 0x9001, b's', false, 0))
 }
 
-/// Whether a word is written over them.
+/// Returns whether a word is written over them.
 fn are_poked(memory: &mut Memory) -> Result<bool, AllocError> {
     memory.poke_word(0x8FFF, 0x0403_0201)?;
     Ok(
@@ -199,7 +199,7 @@ fn are_poked(memory: &mut Memory) -> Result<bool, AllocError> {
     )
 }
 
-/// Whether bytes from outside come and go.
+/// Returns whether bytes from outside are stored and overwritten.
 fn are_stored_and_poked(memory: &mut Memory) -> Result<bool, AllocError> {
     if !are_stored(memory)? {
         return Ok(false);
@@ -207,7 +207,7 @@ fn are_stored_and_poked(memory: &mut Memory) -> Result<bool, AllocError> {
     are_poked(memory)
 }
 
-/// Whether bytes are scanned for one that is another.
+/// Returns whether scans of bytes find one that differs.
 fn are_scanned() -> bool {
     let bytes = *b"aaaaaaaaaaaaaaaaaaaaab";
     first_not(&bytes, b'a') == Some(21)
@@ -217,7 +217,7 @@ fn are_scanned() -> bool {
         && !all_are(&bytes, b'a')
 }
 
-// What a row shows; from where; the range of values; the word that is found.
+// A label; the first address; the range of values; the word that is found.
 type Search = (&'static str, u32, u32, u64, Option<u32>);
 
 const SEARCHES: [Search; 11] = [
@@ -265,7 +265,7 @@ fn hide(memory: &mut Memory) -> Result<bool, AllocError> {
     Ok(bad == None)
 }
 
-/// Fills a memory with pages of one kind, and one byte apart from the others.
+/// Fills a memory with pages of one kind, and one byte that differs from the others.
 fn fill_for_searches(memory: &mut Memory) -> Result<(), AllocError> {
     memory.fill(0x4000, 0x3000, b"\x40")?;
     memory.fill(0x0080_0000, 0x0100_0000, b"")?;
@@ -273,7 +273,7 @@ fn fill_for_searches(memory: &mut Memory) -> Result<(), AllocError> {
     memory.poke(0x4FFC, 0x4F)
 }
 
-/// Whether words are found by their values.
+/// Returns whether words are found by their values.
 fn are_found(memory: &Memory) -> bool {
     for (_, from, low, high, found) in &SEARCHES {
         if memory.next_in_range(*from, *low, *high) != *found {
@@ -283,16 +283,16 @@ fn are_found(memory: &Memory) -> bool {
     true
 }
 
-/// Whether they are in a memory that is filled first.
+/// Returns whether they are found in a memory that is filled first.
 fn searches(memory: &mut Memory) -> Result<bool, AllocError> {
     fill_for_searches(memory)?;
     Ok(hide(memory)? && are_found(memory))
 }
 
-/// What is tried in a new memory.
+/// A trial with a new memory.
 enum Trial {
     SharesApart,
-    /// Accesses from an address on, and two bytes after it.
+    /// Accesses from an address on; the second is two bytes after it.
     Accesses(u32, u32),
     SplitAndFold,
     Words,
@@ -300,7 +300,7 @@ enum Trial {
     Searches,
 }
 
-/// Whether a trial goes well in a memory.
+/// Returns whether a trial passes in a memory.
 fn goes_well(alloc: Global, memory: &mut Memory, trial: &Trial) -> Result<bool, AllocError> {
     match trial {
         Trial::SharesApart => shares_are_apart(alloc, memory),
@@ -312,7 +312,7 @@ fn goes_well(alloc: Global, memory: &mut Memory, trial: &Trial) -> Result<bool, 
     }
 }
 
-/// Whether it does in a new one.
+/// Returns whether it passes in a new memory.
 fn goes_well_in_new(alloc: Global, trial: &Trial) -> Result<bool, AllocError> {
     let mut memory = Memory::new(alloc);
     goes_well(alloc, &mut memory, trial)

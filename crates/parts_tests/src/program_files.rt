@@ -1,4 +1,4 @@
-//! A file byte for byte, as written down by hand.
+//! A file byte for byte, written down by hand.
 use crate::comes;
 use guest_programs::{program, sized_program};
 use std::alloc::{AllocError, Global};
@@ -18,13 +18,13 @@ const WORDS: [u32; 3] = [0x05D0_0893, 0x0000_0513, 0x0000_0073];
 /// p_memsz, from its offset on.
 const LARGER: [u8; 4] = [0x00, 0x20, 0x00, 0x00];
 
-/// Whether the words make that file.
+/// Returns whether the words give that file.
 fn is_exit(alloc: Global) -> Result<bool, AllocError> {
     let exit = program(alloc, &WORDS)?;
     Ok(exit.as_slice() == EXIT.as_slice())
 }
 
-/// Whether they make one with more memory.
+/// Returns whether they give a file with more memory.
 fn is_larger(alloc: Global) -> Result<bool, AllocError> {
     let larger = sized_program(alloc, &WORDS, 0x2000)?;
     Ok(larger.len() == 96 && larger[72..].starts_with(&LARGER))

@@ -6,7 +6,7 @@ use std::alloc::{AllocError, Global};
 /// Calls from 0x1000, 0x1010, 0x1020 and on, each of which returns to the next instruction.
 const FIRST: u32 = 0x1000;
 
-/// Makes so many calls.
+/// Executes `count` calls.
 fn call_each(stack: &mut CallStack, count: u32) {
     let mut site = FIRST;
     for _call in 0..count {
@@ -15,13 +15,13 @@ fn call_each(stack: &mut CallStack, count: u32) {
     }
 }
 
-/// How many addresses the trace at 8 has.
+/// Returns the number of addresses of the trace at 8.
 fn depth(stack: &CallStack) -> usize {
     stack.trace(8).addresses().len()
 }
 
-/// Whether the oldest of 257 frames is gone, so that a return to it changes nothing, and a return to the second, which is the oldest that
-/// was kept, takes all.
+/// Returns whether the oldest of 257 frames is gone, so that a return to it changes nothing, and a return to the second, which is the
+/// oldest that was kept, removes all.
 fn has_256(stack: &mut CallStack) -> bool {
     stack.back_to(0x1004);
     if depth(stack) != 24 || stack.trace(8).addresses().get(1).copied() != Some(0x2000) {
@@ -31,17 +31,17 @@ fn has_256(stack: &mut CallStack) -> bool {
     depth(stack) == 1
 }
 
-/// Whether that is so, and a copy stays as it was.
+/// Returns whether that holds, and a copy stays as it was.
 fn drops_the_oldest(stack: &mut CallStack) -> Result<bool, AllocError> {
     call_each(stack, 257);
     let copy = stack.share()?;
     Ok(has_256(stack) && depth(&copy) == 24)
 }
 
-/// Calls, each by its site and where it returns to.
+/// Calls, each by its site and its return address.
 const CALLS: [(u32, u32); 4] = [(0x10, 0x14), (0x20, 0x24), (0x30, 0x24), (0x40, 0x44)];
 
-/// Where is returned to after those, and the trace then.
+/// The targets of the returns after those, and the trace then.
 const RETURNS: [(u32, &[u32]); 4] = [
     (0, &[8, 0x40, 0x30, 0x20, 0x10]),
     (0x28, &[8, 0x40, 0x30, 0x20, 0x10]),
@@ -49,13 +49,13 @@ const RETURNS: [(u32, &[u32]); 4] = [
     (0x24, &[8, 0x10]),
 ];
 
-/// Whether the trace at 8 has these addresses, once it is returned to a target.
+/// Returns whether the trace at 8 has these addresses after a return to a target.
 fn is_back(stack: &mut CallStack, target: u32, addresses: &[u32]) -> bool {
     stack.back_to(target);
     stack.trace(8).addresses() == addresses
 }
 
-/// Whether returns go past some of the frames of four calls.
+/// Returns whether returns remove the right frames of four calls.
 fn returns_past(stack: &mut CallStack) -> bool {
     for (site, ret) in &CALLS {
         stack.call(*site, *ret);
@@ -68,7 +68,7 @@ fn returns_past(stack: &mut CallStack) -> bool {
     true
 }
 
-/// Whether a new stack does either.
+/// Returns whether one of these two holds for a new stack.
 fn stacks_calls(alloc: Global, many: bool) -> Result<bool, AllocError> {
     let mut stack = CallStack::new(alloc)?;
     if many {
@@ -77,7 +77,7 @@ fn stacks_calls(alloc: Global, many: bool) -> Result<bool, AllocError> {
     Ok(returns_past(&mut stack))
 }
 
-/// Whether a trace of these addresses has them.
+/// Returns whether a trace of these addresses has them.
 fn is_made(addresses: &[u32]) -> bool {
     match Trace::new(addresses) {
         Some(trace) => trace.addresses() == addresses,
@@ -85,7 +85,7 @@ fn is_made(addresses: &[u32]) -> bool {
     }
 }
 
-/// Whether a trace has 1 to 24 addresses.
+/// Returns whether a trace has 1 to 24 addresses.
 fn have_1_to_24() -> bool {
     Trace::of(8).addresses() == [8].as_slice()
         && Trace::new(&[]).is_none()

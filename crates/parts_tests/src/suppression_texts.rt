@@ -1,11 +1,11 @@
-//! Texts and words with their answers, from outside.
+//! Texts and arguments of suppressions, and the results of reading them.
 use crate::holds;
 use error_events::{Kind, Parameter, ParameterFault};
 use leak_graph::LeakKind;
 use std::alloc::Global;
 use suppressions::{SuppFault, Suppression, TEXT_LIMIT, Target, is_suppressed, parse};
 
-/// At which line something is refused; 0 where it is so for another reason.
+/// Returns the line of a fault, or 0 for another fault.
 fn line_of(fault: SuppFault) -> u32 {
     match fault {
         SuppFault::BadSuppression(line) => line,
@@ -13,7 +13,7 @@ fn line_of(fault: SuppFault) -> u32 {
     }
 }
 
-/// How many suppressions a text has, or at which line it is refused.
+/// Returns the number of suppressions of a text, or the line at which it is rejected.
 fn count_of(alloc: Global, text: &str) -> Result<usize, u32> {
     if text.len() > TEXT_LIMIT {
         return Err(0);
@@ -24,7 +24,7 @@ fn count_of(alloc: Global, text: &str) -> Result<usize, u32> {
     }
 }
 
-/// Texts, and how many suppressions each has, or at which line it is refused.
+/// Texts, and the number of suppressions of each, or the line at which it is rejected.
 const TEXTS: [(&str, Result<usize, u32>); 12] = [
     ("{\nn\nMemcheck:Cond\nfun:a\n", Err(1)),
     ("}\n", Err(1)),
@@ -59,7 +59,8 @@ const READS: Target = Target::Error(Kind::Param(Parameter::ReadBuffer, Parameter
 
 const LOST: Target = Target::Leak(LeakKind::Definite);
 
-/// Words, and whether their suppression, which is on, matches a target in `max`, which `main` called, or at which line they are refused.
+/// Arguments, and whether their suppression, which is on, matches a target in `max`, called by `main`, or the line at which they are
+/// rejected.
 const WORDS: [(&str, Target, Result<bool, u32>); 16] = [
     ("Cond fun:ma*", COND, Ok(true)),
     ("Cond fun:main", COND, Ok(false)),
@@ -82,7 +83,7 @@ const WORDS: [(&str, Target, Result<bool, u32>); 16] = [
 /// The names of the functions of a trace.
 const NAMES: [&[u8]; 2] = [b"max", b"main"];
 
-/// Whether the suppression of some words is on and matches, or at which line they are refused.
+/// Returns whether the suppression of some arguments is on and matches, or the line at which they are rejected.
 fn matched(alloc: Global, words: &str, target: &Target, names: &[&[u8]]) -> Result<bool, u32> {
     match Suppression::from_words(alloc, words.as_bytes()) {
         Ok(suppression) if suppression.is_on() => Ok(suppression.matches(target, names)),
@@ -91,7 +92,7 @@ fn matched(alloc: Global, words: &str, target: &Target, names: &[&[u8]]) -> Resu
     }
 }
 
-/// Words, and whether their suppression matches in a recursion of 200 names: `max`, 198 times `walk`, and `main`.
+/// Arguments, and whether their suppression matches in a recursion of 200 names: `max`, 198 times `walk`, and `main`.
 const DEEP: [(&str, bool); 3] = [
     ("Cond fun:max ... fun:ma?n", true),
     ("Cond fun:max ... fun:main obj:*", false),
@@ -127,7 +128,7 @@ const JUMP: Target = Target::Error(Kind::Jump);
 
 const FREE: Target = Target::Error(Kind::Free);
 
-/// What a row shows; blocks, whether the last one stays on, and whether they suppress an error in `max`.
+/// A label; blocks, whether the last one stays on, a target, and whether they suppress it in `max`.
 const LISTS: [(&str, &[u8], bool, Target, bool); 5] = [
     (
         "another tool's block matches nothing",
@@ -142,7 +143,7 @@ const LISTS: [(&str, &[u8], bool, Target, bool); 5] = [
     ("a jump beside that", TWO, false, JUMP, true),
 ];
 
-/// Whether blocks, of which the last one is on or not, suppress an error; none where they are refused.
+/// Returns whether blocks, of which the last one is on or not, suppress an error; `None` if they are rejected.
 fn suppressed(alloc: Global, blocks: &[u8], is_on: bool, target: &Target) -> Option<bool> {
     if blocks.len() > TEXT_LIMIT {
         return None;

@@ -45,13 +45,13 @@ pub short-text : (gives : Giving) (named : Option (List ℕ)) (text : List ℕ) 
 short-text gives None text none = let empty : length text ≡ 0 = ap length none in omega arith
 short-text gives (Some path) text (gave, fits) = fits
 
--- a text of suppressions that is refused
+-- a text of suppressions that is rejected
 pub refused-rules : (text : List ℕ) (fault : SuppFault)
     → ((line : ℕ) → fault ≡ Supp.BadSuppression line → IsLeast line (faults text)) → NoRulesIn text (Suppressions fault)
 refused-rules text Supp.Memory least = tt
 refused-rules text (Supp.BadSuppression line) least = least line refl
 
--- where a text isn't had, its rules aren't
+-- if there is no text, there are no rules
 pub no-text : (gives : Giving) (named : Option (List ℕ)) (path : List ℕ) (end : End) → named ≡ Some path
     → NoText gives (Some path) end → NoRules gives named end
 no-text gives named path end is h = subst (λ (option : Option (List ℕ)). NoRules gives option end) (sym is) (told end h)

@@ -15,19 +15,19 @@ use Rattle.suppressions.specs.Rules.{Rule}
 use Rattle.suppressions.specs.Texts.{faults, rules, IsLeast}
 use Rattle.suppressions.specs.declared.fault.SuppFault.TheVariants as Supp
 
--- what files give: a path's bytes, or none where it can't be read
+-- what files give: a path's bytes, or none if it can't be read
 abbrev pub Giving : Type 1
 Giving = List ℕ → Option (List ℕ) → Type 0
 
--- how many bytes of a program's file are judged, and one more; and the most bytes of a text of suppressions (this
--- project's limits)
+-- the number of bytes of a program's file that are judged, and one more; and the greatest number of bytes of a text of
+-- suppressions (this project's limits)
 abbrev pub most_judged : ℕ
 most_judged = 67108864
 
 abbrev pub longest_text : ℕ
 longest_text = 1048576
 
--- what standard input still has, and what standard output was given, where they tell it
+-- what standard input still has, and what standard output was given, if they say so
 pub record Streams : Type 0 where
   pub left : Option (List ℕ)
   pub held : Option (List ℕ)
@@ -39,17 +39,17 @@ streams left held = record { left = left; held = held }
 abbrev pub Untouched : Streams → Streams → Type 0
 Untouched old new = Consumes old.left new.left [] × Appends old.held new.held []
 
--- a file's bytes up to a limit, and one more where it has more
+-- a file's bytes up to a limit, and one more if it is larger
 abbrev pub IsFront : Giving → List ℕ → ℕ → List ℕ → Type 0
 IsFront gives path limit front = (bytes : List ℕ) × gives path (Some bytes) × (front ≡ take (limit + 1) bytes)
 
--- a file gave no bytes: it can't be read, and the end names it as the order does; or memory was wanting
+-- a file gave no bytes: it can't be read, and the end names it as the order does; or memory ran out
 abbrev pub NoBytes : Giving → List ℕ → End → Type 0
 NoBytes gives path (CannotRead named) = (named.now ≡ path) × gives path None
 NoBytes gives path NoMemory = Unit {0}
 NoBytes gives path end = ⊥
 
--- why a program is refused: the first of the reasons, or want of memory, which hides none of those that are found
+-- why a program is rejected: the first of the reasons, or memory ran out, which hides none of those that are found
 -- without memory
 abbrev pub IsRefusedBy : ElfFault → List ℕ → Type 0
 IsRefusedBy fault front =
@@ -64,7 +64,7 @@ abbrev pub NoImage : Giving → List ℕ → End → Type 0
 NoImage gives path (Image fault) = (front : List ℕ) × IsFront gives path most_judged front × IsRefusedBy fault front
 NoImage gives path end = NoBytes gives path end
 
--- the suppressions of a file's text, or none where no file is named
+-- the suppressions of a file's text, or none if no file is named
 abbrev pub HasRules : Giving → Option (List ℕ) → List Rule → Type 0
 HasRules gives None list = list ≡ []
 HasRules gives (Some path) list =
@@ -79,7 +79,7 @@ NoRules gives (Some path) (Suppressions Supp.Memory) =
     (text : List ℕ) × gives path (Some text) × (length text ≤ longest_text)
 NoRules gives (Some path) end = NoBytes gives path end
 
--- the bytes of an input's file, or none where no file is named
+-- the bytes of an input's file, or none if no file is named
 abbrev pub HasInput : Giving → Option (List ℕ) → List ℕ → Type 0
 HasInput gives None input = input ≡ []
 HasInput gives (Some path) input = gives path (Some input) × (length input ≤ longest_input)
@@ -89,7 +89,7 @@ NoInput gives None end = ⊥
 NoInput gives (Some path) InputTooLarge = (input : List ℕ) × gives path (Some input) × (longest_input < length input)
 NoInput gives (Some path) end = NoBytes gives path end
 
--- the text of suppressions, or none where no file is named
+-- the text of suppressions, or none if no file is named
 abbrev pub HasText : Giving → Option (List ℕ) → List ℕ → Type 0
 HasText gives None text = text ≡ []
 HasText gives (Some path) text = gives path (Some text) × (length text ≤ longest_text)
@@ -105,7 +105,7 @@ NoRulesIn text (Suppressions (Supp.BadSuppression line)) = IsLeast line (faults 
 NoRulesIn text (Suppressions Supp.Memory) = Unit {0}
 NoRulesIn text end = ⊥
 
--- the input of a sweep: for `-` what standard input had, where that tells it, and else that of a file
+-- the input of a sweep: for `-` what standard input had, if it says so, and otherwise that of a file
 abbrev pub HasStream : Option (List ℕ) → List ℕ → Type 0
 HasStream left input = IfSome left (λ bytes. input ≡ bytes) × (length input ≤ longest_input)
 

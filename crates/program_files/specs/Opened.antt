@@ -6,11 +6,11 @@ use Rattle.program_files.specs.declared.files.ReadFault.{ReadFault}
 use Rattle.program_files.specs.declared.files.ReadFault.TheVariants.{NoMemory, Unreadable}
 use Rattle.ends.specs.declared.ends.End.{End}
 
--- want of memory is told apart: all else is a file that can't be read
+-- that memory ran out is distinguished: every other fault is a file that can't be read
 abbrev pub IsFaultOf : ErrorKind → ReadFault → Type 0
 IsFaultOf kind fault = (fault ≡ NoMemory) ↔ (kind ≡ OutOfMemory)
 
--- how the program ends where standard input gives none
+-- how the program ends if standard input gives no bytes
 abbrev pub end_of_input : ReadFault → End
 end_of_input NoMemory = End.NoMemory
 end_of_input Unreadable = End.CannotReadInput

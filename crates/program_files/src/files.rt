@@ -1,4 +1,4 @@
-//! Where the program finds its files.
+//! The program's files.
 ghost use Rattle.std.specs.Prelude.{◌≡◌, ◌≤◌, ℕ, List, Option, Some, None, Ok, Err, IfErr, IfOk, IfSome, IsErrAnd, length, take};
 ghost use Rattle.std.specs.IoError.{error_kind};
 ghost use Rattle.program_files.specs.Opened.{IsFaultOf};
@@ -13,7 +13,7 @@ use std::io::{ErrorKind, Read};
 pub enum ReadFault {
     /// It is not there, or a read of it failed.
     Unreadable,
-    /// Memory was wanting.
+    /// Memory ran out.
     NoMemory,
 }
 
@@ -31,23 +31,23 @@ impl From<io::Error> for ReadFault {
 
 /// Files, each under its path.
 pub trait Files {
-    // The bytes that a path gives; or none, where it can't be read. Where nothing is known of the files, everything is possible.
+    // The bytes that a path gives; or none, if it can't be read. If nothing is known of the files, everything is possible.
     ghost gives: { Self → List ℕ → Option (List ℕ) → Type 0 } = { λ _ _ _. Unit {0} };
 
-    /// The first bytes of a file, so many at most.
+    /// Returns the first bytes of a file, at most `most` of them.
     fn read(&self, alloc: Global, path: &str, most: usize) -> Result<Vec<u8>, ReadFault>
         ensures front { IfOk result (λ front. (bytes : List ℕ) × gives self.now path.now (Some bytes) × (front.items ≡ take most bytes)) }
         ensures unreadable { result ≡ Err ReadFault.Unreadable → gives self.now path.now None };
 }
 
-/// The machine's files. Of what they give, nothing is claimed.
+/// The machine's files. Nothing is claimed about what they give.
 impl Files for HostRuntime {
     fn read(&self, alloc: Global, path: &str, most: usize) -> Result<Vec<u8>, ReadFault> {
         read_opened(alloc, File::open(self, path), most)
     }
 }
 
-/// The first bytes of a file that was opened, so many at most; or why it gave none.
+/// Returns the first bytes of an opened file, at most `most` of them; or why it gave none.
 pub fn read_opened<R: Read + Drop>(
     alloc: Global,
     opened: io::Result<R>,
@@ -68,7 +68,7 @@ pub(crate) fn read_or_fault(read: io::Result<Vec<u8>>) -> Result<Vec<u8>, ReadFa
     Ok(read?)
 }
 
-/// The first bytes of a reader, so many at most.
+/// The first bytes of a reader, at most `most` of them.
 pub(crate) fn front_of<R: Read + Drop>(alloc: Global, reader: R, most: usize) -> io::Result<Vec<u8>>
     ensures most { IfOk result (λ front. length front.items ≤ most) }
     ensures bytes { IfOk result (λ front. IfSome (R.remaining reader) (λ bytes. front.items ≡ take most bytes)) }

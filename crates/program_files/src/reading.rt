@@ -11,11 +11,11 @@ use std::alloc::Global;
 use std::io::Read;
 use suppressions::{Suppression, TEXT_LIMIT, parse};
 
-/// How many bytes of a program's file are judged, and one more where it has more. A file is refused for its size at fewer; of one that has
-/// more still, the refusal is that of this front.
+/// The number of bytes of a program's file that are judged, and one more if the file is larger. A file is rejected for its size at fewer
+/// bytes; of a larger file, only this front is judged.
 pub const MOST_READ: usize = 67_108_864;
 
-/// The bytes of a file up to a limit, and one more where it has more.
+/// Returns the bytes of a file up to a limit, and one more if the file is larger.
 pub fn read_front<'a, F: Files>(
     alloc: Global,
     files: &F,
@@ -45,7 +45,7 @@ fn read_text<'a, F: Files>(alloc: Global, files: &F, path: &'a str) -> Result<Ve
     Ok(text)
 }
 
-/// The suppressions of a file, if one is named.
+/// Returns the suppressions of a file, if one is named.
 pub fn read_suppressions<'a, F: Files>(
     alloc: Global,
     files: &F,
@@ -61,7 +61,7 @@ pub fn read_suppressions<'a, F: Files>(
     Ok(parse(alloc, &text)?)
 }
 
-/// The text of a file of suppressions, or none where no file is named.
+/// Returns the text of a file of suppressions, or none where no file is named.
 pub fn read_named_text<'a, F: Files>(
     alloc: Global,
     files: &F,
@@ -76,7 +76,7 @@ pub fn read_named_text<'a, F: Files>(
     }
 }
 
-/// How the program ends where standard input gives no bytes.
+/// How the program ends if standard input gives no bytes.
 fn end_of_input<'a>(fault: ReadFault) -> End<'a>
     ensures { result ≡ end_of_input fault }
 {
@@ -86,7 +86,7 @@ fn end_of_input<'a>(fault: ReadFault) -> End<'a>
     }
 }
 
-/// The bytes of an input from standard input.
+/// Returns the bytes of an input from standard input.
 pub fn read_stream<'a, R: Read>(alloc: Global, reader: &mut R) -> Result<Vec<u8>, End<'a>>
     ensures ok { IfOk result (λ input. HasStream (R.remaining reader.old) input.items) }
     ensures err { IfErr result (NoStream (R.remaining reader.old)) }
@@ -102,7 +102,7 @@ pub fn read_stream<'a, R: Read>(alloc: Global, reader: &mut R) -> Result<Vec<u8>
     }
 }
 
-/// The bytes of the input, if a file is named.
+/// Returns the bytes of the input, if a file is named.
 pub fn read_input<'a, F: Files>(
     alloc: Global,
     files: &F,
@@ -132,7 +132,7 @@ fn is_stream(path: Option<&str>) -> bool
     }
 }
 
-/// The bytes of the input of a sweep: for `-` those of standard input.
+/// Returns the bytes of the input of a sweep: for `-` those of standard input.
 pub fn read_sweep_input<'a, F: Files, R: Read>(
     alloc: Global,
     files: &F,

@@ -40,7 +40,7 @@ shown-are law rules image callers gs groups hidden es same tests found =
     ∙ map-not (test rules image) (grouped es))
     ∙ ap (λ fs. grouped (map (cut callers) fs)) (law (λ kind trace. not (hides rules image kind trace)) es)
 
--- one more group is tested
+-- another group is tested
 pub tested-more : {X : Type 0} (f : Group → X) (gs : List Group) (i : ℕ) (x : X) → i < length gs
     → ((g : Group) → slice_get gs i ≡ Some g → x ≡ f g)
     → map f (take (i + 1) gs) ≡ map f (take i gs) ++ x ∷ []

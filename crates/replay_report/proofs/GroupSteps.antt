@@ -57,7 +57,7 @@ module _ (callers : ℕ) where
   abbrev sum_at : List LeakRecord → LeakKey → BlockSum
   sum_at records key = sum_of (filter (λ r. same_key (key_of callers r) key) records)
 
-  -- with one record more, that of its key grows by it, and no other
+  -- with another record, the sum of its key grows by it, and no other
   at-others : (records : List LeakRecord) (r : LeakRecord) (key : LeakKey) → same_key (key_of callers r) key ≡ false
       → sum_at (records ++ r ∷ []) key ≡ sum_at records key
   at-others records r key h =
@@ -90,7 +90,7 @@ module _ (callers : ℕ) where
           (map (key_of callers) rs)) n) in
           λ i. cond (away i) (r ∷ rest i) (rest i)
 
-  -- groups with one record more
+  -- groups with another record
   with-leak-is : (groups : List (LeakKey × BlockSum)) (key : LeakKey) (size : ℕ) → with_leak groups key size
       ≡ put same_key key-Decides (λ sum. with_block sum size) (with_block no_blocks size) groups key
   unfolding with_leak

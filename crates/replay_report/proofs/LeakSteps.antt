@@ -1,4 +1,4 @@
--- Records, their sums and their groups, as one more record is taken.
+-- Records, their sums and their groups, as another record is taken.
 use Rattle.std.proofs.Common.{◌≡◌, ℕ, ◌+◌, ◌-◌, zero-add, Bool, true, false, not, cond, ◌&&◌, List, [], ◌∷◌, ◌++◌}
 use Rattle.std.proofs.Common.{filter, length, min, sum_by, Some}
 use Rattle.std.proofs.Common.{unwrap_or, refl, ap, ap₂, ◌∙◌, append-nil, arith}

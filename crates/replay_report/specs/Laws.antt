@@ -21,7 +21,7 @@ OutlineIsOne = (s : State) (image : Image) (rules : List Rule) (options : Option
     → IsOutline s image rules options with_output xs → IsOutline s image rules options with_output ys → xs ≡ ys
 
 -- the groups of leaked blocks are the distinct keys of their records, in order of first occurrence, each with the sum
--- of all records that have it
+-- of all records that have that key
 abbrev pub LeaksAreGrouped : Type 0
 LeaksAreGrouped = (callers : ℕ) (records : List LeakRecord) → leak_groups callers records
     ≡ map (λ key. (key, sum_of (filter (λ r. same_key (key_of callers r) key) records)))

@@ -15,7 +15,7 @@ use Rattle.replay_report.specs.declared.options.Options.{Options}
 use Rattle.replay_report.specs.declared.leaks.LeakKey.{LeakKey}
 use Rattle.replay_report.specs.declared.leaks.BlockSum.{BlockSum}
 
--- how a block was lost, or that it was not
+-- how a block was lost, or that it wasn't
 abbrev pub leak_text : LeakKind → List ℕ
 leak_text Definite = codes "definitely lost"
 leak_text Indirect = codes "indirectly lost"
@@ -41,13 +41,13 @@ blocks_line name sum = name ++ codes ": " ++ amount_text sum ++ newline
 abbrev pub kind_line : LeakKind → List LeakRecord → List ℕ
 kind_line kind records = blocks_line (leak_text kind) (sum_of (of_kind kind records))
 
--- how much was lost in each way, or was not, and how much of it is suppressed
+-- how much was lost in each way, how much wasn't lost, and how much is suppressed
 unfoldable pub total_lines : List LeakRecord → List LeakRecord → List ℕ
 total_lines shown hidden =
     kind_line Definite shown ++ kind_line Indirect shown ++ kind_line Possible shown ++ kind_line Reachable shown
     ++ blocks_line (codes "suppressed") (sum_of hidden)
 
--- all that a report says of leaks, where these are the records of the live blocks
+-- all lines of a report on leaks, given the records of the live blocks
 unfoldable pub leak_section : Image → List Rule → Options → List LeakRecord → List ℕ
 leak_section image rules options records =
     let shown = shown_records rules image records in

@@ -1,5 +1,5 @@
--- The live blocks that a report shows as leaked, how they are grouped, and how much they are (Memcheck manual, section
--- 4.2, "Memory leak detection", and options `--show-leak-kinds` and `--num-callers`).
+-- The live blocks that a report shows as leaked, their groups, and their sums (Memcheck manual, section 4.2, "Memory
+-- leak detection", and options `--show-leak-kinds` and `--num-callers`).
 use Rattle.std.specs.Prelude.{ℕ, ◌+◌, ◌&&◌, Bool, true, false, not, if◌then◌else◌, List, [], ◌∷◌, filter, fold, length}
 use Rattle.std.specs.Prelude.{min, sum_by, take, slice_index_or}
 use Rattle.guest_elf.specs.declared.image.Image.{Image}
@@ -24,7 +24,7 @@ shown_records rules image records = filter (λ r. not (is_hidden rules image r))
 unfoldable pub hidden_records : List Rule → Image → List LeakRecord → List LeakRecord
 hidden_records rules image records = filter (is_hidden rules image) records
 
--- are two leak kinds one?
+-- are two leak kinds the same?
 abbrev pub same_leak : LeakKind → LeakKind → Bool
 same_leak Definite Definite = true
 same_leak Indirect Indirect = true
@@ -36,14 +36,14 @@ same_leak _ _ = false
 unfoldable pub of_kind : LeakKind → List LeakRecord → List LeakRecord
 of_kind kind records = filter (λ r. same_leak kind r.kind) records
 
--- how much some blocks are: the sum of their sizes and their number, which stand still at the greatest 64-bit number
+-- the sum of some blocks: of their sizes, and their number; both stop at the greatest 64-bit number
 unfoldable pub sum_of : List LeakRecord → BlockSum
 sum_of records = record { bytes = min (sum_by (λ r. r.size) records) most; blocks = min (length records) most }
 
 abbrev pub no_blocks : BlockSum
 no_blocks = record { bytes = 0; blocks = 0 }
 
--- with one more block
+-- with another block
 abbrev pub with_block : BlockSum → ℕ → BlockSum
 with_block sum size = record { bytes = min (sum.bytes + size) most; blocks = min (sum.blocks + 1) most }
 
@@ -54,7 +54,7 @@ key_of callers r = record { kind = r.kind; trace = take callers r.trace }
 abbrev pub same_key : LeakKey → LeakKey → Bool
 same_key a b = same_leak a.kind b.kind && same_trace a.trace b.trace
 
--- groups with one more block: it is counted in the group of its key, or begins a new last one
+-- groups with another block: it is counted in the group of its key, or begins a new last one
 unfoldable pub with_leak : List (LeakKey × BlockSum) → LeakKey → ℕ → List (LeakKey × BlockSum)
 with_leak [] key size = (key, with_block no_blocks size) ∷ []
 with_leak (g ∷ gs) key size = if same_key key g.0 then (g.0, with_block g.1 size) ∷ gs else g ∷ with_leak gs key size

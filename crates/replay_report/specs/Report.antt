@@ -11,13 +11,13 @@ use Rattle.replay_report.specs.Filtering.{shown_groups, hidden_groups}
 use Rattle.replay_report.specs.LeakLines.{leak_section}
 use Rattle.replay_report.specs.declared.options.Options.{Options}
 
--- the first lines: the step, what the machine does, its input and its output
+-- the first lines: the step, the state of the machine, its input and its output
 unfoldable pub head_lines : State → ℕ → ℕ → List ℕ
 head_lines s step input_len =
     step_line step ++ state_line s.core.status s.core.pc ++ input_line s.position input_len
     ++ output_line (length s.output)
 
--- the report at a step, for an input of so many bytes, where these are the records of the live blocks
+-- the report at a step, for an input of this length, given the records of the live blocks
 unfoldable pub report_text : State → Image → List Rule → Options → ℕ → ℕ → List LeakRecord → List ℕ
 report_text s image rules options step input_len records =
     let shown = shown_groups rules image options.callers s.events in
@@ -26,12 +26,12 @@ report_text s image rules options step input_len records =
     ++ leak_section image rules options records
     ++ summary_line shown (hidden_groups rules image options.callers s.events)
 
--- a text is the report of a state: that with the records of its live blocks, whose kinds are told by paths of pointers
+-- a text is the report of a state: the one with the records of its live blocks, whose kinds paths of pointers define
 unfoldable pub IsReport : State → Image → List Rule → Options → ℕ → ℕ → List ℕ → Type 0
 IsReport s image rules options step input_len text =
     (records : List LeakRecord) × AreRecordsOf s records
     × (text ≡ report_text s image rules options step input_len records)
 
--- a report, and nothing else, was put at the end
+-- a report, and nothing else, was appended
 abbrev pub AppendsReport : (List ℕ → Type 0) → List ℕ → List ℕ → Type 0
 AppendsReport is_report old new = (text : List ℕ) × is_report text × (new ≡ old ++ text)

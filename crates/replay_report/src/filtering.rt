@@ -18,7 +18,7 @@ use report_lines::{ErrorSum, error_sum};
 use std::alloc::{AllocError, Global};
 use suppressions::{Suppression, Target, is_suppressed};
 
-/// The names of a trace's addresses.
+/// Returns the names of a trace's addresses.
 pub(crate) fn names_of<'a>(
     alloc: Global,
     image: &'a Image,
@@ -33,7 +33,7 @@ pub(crate) fn names_of<'a>(
     Ok(names)
 }
 
-/// Is a group of errors suppressed, if it is there?
+/// Returns whether a group of errors is suppressed; `None` is no group.
 fn hides(
     alloc: Global,
     suppressions: &[Suppression],
@@ -51,7 +51,7 @@ fn hides(
     }
 }
 
-/// Of each group whether it is suppressed.
+/// Returns, for each group, whether it is suppressed.
 fn hidden_of(
     alloc: Global,
     groups: &Groups,
@@ -68,14 +68,14 @@ fn hidden_of(
     Ok(hidden)
 }
 
-/// Each test turned.
+/// Returns the negation of each test.
 fn turned(alloc: Global, tests: &[bool]) -> Result<Vec<bool>, AllocError>
     ensures { IfOk result (λ turned. turned.items ≡ map not tests.now) }
 {
     tests.iter().map(|test| !*test).collect(alloc)
 }
 
-/// The groups of the errors that are shown, by which groups are hidden.
+/// Returns the groups of the errors that are shown, given which groups are hidden.
 fn shown_groups(
     alloc: Global,
     all: &Groups,
@@ -90,7 +90,7 @@ fn shown_groups(
     all.regrouped(callers, &shown)
 }
 
-/// The groups of the errors that are shown.
+/// Returns the groups of the errors that are shown.
 pub(crate) fn told_groups(
     alloc: Global,
     machine: &Machine,
@@ -107,7 +107,7 @@ pub(crate) fn told_groups(
     shown_groups(alloc, groups, callers, &suppressed)
 }
 
-/// The sum of the errors that are only counted, by which groups are hidden.
+/// Returns the sum of the errors that are only counted, given which groups are hidden.
 fn hidden_sum(all: &Groups, callers: u32, hidden: &[bool]) -> Result<ErrorSum, AllocError>
     requires each { length hidden.now ≡ length (groups_of all.now) }
     requires some { 0 < callers }
@@ -117,7 +117,7 @@ fn hidden_sum(all: &Groups, callers: u32, hidden: &[bool]) -> Result<ErrorSum, A
     Ok(error_sum(&groups))
 }
 
-/// The groups of the errors that are shown, and the sum of those that are only counted.
+/// Returns the groups of the errors that are shown, and the sum of those that are only counted.
 pub(crate) fn split_groups(
     alloc: Global,
     machine: &Machine,

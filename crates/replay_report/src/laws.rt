@@ -1,4 +1,4 @@
-//! What a report is, an outline, and the groups of leaks. Each law is the contract of a function that does nothing; a caller has it after the call.
+//! A report, an outline, and the groups of leaks. Each law is the contract of a function that does nothing; a caller has it after the call.
 ghost use Rattle.replay_report.specs.Laws.{LeaksAreGrouped, OutlineIsOne, ReportIsOne};
 
 use leak_search::laws::records_are_one;
@@ -19,7 +19,7 @@ pub fn outline_is_one()
     records_are_one();
 }
 
-/// The groups of leaked blocks have each key once, in order of first occurrence, with the sum of all blocks that have it.
+/// The groups of leaked blocks have each key once, in order of first occurrence, with the sum of all blocks that have that key.
 pub fn leaks_are_grouped()
     ensures { LeaksAreGrouped }
 {}

@@ -13,7 +13,7 @@ use leak_search::LeakRecord;
 use report_lines::{push_number, push_text, push_trace};
 use std::alloc::{AllocError, Global};
 
-/// How a block was lost, or that it was not.
+/// Returns how a block was lost, or that it wasn't.
 pub(crate) fn leak_text(kind: LeakKind) -> &'static [u8]
     ensures { result.now ≡ leak_text kind }
 {
@@ -25,7 +25,7 @@ pub(crate) fn leak_text(kind: LeakKind) -> &'static [u8]
     }
 }
 
-/// `N bytes in B blocks`
+/// Appends `N bytes in B blocks`.
 #[tactic(auto, unfolding(crate::specs::LeakLines::amount_text), using(std::proofs::Common::append_assoc))]
 fn push_amount(out: &mut Vec<u8>, sum: BlockSum) -> Result<(), AllocError>
     ensures { OnOk result (out.new.items ≡ out.old.items ++ amount_text sum) }
@@ -36,7 +36,7 @@ fn push_amount(out: &mut Vec<u8>, sum: BlockSum) -> Result<(), AllocError>
     push_text(out, b" blocks")
 }
 
-/// `leak N bytes in B blocks are K`
+/// Appends `leak N bytes in B blocks are K`.
 #[tactic(auto, unfolding(crate::specs::LeakLines::leak_line), using(std::proofs::Common::append_assoc))]
 fn push_leak(out: &mut Vec<u8>, sum: BlockSum, kind: LeakKind) -> Result<(), AllocError>
     ensures { OnOk result (out.new.items ≡ out.old.items ++ leak_line sum kind) }
@@ -48,7 +48,7 @@ fn push_leak(out: &mut Vec<u8>, sum: BlockSum, kind: LeakKind) -> Result<(), All
     push_text(out, b"\n")
 }
 
-/// The lines of a group of leaks, if its kind is shown.
+/// Appends the lines of a group of leaks, if its kind is shown.
 #[tactic(auto, unfolding(crate::specs::LeakLines::leak_lines), using(std::proofs::Common::append_assoc))]
 fn push_group(
     out: &mut Vec<u8>,
@@ -66,7 +66,7 @@ fn push_group(
     push_trace(out, image, key.trace.addresses())
 }
 
-/// The groups of leaks whose kind is shown, in their order.
+/// Appends the groups of leaks whose kind is shown, in their order.
 fn push_leak_groups(
     out: &mut Vec<u8>,
     image: &Image,
@@ -81,7 +81,7 @@ fn push_leak_groups(
     Ok(())
 }
 
-/// `NAME: N bytes in B blocks`
+/// Appends `NAME: N bytes in B blocks`.
 #[tactic(auto, unfolding(crate::specs::LeakLines::blocks_line), using(std::proofs::Common::append_assoc))]
 fn push_blocks(out: &mut Vec<u8>, name: &[u8], sum: BlockSum) -> Result<(), AllocError>
     ensures { OnOk result (out.new.items ≡ out.old.items ++ blocks_line name.now sum) }
@@ -92,14 +92,14 @@ fn push_blocks(out: &mut Vec<u8>, name: &[u8], sum: BlockSum) -> Result<(), Allo
     push_text(out, b"\n")
 }
 
-/// How much the blocks of a kind are.
+/// Appends the line with the sum of the blocks of a kind.
 fn push_kind(out: &mut Vec<u8>, kind: LeakKind, records: &[LeakRecord]) -> Result<(), AllocError>
     ensures { OnOk result (out.new.items ≡ out.old.items ++ kind_line kind records.now) }
 {
     push_blocks(out, leak_text(kind), sum_of_kind(records, kind))
 }
 
-/// How much was lost in each way, or was not, and how much of it is suppressed.
+/// Appends how much was lost in each way, how much wasn't lost, and how much is suppressed.
 #[tactic(auto, unfolding(crate::specs::LeakLines::total_lines), using(std::proofs::Common::append_assoc))]
 pub(crate) fn push_totals(
     out: &mut Vec<u8>,
@@ -115,7 +115,7 @@ pub(crate) fn push_totals(
     push_blocks(out, b"suppressed", sum_of(hidden))
 }
 
-/// The groups of some records whose kind is shown, in order of their first blocks.
+/// Appends the groups of some records whose kind is shown, in order of their first blocks.
 fn push_groups_of(
     alloc: Global,
     out: &mut Vec<u8>,
@@ -130,7 +130,7 @@ fn push_groups_of(
     push_leak_groups(out, view.image, &view.options.show, &groups)
 }
 
-/// The lines on leaked blocks, with these records of the live ones.
+/// Appends the lines on leaked blocks, with these records of the live ones.
 #[tactic(auto, unfolding(crate::specs::LeakLines::leak_section), using(std::proofs::Common::append_assoc))]
 pub(crate) fn push_leaks(
     alloc: Global,

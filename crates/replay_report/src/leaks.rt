@@ -20,20 +20,20 @@ pub(crate) struct LeakKey {
     pub(crate) trace: Trace,
 }
 
-/// How much some blocks are.
+/// The number of bytes and of blocks.
 #[derive(Clone, Copy)]
 pub(crate) struct BlockSum {
     pub(crate) bytes: u64,
     pub(crate) blocks: u64,
 }
 
-/// Of no block.
+/// The sum of no blocks.
 const NO_BLOCKS: BlockSum = BlockSum {
     bytes: 0,
     blocks: 0,
 };
 
-/// Is the leak of a block suppressed?
+/// Returns whether the leak of a block is suppressed.
 fn is_hidden(
     alloc: Global,
     leak: &LeakRecord,
@@ -46,7 +46,7 @@ fn is_hidden(
     Ok(is_suppressed(suppressions, &Target::Leak(leak.kind), &names))
 }
 
-/// Puts each record with those that no suppression matches, or with the others.
+/// Appends each record to those that no suppression matches, or to the others.
 fn divide(
     alloc: Global,
     records: &[LeakRecord],
@@ -68,7 +68,7 @@ fn divide(
     Ok(())
 }
 
-/// The records that no suppression matches, and the others.
+/// Returns the records that no suppression matches, and the others.
 pub(crate) fn split_records(
     alloc: Global,
     records: &[LeakRecord],
@@ -84,7 +84,7 @@ pub(crate) fn split_records(
     Ok((shown, hidden))
 }
 
-/// One more block.
+/// Returns the sum with another block.
 fn with_block(sum: BlockSum, size: u32) -> BlockSum
     ensures { result ≡ with_block sum size }
 {
@@ -94,7 +94,7 @@ fn with_block(sum: BlockSum, size: u32) -> BlockSum
     }
 }
 
-/// How much some blocks are.
+/// Returns the sum of some blocks.
 #[tactic(auto, using(crate::proofs::LeakSteps::sum_more), unfolding(crate::specs::Leaks::sum_of))]
 pub(crate) fn sum_of(records: &[LeakRecord]) -> BlockSum
     ensures { result ≡ sum_of records.now }
@@ -106,7 +106,7 @@ pub(crate) fn sum_of(records: &[LeakRecord]) -> BlockSum
     sum
 }
 
-/// How much the blocks of a kind are.
+/// Returns the sum of the blocks of a kind.
 #[tactic(auto, unfolding(crate::specs::Leaks::of_kind, crate::specs::Leaks::sum_of))]
 pub(crate) fn sum_of_kind(records: &[LeakRecord], kind: LeakKind) -> BlockSum
     ensures { result ≡ sum_of (of_kind kind records.now) }
@@ -120,7 +120,7 @@ pub(crate) fn sum_of_kind(records: &[LeakRecord], kind: LeakKind) -> BlockSum
     sum
 }
 
-/// The group of a record.
+/// Returns the group of a record.
 fn key_of(leak: &LeakRecord, callers: u32) -> LeakKey
     requires { 0 < callers }
     ensures { result ≡ key_of callers leak.now }
@@ -131,14 +131,14 @@ fn key_of(leak: &LeakRecord, callers: u32) -> LeakKey
     }
 }
 
-/// How much the blocks of a group are so far.
+/// Returns the sum of the blocks of a group so far.
 fn sum_at(groups: &IndexMap<LeakKey, BlockSum>, key: &LeakKey) -> BlockSum
     ensures { result ≡ unwrap_or (get (⟦<LeakKey as PartialEq>⟧.eq key.now) groups.now) no_blocks }
 {
     groups.get(key).copied().unwrap_or(NO_BLOCKS)
 }
 
-/// One more block in the group of its key.
+/// Adds a block to the group of its key.
 #[tactic(auto, using(crate::proofs::LeakSteps::leak_inserted))]
 fn add_leak(
     groups: &mut IndexMap<LeakKey, BlockSum>,
@@ -152,7 +152,7 @@ fn add_leak(
     Ok(())
 }
 
-/// The groups of some records, in order of their first blocks.
+/// Returns the groups of some records, in order of their first blocks.
 #[tactic(auto, using(crate::proofs::LeakSteps::groups_more), unfolding(crate::specs::Leaks::leak_groups))]
 pub(crate) fn leak_groups(
     alloc: Global,
@@ -169,7 +169,7 @@ pub(crate) fn leak_groups(
     Ok(groups)
 }
 
-/// Is a kind among those that are shown?
+/// Returns whether a kind is among those that are shown.
 pub(crate) fn is_shown(show: &[bool; 4], kind: LeakKind) -> bool
     ensures { result ≡ is_shown show.now kind }
 {

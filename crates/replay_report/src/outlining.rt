@@ -1,4 +1,4 @@
-//! The outline of a machine: what runs that came to the same have in common.
+//! The outline of a machine: what runs with the same outcome have in common.
 ghost use Rattle.std.specs.Prelude.{◌≡◌, ◌++◌, ◌<◌, ◌≤◌, IfOk, OnOk, Some, map};
 ghost use Rattle.std.specs.List.{flat_map};
 ghost use Rattle.call_stacks.specs.Frames.{longest_trace};
@@ -23,7 +23,7 @@ use report_lines::{
 use std::alloc::{AllocError, Global};
 use suppressions::Suppression;
 
-/// ` A`, where a machine stopped; after a bad jump nothing.
+/// Appends ` A`, where a machine stopped; nothing after a bad jump.
 #[tactic(auto, unfolding(crate::specs::Outlines::stop_place), using(std::proofs::Common::append_assoc))]
 fn push_stop_place(out: &mut Vec<u8>, stop: Stop, pc: u32) -> Result<(), AllocError>
     ensures { OnOk result (out.new.items ≡ out.old.items ++ stop_place stop pc) }
@@ -37,7 +37,7 @@ fn push_stop_place(out: &mut Vec<u8>, stop: Stop, pc: u32) -> Result<(), AllocEr
     }
 }
 
-/// `running`, `exited C`, `stopped W A` or `stopped jump`, where A is pc.
+/// Appends `running`, `exited C`, `stopped W A` or `stopped jump`, where A is pc.
 #[tactic(auto, unfolding(crate::specs::Outlines::end_line), using(std::proofs::Common::append_assoc))]
 fn push_end(out: &mut Vec<u8>, status: Status, pc: u32) -> Result<(), AllocError>
     ensures { OnOk result (out.new.items ≡ out.old.items ++ end_line status pc) }
@@ -57,7 +57,7 @@ fn push_end(out: &mut Vec<u8>, status: Status, pc: u32) -> Result<(), AllocError
     push_text(out, b"\n")
 }
 
-/// What is told of a trace: of a bad jump not the first address.
+/// Returns the part of a trace that an outline shows; for a bad jump, all but the first address.
 #[tactic(auto, unfolding(crate::specs::Outlines::told_trace))]
 fn told_trace(kind: Kind, addresses: &[u32]) -> &[u32]
     ensures { result.now ≡ told_trace kind addresses.now }
@@ -68,7 +68,7 @@ fn told_trace(kind: Kind, addresses: &[u32]) -> &[u32]
     }
 }
 
-/// What an error is called, and its trace.
+/// Appends the text of an error, and its trace.
 #[tactic(auto, unfolding(crate::specs::Outlines::error_outline), using(std::proofs::Common::append_assoc))]
 fn push_error(
     out: &mut Vec<u8>,
@@ -84,7 +84,7 @@ fn push_error(
     push_trace(out, image, told_trace(group.kind, trace))
 }
 
-/// What an error is called, and its trace, if it is there.
+/// Appends the text of an error, and its trace, if there is one.
 fn push_error_at(
     out: &mut Vec<u8>,
     image: &Image,
@@ -99,7 +99,7 @@ fn push_error_at(
     }
 }
 
-/// The errors, in their order.
+/// Appends the errors, in their order.
 fn push_errors(
     out: &mut Vec<u8>,
     image: &Image,
@@ -114,7 +114,7 @@ fn push_errors(
     Ok(())
 }
 
-/// How blocks were lost and where they were allocated, if their kind is shown.
+/// Appends how blocks were lost and where they were allocated, if their kind is shown.
 #[tactic(auto, unfolding(crate::specs::Outlines::leak_outline), using(std::proofs::Common::append_assoc))]
 fn push_leak(
     out: &mut Vec<u8>,
@@ -132,7 +132,7 @@ fn push_leak(
     push_trace(out, image, key.trace.addresses())
 }
 
-/// The leaks whose kind is shown, in their order.
+/// Appends the leaks whose kind is shown, in their order.
 fn push_leaks(
     out: &mut Vec<u8>,
     image: &Image,
@@ -147,7 +147,7 @@ fn push_leaks(
     Ok(())
 }
 
-/// The leaks, with these records of the live blocks.
+/// Appends the leaks, with these records of the live blocks.
 #[tactic(auto, unfolding(crate::specs::Outlines::leak_outlines))]
 fn push_leaks_of(
     alloc: Global,
@@ -163,7 +163,7 @@ fn push_leaks_of(
     push_leaks(out, view.image, &view.options.show, &groups)
 }
 
-/// The lines before the errors.
+/// Appends the lines before the errors.
 #[tactic(auto, unfolding(crate::specs::Outlines::outline_head), using(std::proofs::Common::append_assoc))]
 fn push_outline_head(
     out: &mut Vec<u8>,
@@ -179,7 +179,7 @@ fn push_outline_head(
     Ok(())
 }
 
-/// The outline, with these records of the live blocks.
+/// Appends the outline, with these records of the live blocks.
 #[tactic(auto, unfolding(crate::specs::Outlines::outline_text), using(std::proofs::Common::append_assoc))]
 fn push_outline(
     alloc: Global,
@@ -200,8 +200,8 @@ fn push_outline(
     push_leaks_of(alloc, out, view, records)
 }
 
-/// The outline of a machine, with names from the image: how the machine ended; how many bytes were written, if that is asked for; and
-/// each error and each leak that the report shows, without counts, sizes and notes. `callers` of the options is from 1 to 24.
+/// Returns the outline of a machine, with names from the image. It has how the machine ended, how many bytes were written if `with_output`
+/// is true, and each error and each leak that the report shows, without counts, sizes and notes. `callers` of the options is from 1 to 24.
 pub fn outline(
     alloc: Global,
     machine: &Machine,

@@ -23,7 +23,7 @@ use report_lines::{
 use std::alloc::{AllocError, Global};
 use suppressions::Suppression;
 
-/// What is reported: a machine at a step, and how many bytes its input has.
+/// What a report is of: a machine at a step, and the number of bytes of its input.
 #[derive(Clone, Copy)]
 struct Moment<'a> {
     machine: &'a Machine,
@@ -31,7 +31,7 @@ struct Moment<'a> {
     input_len: u64,
 }
 
-/// The first lines of a report.
+/// Appends the first lines of a report.
 #[tactic(auto, unfolding(crate::specs::Report::head_lines), using(std::proofs::Common::append_assoc))]
 fn push_head(out: &mut Vec<u8>, moment: &Moment) -> Result<(), AllocError>
     ensures { OnOk result ((s : State) → Shows moment.now.machine.now s
@@ -44,7 +44,7 @@ fn push_head(out: &mut Vec<u8>, moment: &Moment) -> Result<(), AllocError>
     push_output(out, machine.output_len())
 }
 
-/// The lines of a report after its first, with these groups of errors and these records of the live blocks.
+/// Appends the lines of a report after its first, with these groups of errors and these records of the live blocks.
 fn push_findings(
     alloc: Global,
     out: &mut Vec<u8>,
@@ -63,7 +63,7 @@ fn push_findings(
     push_summary(out, error_sum(shown), hidden)
 }
 
-/// The lines of a report, with these records of the live blocks.
+/// Appends the lines of a report, with these records of the live blocks.
 fn push_report(
     alloc: Global,
     out: &mut Vec<u8>,
@@ -86,7 +86,7 @@ fn push_report(
     push_findings(alloc, out, view, &shown, hidden, records)
 }
 
-/// The report.
+/// Returns the report.
 fn report_of(alloc: Global, moment: &Moment, view: &View) -> Result<Vec<u8>, AllocError>
     requires { 0 < view.now.options.now.callers }
     ensures { IfOk result (λ text. (s : State) → Shows moment.now.machine.now s
@@ -98,7 +98,7 @@ fn report_of(alloc: Global, moment: &Moment, view: &View) -> Result<Vec<u8>, All
     Ok(text)
 }
 
-/// A text put at the end, and not copied where it is all.
+/// Appends a text; doesn't copy it if nothing is before it.
 fn append(out: &mut Vec<u8>, text: Vec<u8>) -> Result<(), AllocError>
     ensures ok { OnOk result (out.new.items ≡ out.old.items ++ text.items) }
     ensures err { OnErr result (out.new.items ≡ out.old.items) }
@@ -111,10 +111,12 @@ fn append(out: &mut Vec<u8>, text: Vec<u8>) -> Result<(), AllocError>
     Ok(())
 }
 
-/// Appends the report of a machine at a step, for an input of `input_len` bytes, with names from the image. `callers` of the
-/// options is from 1 to 24. Errors and blocks that a suppression matches are only counted.
+/// Appends the report of a machine at a step, for an input of `input_len` bytes, with names from the image. `callers` of the options is
+/// from 1 to 24. Errors and blocks that a suppression matches are only counted.
 ///
-/// An error means that memory failed; the vector is then as it was before the call.
+/// # Errors
+///
+/// Fails if memory runs out; the vector is then as it was before the call.
 pub fn render(
     alloc: Global,
     machine: &Machine,

@@ -1,4 +1,4 @@
--- The laws of the steps that lines make.
+-- The laws of the steps that lines cost.
 use Rattle.std.proofs.Common.{◌≡◌, ℕ, zero, suc, ◌+◌, ◌%◌, ◌≤◌, ◌==◌, nat_lt, Bool, true, false, List, [], ◌∷◌, ◌++◌}
 use Rattle.std.proofs.Common.{Some, Result, Ok, Err}
 use Rattle.std.proofs.Common.{refl, ap, sym, ◌∙◌, subst, arith, min, inl, inr, append_assoc, append-nil}
@@ -94,7 +94,7 @@ adds-none past turn (Ok Report) other = absurd (other refl)
 adds-none past turn (Ok _) other = refl
 adds-none past turn (Err fault) other = refl
 
--- what one line more keeps
+-- what another line keeps
 kept-from : (lines : List Given) (g : Given) (h : ℕ) → IsKept (lines ++ g ∷ []) h
     → Reaches h g ⊎ (IsKept lines h × Spares h g)
 kept-from [] g h (inl r) = inl r.0
@@ -127,7 +127,7 @@ up-to-none = (refl, λ h at. ((λ l. (at, inl (omega arith))), λ held. none h h
     none h (inl e) = omega arith
     none h (inr k) = absurd k
 
--- and one line more
+-- and another line
 more : (lines : List Given) (g : Given) (last after : ℕ) → UpTo lines last → after % 1024 ≡ 0
     → ((h : ℕ) → h % 1024 ≡ 0 → (h ≤ after) ↔ (Reaches h g ⊎ ((h ≤ last) × Spares h g))) → UpTo (lines ++ g ∷ []) after
 more lines g last after up round kept = (round, λ h at. (λ l. to h at ((kept h at).0 l), λ held. from h at held.1))
@@ -209,7 +209,7 @@ line-holds lines g old new up moves = go (outcome_of g) refl moves
       | inr edit ↦ edits command e edit.0 edit.1
     ])
 
--- and how many steps it adds
+-- and the number of steps it adds
 line-adds : (lines : List Given) (turn : Turn) (outcome : Result Command Fault) (old new : Work) → UpTo lines old.last
     → LineMoves turn.scenario outcome old new → old.made ≤ 18446744073709551615
     → (steps : ℕ) × Adds lines turn outcome steps × (new.made ≡ min (old.made + steps) 18446744073709551615)

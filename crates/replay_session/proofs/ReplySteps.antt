@@ -21,7 +21,7 @@ text-is sc work (Ok Worked) out h = refl
 text-is sc work (Ok _) out h = refl
 text-is sc work (Err fault) out h = refl
 
--- the number that `worked` tells is that of the trail's meter
+-- the number that `worked` prints is that of the trail's meter
 told-work : (session : Session) → work_of session ≡ meter_of (trail_of session)
 unfolding work_of trail_of
 told-work session = refl

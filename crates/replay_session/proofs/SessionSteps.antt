@@ -1,4 +1,4 @@
--- What each part of a line does to what was said to a session.
+-- What each part of a line does to the turn of a session.
 use Rattle.std.proofs.Common.{◌≡◌, ◌-◌, true, false, ap, sym, ◌∙◌, Result, Ok, Err, length, take}
 use Rattle.std.proofs.Math.Path.{transport}
 use Rattle.std.proofs.lemmas.Bool.{false≢true}
@@ -46,7 +46,7 @@ pub an-error : {T E P : Type 0} (r : Result T E) → is_err r ≡ true → OnErr
 an-error (Ok x) h p = absurd (false≢true h)
 an-error (Err e) h p = p
 
--- a word that is written and taken off again leaves what was said
+-- a word that is written and removed again leaves the turn
 pub word-dropped : (sc : Scenario) (edit : AnEdit) → IsWrite (row sc edit).effect
     → record (row sc edit).after { words = take (length (row sc edit).after.words - 1) (row sc edit).after.words } ≡ sc
 word-dropped sc (Patch addr word) h =

@@ -1,4 +1,4 @@
--- What `worked` tells in a served session.
+-- What `worked` prints in a served session.
 use Rattle.std.proofs.Common.{◌≡◌, ℕ, List, [], ◌∷◌, Bool, true, false, Result, Ok, Err, inl, inr, refl, ap, sym, ◌∙◌}
 use Rattle.std.proofs.Common.{subst, arith, length, slice_index}
 use Rattle.std.proofs.lemmas.List.Elements.{All-head, All-tail}
@@ -80,13 +80,13 @@ lines-moved old new (line ∷ lines) (reply ∷ replies) (next, (says, moves, sh
       (next.work, moves here later.0, rest),
     )
 
--- a line that tells a number is no `refused 1`
+-- a line with a number isn't `refused 1`
 no-refusal : (n : ℕ) (text : List ℕ) → text ≡ worked_line n → HadMemory text
 no-refusal n text told refused =
     let e : 119 ≡ 114 = ap (λ (xs : List ℕ). slice_index xs 0) (sym told ∙ refused) in
     omega (arith, e)
 
--- what is told where a line asks for the work
+-- the reply if a line asks for the work
 told : (stage next : Stage) (line text : List ℕ) → accepted stage.turn line ≡ Ok Worked → Replies stage line text next
     → text ≡ worked_line next.work.made
 told stage next line text asks (inl says, moves, shortens) =

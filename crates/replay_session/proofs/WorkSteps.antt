@@ -20,7 +20,7 @@ unmoved P work none = (go, refl)
     go None h = refl
     go (Some f) h = absurd (none f h.0)
 
--- a step is below the least one at which something holds just if it is below that one
+-- a step is below the least one at which something holds exactly if it is below that one
 below-first : (P : ℕ → Type 0) (f : Option ℕ) (k : ℕ) → IsFirst P f → IsBelowFirst P k ↔ IsBelow f k
 below-first P None k first = ((λ h. tt), λ h j l p. first j p)
 below-first P (Some f) k first = (

@@ -1,5 +1,5 @@
--- What lines cost in steps, said of the list of lines alone: where machines are held when a line is given, and from
--- which of them a report goes on. No trail is in it.
+-- How many steps lines cost, by the list of lines only: where machines are held when a line is given, and from which of
+-- them a report continues. No trail is in it.
 use Rattle.std.specs.Prelude.{◌≡◌, ℕ, ◌+◌, ◌-◌, ◌%◌, ◌≤◌, ◌⊎◌, ◌↔◌, false, List, [], ◌∷◌, ◌++◌, Result, Ok, length, min}
 use Rattle.std.specs.List.{All}
 use Rattle.checkpoints.specs.FirstEffects.{IsBelowFirst}
@@ -12,7 +12,7 @@ use Rattle.commands.specs.declared.fault.Fault.{Fault}
 use Rattle.commands.specs.declared.command.Command.{Command}
 use Rattle.commands.specs.declared.command.Command.TheVariants.{Report, Worked}
 
--- a line that was given, and what it met
+-- a line that was given, and the turn that it met
 pub record Given : Type 0 where
   pub turn : Turn
   pub line : List ℕ
@@ -43,17 +43,17 @@ IsKept (line ∷ later) h = (Reaches h line × All (Spares h) later) ⊎ IsKept 
 abbrev pub IsHeldAfter : List Given → ℕ → Type 0
 IsHeldAfter lines h = (h % 1024 ≡ 0) × ((h ≡ 0) ⊎ IsKept lines h)
 
--- the last of them that isn't above n
+-- the last of these steps that isn't above n
 abbrev pub IsLastHeld : List Given → ℕ → ℕ → Type 0
 IsLastHeld lines n h = IsHeldAfter lines h × (h ≤ n) × ((k : ℕ) → IsHeldAfter lines k → k ≤ n → k ≤ h)
 
--- how many steps an outcome adds after some lines: a report at step n those from the last held step that isn't above n,
--- all else none
+-- the number of steps that an outcome adds after some lines: for a report at step n, those from the last held step that
+-- isn't above n, and for all else none
 abbrev pub Adds : List Given → Turn → Result Command Fault → ℕ → Type 0
 Adds past turn (Ok Report) steps = (h : ℕ) × IsLastHeld past turn.scenario.step h × (steps ≡ turn.scenario.step - h)
 Adds past turn outcome steps = steps ≡ 0
 
--- how many steps lines add, one after another, after those before them
+-- the number of steps that lines add, one after another, after those before them
 abbrev pub AddUp : List Given → List Given → ℕ → Type 0
 AddUp past [] steps = steps ≡ 0
 AddUp past (given ∷ later) steps =
@@ -66,13 +66,13 @@ LinesMove turn [] old new = new ≡ old
 LinesMove turn (line ∷ lines) old new =
     (next : Work) × LineMoves turn.scenario (accepted turn line) old next × LinesMove (applied turn line) lines next new
 
--- the law of held machines: after any lines, they are held up to the last step that the work tells, at each step that
--- the list of lines says and at no other
+-- the law of held machines: after any lines, they are held up to the last step that the work has, at each step that the
+-- list of lines says and at no other
 abbrev pub HeldByLines : Type 0
 HeldByLines = (turn : Turn) (lines : List (List ℕ)) (work : Work) → LinesMove turn lines no_work work
     → (h : ℕ) → h % 1024 ≡ 0 → (h ≤ work.last) ↔ IsHeldAfter (given_from turn lines) h
 
--- the law of work: the steps made are those that the list of lines says, and it says one number
+-- the law of work: the steps executed are those that the list of lines says, and it says one number
 abbrev pub MadeByLines : Type 0
 MadeByLines = (turn : Turn) (lines : List (List ℕ)) (work : Work) → LinesMove turn lines no_work work
     → (steps : ℕ) × AddUp [] (given_from turn lines) steps × (work.made ≡ min steps 18446744073709551615)
@@ -93,8 +93,8 @@ AnswersLead =
     (old : Stage) (lines replies : List (List ℕ)) → Answers old lines replies → length replies ≡ length lines
     → (new : Stage) × Leads old lines replies new
 
--- the law of `worked`: after lines of which none was answered `refused 1`, and where the trail isn't short, it tells
--- the steps that the list of lines says
+-- the law of `worked`: after lines of which none was answered `refused 1`, and if the trail isn't short, it prints the
+-- steps that the list of lines says
 abbrev pub TellsWork : Type 0
 TellsWork = (turn : Turn) (lines replies : List (List ℕ)) (stage next : Stage) (line text : List ℕ)
     → Leads (fresh turn) lines replies stage → All HadMemory replies → stage.short ≡ false

@@ -1,4 +1,4 @@
--- Lines that are too long are answered alike: a lemma for the server of lines, which keeps a front of such a line.
+-- Lines that are too long are all answered alike: a lemma for the server of lines, which keeps a front of such a line.
 use Rattle.std.proofs.Common.{◌≡◌, ◌<◌, ℕ, List, true, refl, ap, ◌∙◌, subst, Result, inl, inr, length, nat_lt, lt-ltb}
 use Rattle.std.specs.Prelude.{IsOkAnd}
 use Rattle.line_server.specs.Lines.{longest_line}

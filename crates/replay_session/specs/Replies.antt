@@ -1,4 +1,4 @@
--- What is written for a line, and for one line after another.
+-- The text that is written for a line, and for one line after another.
 use Rattle.std.specs.Prelude.{ℕ, ◌≡◌, ◌⊎◌, ◌++◌, List, [], ◌∷◌, Bool, false, Result, Ok, Err, IsOkAnd, codes, decimal}
 use Rattle.std.specs.Prelude.{nat_le}
 use Rattle.line_server.specs.Answers.{AnswersBy, Relation}
@@ -15,7 +15,7 @@ use Rattle.commands.specs.declared.fault.Fault.TheVariants.{Memory}
 use Rattle.replay_session.specs.declared.reply.Reply.{Reply}
 use Rattle.replay_session.specs.declared.reply.Reply.TheVariants.{Done, Work, Report as Reported}
 
--- a line that is done
+-- the reply to a line that is done
 abbrev pub done_line : List ℕ
 done_line = codes "ok\n"
 
@@ -23,23 +23,23 @@ done_line = codes "ok\n"
 abbrev pub number_line : List ℕ → ℕ → List ℕ
 number_line word n = word ++ decimal n ++ 10 ∷ []
 
--- how many steps were made
+-- the number of steps executed
 abbrev pub worked_line : ℕ → List ℕ
 worked_line n = number_line (codes "worked ") n
 
--- a line that is refused
+-- the reply to a line that is rejected
 abbrev pub refused_line : Fault → List ℕ
 refused_line fault = number_line (codes "refused ") (number_of fault)
 
--- the text that answers a line, where so many steps were made
+-- the text of the reply to a line, after this number of executed steps
 abbrev pub IsReplyTo : Scenario → ℕ → Result Command Fault → List ℕ → Type 0
 IsReplyTo sc made (Ok Report) text = IsReportOf sc text
 IsReplyTo sc made (Ok Worked) text = text ≡ worked_line made
 IsReplyTo sc made (Ok _) text = text ≡ done_line
 IsReplyTo sc made (Err fault) text = text ≡ refused_line fault
 
--- one line, its reply, and what is left after it, where so many steps were made: as the scenario says, or memory was
--- wanting where it may be, and the line only counts
+-- one line, its reply, and what is left after it, after this number of executed steps: as the scenario says, or memory
+-- ran out where it may, and the line only counts
 abbrev pub Says : Turn → ℕ → List ℕ → List ℕ → Turn → Type 0
 Says turn made line text after =
     (IsReplyTo turn.scenario made (accepted turn line) text × (after ≡ applied turn line))
@@ -55,30 +55,30 @@ abbrev pub Moves : Stage → List ℕ → List ℕ → Stage → Type 0
 Moves old line text new =
     HadMemory text → new.short ≡ false → LineMoves old.turn.scenario (accepted old.turn line) old.work new.work
 
--- one line, its reply and the stage after it, whose work is the number that `worked` tells
+-- one line, its reply and the stage after it, whose work is the number that `worked` prints
 abbrev pub Replies : Stage → List ℕ → List ℕ → Stage → Type 0
 Replies old line text new =
     Says old.turn new.work.made line text new.turn
     × Moves old line text new
     × MayShorten old.turn.scenario (accepted old.turn line) old.short new.short
 
--- were all lines given that are answered?
+-- is the limit of lines reached?
 abbrev pub is_over : Turn → Bool
 is_over turn = nat_le most_lines turn.lines
 
--- one reply for each line, up to the first that is told that there were too many; the next line meets the stage after
--- it
+-- one reply for each line, up to the first that is rejected because there were too many; the next line meets the stage
+-- after it
 abbrev pub Answers : Stage → Relation
 Answers = AnswersBy Replies (λ stage. is_over stage.turn)
 
--- what a reply is written as, but for a report
+-- how a reply is written that isn't a report
 abbrev pub short_text : Result Reply Fault → List ℕ
 short_text (Ok Done) = done_line
 short_text (Ok (Work n)) = worked_line n
 short_text (Ok Reported) = []
 short_text (Err fault) = refused_line fault
 
--- what a reply is written as, where these bytes are the report
+-- how a reply is written, if these bytes are the report
 abbrev pub text_of : Result Reply Fault → List ℕ → List ℕ
 text_of (Ok Reported) report = report
 text_of outcome report = short_text outcome

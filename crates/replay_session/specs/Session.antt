@@ -1,4 +1,4 @@
--- How a session keeps what was said to it, and what one line does to it.
+-- The turn and the trail of a session, and what one line does to it.
 use Rattle.std.specs.Prelude.{◌≡◌, ◌⊎◌, ℕ, List, true, Result, Ok, Err, IsOkAnd}
 use Rattle.checkpoints.specs.Searches.{Hits}
 use Rattle.checkpoints.specs.Trails.{meter_of}
@@ -17,7 +17,7 @@ use Rattle.replay_session.specs.declared.reply.Reply.TheVariants.{Done as IsDone
 use Rattle.commands.specs.declared.command.Command.{Command}
 use Rattle.commands.specs.declared.command.Command.TheVariants.{Report, Edit, Worked}
 
--- what was said to a session: its scenario, and how many lines were given
+-- the turn of a session: its scenario, and the number of lines given
 unfoldable pub turn_of : Session → Turn
 turn_of session = record { scenario = session.scenario; lines = session.lines }
 
@@ -25,11 +25,11 @@ turn_of session = record { scenario = session.scenario; lines = session.lines }
 abbrev pub scenario_of : Session → Scenario
 scenario_of session = (turn_of session).scenario
 
--- the machines that it holds of its run
+-- the held machines of its run
 unfoldable pub trail_of : Session → Trail
 trail_of session = session.trail
 
--- how many steps were made for its reports
+-- the number of steps executed for its reports
 unfoldable pub work_of : Session → ℕ
 work_of session = meter_of session.trail
 
@@ -41,13 +41,13 @@ Finds sc sought = Hits sought (first_state sc) sc.setup sc.marks
 abbrev pub IsVerdictOf : Scenario → List ℕ → Type 0
 IsVerdictOf sc text = IsVerdictLine sc.image (first_state sc) sc.setup sc.marks sc.step text
 
--- memory may be wanting at a report, and at an edit whose row says so
+-- memory may run out at a report, and at an edit whose row says so
 abbrev pub TakesMemory : Scenario → Command → Type 0
 TakesMemory sc Report = Unit {0}
 TakesMemory sc (Edit edit) = (row sc edit).may_fail ≡ true
 TakesMemory sc _ = ⊥
 
--- the reply to an accepted command, where so many steps were made
+-- the reply to an accepted command, after this number of executed steps
 abbrev pub reply_to : ℕ → Command → Reply
 reply_to work Report = Reported
 reply_to work Worked = Work work
@@ -57,7 +57,7 @@ abbrev pub replied : ℕ → Result Command Fault → Result Reply Fault
 replied work (Ok command) = Ok (reply_to work command)
 replied work (Err fault) = Err fault
 
--- the report was appended, if the line asks for it, and else nothing
+-- the report was appended, if the line asks for it, and otherwise nothing
 abbrev pub AppendsFor : Scenario → Result Command Fault → List ℕ → List ℕ → Type 0
 AppendsFor sc (Ok Report) old new = AppendsReport (IsReportOf sc) old new
 AppendsFor sc _ old new = new ≡ old
@@ -69,7 +69,7 @@ pub record Answered (new : Session) (turn : Turn) (line : List ℕ) (result : Re
   pub appends : AppendsFor turn.scenario (accepted turn line) out-old out-new
   pub has : turn_of new ≡ applied turn line
 
--- or memory was wanting, at a line that isn't refused and may want it: the line counts, and nothing else changes
+-- or memory ran out, at a line that isn't rejected and may need it: the line counts, and nothing else changes
 pub record Wanting (new : Session) (turn : Turn) (line : List ℕ) (result : Result Reply Fault)
     (out-old out-new : List ℕ) : Type 0 where
   pub replies : result ≡ Err Memory
@@ -81,14 +81,14 @@ abbrev pub Meets : Session → Turn → List ℕ → Result Reply Fault → List
 Meets new turn line result out-old out-new =
     Answered new turn line result out-old out-new ⊎ Wanting new turn line result out-old out-new
 
--- the same of an accepted command: it was carried out
+-- the same for an accepted command: it was carried out
 pub record Done (new : Session) (turn : Turn) (command : Command) (result : Result Reply Fault)
     (out-old out-new : List ℕ) : Type 0 where
   pub replies : result ≡ Ok (reply_to (work_of new) command)
   pub appends : AppendsFor turn.scenario (Ok command) out-old out-new
   pub has : turn_of new ≡ record turn { scenario = changed turn.scenario command }
 
--- or memory was wanting, and nothing changed
+-- or memory ran out, and nothing changed
 pub record Failed (new : Session) (turn : Turn) (command : Command) (result : Result Reply Fault)
     (out-old out-new : List ℕ) : Type 0 where
   pub replies : result ≡ Err Memory

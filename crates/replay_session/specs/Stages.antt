@@ -1,4 +1,4 @@
--- What the lines so far have left of a session: what was said to it, and the work on its run.
+-- What the lines so far have left of a session: its turn, and the work on its run.
 use Rattle.std.specs.Prelude.{◌≡◌, Bool, false}
 use Rattle.checkpoints.specs.Trails.{is_short}
 use Rattle.checkpoints.specs.Work.{Work}
@@ -7,7 +7,7 @@ use Rattle.replay_session.specs.Session.{turn_of, trail_of}
 use Rattle.replay_session.specs.Work.{no_work, work_on}
 use Rattle.replay_session.specs.declared.session.Session.{Session}
 
--- what was said, how far the work on the run has come, and whether the trail is short
+-- the turn, how far the work on the run has come, and whether the trail is short
 pub record Stage : Type 0 where
   pub turn : Turn
   pub work : Work
@@ -17,17 +17,17 @@ pub record Stage : Type 0 where
 abbrev pub fresh : Turn → Stage
 fresh turn = record { turn = turn; work = no_work; short = false }
 
--- a session has a stage: that was said to it, and its trail tells the work, and whether it is short
+-- a session has a stage: the stage has its turn, the work of its trail, and whether the trail is short
 pub record HasStage (session : Session) (stage : Stage) : Type 0 where
   pub turn : turn_of session ≡ stage.turn
   pub work : work_on (trail_of session) ≡ stage.work
   pub short : is_short (trail_of session) ≡ stage.short
 
--- what holds of each stage that the session has
+-- something holds for each stage that the session has
 abbrev pub ForEachStage : Session → (Stage → Type 0) → Type 0
 ForEachStage session P = (stage : Stage) → HasStage session stage → P stage
 
--- which is one alone
+-- the only one
 abbrev pub stage_of : Session → Stage
 stage_of session = record {
   turn = turn_of session;

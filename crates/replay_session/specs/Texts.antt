@@ -7,6 +7,6 @@ use Rattle.replay_session.specs.declared.serving.texts.Texts.{Texts}
 unfoldable pub report_in : Texts → List ℕ
 report_in texts = texts.report.items
 
--- the text of the reply that was put in last
+-- the text of the reply that was stored last
 unfoldable pub last_text : Texts → List ℕ
 last_text texts = text_of texts.outcome texts.report.items

@@ -1,5 +1,5 @@
--- Whose turn it is: the scenario that a line meets, and how many lines were given before it. Which command a line is,
--- and what it leaves.
+-- The turn of a line: the scenario that it meets, and the number of lines given before it. Which command a line is, and
+-- what it leaves.
 use Rattle.std.specs.Prelude.{ℕ, ◌+◌, nat_le, nat_lt, if◌then◌else◌, List, length, Option, Some, None, option_map}
 use Rattle.std.specs.Prelude.{Result, Ok, Err}
 use Rattle.guest_elf.specs.declared.image.Image.{Image}
@@ -15,23 +15,23 @@ use Rattle.commands.specs.declared.command.Command.TheVariants.{Goto, Report, Wo
 use Rattle.commands.specs.declared.fault.Fault.{Fault}
 use Rattle.commands.specs.declared.fault.Fault.TheVariants.{StepLimit, LineTooLong, TooManyCommands}
 
--- a scenario, and how many lines were given
+-- a scenario, and the number of lines given
 pub record Turn : Type 0 where
   pub scenario : Scenario
   pub lines : ℕ
 
--- how many lines are answered
+-- the number of lines that are answered
 abbrev pub most_lines : ℕ
 most_lines = 100000
 
--- why a command is refused, if it is: a step above the limit, and an edit as its row says
+-- why a command is rejected, if it is: a step above the limit, and an edit as its row says
 abbrev pub command_refusal : Scenario → Command → Option Fault
 command_refusal sc (Goto n) = if nat_lt most_steps n then Some StepLimit else None
 command_refusal sc (Edit edit) = option_map fault_of (row sc edit).refusal
 command_refusal sc Report = None
 command_refusal sc Worked = None
 
--- a command, or its refusal
+-- a command, or why it is rejected
 abbrev pub accepted_by : Option Fault → Command → Result Command Fault
 accepted_by None command = Ok command
 accepted_by (Some fault) command = Err fault
@@ -40,7 +40,7 @@ abbrev pub if_command : Scenario → Result Command Fault → Result Command Fau
 if_command sc (Err fault) = Err fault
 if_command sc (Ok command) = accepted_by (command_refusal sc command) command
 
--- the command that a line is, or why it is refused: too many lines, a line that is too long, no command, and then the
+-- the command that a line is, or why it is rejected: too many lines, a line that is too long, no command, and then the
 -- command's own
 unfoldable pub accepted : Turn → List ℕ → Result Command Fault
 accepted turn line =
@@ -48,7 +48,7 @@ accepted turn line =
     else if nat_lt longest_line (length line) then Err LineTooLong
     else if_command turn.scenario (parsed line)
 
--- one more line; the number stands still at the greatest
+-- the number of lines after another line; it stops at the greatest number
 abbrev pub counted : ℕ → ℕ
 counted lines = if nat_le most_lines lines then lines else lines + 1
 
@@ -63,11 +63,11 @@ abbrev pub after : Scenario → Result Command Fault → Scenario
 after sc (Ok command) = changed sc command
 after sc (Err fault) = sc
 
--- a scenario, where one more line was given
+-- a scenario, after another line
 abbrev pub passed : Turn → Scenario → Turn
 passed turn sc = record { scenario = sc; lines = counted turn.lines }
 
--- what is left after a line: a refused one changes the number of lines alone
+-- the turn after a line: a rejected line changes only the number of lines
 abbrev pub applied : Turn → List ℕ → Turn
 applied turn line = passed turn (after turn.scenario (accepted turn line))
 

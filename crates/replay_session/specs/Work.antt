@@ -1,4 +1,4 @@
--- How a line moves a session's work: the last step at which a machine is held, and how many steps were made.
+-- How a line moves a session's work: the last step at which a machine is held, and the number of executed steps.
 use Rattle.std.specs.Prelude.{◌≡◌, ℕ, Bool, false, List, Result, Ok, Err}
 use Rattle.checkpoints.specs.Edits.{MayShorten as ShortenedBy}
 use Rattle.checkpoints.specs.Effects.{EffectShows}
@@ -16,7 +16,7 @@ use Rattle.replay_session.specs.declared.reply.Reply.{Reply}
 use Rattle.commands.specs.declared.command.Command.{Command}
 use Rattle.commands.specs.declared.command.Command.TheVariants.{Report, Edit}
 
--- at which steps an accepted command may show in the run: an edit where its effect shows, and all else nowhere
+-- the steps at which an accepted command may show in the run: an edit where its effect shows, and anything else nowhere
 abbrev pub ShowsAt : Scenario → Command → ℕ → Type 0
 ShowsAt sc (Edit edit) k = EffectShows (row sc edit).effect (first_state sc) sc.setup sc.marks k
 ShowsAt sc _ k = ⊥
@@ -29,24 +29,24 @@ work_on trail = record { last = last_held trail; made = meter_of trail }
 abbrev pub no_work : Work
 no_work = record { last = 0; made = 0 }
 
--- a report moves the work by the steps that it made, each other command by its first effect, if it has one
+-- a report moves the work by the steps that it executed, each other command by its first effect, if it has one
 abbrev pub MovesWork : Scenario → Command → Work → Work → Type 0
 MovesWork sc Report old new = ReportMoves sc.step old new
 MovesWork sc command old new = EditMoves (ShowsAt sc command) old new
 
--- and a refused line leaves it
+-- and a rejected line leaves it as it was
 abbrev pub LineMoves : Scenario → Result Command Fault → Work → Work → Type 0
 LineMoves sc (Ok command) old new = MovesWork sc command old new
 LineMoves sc (Err fault) old new = LeavesWork old new
 
--- an edit may make a trail short as its effect says, and no other line does: said of whether it is short before and
+-- an edit may make a trail short as its effect says, and no other line does; by whether the trail is short before and
 -- after
 abbrev pub MayShorten : Scenario → Result Command Fault → Bool → Bool → Type 0
 MayShorten sc (Ok (Edit edit)) old new = ShortenedBy (row sc edit).effect old new
 MayShorten sc outcome old new = new ≡ old
 
--- so does an accepted command of a session, and it moves the work so, unless memory was wanting or the trail is short
--- after it
+-- an accepted command of a session may make its trail short in the same way, and it moves the work in that way, unless
+-- memory ran out or the trail is short after it
 pub record Works (old new : Session) (command : Command) (result : Result Reply Fault) : Type 0 where
   pub whole : MayShorten (scenario_of old) (Ok command) (is_short (trail_of old)) (is_short (trail_of new))
   pub moves : (result ≡ Err Memory → ⊥) → is_short (trail_of new) ≡ false

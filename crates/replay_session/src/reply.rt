@@ -1,12 +1,12 @@
-//! What a line is answered.
+//! The reply to a line.
 
-/// The reply to a line that isn't refused.
+/// The reply to a line that isn't rejected.
 #[derive(Clone, Copy, Debug, PartialEq, Eq)]
 pub enum Reply {
     /// The line was carried out, and asks for nothing.
     Done,
-    /// How many steps were made so far.
+    /// The number of steps executed so far.
     Work(u64),
-    /// The report, whose bytes were appended to the vector that the line was given with.
+    /// The report, whose bytes were appended to the vector that came with the line.
     Report,
 }

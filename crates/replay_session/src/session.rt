@@ -18,10 +18,10 @@ use scenario::{LONGEST_INPUT, MOST_STEPS, Scenario};
 use std::alloc::{AllocError, Global};
 use suppressions::Suppression;
 
-/// How many lines are answered.
+/// The number of lines that are answered.
 const MOST_LINES: u32 = 100_000;
 
-/// What the accepted lines leave, the machines that are held of its run, and how many lines were given.
+/// The scenario that the accepted lines leave, the held machines of its run, and the number of lines that were given.
 #[derive(Drop)]
 pub struct Session<'a> {
     alloc: Global,
@@ -48,8 +48,8 @@ impl<'a> Session<'a> {
     ghost use Rattle.replay_session.specs.Turns.{accepted, changed, command_refusal, counted, opening, passed};
     ghost use Rattle.replay_session.specs.Work.{MayShorten, MovesWork, Works, WorksLine, work_on, no_work};
 
-    /// The session of a program with an input and suppressions, with nothing edited and step 0 chosen. A refusal drops the arguments; an
-    /// input that is too large is told before want of memory.
+    /// Returns the session of a program with an input and suppressions, without edits and with step 0 chosen. A failure drops the
+    /// arguments. An input that is too large is reported before a failed allocation.
     #[tactic(auto, unfolding(crate::specs::Session::turn_of, crate::specs::Session::trail_of))]
     pub fn begin(
         alloc: Global,
@@ -75,7 +75,7 @@ impl<'a> Session<'a> {
         })
     }
 
-    /// The machines that are held of the run, on whose meter each step of a report was made.
+    /// Returns the held machines of the run, on whose meter each step counts that a report executes.
     #[tactic(auto, unfolding(crate::specs::Session::trail_of))]
     pub fn trail(&self) -> &Trail
         ensures { result.now ≡ trail_of self.now }
@@ -83,7 +83,7 @@ impl<'a> Session<'a> {
         &self.trail
     }
 
-    /// How many steps were made for its reports.
+    /// Returns the number of steps executed for its reports.
     #[tactic(auto, unfolding(crate::specs::Session::work_of))]
     fn work(&self) -> u64
         ensures { result ≡ work_of self.now }
@@ -91,12 +91,12 @@ impl<'a> Session<'a> {
         self.trail.meter().read()
     }
 
-    /// Where the session's memory comes from.
+    /// Returns the allocator of the session's memory.
     pub fn allocator(&self) -> Global {
         self.alloc
     }
 
-    /// Whether all lines were given that are answered. One more is answered, by `refused 12`.
+    /// Returns whether the limit of lines is reached. The next line is answered by `refused 12`.
     #[tactic(auto, unfolding(crate::specs::Session::turn_of))]
     pub fn is_over(&self) -> bool
         ensures { result ≡ is_over (turn_of self.now) }
@@ -104,7 +104,7 @@ impl<'a> Session<'a> {
         self.lines >= MOST_LINES
     }
 
-    /// Why a command is refused.
+    /// Returns why a command is rejected.
     #[tactic(auto, unfolding(crate::specs::Session::turn_of))]
     fn command_refusal(&self, command: &Command) -> Option<Fault>
         ensures { result ≡ command_refusal (scenario_of self.now) command.now }
@@ -122,7 +122,7 @@ impl<'a> Session<'a> {
         }
     }
 
-    /// The command that a line is, or why it is refused.
+    /// Returns the command that a line is, or why it is rejected.
     #[tactic(auto, unfolding(crate::specs::Turns::accepted, crate::specs::Session::turn_of))]
     fn accept(&self, line: &[u8]) -> Result<Command, Fault>
         ensures accepted { Reads (accepted (turn_of self.now) line.now) result }
@@ -162,8 +162,8 @@ impl<'a> Session<'a> {
         self.scenario.choose(step);
     }
 
-    /// Makes an edit that isn't refused: the trail goes over to the edited run, by the edit's effect. A word that finds no memory in the
-    /// machines that are held is taken off the scenario again.
+    /// Applies an edit that isn't rejected: the trail goes over to the edited run, by the edit's effect. If memory runs out for a new word
+    /// in the held machines, the word is taken out of the scenario again.
     #[tactic(auto, unfolding(crate::specs::Session::turn_of, crate::specs::Session::trail_of))]
     fn edit(&mut self, edit: Edit) -> Result<(), Fault>
         requires { IsTaken (scenario_of self.old) edit }
@@ -184,7 +184,7 @@ impl<'a> Session<'a> {
         Ok(())
     }
 
-    /// The machine at the chosen step. The trail is moved as by a report.
+    /// Returns the machine at the chosen step. The trail is moved as by a report.
     #[tactic(auto, unfolding(crate::specs::Session::turn_of, crate::specs::Session::trail_of))]
     pub fn machine(&mut self) -> Result<Machine, AllocError>
         ensures turn { turn_of self.new ≡ turn_of self.old }
@@ -199,7 +199,8 @@ impl<'a> Session<'a> {
         )
     }
 
-    /// The first step, from the chosen one on and below another, that does what is sought. The trail is moved as by a report.
+    /// Returns the first step that does what is sought, from the chosen one up to another, which isn't included. The trail is moved as by a
+    /// report.
     #[tactic(auto, unfolding(crate::specs::Session::turn_of, crate::specs::Session::trail_of))]
     pub fn next(&mut self, sought: Sought, end: u32) -> Result<Option<u32>, AllocError>
         ensures turn { turn_of self.new ≡ turn_of self.old }
@@ -217,7 +218,8 @@ impl<'a> Session<'a> {
         )
     }
 
-    /// The last step, before the chosen one and from another on, that does what is sought. The trail is moved as by a report.
+    /// Returns the last step that does what is sought, from another one up to the chosen one, which isn't included. The trail is moved as
+    /// by a report.
     #[tactic(auto, unfolding(crate::specs::Session::turn_of, crate::specs::Session::trail_of))]
     pub fn last(&mut self, sought: Sought, from: u32) -> Result<Option<u32>, AllocError>
         ensures turn { turn_of self.new ≡ turn_of self.old }
@@ -235,8 +237,8 @@ impl<'a> Session<'a> {
         )
     }
 
-    /// Appends the line of the verdict on the run up to the chosen step. The trail holds machines as after a report. The steps that find the
-    /// first use are made on its meter too.
+    /// Appends the line of the verdict on the run up to the chosen step. The trail then holds machines as after a report. The steps that
+    /// find the first use count on its meter too.
     #[tactic(auto, unfolding(crate::specs::Session::turn_of, crate::specs::Session::trail_of))]
     pub fn certify(&mut self, out: &mut Vec<u8>) -> Result<(), AllocError>
         ensures turn { turn_of self.new ≡ turn_of self.old }
@@ -266,7 +268,7 @@ impl<'a> Session<'a> {
         self.scenario.render(&machine, out)
     }
 
-    /// Carries an accepted command out.
+    /// Carries out an accepted command.
     fn answer_command(&mut self, command: Command, out: &mut Vec<u8>) -> Result<Reply, Fault>
         requires { command_refusal (scenario_of self.old) command ≡ None }
         ensures carried { Carried self.new (turn_of self.old) command result out.old.items out.new.items }
@@ -289,12 +291,12 @@ impl<'a> Session<'a> {
         }
     }
 
-    /// Answers one line, which has no newline, and appends the bytes of a report and nothing else. A refused line changes nothing but
-    /// the number of lines.
+    /// Answers one line, which has no newline. Appends the bytes of a report and nothing else. A rejected line changes nothing but the
+    /// number of lines.
     pub fn command(&mut self, line: &[u8], out: &mut Vec<u8>) -> Result<Reply, Fault>
         ensures meets { Meets self.new (turn_of self.old) line.now result out.old.items out.new.items }
-        // Unless memory was wanting or the trail is short: the steps made are those that the line asks for, by its first effect. No line but
-        // a patch makes the trail short.
+        // Unless memory runs out or the trail is short, the number of executed steps is the one that the line asks for, by its first
+        // effect. Only a patch makes the trail short.
         ensures work { WorksLine self.old self.new line.now result }
     {
         let accepted = self.accept(line);

@@ -5,8 +5,8 @@ use Rattle.clap.specs.declared.error.kind.ErrorKind.TheVariants.{DisplayHelp, Di
 use Rattle.ends.specs.declared.ends.End.{End}
 use Rattle.ends.specs.declared.ends.End.TheVariants.{Done, CannotWrite, Usage, NoMemory}
 
--- by the kind of what the parser answers, and whether its text was printed: help and the version are done, or can't be
--- written; all else but want of memory is a fault of the command line
+-- by the kind of the parser's result, and whether its text was printed: help and the version are done, or can't be
+-- written; everything else, except that memory runs out, is a fault of the command line
 abbrev pub end_of_showing : ErrorKind → Bool → End
 end_of_showing DisplayHelp true = Done
 end_of_showing DisplayHelp false = CannotWrite

@@ -14,7 +14,7 @@ use std::process::ExitCode;
 use std::rt::Env;
 use std::{env, io};
 
-/// The words of the command line.
+/// The arguments of the command line.
 fn words_of<R: Env + AllocGlobal>(rt: &R) -> io::Result<Vec<String>> {
     let mut words = Vec::new(rt.alloc());
     for word in env::args(rt)? {
@@ -23,7 +23,7 @@ fn words_of<R: Env + AllocGlobal>(rt: &R) -> io::Result<Vec<String>> {
     Ok(words)
 }
 
-/// How the program ends where the words of the command line can't be had: but for want of memory, one of them is no text.
+/// How the program ends if it can't get its arguments: memory ran out, or one of them isn't text.
 fn end_without_words<'a>(error: &io::Error) -> End<'a>
     ensures memory { error_kind error.now ≡ OutOfMemory → result ≡ End.NoMemory }
     ensures text { error_kind error.now ≢ OutOfMemory → result ≡ End.NotText }
@@ -48,7 +48,7 @@ fn end_of_showing<'a>(kind: ErrorKind, printed: bool) -> End<'a>
     }
 }
 
-/// Shows help, the version or a fault of the command line, and answers how the program ends.
+/// Shows help, the version or a fault of the command line, and returns how the program ends.
 fn show<'a, R: Print + Eprint>(rt: &R, error: &clap::Error) -> End<'a>
     ensures { (printed : Bool) × (result ≡ end_of_showing (kind_of error.now) printed) }
 {
@@ -58,7 +58,7 @@ fn show<'a, R: Print + Eprint>(rt: &R, error: &clap::Error) -> End<'a>
     }
 }
 
-/// Carries the command line out, and tells how it ended.
+/// Carries out the command line, and returns how it ended.
 fn finish(rt: &HostRuntime) -> u8 {
     let words = match words_of(rt) {
         Ok(words) => words,

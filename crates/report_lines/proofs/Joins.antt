@@ -1,4 +1,4 @@
--- Pieces put at the end one after another.
+-- Pieces appended one after another.
 use Rattle.std.proofs.Common.{◌≡◌, ℕ, ◌+◌, ◌<◌, List, [], ◌∷◌, ◌++◌, ap, ap₂, sym, ◌∙◌, append_assoc, append-nil, codes}
 use Rattle.std.proofs.Common.{get_or, length, take, min, Some, arith}
 use Rattle.std.specs.Prelude.{slice_get, sum_by}
@@ -28,7 +28,7 @@ pub next_taken : {X : Type 0} (xs : List X) (i : ℕ) (d x : X) → i < length x
     → take i xs ++ x ∷ [] ≡ take (i + 1) xs
 next_taken xs i d x within is = ap (λ y. take i xs ++ y ∷ []) is ∙ sym (take_more xs i d within)
 
--- what one more item adds after what those before it made, if it adds anything
+-- what another item adds after what those before it made, if it adds anything
 module _ {X Y : Type 0} (f : List X → List Y) (xs : List X) (i : ℕ) (d x : X) (o p q : List Y) (within : i < length xs)
     (is : x ≡ get_or xs i d) (before : p ≡ o ++ f (take i xs)) where
   pub joined_more : (a : List Y) → f (take i xs ++ x ∷ []) ≡ f (take i xs) ++ a → q ≡ p ++ a
@@ -89,7 +89,7 @@ flat_got g xs i o p q within before more =
     (sym (ap (flat_map g) at.2 ∙ flat_map-append g (take i xs) (at.0 ∷ [])
     ∙ ap (λ y. flat_map g (take i xs) ++ y) (append-nil (g at.0))))
 
--- sums that stand still
+-- sums that stop
 sum-still : (a b m : ℕ) → min (min a m + b) m ≡ min (a + (0 + b)) m
 sum-still a b m = omega arith
 

@@ -59,7 +59,7 @@ fault_text Unaddressable = codes " points to unaddressable byte(s)"
 unfoldable pub param_text : Parameter → ParameterFault → List ℕ
 param_text parameter fault = codes "Syscall param " ++ parameter_text parameter ++ fault_text fault
 
--- what an error is called (Memcheck manual, section 4.2)
+-- the text of an error (Memcheck manual, section 4.2)
 unfoldable pub kind_text : Kind → List ℕ
 kind_text (Read n) = codes "Invalid read of size " ++ decimal n
 kind_text (Write n) = codes "Invalid write of size " ++ decimal n
@@ -89,7 +89,7 @@ place_text Before = codes " bytes before"
 place_text Inside = codes " bytes inside"
 place_text After = codes " bytes after"
 
--- whether a block is live, and where it was allocated, or else where it was freed
+-- whether a block is live or freed; and where it was freed or, if it is live, where it was allocated
 abbrev pub state_text : Option (List ℕ) → List ℕ
 state_text None = codes " alloc'd"
 state_text (Some trace) = codes " free'd"
@@ -108,7 +108,7 @@ near_back block = codes " a block of size " ++ decimal block.size ++ state_text 
 abbrev pub near_line : ℕ → NearBlock → List ℕ
 near_line a near = near_front a near ++ near_back near.block
 
--- the lines of a note, if it has any; a block's trace is cut to so many addresses
+-- the lines of a note, if it has any; a block's trace is cut to this number of addresses
 unfoldable pub note_lines : Image → ℕ → Note → List ℕ
 note_lines image callers Absent = []
 note_lines image callers (Near a near) = near_line a near ++ trace_lines image (take callers (last_trace near.block))
@@ -116,17 +116,17 @@ note_lines image callers (Stack a) = codes " Address " ++ address_text a ++ code
 note_lines image callers (Elsewhere a) =
     codes " Address " ++ address_text a ++ codes " is not stack'd, malloc'd or (recently) free'd" ++ newline
 
--- the lines of a group of errors: traces are cut to so many addresses
+-- the lines of a group of errors: traces are cut to this number of addresses
 unfoldable pub group_lines : Image → ℕ → Group → List ℕ
 group_lines image callers group =
     error_line group.count group.kind ++ trace_lines image (take callers group.trace)
     ++ note_lines image callers group.note
 
--- how many errors there are; the sum stands still at the greatest 64-bit number
+-- the number of errors; the sum stops at the greatest 64-bit number
 abbrev pub error_total : List Group → ℕ
 error_total groups = min (sum_by (λ g. g.count) groups) most
 
--- what the summary says of groups
+-- the sum of groups, as the summary has it
 abbrev pub error_sum : List Group → ErrorSum
 error_sum groups = record { errors = error_total groups; groups = length groups }
 

@@ -26,7 +26,7 @@ pub fn push_step(out: &mut Vec<u8>, step: u32) -> Result<(), AllocError>
     push_text(out, b"\n")
 }
 
-/// Why a machine stopped, in one word.
+/// Returns why a machine stopped, in one word.
 pub fn stop_word(stop: Stop) -> &'static [u8]
     ensures { result.now ≡ stop_word stop }
 {
@@ -38,7 +38,7 @@ pub fn stop_word(stop: Stop) -> &'static [u8]
     }
 }
 
-/// `state running A`
+/// Appends `state running A`.
 #[tactic(auto, using(std::proofs::Common::append_assoc))]
 fn push_running(out: &mut Vec<u8>, pc: u32) -> Result<(), AllocError>
     ensures { OnOk result (out.new.items ≡ out.old.items ++ (codes "state running " ++ address_text pc ++ newline)) }
@@ -48,7 +48,7 @@ fn push_running(out: &mut Vec<u8>, pc: u32) -> Result<(), AllocError>
     push_text(out, b"\n")
 }
 
-/// `state exited C`
+/// Appends `state exited C`.
 #[tactic(auto, using(std::proofs::Common::append_assoc))]
 fn push_exited(out: &mut Vec<u8>, code: u8) -> Result<(), AllocError>
     ensures { OnOk result (out.new.items ≡ out.old.items ++ (codes "state exited " ++ decimal code ++ newline)) }
@@ -58,7 +58,7 @@ fn push_exited(out: &mut Vec<u8>, code: u8) -> Result<(), AllocError>
     push_text(out, b"\n")
 }
 
-/// `state stopped W A`
+/// Appends `state stopped W A`.
 #[tactic(auto, using(std::proofs::Common::append_assoc))]
 fn push_stopped(out: &mut Vec<u8>, stop: Stop, pc: u32) -> Result<(), AllocError>
     ensures { OnOk result (out.new.items ≡ out.old.items ++ (codes "state stopped " ++ stop_word stop ++ codes " " ++ address_text pc ++ newline)) }
@@ -104,7 +104,7 @@ pub fn push_output(out: &mut Vec<u8>, n: u64) -> Result<(), AllocError>
     push_text(out, b"\n")
 }
 
-/// What is wrong with a parameter.
+/// Returns what is wrong with a parameter.
 fn fault_text(fault: ParameterFault) -> &'static [u8]
     ensures { result.now ≡ fault_text fault }
 {
@@ -115,7 +115,7 @@ fn fault_text(fault: ParameterFault) -> &'static [u8]
     }
 }
 
-/// What an error of a parameter is called.
+/// Appends the text of an error of a parameter.
 #[tactic(auto, unfolding(crate::specs::Lines::param_text), using(std::proofs::Common::append_assoc))]
 fn push_param(
     out: &mut Vec<u8>,
@@ -130,7 +130,7 @@ fn push_param(
     Ok(())
 }
 
-/// Bytes, and a number after them.
+/// Appends bytes and a number.
 #[tactic(auto, using(std::proofs::Common::append_assoc))]
 fn push_sized(out: &mut Vec<u8>, text: &[u8], n: u8) -> Result<(), AllocError>
     ensures { OnOk result (out.new.items ≡ out.old.items ++ (text.now ++ decimal n)) }
@@ -139,7 +139,7 @@ fn push_sized(out: &mut Vec<u8>, text: &[u8], n: u8) -> Result<(), AllocError>
     push_number(out, u64::from(n))
 }
 
-/// Appends what an error is called.
+/// Appends the text of an error.
 #[tactic(auto, unfolding(crate::specs::Lines::kind_text))]
 pub fn push_kind(out: &mut Vec<u8>, kind: Kind) -> Result<(), AllocError>
     ensures { OnOk result (out.new.items ≡ out.old.items ++ kind_text kind) }
@@ -158,7 +158,7 @@ pub fn push_kind(out: &mut Vec<u8>, kind: Kind) -> Result<(), AllocError>
     }
 }
 
-/// `error COUNT: TEXT`
+/// Appends `error COUNT: TEXT`.
 #[tactic(auto, unfolding(crate::specs::Lines::error_line), using(std::proofs::Common::append_assoc))]
 fn push_error(out: &mut Vec<u8>, count: u64, kind: Kind) -> Result<(), AllocError>
     ensures { OnOk result (out.new.items ≡ out.old.items ++ error_line count kind) }
@@ -170,7 +170,7 @@ fn push_error(out: &mut Vec<u8>, count: u64, kind: Kind) -> Result<(), AllocErro
     push_text(out, b"\n")
 }
 
-/// An address of a trace, after `at` or `by`, with its name.
+/// Appends an address of a trace, after `at` or `by`, with its name.
 #[tactic(auto, unfolding(crate::specs::Lines::frame_line), using(std::proofs::Common::append_assoc))]
 fn push_frame(out: &mut Vec<u8>, word: &[u8], image: &Image, addr: u32) -> Result<(), AllocError>
     ensures { OnOk result (out.new.items ≡ out.old.items ++ frame_line word.now image.now addr) }
@@ -184,7 +184,7 @@ fn push_frame(out: &mut Vec<u8>, word: &[u8], image: &Image, addr: u32) -> Resul
     push_text(out, b"\n")
 }
 
-/// The addresses of a trace after the first.
+/// Appends the addresses of a trace after the first.
 fn push_callers(out: &mut Vec<u8>, image: &Image, callers: &[u32]) -> Result<(), AllocError>
     ensures { OnOk result (out.new.items ≡ out.old.items ++ flat_map (frame_line (codes "by") image.now) callers.now) }
 {
@@ -194,7 +194,7 @@ fn push_callers(out: &mut Vec<u8>, image: &Image, callers: &[u32]) -> Result<(),
     Ok(())
 }
 
-/// Appends the addresses of a trace, a line each.
+/// Appends the addresses of a trace, one line each.
 #[tactic(auto, unfolding(crate::specs::Lines::trace_lines), using(std::proofs::Common::append_assoc))]
 pub fn push_trace(out: &mut Vec<u8>, image: &Image, addresses: &[u32]) -> Result<(), AllocError>
     ensures { OnOk result (out.new.items ≡ out.old.items ++ trace_lines image.now addresses.now) }
@@ -208,7 +208,7 @@ pub fn push_trace(out: &mut Vec<u8>, image: &Image, addresses: &[u32]) -> Result
     }
 }
 
-/// So many elements, or all.
+/// Returns the first `n` elements, or all if there are fewer.
 pub fn front(addresses: &[u32], n: u32) -> &[u32]
     ensures { result.now ≡ take n addresses.now }
 {
@@ -216,7 +216,7 @@ pub fn front(addresses: &[u32], n: u32) -> &[u32]
     &addresses[..n]
 }
 
-/// On which side of a block an address lies.
+/// Returns on which side of a block an address lies.
 fn place_text(place: Place) -> &'static [u8]
     ensures { result.now ≡ place_text place }
 {
@@ -227,7 +227,7 @@ fn place_text(place: Place) -> &'static [u8]
     }
 }
 
-/// Whether a block is live.
+/// Returns whether a block is live.
 fn state_text(freed: Option<Trace>) -> &'static [u8]
     ensures { result.now ≡ state_text freed }
 {
@@ -237,14 +237,14 @@ fn state_text(freed: Option<Trace>) -> &'static [u8]
     }
 }
 
-/// Where a block was allocated or, if it is freed, where that was.
+/// Returns where a block was freed or, if it is live, where it was allocated.
 fn last_trace(block: &Block) -> Trace
     ensures { result ≡ last_trace block.now }
 {
     block.freed.unwrap_or(block.trace)
 }
 
-/// ` Address A is I bytes inside`
+/// Appends ` Address A is I bytes inside`.
 #[tactic(auto, unfolding(crate::specs::Lines::near_front), using(std::proofs::Common::append_assoc))]
 fn push_near_front(out: &mut Vec<u8>, addr: u32, near: &Near) -> Result<(), AllocError>
     ensures { OnOk result (out.new.items ≡ out.old.items ++ near_front addr near.now) }
@@ -256,7 +256,7 @@ fn push_near_front(out: &mut Vec<u8>, addr: u32, near: &Near) -> Result<(), Allo
     push_text(out, place_text(near.place))
 }
 
-/// ` a block of size S alloc'd`
+/// Appends ` a block of size S alloc'd`.
 #[tactic(auto, unfolding(crate::specs::Lines::near_back), using(std::proofs::Common::append_assoc))]
 fn push_near_back(out: &mut Vec<u8>, block: &Block) -> Result<(), AllocError>
     ensures { OnOk result (out.new.items ≡ out.old.items ++ near_back block.now) }
@@ -268,7 +268,7 @@ fn push_near_back(out: &mut Vec<u8>, block: &Block) -> Result<(), AllocError>
     Ok(())
 }
 
-/// What an error says of an address in a block, or near one.
+/// Appends the note on an address in a block, or near one.
 #[tactic(auto, using(std::proofs::Common::append_assoc))]
 fn push_near(
     out: &mut Vec<u8>,
@@ -285,7 +285,7 @@ fn push_near(
     push_trace(out, image, front(trace.addresses(), callers))
 }
 
-/// ` Address A`, and what is said of it.
+/// Appends ` Address A`, and a text about it.
 #[tactic(auto, using(std::proofs::Common::append_assoc))]
 fn push_about(out: &mut Vec<u8>, addr: u32, text: &[u8]) -> Result<(), AllocError>
     ensures { OnOk result (out.new.items ≡ out.old.items ++ (codes " Address " ++ address_text addr ++ text.now ++ newline)) }
@@ -296,7 +296,7 @@ fn push_about(out: &mut Vec<u8>, addr: u32, text: &[u8]) -> Result<(), AllocErro
     push_text(out, b"\n")
 }
 
-/// What an error says of an address, if it says anything.
+/// Appends the lines of a note, if it has any.
 #[tactic(auto, unfolding(crate::specs::Lines::note_lines))]
 fn push_note(out: &mut Vec<u8>, image: &Image, callers: u32, note: &Note) -> Result<(), AllocError>
     ensures { OnOk result (out.new.items ≡ out.old.items ++ note_lines image.now callers note.now) }
@@ -315,7 +315,7 @@ fn push_note(out: &mut Vec<u8>, image: &Image, callers: u32, note: &Note) -> Res
     }
 }
 
-/// A group of errors, with at most `callers` addresses of its trace.
+/// Appends a group of errors, with at most `callers` addresses of its trace.
 #[tactic(auto, unfolding(crate::specs::Lines::group_lines), using(std::proofs::Common::append_assoc))]
 fn push_group(
     out: &mut Vec<u8>,
@@ -330,7 +330,7 @@ fn push_group(
     push_note(out, image, callers, &group.note)
 }
 
-/// A group of errors, if it is there.
+/// Appends a group of errors, if there is one.
 fn push_group_at(
     out: &mut Vec<u8>,
     image: &Image,
@@ -360,7 +360,7 @@ pub fn push_groups(
     Ok(())
 }
 
-/// So many errors and those of a group, if it is there, or the greatest `u64`.
+/// Returns a number of errors plus those of a group, if there is one; at most the greatest `u64`.
 fn with_errors_of(total: u64, group: Option<Group>) -> u64
     ensures { (g : Group) → group ≡ Some g → result ≡ min (total + g.count) most }
 {
@@ -370,7 +370,7 @@ fn with_errors_of(total: u64, group: Option<Group>) -> u64
     }
 }
 
-/// How many errors there are, or the greatest `u64`.
+/// Returns the number of errors, at most the greatest `u64`.
 fn error_total(groups: &Groups) -> u64
     ensures { result ≡ error_total (groups_of groups.now) }
 {
@@ -381,16 +381,16 @@ fn error_total(groups: &Groups) -> u64
     total
 }
 
-/// What the summary says of groups.
+/// The sum of groups, as the summary has it.
 #[derive(Clone, Copy)]
 pub struct ErrorSum {
-    /// How many errors they have, or the greatest `u64`.
+    /// The number of errors, at most the greatest `u64`.
     pub errors: u64,
-    /// How many groups there are.
+    /// The number of groups.
     pub groups: usize,
 }
 
-/// The sum of groups.
+/// Returns the sum of groups.
 pub fn error_sum(groups: &Groups) -> ErrorSum
     ensures { result ≡ error_sum (groups_of groups.now) }
 {
@@ -400,7 +400,7 @@ pub fn error_sum(groups: &Groups) -> ErrorSum
     }
 }
 
-/// `ERROR SUMMARY: E errors from C contexts`
+/// Appends `ERROR SUMMARY: E errors from C contexts`.
 fn push_shown_summary(out: &mut Vec<u8>, sum: ErrorSum) -> Result<(), AllocError>
     ensures { OnOk result ((gs : List Group) → sum ≡ error_sum gs → out.new.items ≡ out.old.items ++ shown_summary gs) }
 {
@@ -412,7 +412,7 @@ fn push_shown_summary(out: &mut Vec<u8>, sum: ErrorSum) -> Result<(), AllocError
     Ok(())
 }
 
-/// ` (suppressed: E2 from C2)`
+/// Appends ` (suppressed: E2 from C2)`.
 fn push_hidden_summary(out: &mut Vec<u8>, sum: ErrorSum) -> Result<(), AllocError>
     ensures { OnOk result ((gs : List Group) → sum ≡ error_sum gs → out.new.items ≡ out.old.items ++ hidden_summary gs) }
 {
@@ -425,7 +425,7 @@ fn push_hidden_summary(out: &mut Vec<u8>, sum: ErrorSum) -> Result<(), AllocErro
     Ok(())
 }
 
-/// Appends how many errors are shown and how many suppressed, each with the number of their groups.
+/// Appends the summary: the numbers of errors shown and suppressed, each with the number of groups.
 pub fn push_summary(out: &mut Vec<u8>, shown: ErrorSum, hidden: ErrorSum) -> Result<(), AllocError>
     ensures { OnOk result ((gs hs : List Group) → shown ≡ error_sum gs → hidden ≡ error_sum hs
         → out.new.items ≡ out.old.items ++ summary_line gs hs) }

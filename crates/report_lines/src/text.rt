@@ -14,7 +14,7 @@ pub fn push_text(out: &mut Vec<u8>, text: &[u8]) -> Result<(), AllocError>
     Ok(())
 }
 
-/// Appends a number, decimal.
+/// Appends a decimal number.
 pub fn push_number(out: &mut Vec<u8>, n: u64) -> Result<(), AllocError>
     ensures { OnOk result (out.new.items ≡ out.old.items ++ decimal n) }
 {
@@ -22,7 +22,7 @@ pub fn push_number(out: &mut Vec<u8>, n: u64) -> Result<(), AllocError>
     push_text(out, buffer.format(n).as_bytes())
 }
 
-/// A hexadecimal digit, in lower case.
+/// Returns a hexadecimal digit, in lower case.
 fn hex_glyph(n: u32) -> u8
     requires { n < 16 }
     ensures { result ≡ digit_glyph false n }
@@ -60,14 +60,14 @@ pub fn push_byte(out: &mut Vec<u8>, b: u8) -> Result<(), AllocError>
     push_text(out, &[hex_glyph((b >> 4) % 16), hex_glyph(b % 16)])
 }
 
-/// A byte of a name.
+/// Returns a byte of a name as it is shown.
 fn shown_byte(b: u8) -> u8
     ensures { result ≡ shown_byte b }
 {
     if 0x21 <= b && b <= 0x7E { b } else { b'?' }
 }
 
-/// Appends a name, with `?` for each byte that is no printable ASCII character, or is a space.
+/// Appends a name, with `?` for each byte that isn't a printable ASCII character, or is a space.
 #[tactic(auto, unfolding(crate::specs::Text::shown_name))]
 pub fn push_name(out: &mut Vec<u8>, name: &[u8]) -> Result<(), AllocError>
     ensures { OnOk result (out.new.items ≡ out.old.items ++ shown_name name.now) }

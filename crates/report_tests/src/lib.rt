@@ -1,6 +1,6 @@
 //! Tests of reports, of outlines, of held machines and of searches, by the public calls of their crates.
 //!
-//! They stand apart from the crates that they test, since a crate with tests is proved a second time with them.
+//! This crate is separate from those that it tests, since a crate with tests is proved a second time with them.
 #![tactic(auto)]
 
 #[cfg(test)]

@@ -1,4 +1,4 @@
-//! Outlines of programs by hand, against texts written down from the format of an outline.
+//! Outlines of programs by hand, compared with texts written down from the format of an outline.
 use crate::runs::{BRANCH_BACK, BRANCH_PAST_THE_END, EXIT, Run, TWO_BLOCKS, Telling, assert_told};
 use replay_report::{push_address, push_number};
 use std::alloc::{AllocError, Global};
@@ -71,14 +71,14 @@ fn errors_and_leaks(rt: HostRuntime) {
     assert_told(&rt, rt.alloc(), &ERRORS_AND_LEAKS);
 }
 
-/// Whether a number and an address are written behind a text.
+/// Returns whether a number and an address are written after a text.
 fn are_written(out: &mut Vec<u8>) -> Result<bool, AllocError> {
     push_number(out, 4095)?;
     push_address(out, 0x0001_02AF)?;
     Ok(out.as_slice() == b"input 40950x000102af".as_slice())
 }
 
-/// The same of a new one.
+/// Returns the same for a new text.
 fn are_written_anew(alloc: Global) -> Result<bool, AllocError> {
     let mut out = b"input ".to_vec(alloc)?;
     are_written(&mut out)

@@ -1,4 +1,4 @@
-//! Reports of programs by hand, against texts written down from the format of a report.
+//! Reports of programs by hand, compared with texts written down from the format of a report.
 use crate::runs::{
     BRANCH_BACK, BRANCH_PAST_THE_END, EXIT, MEMCHECK, Run, TWO_BLOCKS, Telling, assert_told,
 };

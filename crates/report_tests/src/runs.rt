@@ -1,4 +1,4 @@
-//! Programs by hand, and whether what is told of their runs is what was written down.
+//! Programs by hand, and whether the reports of their runs are those written down.
 use call_stacks::Trace;
 use guest_elf::{Image, read};
 use guest_machine::{Hooks, Input, Machine, Mark, Meter, Setup};
@@ -11,19 +11,19 @@ use std::alloc::{AllocError, Global};
 use std::process::Abort;
 use suppressions::Suppression;
 
-/// What is told of a run. A report shows the kinds of leaks that Memcheck shows, and has no input, if nothing else is said.
+/// What is reported of a run. A report shows the kinds of leaks that Memcheck shows, and has no input, unless something else is said.
 pub(crate) enum Telling {
     /// A report with these first lines and these last ones.
     Ends(&'static [u8], &'static [u8]),
-    /// One with no other lines.
+    /// A report with no other lines.
     Whole(&'static [u8], &'static [u8]),
-    /// One that shows these kinds of leaks: its last lines.
+    /// A report that shows these kinds of leaks: its last lines.
     Shown([bool; 4], &'static [u8]),
-    /// One for an input of so many bytes, of which none is read: its first lines.
+    /// A report for an input of this length, of which nothing is read: its first lines.
     OfInput(u64, &'static [u8]),
-    /// One behind a text: that text with its first lines.
+    /// A report after a text: that text with its first lines.
     Behind(&'static [u8], &'static [u8]),
-    /// One that shows all, with possible leaks suppressed: its last lines.
+    /// A report that shows all kinds of leaks, with possible leaks suppressed: its last lines.
     Hidden(&'static [u8]),
     /// An outline, with the output or without.
     Outline(bool, &'static [u8]),
@@ -34,7 +34,7 @@ pub(crate) enum Telling {
 /// The kinds of leaks that Memcheck shows.
 pub(crate) const MEMCHECK: [bool; 4] = [true, false, true, false];
 
-/// How a report is made, and what it should be.
+/// The options of a report, and its expected text.
 #[derive(Clone, Copy)]
 struct Report {
     input_len: u64,
@@ -45,7 +45,7 @@ struct Report {
     is_whole: bool,
 }
 
-/// One with no input and these lines.
+/// Returns a report without input and with these lines.
 fn plain(front: &'static [u8], back: &'static [u8]) -> Report {
     Report {
         input_len: 0,
@@ -57,7 +57,7 @@ fn plain(front: &'static [u8], back: &'static [u8]) -> Report {
     }
 }
 
-/// The report that is told, if it is one with nothing suppressed.
+/// Returns the expected report, if a report without suppressions is expected.
 fn report_of(telling: &Telling) -> Option<Report> {
     match telling {
         Telling::Ends(front, back) => Some(plain(front, back)),
@@ -81,10 +81,10 @@ fn report_of(telling: &Telling) -> Option<Report> {
     }
 }
 
-/// A label, a program, how many steps it makes, and what is told of it then.
+/// A label, a program, the number of steps executed, and what is reported then.
 pub(crate) type Run = (&'static str, &'static [u32], u32, Telling);
 
-/// The machine after some steps, with no input.
+/// Returns the machine after a number of steps, without input.
 fn stepped(machine: Machine, setup: &Setup, steps: u32) -> Result<Machine, AllocError> {
     let mut meter = Meter::new();
     let mut machine = machine;
@@ -95,7 +95,7 @@ fn stepped(machine: Machine, setup: &Setup, steps: u32) -> Result<Machine, Alloc
     Ok(machine)
 }
 
-/// The machine before the first step. The four bytes at the stack pointer, which are 0, are undefined from the start.
+/// Returns the machine before the first step. The four bytes at the stack pointer, which are 0, are undefined from the start.
 fn started(alloc: Global, image: &Image) -> Result<Machine, AllocError> {
     Machine::start(alloc, image)?.mark(&Mark {
         step: 0,
@@ -105,7 +105,7 @@ fn started(alloc: Global, image: &Image) -> Result<Machine, AllocError> {
     })
 }
 
-/// Memcheck's redzone and volume of freed blocks, and an input.
+/// Returns a setup of Memcheck's redzone and volume of freed blocks, and an input.
 pub(crate) fn setup_of(alloc: Global, input: Input) -> Setup {
     Setup {
         input,
@@ -115,13 +115,13 @@ pub(crate) fn setup_of(alloc: Global, input: Input) -> Setup {
     }
 }
 
-/// The machine of a program after some steps.
+/// Returns the machine of a program after a number of steps.
 fn machine_after(alloc: Global, image: &Image, steps: u32) -> Result<Machine, AllocError> {
     let setup = setup_of(alloc, Input::new(Vec::new(alloc)));
     stepped(started(alloc, image)?, &setup, steps)
 }
 
-/// Whether a text has these ends.
+/// Returns whether a text has these ends.
 fn has_ends(text: &[u8], report: &Report) -> bool {
     match text.strip_prefix(report.front) {
         Some(rest) if report.is_whole => rest == report.back,
@@ -130,7 +130,7 @@ fn has_ends(text: &[u8], report: &Report) -> bool {
     }
 }
 
-/// Whether a machine has a report.
+/// Returns whether a machine has a report.
 fn has_report(
     alloc: Global,
     image: &Image,
@@ -156,7 +156,7 @@ fn has_report(
     Ok(has_ends(&out, report))
 }
 
-/// Whether a report that shows all has an end, with some suppressions.
+/// Returns whether a report that shows all has an end, with some suppressions.
 fn hides(
     alloc: Global,
     image: &Image,
@@ -182,7 +182,7 @@ fn hides(
     Ok(out.ends_with(back))
 }
 
-/// The same, where possible leaks are suppressed.
+/// Returns the same if possible leaks are suppressed.
 fn hides_possible(
     alloc: Global,
     image: &Image,
@@ -195,7 +195,7 @@ fn hides_possible(
     }
 }
 
-/// Whether a machine has an outline.
+/// Returns whether a machine has an outline.
 fn has_outline(
     alloc: Global,
     image: &Image,
@@ -208,7 +208,7 @@ fn has_outline(
     Ok(text.as_slice() == want)
 }
 
-/// Whether these are records of leaks.
+/// Returns whether these are records of leaks.
 fn are_records(records: &[LeakRecord], leaks: &[(u32, LeakKind, u32)]) -> bool {
     for (i, (start, kind, pc)) in leaks.iter().enumerate() {
         let want = LeakRecord {
@@ -224,7 +224,7 @@ fn are_records(records: &[LeakRecord], leaks: &[(u32, LeakKind, u32)]) -> bool {
     records.len() == leaks.len()
 }
 
-/// Whether a search answers these.
+/// Returns whether a search returns these leaks.
 fn has_leaks(
     alloc: Global,
     machine: &Machine,
@@ -234,7 +234,7 @@ fn has_leaks(
     Ok(are_records(&records, leaks))
 }
 
-/// Whether that is told of a machine.
+/// Returns whether a machine's report is as expected.
 fn is_told_by(
     alloc: Global,
     image: &Image,
@@ -254,13 +254,13 @@ fn is_told_by(
     }
 }
 
-/// Whether it is of the run of an image.
+/// Returns whether it is for the run of an image.
 fn is_told_on(alloc: Global, image: &Image, run: &Run) -> Result<bool, AllocError> {
     let machine = machine_after(alloc, image, run.2)?;
     is_told_by(alloc, image, &machine, run)
 }
 
-/// Whether it is of a file's.
+/// Returns whether it is for the run of a file.
 fn is_told_of(alloc: Global, file: &[u8], run: &Run) -> Result<bool, AllocError> {
     match read(alloc, file) {
         Ok(image) => is_told_on(alloc, &image, run),
@@ -268,13 +268,13 @@ fn is_told_of(alloc: Global, file: &[u8], run: &Run) -> Result<bool, AllocError>
     }
 }
 
-/// Whether it is of a program's.
+/// Returns whether it is for the run of a program.
 fn is_told(alloc: Global, run: &Run) -> Result<bool, AllocError> {
     let file = program(alloc, run.1)?;
     is_told_of(alloc, &file, run)
 }
 
-/// Asserts that what runs tell is told.
+/// Asserts that the reports of runs are as expected.
 pub(crate) fn assert_told(rt: &impl Abort, alloc: Global, runs: &[Run]) {
     for run in runs {
         assert!(rt; matches!(is_told(alloc, run), Ok(true)), "{}", run.0);

@@ -1,16 +1,17 @@
-//! The next and the last step that runs, reads, writes, changes what is known of a byte or raises an error in a range, and how many steps
-//! were made to find it. The numbers follow from the two programs: a search on makes the steps up to the one that is found or to the halt,
-//! one back those of the windows of 1,024 steps from the last one down to the one in which it is found.
+//! The next and the last step that runs, reads, writes, changes what is known of a byte or raises an error in a range, and the number of
+//! steps executed to find it. The numbers follow from the two programs. A search forwards executes the steps up to the one that is found or
+//! to the halt. A search backwards executes those of the windows of 1,024 steps, from the last one down to the one in which the step is
+//! found.
 
 use crate::trails::{Act, Case, Program, assert_performed};
 use checkpoints::Watch;
 use guest_machine::Mark;
 use shadow_memory::RangeKind;
 
-/// What the second program is told.
+/// The input of the second program.
 const INPUT: Act = Act::ReplaceInput(0, b"ab");
 
-/// The instructions can't be taken any more from step 1024 on: there the machine still runs, and it stops.
+/// The instructions can't be fetched any more from step 1024 on: there the machine still runs, and then it stops.
 const STOPS: Mark = Mark {
     step: 1024,
     addr: 0x10000,
@@ -89,7 +90,7 @@ fn a_word_that_is_read_once(rt: HostRuntime) {
     assert_performed(&rt, rt.alloc(), &ONE_WORD);
 }
 
-/// What else is met in the first program.
+/// Other searches in the first program.
 const OTHERS: [Case; 7] = [
     (
         "words that run are not read",
@@ -157,7 +158,7 @@ fn instructions_and_ranges(rt: HostRuntime) {
     assert_performed(&rt, rt.alloc(), &OTHERS);
 }
 
-/// In the second one.
+/// Searches in the second program.
 const SECOND: [Case; 4] = [
     (
         "a byte that a call writes",
@@ -214,7 +215,7 @@ fn what_a_call_writes(rt: HostRuntime) {
     assert_performed(&rt, rt.alloc(), &SECOND);
 }
 
-/// With a mark.
+/// Searches with a mark.
 const MARKED: [Case; 5] = [
     (
         "a run that a mark stops",

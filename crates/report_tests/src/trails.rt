@@ -1,5 +1,6 @@
-//! Edits of runs, and how many steps were made for each machine that was asked for. The numbers follow from the steps at which
-//! an edit first shows: a trail that is asked for step n makes those from the last multiple of 1024 that it holds, or n has.
+//! Edits of runs, and the number of steps executed for each machine that was asked for. The numbers follow from the steps at which an edit
+//! first shows. A trail that is asked for step n executes those from the last step at which it holds a machine, at most n, all of which are
+//! multiples of 1024.
 ghost use Rattle.checkpoints.specs.Trails.{LoadsAs};
 
 use crate::runs::setup_of;
@@ -11,8 +12,8 @@ use shadow_memory::RangeKind;
 use std::alloc::{AllocError, Global};
 use std::process::Abort;
 
-/// `lui x5, 0x10; lw x6, 20(x5); addi x5, x5, 4; beq x6, x0, -8; ebreak`: the words from 0x10014 on are read until one isn't 0,
-/// word i of them in step 1 + 3i.
+/// `lui x5, 0x10; lw x6, 20(x5); addi x5, x5, 4; beq x6, x0, -8; ebreak`: the words from 0x10014 on are read until one isn't 0, word i of
+/// them in step 1 + 3i.
 const READS_ON: [u32; 5] = [
     0x0001_02B7,
     0x0142_A303,
@@ -35,9 +36,9 @@ const EXITS_WITH_INPUT: [u32; 10] = [
     0x0000_0073,
 ];
 
-/// `addi a7, x0, 63; addi a2, x0, 0; addi a1, x2, 0`, then over and over `addi x5, x0, 600; addi x5, x5, -1; bne x5, x0, -4;
-/// addi a0, x0, 0; ecall; add x6, x6, a0; bne a0, x0, -24`, and `addi a7, x0, 93; addi a0, x6, 0; ecall`: reads until a call gives no
-/// byte, and exits with how many it was given. Call k is made in step 1205k. The second word says for how many bytes a call asks.
+/// `addi a7, x0, 63; addi a2, x0, 0; addi a1, x2, 0`, then over and over `addi x5, x0, 600; addi x5, x5, -1; bne x5, x0, -4; addi a0, x0,
+/// 0; ecall; add x6, x6, a0; bne a0, x0, -24`, and `addi a7, x0, 93; addi a0, x6, 0; ecall`: reads until a call gives no byte, and exits
+/// with the number of bytes. Call k is executed in step 1205k. The second word has the number of bytes that a call asks for.
 const READS_BYTES: [u32; 13] = [
     0x03F0_0893,
     0x0000_0613,
@@ -62,11 +63,11 @@ pub(crate) enum Program {
     /// Has a frame from 0x7FFFFFE0 on from step 2 on, is given two bytes there in step 5, reads the second in step 6, and is halted from
     /// step 10 on.
     ExitsWithInput,
-    /// Reads to the end, so many bytes a call.
+    /// Reads to the end, this number of bytes in each call.
     ReadsBytes(u32),
 }
 
-/// The words of a program that asks for so many bytes a call.
+/// Returns the words of a program that asks for `len` bytes in each call.
 fn reads_bytes(len: u32) -> [u32; 13] {
     let mut words = READS_BYTES;
     words[1] |= len << 20;
@@ -74,7 +75,7 @@ fn reads_bytes(len: u32) -> [u32; 13] {
 }
 
 impl Program {
-    /// Its file, with zeros behind its words.
+    /// Returns its file, with zeros after its words.
     fn file(self, alloc: Global) -> Result<Vec<u8>, AllocError> {
         match self {
             Program::ReadsOn => sized_program(alloc, &READS_ON, 0x2000),
@@ -84,46 +85,46 @@ impl Program {
     }
 }
 
-/// The steps made on a trail so far; and of the machine that was asked for its status, its pc and how many errors it has.
+/// The number of steps executed on a trail so far; and of the machine that was asked for, its status, its pc and its number of errors.
 type Told = (u64, Status, u32, usize);
 
-/// The step of a fork; and of the machine at a step of the edited run, how many steps were made for it, its status and its pc.
+/// The step of a fork; and of the machine at a step of the edited run, the number of steps executed for it, its status and its pc.
 type Forked = (u32, u64, Status, u32);
 
-/// A step that was found, and how many steps were made to find it.
+/// A step that was found, and the number of steps executed to find it.
 pub(crate) type Found = (Option<u32>, u64);
 
 const RUNS: Status = Status::Running;
 
 const ENDS: Status = Status::Stopped(Stop::Break);
 
-/// What is done to a trail, and what is told then.
+/// An act on a trail, and what is expected then.
 pub(crate) enum Act {
     /// The machine at a step is asked for.
     Ask(u32, Told),
     /// A word is patched.
     Patch(u32, u32),
-    /// A mark is put at the end of the list.
+    /// A mark is appended to the list.
     AddMark(Mark),
-    /// The first mark is taken away.
+    /// The first mark is removed.
     TakeMark,
     /// The input is another, from an offset on.
     ReplaceInput(u32, &'static [u8]),
-    /// The input has a byte more, at its end.
+    /// A byte is appended to the input.
     Append(u8),
-    /// The redzone is another.
+    /// The redzone is changed.
     SetRedzone(u32),
-    /// At a byte of the input there is a fork, from which another input goes on to step 5000.
+    /// At a byte of the input there is a fork, from which another input continues to step 5000.
     ForkAtByte(u32, &'static [u8], Forked),
-    /// At a word there is one, from which another word goes on to step 4000.
+    /// At a word there is a fork, from which another word continues to step 4000.
     ForkAtWord(u32, u32, Forked),
-    /// The run up to a step, without the trail: the steps that were made, and the status.
+    /// The run up to a step, without the trail: the number of steps executed, and the status.
     Run(u32, (u64, Status)),
-    /// The next and the last step at which something is met in a range of addresses, from a step on and below one.
+    /// The next and the last step that does something in a range of addresses, from a step on and below another.
     Search((Watch, u32, u32), (u32, u32), [Found; 2]),
 }
 
-/// A label, a program, and what is done to its trail.
+/// A label, a program, and the acts on its trail.
 pub(crate) type Case = (&'static str, Program, &'static [Act]);
 
 const EDITS: [Case; 4] = [
@@ -155,7 +156,7 @@ const EDITS: [Case; 4] = [
             Act::Ask(3000, (10976, ENDS, 0x10010, 0)),
         ],
     ),
-    // Marks at steps 2500, 1024 and 1023, of which the first is taken away; and another redzone, where no heap call was made. The one
+    // Marks at steps 2500, 1024 and 1023, of which the first is removed; and another redzone, although no heap call was executed. The one
     // error is that of the branch on the word that is read in step 2500.
     (
         "marks, and another redzone",
@@ -204,8 +205,8 @@ const EDITS: [Case; 4] = [
 ];
 
 const BYTES: [Case; 4] = [
-    // Bytes put at the input's end and taken off it. Of n bytes each is read by a call of its own, and the end is seen in step
-    // 1205(n + 1): a trail with one byte more or less at the end than n has the machines up to there.
+    // Bytes appended to the input and removed from its end. Of n bytes, each is read by a call of its own, and the end is seen in step
+    // 1205(n + 1). A trail with one byte more or less at the end than n has the machines up to there.
     (
         "bytes at the end, one a call",
         Program::ReadsBytes(1),
@@ -223,7 +224,7 @@ const BYTES: [Case; 4] = [
             Act::Ask(5000, (22832, Status::Exited(1), 0x10030, 0)),
         ],
     ),
-    // From two bytes.
+    // The same, from two bytes on.
     (
         "two bytes and more, one a call",
         Program::ReadsBytes(1),
@@ -240,7 +241,7 @@ const BYTES: [Case; 4] = [
             Act::Ask(5000, (14760, Status::Exited(2), 0x10030, 0)),
         ],
     ),
-    // The first call asks for four bytes, and sees the end where there are fewer.
+    // The first call asks for four bytes, and sees the end if there are fewer.
     (
         "bytes at the end, four a call",
         Program::ReadsBytes(4),
@@ -258,7 +259,7 @@ const BYTES: [Case; 4] = [
             Act::Ask(5000, (24880, Status::Exited(1), 0x10030, 0)),
         ],
     ),
-    // It sees no end where there are just four: that shows a call later.
+    // It doesn't see the end if there are exactly four: that shows one call later.
     (
         "three bytes and more, four a call",
         Program::ReadsBytes(4),
@@ -278,7 +279,7 @@ const BYTES: [Case; 4] = [
 ];
 
 const FORKS: [Case; 3] = [
-    // The second byte is read in step 2410; of three bytes each is read by a call of its own.
+    // The second byte is read in step 2410. Of three bytes, each is read by a call of its own.
     (
         "another input goes on from a fork",
         Program::ReadsBytes(1),
@@ -314,7 +315,7 @@ struct Edited<'a> {
     marks: Vec<Mark>,
 }
 
-/// Whether a machine goes on from a fork as it is told, with no marks.
+/// Returns whether a machine continues from a fork as expected, without marks.
 fn goes_on(
     fork: &Fork,
     effect: Effect,
@@ -336,7 +337,7 @@ fn goes_on(
     )
 }
 
-/// Whether a run of an image ends as it is told.
+/// Returns whether a run of an image ends as expected.
 fn runs(
     alloc: Global,
     image: &Image,
@@ -351,7 +352,7 @@ fn runs(
 }
 
 impl<'a> Edited<'a> {
-    /// The trail of a program with no input, no marks and the settings of Memcheck.
+    /// Returns the trail of a program with no input, no marks and the settings of Memcheck.
     fn begin(alloc: Global, image: Image<'a>) -> Result<Self, AllocError> {
         let trail = Trail::begin(alloc, &image)?;
         Ok(Edited {
@@ -363,7 +364,7 @@ impl<'a> Edited<'a> {
         })
     }
 
-    /// Whether that is told of the machine at a step.
+    /// Returns whether the machine at a step is as expected.
     fn asks(&mut self, step: u32, told: &Told) -> Result<bool, AllocError> {
         let machine = self.trail.at(step, &self.setup, &self.marks)?;
         let (made, status, pc, errors) = told;
@@ -390,7 +391,7 @@ impl<'a> Edited<'a> {
         Ok(true)
     }
 
-    /// Takes the first mark away, if there is one.
+    /// Removes the first mark, if there is one.
     fn takes_mark(&mut self) -> bool {
         if self.marks.is_empty() {
             return false;
@@ -418,7 +419,7 @@ impl<'a> Edited<'a> {
         true
     }
 
-    /// Whether another input goes on from a fork as it is told.
+    /// Returns whether another input continues from a fork as expected.
     fn forks_at_byte(
         &mut self,
         offset: u32,
@@ -432,7 +433,7 @@ impl<'a> Edited<'a> {
         goes_on(&fork, Effect::Input(offset), &setup, 5000, told)
     }
 
-    /// Whether another word whose bytes are loaded does.
+    /// Returns whether another word whose bytes are loaded does.
     fn forks_at_word(&mut self, addr: u32, word: u32, told: &Forked) -> Result<bool, AllocError> {
         if addr % 4 != 0 || !self.image.patchable(addr) {
             return Ok(false);
@@ -443,7 +444,7 @@ impl<'a> Edited<'a> {
         goes_on(&fork, Effect::Word { addr, word }, &self.setup, 4000, told)
     }
 
-    /// Whether the next step is found that is sought.
+    /// Returns whether the next step that does what is sought is found.
     fn finds_next(
         &mut self,
         sought: Sought,
@@ -462,7 +463,7 @@ impl<'a> Edited<'a> {
         Ok(next == found.0 && meter.read() == found.1)
     }
 
-    /// Whether the last one is.
+    /// Returns whether the last one is found.
     fn finds_last(
         &mut self,
         sought: Sought,
@@ -481,7 +482,7 @@ impl<'a> Edited<'a> {
         Ok(last == found.0 && meter.read() == found.1)
     }
 
-    /// Whether both are, one after the other.
+    /// Returns whether both are found, one after the other.
     fn finds(
         &mut self,
         sought: Sought,
@@ -494,7 +495,7 @@ impl<'a> Edited<'a> {
         self.finds_last(sought, steps, &found[1])
     }
 
-    /// Does what is to be done; whether that is told which is to be.
+    /// Performs an act. Returns whether the outcome is as expected.
     fn performs(&mut self, act: &Act) -> Result<bool, AllocError> {
         match act {
             Act::Ask(step, told) => self.asks(*step, told),
@@ -521,7 +522,7 @@ impl<'a> Edited<'a> {
         }
     }
 
-    /// The same of each, one after another.
+    /// Performs each act, one after another.
     fn performs_all(&mut self, acts: &[Act]) -> Result<bool, AllocError> {
         for act in acts {
             if !self.performs(act)? {
@@ -532,13 +533,13 @@ impl<'a> Edited<'a> {
     }
 }
 
-/// Whether acts are performed on the trail of an image.
+/// Returns whether acts are performed on the trail of an image.
 fn are_performed_on(alloc: Global, image: Image<'_>, acts: &[Act]) -> Result<bool, AllocError> {
     let mut edited = Edited::begin(alloc, image)?;
     edited.performs_all(acts)
 }
 
-/// Whether they are on that of a file.
+/// Returns whether they are performed on the trail of a file.
 fn are_performed_of(alloc: Global, file: &[u8], acts: &[Act]) -> Result<bool, AllocError> {
     match read(alloc, file) {
         Ok(image) => are_performed_on(alloc, image, acts),
@@ -546,7 +547,7 @@ fn are_performed_of(alloc: Global, file: &[u8], acts: &[Act]) -> Result<bool, Al
     }
 }
 
-/// Whether the acts of a case are.
+/// Returns whether the acts of a case are performed.
 fn are_performed(alloc: Global, case: &Case) -> Result<bool, AllocError> {
     let (_, program, acts) = case;
     let file = program.file(alloc)?;

@@ -1,7 +1,7 @@
-//! What a run is told and what it tells, as plain values: a [`Mark`] made just before a step, a [`Span`] of addresses, and the [`Status`] of
-//! a machine, with why it [`Stop`]ped.
+//! What goes into a run and comes out of it, as plain values: a [`Mark`], applied just before a step, a [`Span`] of addresses, and the
+//! [`Status`] of a machine, with the reason why it [`Stop`]ped.
 //!
-//! They stand apart from `guest_machine`, so that what reads or writes them as text doesn't stand on what runs a program.
+//! This crate is separate from `guest_machine`, so that what reads or writes these values as text doesn't depend on what runs a program.
 #![tactic(auto)]
 
 mod mark;

@@ -7,8 +7,8 @@ pub struct Mark {
     pub step: u32,
     /// The first address.
     pub addr: u32,
-    /// How many bytes there are; addresses are modulo 2^32.
+    /// The number of bytes; addresses are modulo 2^32.
     pub len: u32,
-    /// What the bytes are made.
+    /// The kind that the bytes get.
     pub kind: RangeKind,
 }

@@ -3,6 +3,6 @@
 pub struct Span {
     /// The first address.
     pub start: u32,
-    /// How many bytes there are.
+    /// The number of bytes.
     pub len: u32,
 }

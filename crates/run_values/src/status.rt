@@ -7,14 +7,14 @@ pub enum Stop {
     Break,
     /// The word at pc is no instruction.
     Illegal,
-    /// pc, or the address that a jump or a taken branch goes to, is no multiple of 4.
+    /// pc, or the target of a jump or of a taken branch, is no multiple of 4.
     Misaligned,
 }
 
-/// Whether a machine runs. A stopped or exited one is its own successor.
+/// Whether a machine runs. A machine that has stopped or exited is its own successor.
 #[derive(Clone, Copy, PartialEq, Eq)]
 pub enum Status {
-    /// It goes on.
+    /// The machine runs.
     Running,
     /// The program ended by the call `exit`, with the low 8 bits of its status.
     Exited(u8),

@@ -124,7 +124,7 @@ all_differ-AllPairs (row ∷ later) apart =
     let parts = and_parts (list_all (differ row) later) (all_differ later) apart in
     AllPairs-cons Excludes row later (list_all-Excludes row later parts.0) (all_differ-AllPairs later parts.1)
 
--- the row whose fixed bits the word has is found, wherever it stands
+-- the row whose fixed bits the word has is found, wherever it is
 find-differ : (word : ℕ) (some : List Row) → all_differ some ≡ true → (row : Row) → Contains some row
     → HasFixedBits word row → find (has_fixed_bits word) some ≡ Some row
 find-differ word [] apart row (k, within, at) has = absurd (omega arith)

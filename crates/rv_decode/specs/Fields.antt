@@ -1,8 +1,8 @@
--- The fields of a 32-bit instruction word, and the immediates that they spell.
+-- The fields of a 32-bit instruction word, and the immediates in them.
 -- Source: RISC-V Unprivileged ISA 20191213, sections 2.2 (formats) and 2.3 (immediates).
 use Rattle.std.specs.Prelude.{ℕ, ◌+◌, ◌-◌, ◌*◌, ◌/◌, ◌%◌, ◌^◌}
 
--- the number that the bits high..low of the word spell
+-- the number in the bits high..low of the word
 abbrev pub field : ℕ → ℕ → ℕ → ℕ
 field word high low = word / 2 ^ low % 2 ^ (high + 1 - low)
 

@@ -171,7 +171,7 @@ with_fields Bare op word = record { op = op; rd = 0; rs1 = 0; rs2 = 0; imm = 0 }
 abbrev pub insn_of : Row → ℕ → Insn
 insn_of row word = with_fields row.form row.op word
 
--- the instruction that the word is: that of the first row whose fixed bits it has
+-- the instruction of a word: that of the first row whose fixed bits the word has
 unfoldable pub insn : ℕ → Option Insn
 insn word = option_map (λ row. insn_of row word) (find (has_fixed_bits word) rows)
 

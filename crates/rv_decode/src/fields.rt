@@ -3,7 +3,7 @@
 ghost use Rattle.std.specs.Prelude.{◌≡◌, ◌<◌, ◌≤◌};
 ghost use Rattle.rv_decode.specs.Fields.{field, rd, rs1, rs2, shift_amount, imm_i, imm_s, imm_b, imm_u, imm_j};
 
-/// The number that the bits `high` down to `low` of the word spell.
+/// Returns the number in the bits `high` down to `low` of the word.
 #[inline(always)]
 pub(crate) fn field(word: u32, high: u32, low: u32) -> u32
     requires order { low ≤ high }
@@ -13,49 +13,49 @@ pub(crate) fn field(word: u32, high: u32, low: u32) -> u32
     (word >> low) & (u32::MAX >> (31 - high + low))
 }
 
-/// The number of the destination register, below 32.
+/// Returns the number of the destination register, below 32.
 pub(crate) fn rd(word: u32) -> u8
     ensures { result ≡ rd word }
 {
     field(word, 11, 7) as u8
 }
 
-/// The number of the first source register, below 32.
+/// Returns the number of the first source register, below 32.
 pub(crate) fn rs1(word: u32) -> u8
     ensures { result ≡ rs1 word }
 {
     field(word, 19, 15) as u8
 }
 
-/// The number of the second source register, below 32.
+/// Returns the number of the second source register, below 32.
 pub(crate) fn rs2(word: u32) -> u8
     ensures { result ≡ rs2 word }
 {
     field(word, 24, 20) as u8
 }
 
-/// The amount of a shift by an immediate, below 32.
+/// Returns the amount of a shift by an immediate, below 32.
 pub(crate) fn shift_amount(word: u32) -> u32
     ensures { result ≡ shift_amount word }
 {
     field(word, 24, 20)
 }
 
-/// The I-immediate. Its bits 31 to 11 are copies of the word's bit 31.
+/// Returns the I-immediate. Its bits 31 to 11 are copies of the word's bit 31.
 pub(crate) fn imm_i(word: u32) -> u32
     ensures { result ≡ imm_i word }
 {
     field(word, 31, 31) * 0xFFFF_F800 + field(word, 30, 20)
 }
 
-/// The S-immediate. Its bits 31 to 11 are copies of the word's bit 31.
+/// Returns the S-immediate. Its bits 31 to 11 are copies of the word's bit 31.
 pub(crate) fn imm_s(word: u32) -> u32
     ensures { result ≡ imm_s word }
 {
     field(word, 31, 31) * 0xFFFF_F800 + (field(word, 30, 25) << 5) + field(word, 11, 7)
 }
 
-/// The B-immediate, in bytes. Its bits 31 to 12 are copies of the word's bit 31.
+/// Returns the B-immediate, in bytes. Its bits 31 to 12 are copies of the word's bit 31.
 pub(crate) fn imm_b(word: u32) -> u32
     ensures { result ≡ imm_b word }
 {
@@ -65,14 +65,14 @@ pub(crate) fn imm_b(word: u32) -> u32
         + (field(word, 11, 8) << 1)
 }
 
-/// The U-immediate: the upper 20 bits of the word in their places.
+/// Returns the U-immediate: the upper 20 bits of the word in their places.
 pub(crate) fn imm_u(word: u32) -> u32
     ensures { result ≡ imm_u word }
 {
     field(word, 31, 12) << 12
 }
 
-/// The J-immediate, in bytes. Its bits 31 to 20 are copies of the word's bit 31.
+/// Returns the J-immediate, in bytes. Its bits 31 to 20 are copies of the word's bit 31.
 pub(crate) fn imm_j(word: u32) -> u32
     ensures { result ≡ imm_j word }
 {

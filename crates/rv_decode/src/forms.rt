@@ -6,7 +6,7 @@ ghost use Rattle.rv_decode.specs.Table.{with_fields, R, I, Shift, S, B, U, J, Ba
 use crate::fields::{imm_b, imm_i, imm_j, imm_s, imm_u, rd, rs1, rs2, shift_amount};
 use crate::{Insn, Op};
 
-/// Two source registers and a destination.
+/// Returns an instruction with two source registers and a destination.
 pub(crate) fn r_form(op: Op, word: u32) -> Insn
     ensures { result ≡ with_fields R op word }
 {
@@ -19,7 +19,7 @@ pub(crate) fn r_form(op: Op, word: u32) -> Insn
     }
 }
 
-/// A source register, an immediate and a destination.
+/// Returns an instruction with a source register, an immediate and a destination.
 pub(crate) fn i_form(op: Op, word: u32) -> Insn
     ensures { result ≡ with_fields I op word }
 {
@@ -32,7 +32,7 @@ pub(crate) fn i_form(op: Op, word: u32) -> Insn
     }
 }
 
-/// A source register, an amount to shift by and a destination.
+/// Returns an instruction with a source register, a shift amount and a destination.
 pub(crate) fn shift_form(op: Op, word: u32) -> Insn
     ensures { result ≡ with_fields Shift op word }
 {
@@ -45,7 +45,7 @@ pub(crate) fn shift_form(op: Op, word: u32) -> Insn
     }
 }
 
-/// A store.
+/// Returns a store.
 pub(crate) fn s_form(op: Op, word: u32) -> Insn
     ensures { result ≡ with_fields S op word }
 {
@@ -58,7 +58,7 @@ pub(crate) fn s_form(op: Op, word: u32) -> Insn
     }
 }
 
-/// A branch.
+/// Returns a branch.
 pub(crate) fn b_form(op: Op, word: u32) -> Insn
     ensures { result ≡ with_fields B op word }
 {
@@ -71,7 +71,7 @@ pub(crate) fn b_form(op: Op, word: u32) -> Insn
     }
 }
 
-/// A destination and an upper immediate.
+/// Returns an instruction with a destination and an upper immediate.
 pub(crate) fn u_form(op: Op, word: u32) -> Insn
     ensures { result ≡ with_fields U op word }
 {
@@ -84,7 +84,7 @@ pub(crate) fn u_form(op: Op, word: u32) -> Insn
     }
 }
 
-/// A destination and the distance of a jump.
+/// Returns an instruction with a destination and the distance of a jump.
 pub(crate) fn j_form(op: Op, word: u32) -> Insn
     ensures { result ≡ with_fields J op word }
 {
@@ -97,7 +97,7 @@ pub(crate) fn j_form(op: Op, word: u32) -> Insn
     }
 }
 
-/// No operands.
+/// Returns an instruction without operands.
 pub(crate) fn bare(op: Op) -> Insn
     ensures { result ≡ with_fields Bare op 0 }
 {

@@ -1,28 +1,26 @@
 //! The decoder of RV32IM: which instruction a 32-bit word is.
 //!
-//! The instructions are those of RV32I and of the M extension, 48 in all, by the RISC-V
-//! Unprivileged ISA 20191213: chapter 2 (RV32I), chapter 7 (M) and the listing of chapter 24.
-//! A word is the number that the four bytes of a little-endian instruction spell. A word that
-//! is none of the 48, such as one of FENCE.I, of a CSR or of a compressed instruction, is `None`.
+//! The instructions are those of RV32I and of the M extension, 48 in all, by the RISC-V Unprivileged ISA 20191213: chapter 2 (RV32I),
+//! chapter 7 (M) and the listing of chapter 24. A word is the number in the four bytes of a little-endian instruction. A word that is none
+//! of the 48, such as one of FENCE.I, of a CSR or of a compressed instruction, gives `None`.
 //!
 //! # Public items
 //!
 //! - [`Op`] is one of the 48 operations, and [`Insn`] an operation with its operands.
-//! - [`decode`] is the instruction of a word. It is total and keeps no state.
-//! - [`one_row`] is a law of the table, with nothing to run.
+//! - [`decode`] returns the instruction of a word. It is total and keeps no state.
+//! - [`one_row`] is a law of the table; it does nothing.
 //!
-//! # What a caller relies on
+//! # What a caller can rely on
 //!
-//! One clause of [`decode`]: `result ≡ insn word`. The definition `insn` is a table and not a
-//! program: a list `rows` of fixed bits, each with its operation, read by `find`. A caller can
-//! take `insn` as opaque, since what else is known of a result stands in clauses of its own:
+//! One clause of [`decode`]: `result ≡ insn word`. The definition `insn` is a table and not a program: a list `rows` of fixed bits, each
+//! with its operation, read by `find`. A caller can take `insn` as opaque, since further clauses say what else is known of a result:
 //!
 //! - `registers`: the numbers of its registers are below 32;
 //! - `some`: an instruction is that of a row whose fixed bits the word has;
 //! - `none`: where there is none, the word has the fixed bits of no row;
 //! - `only`: a word with the fixed bits of a row is that row's instruction, whichever row it is.
 //!
-//! # Where the definitions stand
+//! # Where the definitions are
 //!
 //! - `specs/Fields.antt`: the fields of a word, as bits from `high` down to `low`, and the five
 //!   immediates, by the positions of their bits.
@@ -31,19 +29,16 @@
 //!
 //! # How the code decodes
 //!
-//! No table is searched when it runs: [`decode`] branches on the opcode, then on funct7 and
-//! funct3, each time on the word under a mask. That the branches give what the
-//! table gives rests on two facts (`proofs/TableLemmas.antt`): what some bits of a word rule out
-//! may be left out of the table, and a word whose bits are none of those that the rows fix has no
-//! row.
+//! The code searches no table: [`decode`] branches on the opcode, then on funct7 and funct3, each time on the word under a mask. That the
+//! branches give what the table gives rests on two facts (`proofs/TableLemmas.antt`). Rows that some bits of a word rule out may be left
+//! out of the table. A word whose bits are none of those that the rows fix has no row.
 //!
 //! # Edges of the table
 //!
-//! - FENCE is known by its opcode and funct3 alone, since an implementation is to ignore its
-//!   registers and to take the configurations that are reserved as plain fences (section 2.7).
-//!   Its other fields are no part of the result.
+//! - FENCE is known only by its opcode and funct3, since an implementation must ignore its registers and treat reserved configurations as
+//!   plain fences (section 2.7). Its other fields are no part of the result.
 //! - ECALL and EBREAK are whole words (section 2.8).
-//! - A shift by an immediate amount has no other upper bits than the listing's (section 2.4).
+//! - A shift by an immediate amount has no upper bits other than the listing's (section 2.4).
 #![tactic(auto)]
 
 ghost use Rattle.std.specs.Prelude.{◌≡◌, ℕ, ◌<◌, IfSome, IfNone, bit_and, All, Any};
@@ -112,10 +107,9 @@ pub enum Op {
 pub struct Insn {
     /// The operation.
     pub op: Op,
-    // Before the registers: with them in front an instruction has eight bytes, which would be moved as one number, and taken apart.
-    /// The immediate modulo 2^32, its sign repeated upwards; of a shift, the amount, below 32.
-    /// LUI and AUIPC have the upper 20 bits in their places. Jumps and branches have a distance
-    /// in bytes (section 2.3).
+    // Before the registers. After them, an instruction would have eight bytes, which would be moved as one number and taken apart.
+    /// The immediate modulo 2^32, sign-extended; for a shift, the amount, below 32. LUI and AUIPC have the upper 20 bits in their places.
+    /// Jumps and branches have a distance in bytes (section 2.3).
     pub imm: u32,
     /// The number of the destination register, below 32.
     pub rd: u8,
@@ -125,7 +119,7 @@ pub struct Insn {
     pub rs2: u8,
 }
 
-/// The jump to an address in a register.
+/// Decodes a jump to an address in a register.
 #[tactic(auto, using(crate::proofs::TableLemmas::insn_jalr))]
 fn jalr(word: u32) -> Option<Insn>
     requires { bit_and word 0x7F ≡ 0x67 }
@@ -137,7 +131,7 @@ fn jalr(word: u32) -> Option<Insn>
     }
 }
 
-/// The conditional branches.
+/// Decodes a conditional branch.
 #[tactic(auto, using(crate::proofs::TableLemmas::insn_branch))]
 fn branch(word: u32) -> Option<Insn>
     requires { bit_and word 0x7F ≡ 0x63 }
@@ -154,7 +148,7 @@ fn branch(word: u32) -> Option<Insn>
     }
 }
 
-/// The loads.
+/// Decodes a load.
 #[tactic(auto, using(crate::proofs::TableLemmas::insn_load))]
 fn load(word: u32) -> Option<Insn>
     requires { bit_and word 0x7F ≡ 0x03 }
@@ -170,7 +164,7 @@ fn load(word: u32) -> Option<Insn>
     }
 }
 
-/// The stores.
+/// Decodes a store.
 #[tactic(auto, using(crate::proofs::TableLemmas::insn_store))]
 fn store(word: u32) -> Option<Insn>
     requires { bit_and word 0x7F ≡ 0x23 }
@@ -184,7 +178,7 @@ fn store(word: u32) -> Option<Insn>
     }
 }
 
-/// The operations on a register and an immediate.
+/// Decodes an operation on a register and an immediate.
 #[tactic(auto, using(crate::proofs::TableLemmas::insn_immediate))]
 fn immediate(word: u32) -> Option<Insn>
     requires { bit_and word 0x7F ≡ 0x13 }
@@ -199,12 +193,12 @@ fn immediate(word: u32) -> Option<Insn>
         0x5013 => right_shift(word),
         0x6013 => Some(i_form(Op::Ori, word)),
         0x7013 => Some(i_form(Op::Andi, word)),
-        // Each funct3 stands above.
+        // Each funct3 is above.
         _ => None,
     }
 }
 
-/// The left shift by an immediate amount.
+/// Decodes the left shift by an immediate amount.
 #[tactic(auto, using(crate::proofs::TableLemmas::insn_left_shift))]
 fn left_shift(word: u32) -> Option<Insn>
     requires { bit_and word 0x707F ≡ 0x1013 }
@@ -216,7 +210,7 @@ fn left_shift(word: u32) -> Option<Insn>
     }
 }
 
-/// The right shifts by an immediate amount.
+/// Decodes a right shift by an immediate amount.
 #[tactic(auto, using(crate::proofs::TableLemmas::insn_right_shift))]
 fn right_shift(word: u32) -> Option<Insn>
     requires { bit_and word 0x707F ≡ 0x5013 }
@@ -229,7 +223,7 @@ fn right_shift(word: u32) -> Option<Insn>
     }
 }
 
-/// The operations on two registers, by funct7.
+/// Decodes an operation on two registers, by funct7.
 #[tactic(auto, using(crate::proofs::TableLemmas::insn_register_other))]
 fn register(word: u32) -> Option<Insn>
     requires { bit_and word 0x7F ≡ 0x33 }
@@ -243,7 +237,7 @@ fn register(word: u32) -> Option<Insn>
     }
 }
 
-/// The operations on two registers with funct7 0x00.
+/// Decodes an operation on two registers with funct7 0x00.
 #[tactic(auto, using(crate::proofs::TableLemmas::insn_base))]
 fn base(word: u32) -> Option<Insn>
     requires { bit_and word 0xFE00007F ≡ 0x33 }
@@ -262,7 +256,7 @@ fn base(word: u32) -> Option<Insn>
     }
 }
 
-/// The operations on two registers with funct7 0x20.
+/// Decodes an operation on two registers with funct7 0x20.
 #[tactic(auto, using(crate::proofs::TableLemmas::insn_alternate))]
 fn alternate(word: u32) -> Option<Insn>
     requires { bit_and word 0xFE00007F ≡ 0x40000033 }
@@ -275,7 +269,7 @@ fn alternate(word: u32) -> Option<Insn>
     }
 }
 
-/// The multiplications and divisions, with funct7 0x01.
+/// Decodes a multiplication or division, with funct7 0x01.
 #[tactic(auto, using(crate::proofs::TableLemmas::insn_multiply))]
 fn multiply(word: u32) -> Option<Insn>
     requires { bit_and word 0xFE00007F ≡ 0x02000033 }
@@ -294,7 +288,7 @@ fn multiply(word: u32) -> Option<Insn>
     }
 }
 
-/// The fence, whose other fields are free.
+/// Decodes the fence, whose other fields are free.
 #[tactic(auto, using(crate::proofs::TableLemmas::insn_fence))]
 fn fence(word: u32) -> Option<Insn>
     requires { bit_and word 0x7F ≡ 0x0F }
@@ -306,7 +300,7 @@ fn fence(word: u32) -> Option<Insn>
     }
 }
 
-/// The calls of the environment, which are whole words.
+/// Decodes a call of the environment, which is a whole word.
 #[tactic(auto, using(crate::proofs::TableLemmas::insn_environment))]
 fn environment(word: u32) -> Option<Insn>
     requires { bit_and word 0x7F ≡ 0x73 }
@@ -319,7 +313,7 @@ fn environment(word: u32) -> Option<Insn>
     }
 }
 
-/// The instruction, by the opcode.
+/// Decodes an instruction, by its opcode.
 #[tactic(auto, using(crate::proofs::TableLemmas::insn_lui, crate::proofs::TableLemmas::insn_auipc, crate::proofs::TableLemmas::insn_jal))]
 fn by_opcode(word: u32) -> Option<Insn>
     ensures { result ≡ insn word }
@@ -340,12 +334,12 @@ fn by_opcode(word: u32) -> Option<Insn>
     }
 }
 
-/// The instruction that the word is, or `None` where it has the fixed bits of no row.
+/// Returns the instruction of a word, or `None` if the word has the fixed bits of no row.
 pub fn decode(word: u32) -> Option<Insn>
     ensures row { result ≡ insn word }
     ensures registers { IfSome result (λ i. (i.rd < 32) × (i.rs1 < 32) × (i.rs2 < 32)) }
 
-    // The same without the order of the table: the instruction is a row's, and each row's words have it.
+    // The same without the order of the table: the instruction is that of a row, and each word of a row has that row's instruction.
     ensures some { IfSome result (λ i. Any (IsOfRow word i) rows) }
     ensures none { IfNone result (All (λ row. ¬ HasFixedBits word row) rows) }
     ensures only { All (λ row. HasFixedBits word row → result ≡ Some (insn_of row word)) rows }
@@ -353,7 +347,7 @@ pub fn decode(word: u32) -> Option<Insn>
     by_opcode(word)
 }
 
-/// No word has the fixed bits of two rows of the table: a law, with nothing to run.
+/// No word has the fixed bits of two rows of the table. This is a law; the function does nothing.
 pub fn one_row()
     ensures { OneRow }
 {}

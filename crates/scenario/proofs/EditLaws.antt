@@ -1,4 +1,4 @@
--- The two laws of the table of edits, a clause an edit.
+-- The two laws of the table of edits, with a clause for each edit.
 use Rattle.std.proofs.Common.{◌≡◌, ℕ, zero, suc, ◌+◌, ◌-◌, ◌<◌, ◌≤◌, ◌==◌, nat_le, nat_lt, Bool, true, false, cond}
 use Rattle.std.proofs.Common.{List, [], ◌∷◌, ◌++◌, take, remove, length, Some, None, refl, ap, sym, subst, arith}
 use Rattle.std.specs.Prelude.{slice_get, slice_set, slice_index_or}
@@ -16,7 +16,7 @@ use Rattle.commands.specs.declared.edit.Edit.TheVariants.{Redzone, Volume, Show}
 use Rattle.commands.specs.declared.refusal.Refusal.{Refusal}
 use Rattle.scenario.proofs.FrontSteps.{with-more}
 
--- a test that refuses fails where nothing is refused
+-- a test that gives a refusal fails if nothing is rejected
 pub passed : (b : Bool) (r : Refusal) → refused_if b r ≡ None → b ≡ false
 passed true r h = cc
 passed false r h = refl

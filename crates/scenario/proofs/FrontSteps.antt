@@ -1,4 +1,4 @@
--- The state before step 0: what words written into it leave alone.
+-- The state before step 0: what isn't changed by words written into it.
 use Rattle.std.proofs.Common.{◌≡◌, ℕ, zero, suc, ◌+◌, add-one, ◌<◌, take, length, get_or, arith, false, List, [], ◌∷◌}
 use Rattle.std.proofs.Common.{◌++◌, refl}
 use Rattle.guest_machine.specs.Run.{poked, start_state}
@@ -6,13 +6,13 @@ use Rattle.guest_machine.specs.State.{State}
 use Rattle.scenario.specs.Scenario.{Scenario, first_state, with_words}
 use Rattle.scenario.specs.declared.word.Word.{Word}
 
--- one more word
+-- another word
 pub with-more : (s : State) (words : List Word) (word : Word)
     → with_words s (words ++ word ∷ []) ≡ poked (with_words s words) word.addr word.word
 with-more s [] word = refl
 with-more s (w ∷ words) word = with-more (poked s w.addr w.word) words word
 
--- the first words, and one more
+-- the first words, and another
 with-suc : (s : State) (words : List Word) (i : ℕ) (d : Word) → i < length words
     → with_words s (take (suc i) words) ≡ poked (with_words s (take i words)) (get_or words i d).addr
     (get_or words i d).word

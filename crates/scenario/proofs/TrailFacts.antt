@@ -73,7 +73,7 @@ moved sc setup marks old new given marked right h =
     transport (λ i. IsRightFor new (first_state sc) (given i) (marked i))
     (right (first_state sc) (transport (λ i. IsRightFor old (first_state sc) (sym given i) (sym marked i)) h))
 
--- what a trail that is right for a run tells of it, told of the run of a scenario
+-- what a trail that is right for a run says of it, for the run of a scenario
 pub told : (sc : Scenario) (setup : Setup) (marks : List Mark) (step : ℕ) (old : Trail) (P : State → Setup → List Mark
     → ℕ → Type 0)
     → setup ≡ sc.setup → marks ≡ sc.marks → step ≡ sc.step

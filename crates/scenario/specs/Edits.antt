@@ -22,12 +22,12 @@ use Rattle.commands.specs.declared.refusal.Refusal.TheVariants.{OutsideInput, In
 use Rattle.commands.specs.declared.refusal.Refusal.TheVariants.{BadRange, TooManyMarks, NoSuchMark, NoSuchSuppression}
 use Rattle.commands.specs.declared.refusal.Refusal.TheVariants.{BadOption}
 
--- a refusal where a test holds
+-- a refusal if a test holds
 abbrev pub refused_if : Bool → Refusal → Option Refusal
 refused_if true refusal = Some refusal
 refused_if false refusal = None
 
--- why a mark is refused where there are so many, in order: its step, its range, too many marks
+-- why a mark is rejected for this number of marks so far, in order: its step, its range, too many marks
 unfoldable pub mark_refusal : ℕ → MarkAt → Option Refusal
 mark_refusal marks mark =
     if nat_lt most_steps mark.step then Some StepLimit
@@ -44,7 +44,7 @@ with_input sc input = record sc { setup = record sc.setup { input = input } }
 abbrev pub mark_step : List MarkAt → ℕ → ℕ
 mark_step marks i = slice_index_or (map (λ (mark : MarkAt). mark.step) marks) i 0
 
--- the suppressions with one of them switched, and whether one is on
+-- the suppressions with one of them switched on or off, and whether one is on
 abbrev pub switched : List Rule → ℕ → Bool → List Rule
 switched [] i on = []
 switched (rule ∷ rules) zero on = (record rule { on = on }) ∷ rules
@@ -59,8 +59,8 @@ is_on (rule ∷ rules) (suc i) = is_on rules i
 abbrev pub shown : LeakKinds → List Bool
 shown kinds = kinds.definite ∷ kinds.indirect ∷ kinds.possible ∷ kinds.reachable ∷ []
 
--- what is said of an edit of a scenario: why it is refused, what it leaves, where it shows, whether memory may be
--- wanting, and the edit that takes it back, if one does
+-- what the table says of an edit of a scenario: why it is rejected, what it leaves, where it shows, whether memory may
+-- run out, and the edit that takes it back, if there is one
 pub record Row : Type 0 where
   pub refusal : Option Refusal
   pub after : Scenario
@@ -68,7 +68,7 @@ pub record Row : Type 0 where
   pub may_fail : Bool
   pub back : Option Edit
 
--- the table, a row an edit
+-- the table: a row for each edit
 abbrev pub row : Scenario → Edit → Row
 row sc (Input offset byte) = record {
   refusal = refused_if (nat_le (length sc.setup.input) offset) OutsideInput;
@@ -155,11 +155,11 @@ row sc (Show kinds) = record {
   back = None;
 }
 
--- the edit isn't refused
+-- the edit isn't rejected
 abbrev pub IsTaken : Scenario → Edit → Type 0
 IsTaken sc edit = (row sc edit).refusal ≡ None
 
--- an edit that isn't refused leads from the run of the scenario to that of the edited one, by its effect
+-- an edit that isn't rejected leads from the run of the scenario to that of the edited one, by its effect
 abbrev pub Follows : Type 0
 Follows =
     (sc : Scenario) (edit : Edit) → IsTaken sc edit

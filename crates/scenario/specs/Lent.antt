@@ -1,4 +1,4 @@
--- A scenario whose parts are lent, as a scenario.
+-- A scenario with borrowed parts, as a scenario.
 use Rattle.scenario.specs.Scenario.{Scenario}
 use Rattle.scenario.specs.declared.lent.ScenarioRef.{ScenarioRef}
 

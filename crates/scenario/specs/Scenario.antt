@@ -1,4 +1,4 @@
--- What a user has said of a run, and the report that is asked for. Nothing of earlier reports is in it.
+-- A run as a user has set it up, and its report. Nothing of earlier reports is in it.
 use Rattle.std.specs.Prelude.{ℕ, Bool, true, false, List, [], ◌∷◌, fold, length}
 use Rattle.guest_elf.specs.declared.image.Image.{Image}
 use Rattle.guest_machine.specs.State.{State}
@@ -24,7 +24,7 @@ pub record Scenario : Type 0 where
   pub options : Options
   pub step : ℕ
 
--- a state with words written into it, one after another
+-- a state with words written into it, in order
 abbrev pub with_words : State → List Word → State
 with_words s words = fold (λ s (w : Word). poked s w.addr w.word) s words
 
@@ -44,11 +44,11 @@ chosen_state sc = post (first_state sc) sc.setup sc.marks sc.step
 unfoldable pub IsReportOf : Scenario → List ℕ → Type 0
 IsReportOf sc text = IsReport (chosen_state sc) sc.image sc.rules sc.options sc.step (length sc.setup.input) text
 
--- a text is the outline at the chosen step of one run from step zero, with or without how much was written
+-- a text is the outline at the chosen step of one run from step zero, with or without the number of bytes written
 unfoldable pub IsOutlineOf : Bool → Scenario → List ℕ → Type 0
 IsOutlineOf with_output sc text = IsOutline (chosen_state sc) sc.image sc.rules sc.options with_output text
 
--- what a program, an input and suppressions begin with: nothing written, no marks, Memcheck's options, step 0
+-- the scenario of a program, an input and suppressions: nothing written, no marks, Memcheck's options, step 0
 abbrev pub begun : Image → List ℕ → List Rule → Scenario
 begun image input rules =
     record {

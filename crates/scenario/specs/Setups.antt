@@ -1,4 +1,4 @@
--- What a run is given unless something else is chosen.
+-- The setup of a run by default.
 use Rattle.std.specs.Prelude.{ℕ, List}
 use Rattle.guest_elf.specs.Images.{hooks_of}
 use Rattle.guest_elf.specs.declared.image.Image.{Image}

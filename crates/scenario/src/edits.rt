@@ -1,4 +1,4 @@
-//! What each edit is to a scenario: why it is refused, where it shows, and what it leaves.
+//! What each edit does to a scenario: why it is rejected, where it shows, and what it leaves.
 mod input;
 mod marks;
 mod options;
@@ -13,7 +13,7 @@ use checkpoints::Effect;
 use commands::{Edit, Refusal};
 use std::alloc::AllocError;
 
-/// A refusal where a test holds.
+/// Returns a refusal if a test holds.
 fn refused_if(test: bool, refusal: Refusal) -> Option<Refusal>
     ensures { result ≡ refused_if test refusal }
 {
@@ -24,7 +24,7 @@ impl<'a> Scenario<'a> {
     ghost use Rattle.std.specs.Prelude.{◌≡◌, true, OnOk, OnErr};
     ghost use Rattle.scenario.specs.Edits.{row, IsTaken, WritesLoaded};
 
-    /// Why an edit is refused, if it is.
+    /// Returns why an edit is rejected, if it is.
     pub fn refusal(&self, edit: &Edit) -> Option<Refusal>
         ensures { result ≡ (row self.now edit.now).refusal }
     {
@@ -43,7 +43,7 @@ impl<'a> Scenario<'a> {
         }
     }
 
-    /// Where an edit shows in the run. The word that it writes, if it isn't refused and writes one, is a loaded one.
+    /// Returns where an edit shows in the run. If the edit isn't rejected and writes a word, that word is a loaded one.
     pub fn effect(&self, edit: &Edit) -> Effect
         ensures effect { result ≡ (row self.now edit.now).effect }
         ensures loaded { IsTaken self.now edit.now → WritesLoaded self.now.image result }
@@ -65,7 +65,7 @@ impl<'a> Scenario<'a> {
         }
     }
 
-    /// Makes an edit that isn't refused. Where memory is wanting, nothing changes.
+    /// Applies an edit that isn't rejected. If memory runs out, nothing changes.
     pub fn edit(&mut self, edit: Edit) -> Result<(), AllocError>
         requires { IsTaken self.old edit }
         ensures ok { OnOk result (self.new ≡ (row self.old edit).after) }

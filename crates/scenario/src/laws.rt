@@ -1,7 +1,7 @@
 //! What an edit does. Each law is the contract of a function that does nothing; a caller has it after the call.
 ghost use Rattle.scenario.specs.Edits.{Follows, TakesBack};
 
-/// An edit that isn't refused leads from the run of the scenario to that of the edited one, by its effect.
+/// An edit that isn't rejected leads from the run of the scenario to that of the edited one, by its effect.
 pub fn edits_follow()
     ensures { Follows }
 {}

@@ -1,4 +1,4 @@
-//! A scenario whose parts are lent, and its report.
+//! A scenario with borrowed parts, and its report.
 ghost use Rattle.std.specs.Prelude.{◌≡◌, ◌≤◌, IfOk, OnOk, OnErr};
 ghost use Rattle.guest_machine.specs.Shows.{Shows};
 ghost use Rattle.guest_machine.specs.State.{State};
@@ -15,14 +15,14 @@ use replay_report::{Options, outline, render};
 use std::alloc::{AllocError, Global};
 use suppressions::Suppression;
 
-/// A scenario whose parts are lent.
+/// A scenario with borrowed parts.
 #[derive(Clone, Copy)]
 pub struct ScenarioRef<'a> {
     /// The program.
     pub image: &'a Image<'a>,
     /// The words that were written into it, in order.
     pub words: &'a [Word],
-    /// What the run is given.
+    /// The input and the heap's settings.
     pub setup: &'a Setup,
     /// The marks, in order.
     pub marks: &'a [Mark],
@@ -35,8 +35,8 @@ pub struct ScenarioRef<'a> {
 }
 
 impl<'a> ScenarioRef<'a> {
-    /// Appends the report at the chosen step, by one run from step zero, whose steps are made on a meter. `callers` of the options is from
-    /// 1 to 24.
+    /// Appends the report at the chosen step, by one run from step zero, whose steps count on a meter. `callers` of the options is from 1
+    /// to 24.
     #[tactic(auto, unfolding(crate::specs::Scenario::chosen_state))]
     pub fn report(
         &self,
@@ -80,7 +80,7 @@ impl<'a> ScenarioRef<'a> {
         )
     }
 
-    /// The outline of a machine that is at the chosen step of the run.
+    /// Returns the outline of a machine that is at the chosen step of the run.
     #[tactic(auto, unfolding(crate::specs::Scenario::IsOutlineOf))]
     pub(crate) fn outline(
         &self,
@@ -102,7 +102,7 @@ impl<'a> ScenarioRef<'a> {
         )
     }
 
-    /// The machine before step 0, with the words written.
+    /// Returns the machine before step 0, with the words written.
     #[tactic(auto, unfolding(crate::specs::Scenario::first_state))]
     pub(crate) fn start(&self, alloc: Global) -> Result<Machine, AllocError>
         ensures { IfOk result (λ machine. Shows machine (first_state (lent self.now))) }
@@ -112,7 +112,7 @@ impl<'a> ScenarioRef<'a> {
     }
 }
 
-/// A machine with words written into it, one after another.
+/// Returns a machine with words written into it, in order.
 fn with_words(machine: Machine, words: &[Word]) -> Result<Machine, AllocError>
     ensures { IfOk result (λ written. (s : State) → Shows machine s → Shows written (with_words s words.now)) }
 {

@@ -1,4 +1,4 @@
-//! What a user has said of a run, as one value; each edit of it, as one value; and the report of it by one run from step zero.
+//! A run as a user has set it up, as one value; each edit of it, as one value; and the report of it by one run from step zero.
 //!
 //! A [`Scenario`] is a program with the words that were written into it, its input and the heap's settings, marks, suppressions with
 //! their switches, options of the report, and the chosen step. An [`Edit`] changes one of them.
@@ -7,33 +7,33 @@
 //!
 //! | Call | What it does |
 //! |---|---|
-//! | [`Scenario::begin`] | the scenario of a program with an input and suppressions: nothing edited, step 0 |
+//! | [`Scenario::begin`] | returns the scenario of a program with an input and suppressions, without edits, at step 0 |
 //! | [`Scenario::choose`] | chooses a step |
-//! | [`Scenario::refusal`] | why an edit is refused, if it is |
-//! | [`Scenario::effect`] | where an edit shows in the run |
-//! | [`Scenario::edit`] | makes an edit that isn't refused |
-//! | [`Scenario::drop_word`] | takes the word off again that was written last |
-//! | [`Scenario::give`] | gives the run another input |
+//! | [`Scenario::refusal`] | returns why an edit is rejected, if it is |
+//! | [`Scenario::effect`] | returns where an edit shows in the run |
+//! | [`Scenario::edit`] | applies an edit that isn't rejected |
+//! | [`Scenario::drop_word`] | removes the word that was written last |
+//! | [`Scenario::give`] | replaces the input |
 //! | [`Scenario::start`] | returns the machine before step 0 |
 //! | [`Scenario::report`] | appends the report at the chosen step, by one run from step zero |
-//! | [`Scenario::render`] | the same of a machine that is at the chosen step already |
-//! | [`Scenario::outline`] | the outline of such a machine |
-//! | [`ScenarioRef::report`] | the report of a scenario whose parts are lent, by one run from step zero |
-//! | [`Scenario::image`], [`Scenario::setup`], [`Scenario::marks`], [`Scenario::suppressions`], [`Scenario::options`], [`Scenario::step`] | its parts |
-//! | [`setup_with`] | an input, Memcheck's settings of the heap, and the functions of the heap that a program has by name |
-//! | [`laws::edits_follow`] | nothing: its contract says that each edit leads from run to run by its effect |
-//! | [`laws::edits_go_back`] | nothing: its contract says that what takes an edit back leaves the scenario as it was |
+//! | [`Scenario::render`] | appends the report of a machine that is at the chosen step already |
+//! | [`Scenario::outline`] | returns the outline of such a machine |
+//! | [`ScenarioRef::report`] | appends the report of a scenario with borrowed parts, by one run from step zero |
+//! | [`Scenario::image`], [`Scenario::setup`], [`Scenario::marks`], [`Scenario::suppressions`], [`Scenario::options`], [`Scenario::step`] | return its parts |
+//! | [`setup_with`] | returns a setup: an input, Memcheck's settings of the heap, and the functions of the heap that a program has by name |
+//! | [`laws::edits_follow`] | does nothing; its contract says that each edit leads from run to run by its effect |
+//! | [`laws::edits_go_back`] | does nothing; its contract says that what takes an edit back leaves the scenario as it was |
 //!
-//! # What a caller relies on
+//! # What a caller can rely on
 //!
-//! Contracts see a scenario as a record (`Scenario` in `specs/`). All that is said of an edit stands in one row of one table (`row` in
-//! `specs/Edits`): why it is refused, what it leaves, where it shows, whether memory may be wanting, and what takes it back. The methods
-//! answer what the row says. Where memory is wanting, an edit leaves the scenario as it was.
+//! Contracts see a scenario as a record (`Scenario` in `specs/`). A row of one table says all about an edit (`row` in `specs/Edits`): why
+//! it is rejected, what it leaves, where it shows, whether memory may run out, and what takes it back. The methods return what the row
+//! says. If memory runs out, an edit leaves the scenario as it was.
 //!
-//! A text is the report of a scenario (`IsReportOf`) where it is that of the state at the chosen step of one run that begins at step
-//! zero, with the words written, one after another; likewise its outline (`IsOutlineOf`).
+//! A text is the report of a scenario (`IsReportOf`) if it is the report of the state at the chosen step of one run from step zero, with
+//! the words written in order. The outline (`IsOutlineOf`) is defined likewise.
 //!
-//! # Where the definitions stand
+//! # Where the definitions are
 //!
 //! In `specs/`: `Scenario` (the record, its run, its report and its outline), `Edits` (the table and its laws), `Limits`, `Setups`.
 #![tactic(auto)]

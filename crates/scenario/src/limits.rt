@@ -1,17 +1,17 @@
-//! The limits of what a user may say.
+//! The limits on what a user may ask for.
 use call_stacks::LONGEST_TRACE;
 
-/// How many bytes an input may have.
+/// The greatest number of bytes of an input.
 pub const LONGEST_INPUT: usize = 1_048_576;
 /// The greatest step that may be chosen or marked.
 pub const MOST_STEPS: u32 = 4_194_304;
-/// How many marks there may be at one time.
+/// The greatest number of marks at one time.
 pub(crate) const MOST_MARKS: usize = 4096;
-/// How long a mark may be, in bytes.
+/// The greatest length of a mark, in bytes.
 pub(crate) const LONGEST_MARK: u32 = 1_048_576;
-/// How many addresses of a trace may be shown.
+/// The greatest number of addresses of a trace that may be shown.
 pub(crate) const MOST_CALLERS: u32 = LONGEST_TRACE as u32;
-/// How many bytes beside a block may be inaccessible.
+/// The greatest number of inaccessible bytes on each side of a block.
 pub(crate) const LARGEST_REDZONE: u32 = 4096;
-/// How many bytes the freed blocks may have.
+/// The greatest number of bytes that freed blocks may have in all.
 pub(crate) const LARGEST_VOLUME: u32 = 1_000_000_000;

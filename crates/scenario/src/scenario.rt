@@ -1,4 +1,4 @@
-//! A scenario: what it keeps, and the report of it.
+//! A scenario, and its report.
 ghost use Rattle.std.specs.Prelude.{◌≡◌, ◌≤◌, IfOk, OnOk, OnErr, length};
 ghost use Rattle.guest_machine.specs.Shows.{Shows};
 ghost use Rattle.replay_report.specs.Report.{AppendsReport};
@@ -44,7 +44,7 @@ impl<'a> Model for Scenario<'a> {
 }
 
 impl<'a> Scenario<'a> {
-    /// The scenario of a program with an input and suppressions, with nothing edited and step 0 chosen.
+    /// Returns the scenario of a program with an input and suppressions, without edits and with step 0 chosen.
     pub fn begin(
         alloc: Global,
         image: Image<'a>,
@@ -67,35 +67,35 @@ impl<'a> Scenario<'a> {
         })
     }
 
-    /// The program.
+    /// Returns the program.
     pub fn image(&self) -> &Image<'a>
         ensures { result.now ≡ self.now.image }
     {
         &self.image
     }
 
-    /// What its run is given.
+    /// Returns the setup of its run.
     pub fn setup(&self) -> &Setup
         ensures { result.now ≡ self.now.setup }
     {
         &self.setup
     }
 
-    /// The marks, in their order.
+    /// Returns the marks, in their order.
     pub fn marks(&self) -> &[Mark]
         ensures { result.now ≡ self.now.marks }
     {
         &self.marks
     }
 
-    /// The suppressions, in their order.
+    /// Returns the suppressions, in their order.
     pub fn suppressions(&self) -> &[Suppression]
         ensures { result.now ≡ self.now.rules }
     {
         &self.suppressions
     }
 
-    /// The options of the report, whose `callers` are from 1 to 24.
+    /// Returns the options of the report, whose `callers` are from 1 to 24.
     pub fn options(&self) -> &Options
         ensures options { result.now ≡ self.now.options }
         ensures some { 1 ≤ result.now.callers }
@@ -103,7 +103,7 @@ impl<'a> Scenario<'a> {
         &self.options
     }
 
-    /// The chosen step.
+    /// Returns the chosen step.
     pub fn step(&self) -> u32
         ensures { result ≡ self.now.step }
     {
@@ -117,7 +117,7 @@ impl<'a> Scenario<'a> {
         self.step = step;
     }
 
-    /// The same with its parts lent.
+    /// Returns the same scenario with borrowed parts.
     fn lent(&self) -> ScenarioRef<'_>
         ensures parts { lent result ≡ self.now }
         ensures some { 1 ≤ result.options.now.callers }
@@ -134,7 +134,7 @@ impl<'a> Scenario<'a> {
         }
     }
 
-    /// Gives the run another input.
+    /// Replaces the input.
     pub fn give(&mut self, input: Vec<u8>)
         requires { length input.items ≤ longest_input }
         ensures { self.new ≡ with_input self.old input.items }
@@ -149,7 +149,7 @@ impl<'a> Scenario<'a> {
         self.lent().start(self.alloc)
     }
 
-    /// Appends the report at the chosen step, by one run from step zero, whose steps are made on a meter.
+    /// Appends the report at the chosen step, by one run from step zero, whose steps count on a meter.
     pub fn report(&self, meter: &mut Meter, out: &mut Vec<u8>) -> Result<(), AllocError>
         ensures ok { OnOk result (AppendsReport (IsReportOf self.now) out.old.items out.new.items) }
         ensures err { OnErr result (out.new.items ≡ out.old.items) }
@@ -165,7 +165,7 @@ impl<'a> Scenario<'a> {
         self.lent().render(self.alloc, machine, out)
     }
 
-    /// The outline of a machine that is at the chosen step of the run, with or without how much was written.
+    /// Returns the outline of a machine that is at the chosen step of the run, with or without the number of bytes written.
     pub fn outline(&self, machine: &Machine, with_output: bool) -> Result<Vec<u8>, AllocError>
         ensures { IfOk result (λ text. Shows machine.now (chosen_state self.now) → IsOutlineOf with_output self.now text.items) }
     {

@@ -1,4 +1,4 @@
-//! What a run is given unless something else is chosen.
+//! The setup of a run by default.
 ghost use Rattle.std.specs.Prelude.{◌≡◌, IfOk};
 ghost use Rattle.scenario.specs.Setups.{setup_with};
 
@@ -6,8 +6,8 @@ use guest_elf::Image;
 use guest_machine::{Hooks, Input, Setup, USUAL_REDZONE, USUAL_VOLUME};
 use std::alloc::{AllocError, Global};
 
-/// An input, the heap's settings of Memcheck, which are a redzone of 16 bytes and 20,000,000 bytes of freed blocks, and the functions of
-/// the heap that a program has by name.
+/// Returns a setup: an input, Memcheck's settings of the heap (a redzone of 16 bytes and 20,000,000 bytes of freed blocks), and the
+/// functions of the heap that a program has by name.
 pub fn setup_with(alloc: Global, image: &Image, input: Vec<u8>) -> Result<Setup, AllocError>
     ensures { IfOk result (λ setup. setup ≡ setup_with image.now input.items) }
 {

@@ -1,6 +1,6 @@
 //! Tests of sessions, by the public calls of their crate.
 //!
-//! They stand apart from the crate that they test, since a crate with tests is proved a second time with them.
+//! This crate is separate from the one that it tests, since a crate with tests is proved a second time with them.
 #![tactic(auto)]
 
 #[cfg(test)]

@@ -8,20 +8,20 @@ use std::alloc::{AllocError, Global};
 /// Three words: exit with status 0.
 const EXITS: [u32; 3] = [0x05D0_0893, 0x0000_0513, 0x0000_0073];
 
-/// Whether the report of a scenario, by one run from step zero, begins so.
+/// Returns whether the report of a scenario, by one run from step zero, begins with some lines.
 fn has_state(alloc: Global, scenario: &Scenario<'_>, front: &[u8]) -> Result<bool, AllocError> {
     let mut text = Vec::new(alloc);
     scenario.report(&mut Meter::new(), &mut text)?;
     Ok(text.starts_with(front))
 }
 
-/// `addi a0, x0, 7` in the place of the second word.
+/// The edit that writes `addi a0, x0, 7` over the second word.
 const EDIT: Edit = Edit::Patch {
     addr: 0x10004,
     word: 0x0070_0513,
 };
 
-/// Whether that word, which is written into a scenario of `EXITS`, shows at step 3.
+/// Returns whether that word, written into a scenario of `EXITS`, shows at step 3.
 fn is_written(alloc: Global, scenario: &mut Scenario<'_>) -> Result<bool, AllocError> {
     if scenario.refusal(&EDIT).is_some() {
         return Ok(false);
@@ -30,7 +30,7 @@ fn is_written(alloc: Global, scenario: &mut Scenario<'_>) -> Result<bool, AllocE
     has_state(alloc, scenario, b"step 3\nstate exited 7\n")
 }
 
-/// Whether it does, and doesn't any more once it is dropped.
+/// Returns whether it shows, and no longer does after it was dropped.
 fn is_written_and_dropped(alloc: Global, scenario: &mut Scenario<'_>) -> Result<bool, AllocError> {
     if !is_written(alloc, scenario)? {
         return Ok(false);
@@ -39,7 +39,7 @@ fn is_written_and_dropped(alloc: Global, scenario: &mut Scenario<'_>) -> Result<
     has_state(alloc, scenario, b"step 3\nstate exited 0\n")
 }
 
-/// A machine of a scenario without edits, at its step.
+/// Returns a machine of a scenario without edits, at its step.
 fn machine_at(alloc: Global, scenario: &Scenario<'_>) -> Result<Machine, AllocError> {
     let mut meter = Meter::new();
     let mut machine = Machine::start(alloc, scenario.image())?;
@@ -50,7 +50,7 @@ fn machine_at(alloc: Global, scenario: &Scenario<'_>) -> Result<Machine, AllocEr
     Ok(machine)
 }
 
-/// Whether a scenario without edits has this outline, by a machine.
+/// Returns whether a scenario without edits has this outline, for a given machine.
 fn is_outlined(
     scenario: &Scenario<'_>,
     machine: &Machine,
@@ -61,7 +61,7 @@ fn is_outlined(
     Ok(text.as_slice() == want)
 }
 
-/// The same by one that is at the scenario's step.
+/// Returns the same for a machine that is at the scenario's step.
 fn has_outline(
     alloc: Global,
     scenario: &Scenario<'_>,
@@ -72,7 +72,7 @@ fn has_outline(
     is_outlined(scenario, &machine, with_output, want)
 }
 
-/// Whether the outlines are right at step 0 and at step 3.
+/// Returns whether the outlines are right at step 0 and at step 3.
 fn are_outlines(alloc: Global, scenario: &mut Scenario<'_>) -> Result<bool, AllocError> {
     if !has_outline(alloc, scenario, false, b"running\n")? {
         return Ok(false);
@@ -81,7 +81,7 @@ fn are_outlines(alloc: Global, scenario: &mut Scenario<'_>) -> Result<bool, Allo
     has_outline(alloc, scenario, true, b"exited 0\noutput 0\n")
 }
 
-/// Whether the outlines are, and a word is written and dropped then.
+/// Returns whether the outlines are right, and then a word is written and dropped.
 fn is_so(alloc: Global, scenario: &mut Scenario<'_>) -> Result<bool, AllocError> {
     if !are_outlines(alloc, scenario)? {
         return Ok(false);
@@ -89,13 +89,13 @@ fn is_so(alloc: Global, scenario: &mut Scenario<'_>) -> Result<bool, AllocError>
     is_written_and_dropped(alloc, scenario)
 }
 
-/// The same in a new scenario on an image.
+/// Returns the same for a new scenario on an image.
 fn is_so_over(alloc: Global, image: Image<'_>) -> Result<bool, AllocError> {
     let mut scenario = Scenario::begin(alloc, image, Vec::new(alloc), Vec::new(alloc))?;
     is_so(alloc, &mut scenario)
 }
 
-/// The same on a file.
+/// Returns the same for a file.
 fn is_so_on(alloc: Global, file: &[u8]) -> Result<bool, AllocError> {
     match read(alloc, file) {
         Ok(image) => is_so_over(alloc, image),
@@ -103,7 +103,7 @@ fn is_so_on(alloc: Global, file: &[u8]) -> Result<bool, AllocError> {
     }
 }
 
-/// The same on a new file.
+/// Returns the same for a new file.
 fn is_so_anew(alloc: Global) -> Result<bool, AllocError> {
     let file = program(alloc, &EXITS)?;
     is_so_on(alloc, &file)

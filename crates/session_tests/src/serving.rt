@@ -1,4 +1,4 @@
-//! Lines and their answers, over readers and writers that fail.
+//! Lines and their replies, over readers and writers that fail.
 use fake_streams::{Interruptions, Refusal, Room, Script};
 use guest_elf::{Image, read};
 use guest_programs::program;
@@ -26,12 +26,12 @@ suppressed: 0 bytes in 0 blocks
 ERROR SUMMARY: 0 errors from 0 contexts (suppressed: 0 from 0)
 ";
 
-/// How a session ends that is served; none where its input is too large.
+/// How a served session ends; `None` if its input is too large.
 type End = Option<Result<(), ServeFault>>;
 
 const DONE: End = Some(Ok(()));
 
-/// How it ends where memory is wanting for it.
+/// How it ends if memory runs out for it.
 const NO_MEMORY: End = Some(Err(ServeFault::NoMemory {
     replies: 0,
     bytes: 0,
@@ -52,7 +52,7 @@ fn served_over(
     }
 }
 
-/// The same over a file, and an input of so many zeros.
+/// Serves the same over a file, with an input of `input_len` zeros.
 fn served_of(
     alloc: Global,
     file: &[u8],
@@ -67,7 +67,7 @@ fn served_of(
     }
 }
 
-/// Whether a session over a program of some words, with so much input, ends so.
+/// Returns whether a session over a program of some words, with an input of this length, ends in this way.
 fn ends(
     alloc: Global,
     (words, input_len): (&[u32], usize),
@@ -79,7 +79,7 @@ fn ends(
     Ok(served_of(alloc, &file, input_len, script, writer)? == *want)
 }
 
-/// Whether a session without a line ends so.
+/// Returns whether a session without a line ends in this way.
 fn ends_at_once(alloc: Global, input_len: usize, want: &End) -> Result<bool, AllocError> {
     let mut writer = Room::new(alloc, 0);
     let mut script = Script::new(b"");
@@ -94,7 +94,7 @@ fn the_longest_input(rt: HostRuntime) {
     assert!(rt; matches!(longer, Ok(true)));
 }
 
-/// What a row shows; a program and lines; parts of the replies, and how many times each is in them.
+/// A label; a program and lines; parts of the replies, and how often each occurs in them.
 type Shown = (
     &'static str,
     &'static [u32],
@@ -102,7 +102,7 @@ type Shown = (
     &'static [(&'static str, usize)],
 );
 
-/// Whether a text has all these parts.
+/// Returns whether a text has all these parts.
 fn has_parts(text: &str, parts: &[(&str, usize)]) -> bool {
     for (part, count) in parts {
         if text.matches(*part).count() != *count {
@@ -112,7 +112,7 @@ fn has_parts(text: &str, parts: &[(&str, usize)]) -> bool {
     true
 }
 
-/// Whether a row is so, by what a writer takes.
+/// Returns whether a row holds, by what a writer takes.
 fn shows(alloc: Global, row: &Shown, writer: &mut Room) -> Result<bool, AllocError> {
     let mut script = Script::new(row.2);
     if !ends(alloc, (row.1, 2), &mut script, writer, &DONE)? {
@@ -124,13 +124,13 @@ fn shows(alloc: Global, row: &Shown, writer: &mut Room) -> Result<bool, AllocErr
     }
 }
 
-/// The same by a new one.
+/// Returns the same for a new writer.
 fn shows_anew(alloc: Global, row: &Shown) -> Result<bool, AllocError> {
     let mut writer = Room::new(alloc, 1 << 20);
     shows(alloc, row, &mut writer)
 }
 
-/// Asserts that rows are so.
+/// Asserts that rows hold.
 fn assert_shown(rt: &impl Abort, alloc: Global, rows: &[Shown]) {
     for row in rows {
         assert!(rt; matches!(shows_anew(alloc, row), Ok(true)), "{}", row.0);
@@ -138,8 +138,8 @@ fn assert_shown(rt: &impl Abort, alloc: Global, rows: &[Shown]) {
 }
 
 const EDITS: [Shown; 1] = [
-    // An input byte, a suppression and its switch, between reports. By the law of work, three reports at step 3, with no machine held but
-    // that at step 0, cost 9 steps.
+    // An input byte, a suppression and its switch, between reports. By the law of work, three reports at step 3, with only the machine at
+    // step 0 held, cost 9 steps.
     (
         "edits",
         &BRANCHES,
@@ -199,13 +199,13 @@ fn taken_out_and_late(rt: HostRuntime) {
     assert_shown(&rt, rt.alloc(), &MARKS_AND_LATE);
 }
 
-/// A text in pieces: bytes, and how many times they stand there.
+/// A text in pieces: bytes, and the number of copies of them.
 type Pieces = &'static [(&'static [u8], usize)];
 
-/// What a row shows; lines, how many bytes of them a read gives at most, and which reads are interrupted; and the replies.
+/// A label; lines, the greatest number of bytes that a read gives, and which reads are interrupted; and the replies.
 type Answered = (&'static str, Pieces, usize, Interruptions, Pieces);
 
-/// The text of some pieces.
+/// Returns the text of pieces.
 fn joined(alloc: Global, pieces: &[(&[u8], usize)]) -> Result<Vec<u8>, AllocError> {
     let mut text = Vec::new(alloc);
     for (bytes, count) in pieces {
@@ -216,13 +216,15 @@ fn joined(alloc: Global, pieces: &[(&[u8], usize)]) -> Result<Vec<u8>, AllocErro
     Ok(text)
 }
 
-/// A writer: how many bytes it takes, by each write how many at most; how many writes, and how it refuses one; how many flushes.
+/// A writer: the number of bytes that it takes, and at most in each write; the number of writes, and how it rejects the next; the number of
+/// flushes.
 type Writing = (usize, usize, u64, Refusal, usize);
 
-/// One that takes all.
+/// A writer that takes everything.
 const ROOMY: Writing = (1 << 20, usize::MAX, u64::MAX, Refusal::Fails, usize::MAX);
 
-/// Whether lines end so that a writer has taken a front of the replies, of so many bytes, and flushed so many.
+/// Returns whether serving lines ends in this way, and a writer has taken the first `bytes` bytes of the replies and flushed `flushed` of
+/// them.
 fn are_taken(
     alloc: Global,
     script: &mut Script<'_>,
@@ -242,7 +244,7 @@ fn are_taken(
     )
 }
 
-/// Whether a row is so.
+/// Returns whether a row holds.
 fn is_answered(alloc: Global, row: &Answered) -> Result<bool, AllocError> {
     let lines = joined(alloc, row.1)?;
     let want = joined(alloc, row.4)?;
@@ -252,7 +254,7 @@ fn is_answered(alloc: Global, row: &Answered) -> Result<bool, AllocError> {
     are_taken(alloc, &mut script, &ROOMY, &DONE, all)
 }
 
-/// Asserts that rows are so.
+/// Asserts that rows hold.
 fn assert_answered(rt: &impl Abort, alloc: Global, rows: &[Answered]) {
     for row in rows {
         assert!(rt; matches!(is_answered(alloc, row), Ok(true)), "{}", row.0);
@@ -335,10 +337,10 @@ worked 3
 refused 2
 ";
 
-/// How many bytes the replies to none, one, two, three and all of them have.
+/// The number of bytes of the replies to none, one, two, three and all of the lines.
 const REPLIED: [usize; 5] = [0, 3, 288, 297, 307];
 
-/// How many replies are whole in so many bytes, and how many bytes those have.
+/// Returns the number of whole replies in the first `bytes` bytes, and their number of bytes.
 fn whole_replies(bytes: usize) -> (u64, usize) {
     match bytes {
         0..=2 => (0, 0),
@@ -349,7 +351,8 @@ fn whole_replies(bytes: usize) -> (u64, usize) {
     }
 }
 
-/// Whether a reader of `LINES` that fails after so many bytes, or doesn't fail, has the replies to the lines whose newline it gave, or all.
+/// Returns whether a reader of `LINES` that fails after `given` bytes, or doesn't fail, gets the replies to the lines whose newline it
+/// gave, or all.
 fn is_served(
     alloc: Global,
     reader: &mut Script<'_>,
@@ -366,8 +369,8 @@ fn is_served(
     are_taken(alloc, reader, &ROOMY, &want, (REPLIES, bytes, bytes))
 }
 
-/// What a row shows; how many bytes each read gives, which reads are interrupted, how many bytes two reads give; how many there are; and
-/// whether these are bytes, each of which fails.
+/// A label; the number of bytes that each read gives, which reads are interrupted, the number of bytes that two reads give; the number of
+/// reads; and whether these are bytes, each of which fails.
 type Reading = (&'static str, usize, Interruptions, usize, usize, bool);
 
 const READINGS: [Reading; 3] = [
@@ -383,7 +386,7 @@ const READINGS: [Reading; 3] = [
     ("each byte", usize::MAX, Interruptions::None, 2, 24, true),
 ];
 
-/// Whether reads that fail from each on are told.
+/// Returns whether the fault is right if reads fail from each one on.
 fn reads_fail(alloc: Global, reading: &Reading) -> Result<bool, AllocError> {
     let (_, most, interruptions, by_two, reads, by_byte) = *reading;
     for n in 0..=reads {
@@ -413,7 +416,7 @@ fn each_read_fails_in_turn(rt: HostRuntime) {
     }
 }
 
-/// Whether reads without an end stop at the 10,000th, which fails, after replies of three bytes each.
+/// Returns whether reads without an end stop at the 10,000th, which fails, after replies of three bytes each.
 fn stops(
     alloc: Global,
     interruptions: Interruptions,
@@ -441,7 +444,7 @@ fn without_an_end(rt: HostRuntime) {
     assert!(rt; matches!(endless, Ok(true)));
 }
 
-/// Whether a writer takes so much of the replies to `LINES`, and flushes so much.
+/// Returns whether a writer takes this many bytes of the replies to `LINES`, and flushes this many.
 fn is_written(
     alloc: Global,
     writing: &Writing,
@@ -467,7 +470,7 @@ fn is_written(
     )
 }
 
-/// How many bytes are taken and how many flushed before each write of at most 50.
+/// The number of bytes taken and the number flushed before each write of at most 50.
 const WRITTEN: [(usize, usize); 10] = [
     (0, 0),
     (3, 3),
@@ -481,7 +484,7 @@ const WRITTEN: [(usize, usize); 10] = [
     (307, 307),
 ];
 
-/// Whether writes that are refused from each on are told.
+/// Returns whether the fault is right if writes fail from each one on.
 fn writes_fail(alloc: Global, refusal: Refusal) -> Result<bool, AllocError> {
     for (n, (bytes, flushed)) in WRITTEN.iter().enumerate() {
         let writing = (1 << 20, 50, n as u64, refusal, usize::MAX);
@@ -492,7 +495,7 @@ fn writes_fail(alloc: Global, refusal: Refusal) -> Result<bool, AllocError> {
     Ok(true)
 }
 
-/// Whether writes that fail from each byte on are.
+/// Returns whether the fault is right if writes fail from each byte on.
 fn bytes_fail(alloc: Global) -> Result<bool, AllocError> {
     for bytes in 0..=REPLIED[4] {
         let writing = (bytes, usize::MAX, u64::MAX, Refusal::Fails, usize::MAX);
@@ -503,7 +506,7 @@ fn bytes_fail(alloc: Global) -> Result<bool, AllocError> {
     Ok(true)
 }
 
-/// Whether flushes that fail are.
+/// Returns whether the fault is right if flushes fail.
 fn flushes_fail(alloc: Global) -> Result<bool, AllocError> {
     for n in 0..4 {
         let writing = (1 << 20, usize::MAX, u64::MAX, Refusal::Fails, n);
@@ -517,14 +520,14 @@ fn flushes_fail(alloc: Global) -> Result<bool, AllocError> {
 /// What fails in turn.
 #[derive(Clone, Copy)]
 enum Failing {
-    /// Each write of at most 50 bytes, in a way.
+    /// Each write of at most 50 bytes, in some way.
     Writes(Refusal),
     /// Writes from each byte on.
     Bytes,
     Flushes,
 }
 
-/// Whether all of it is told.
+/// Returns whether the fault is right each time.
 fn fails(alloc: Global, failing: Failing) -> Result<bool, AllocError> {
     match failing {
         Failing::Writes(refusal) => writes_fail(alloc, refusal),

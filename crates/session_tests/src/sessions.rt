@@ -1,18 +1,18 @@
-//! Lines and their answers, by calls of a session.
+//! Lines and their replies, by calls of a session.
 use crate::serving::{EXITS, REPORT};
 use guest_elf::{Image, read};
 use guest_programs::program;
 use replay_session::{Reply, Session};
 use std::alloc::{AllocError, Global};
 
-/// Whether a session with no input answers a report at step 3.
+/// Returns whether a session without input prints a report at step 3.
 fn reports(session: &mut Session<'_>, out: &mut Vec<u8>) -> bool {
     session.command(b"goto 3", out) == Ok(Reply::Done)
         && session.command(b"report", out) == Ok(Reply::Report)
         && out.as_slice() == REPORT
 }
 
-/// Whether a third line and all up to the last one that is answered tell of the steps of one report.
+/// Returns whether the third line and all up to the last one that is answered report the steps of one report.
 fn all_work(session: &mut Session<'_>, out: &mut Vec<u8>) -> bool {
     for _ in 2..100_000 {
         if session.command(b"worked", out) != Ok(Reply::Work(3)) {
@@ -22,7 +22,7 @@ fn all_work(session: &mut Session<'_>, out: &mut Vec<u8>) -> bool {
     true
 }
 
-/// Whether a report is refused, as after too many lines.
+/// Returns whether a report is rejected, as after too many lines.
 fn refuses(session: &mut Session<'_>, out: &mut Vec<u8>) -> bool {
     match session.command(b"report", out) {
         Ok(_) => false,
@@ -30,7 +30,7 @@ fn refuses(session: &mut Session<'_>, out: &mut Vec<u8>) -> bool {
     }
 }
 
-/// The first 100,000 lines are answered; the next and all after it are refused, and change nothing.
+/// Returns whether the first 100,000 lines are answered, and the lines after them are rejected and change nothing.
 fn answers_100_000(session: &mut Session<'_>, out: &mut Vec<u8>) -> bool {
     reports(session, out)
         && all_work(session, out)
@@ -39,7 +39,7 @@ fn answers_100_000(session: &mut Session<'_>, out: &mut Vec<u8>) -> bool {
         && out.len() == REPORT.len()
 }
 
-/// Whether a session on an image answers so.
+/// Returns whether this holds for a session on an image.
 fn begun_answers_100_000(alloc: Global, image: Image<'_>, out: &mut Vec<u8>) -> bool {
     match Session::begin(alloc, image, Vec::new(alloc), Vec::new(alloc)) {
         Ok(mut session) => answers_100_000(&mut session, out),
@@ -47,7 +47,7 @@ fn begun_answers_100_000(alloc: Global, image: Image<'_>, out: &mut Vec<u8>) -> 
     }
 }
 
-/// The same on a file.
+/// Returns whether this holds for a file.
 fn read_answers_100_000(alloc: Global, file: &[u8], out: &mut Vec<u8>) -> bool {
     match read(alloc, file) {
         Ok(image) => begun_answers_100_000(alloc, image, out),
@@ -55,14 +55,14 @@ fn read_answers_100_000(alloc: Global, file: &[u8], out: &mut Vec<u8>) -> bool {
     }
 }
 
-/// Whether a session tells that its run is clean up to step 3.
+/// Returns whether a session reports that its run is clean up to step 3.
 fn tells_clean(session: &mut Session<'_>, out: &mut Vec<u8>) -> bool {
     session.command(b"goto 3", out) == Ok(Reply::Done)
         && session.certify(out).is_ok()
         && out.as_slice().starts_with(b"clean to step 3: ")
 }
 
-/// Whether a session on an image does.
+/// Returns whether a session on an image does.
 fn begun_tells_clean(alloc: Global, image: Image<'_>, out: &mut Vec<u8>) -> bool {
     match Session::begin(alloc, image, Vec::new(alloc), Vec::new(alloc)) {
         Ok(mut session) => tells_clean(&mut session, out),
@@ -70,7 +70,7 @@ fn begun_tells_clean(alloc: Global, image: Image<'_>, out: &mut Vec<u8>) -> bool
     }
 }
 
-/// The same on a new file.
+/// Returns the same for a new file.
 fn tells_clean_anew(alloc: Global) -> Result<bool, AllocError> {
     let file = program(alloc, &EXITS)?;
     let mut out = Vec::new(alloc);
@@ -85,7 +85,7 @@ fn a_clean_run(rt: HostRuntime) {
     assert!(rt; matches!(tells_clean_anew(rt.alloc()), Ok(true)));
 }
 
-/// The same on a new file.
+/// Returns the same for a new file.
 fn answers_100_000_anew(alloc: Global) -> Result<bool, AllocError> {
     let file = program(alloc, &EXITS)?;
     let mut out = Vec::new(alloc);

@@ -58,7 +58,7 @@ cells_alike (x ∷ xs) [] h = absurd h
 cells_alike (x ∷ xs) (y ∷ ys) h =
     ap (λ f. f ∷ map cells_on ys) h.0 ∙ ap (λ fs. cells_on x ∷ fs) (cells_alike xs ys h.1)
 
--- shelves that agree one by one
+-- shelves that agree in order
 pub same_shelves : (xs ys : List Shelf) → AllZip (λ x y. cells_on y ≡ cells_on x) xs ys
     → (i : ℕ) → shelf_of ys i ≡ shelf_of xs i
 same_shelves xs ys h i =

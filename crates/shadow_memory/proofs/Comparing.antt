@@ -24,7 +24,7 @@ module _ (cells seen others seen-there : ℕ → Cell) (at n : ℕ) (aligned : a
       let place : (at + j + i) % 4096 ≡ at % 4096 + j + i = omega arith in
       ap (λ (c : Cell). c.byte) (is (at + j + i) there ∙ ap g place))
 
-  -- one more page is compared
+  -- another page is compared
   pub page-more : (from : ℕ) → HaveWordsOf seen seen-there (at % 4096) (at % 4096 + n)
       → HaveWordsOf cells others from at → HaveWordsOf cells others from (at + n)
   page-more from here before = record {

@@ -53,7 +53,7 @@ defined-four : (bytes : ℕ → ℕ) (addr : ℕ)
 unfolding all-defined loaded_at little_word first_from
 defined-four bytes addr = refl
 
--- where all are accessible and defined, the bytes alone are read
+-- if all are accessible and defined, only the bytes are read
 pub defined-load : (f : ℕ → Cell) (bytes : ℕ → ℕ) (addr n : ℕ) → IsWidth n
     → ((i : ℕ) → i < n → f i ≡ marked (bytes i) (mark_of Defined))
     → record { value = little_word (λ i. if nat_lt i n then bytes i else 0); undef = 0; bad = None }

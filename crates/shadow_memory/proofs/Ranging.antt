@@ -35,7 +35,7 @@ zeros-hold-none bytes shadows low high from to positive zeros a start below alig
     ap (λ b. b && nat_lt (value_at bytes a) high && holds_word shadows a) (ap (nat_le low) value
     ∙ not-from low positive)
 
--- one more multiple of 4 is looked at
+-- another multiple of 4 is looked at
 pub value-more : (bytes : ℕ → ℕ) (shadows : ℕ → Shadow) (low high from word : ℕ)
     → HoldNoneInRange bytes shadows low high from (4 * word)
     → holds_in_range bytes shadows low high (4 * word) ≡ false
@@ -45,7 +45,7 @@ value-more bytes shadows low high from word before here a start below aligned = 
   | inr late ↦ let e : a ≡ 4 * word = omega arith in ap (holds_in_range bytes shadows low high) e ∙ here
 ]
 
--- what the highest of four bytes tells of their value
+-- what the highest of four bytes says about their value
 is-below : (low n : ℕ) → n < low → nat_le low n ≡ false
 is-below low n h = grind (arith, nat_tests)
 
@@ -69,7 +69,7 @@ highest-above byte low high h =
     later-false false q e = refl
     later-false true q e = e
 
--- a highest byte that isn't among so many from the least one on, by one comparison round the end
+-- a highest byte that isn't one of this many from the least one on, by one comparison that wraps
 pub highest-outside : (byte : ℕ → ℕ) (low high highest least count : ℕ) → low < 2 ^ 32 → byte 0 < 256 → byte 1 < 256
     → byte 2 < 256 → byte 3 < 256
     → highest ≡ byte 3 → least ≡ low / 16777216 → count ≡ high / 16777216 + 1 - least

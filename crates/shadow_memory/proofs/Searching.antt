@@ -1,4 +1,4 @@
--- Searches that go on from page to page.
+-- Searches that continue from page to page.
 use Rattle.std.proofs.Common.{◌≡◌, ℕ, zero, suc, Bool, true, false, not, ◌&&◌, Some, None, refl, ap, ap₂, sym, ◌∙◌, ◌+◌}
 use Rattle.std.proofs.Common.{◌-◌, ◌*◌, ◌/◌, ◌%◌, ◌<◌, ◌≤◌, inl, inr, cond, arith}
 use Rattle.std.proofs.lemmas.Bool.{cases_lt}
@@ -106,7 +106,7 @@ same-four : (a b c d e f g h : Bool) → a ≡ e → b ≡ f → c ≡ g → d �
     → (not a && not b && not c && not d) ≡ (not e && not f && not g && not h)
 same-four a b c d e f g h p q r s = cc
 
--- one more multiple of 4 is looked at
+-- another multiple of 4 is looked at
 pub word-more : (shadows : ℕ → Shadow) (from word : ℕ) → HoldNoWord shadows from (4 * word)
     → holds_word shadows (4 * word) ≡ false → HoldNoWord shadows from (4 * (word + 1))
 word-more shadows from word before here a start below aligned = elim (cases_lt a (4 * word)) [

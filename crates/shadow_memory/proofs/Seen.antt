@@ -138,12 +138,12 @@ pub unchanged-shadows : (old new : Memory) → cells_of new ≡ cells_of old →
 unfolding shadows_in
 unchanged-shadows old new is = ap (λ (f : ℕ → Cell). λ a. shadow_in (f a)) is
 
--- what holds at success and at refusal
+-- what holds at success and at failure
 pub either_way : {T E P : Type 0} (r : Result T E) → OnOk r P → OnErr r P → P
 either_way (Ok x) h k = h
 either_way (Err e) h k = k
 
--- what holds anyway holds at a refusal
+-- what holds anyway holds at a failure
 pub at_refusal : {T E P : Type 0} (r : Result T E) → P → OnErr r P
 at_refusal (Ok x) p = tt
 at_refusal (Err e) p = p

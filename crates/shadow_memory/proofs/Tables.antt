@@ -1,4 +1,4 @@
--- A table of slots of so many places each, of which one slot changes.
+-- A table of slots with the same number of places each, of which one slot changes.
 use Rattle.std.proofs.Common.{◌≡◌, ◌≢◌, ℕ, Bool, false, List, length, get_or, set, refl, ap, sym, ◌∙◌, ◌+◌, ◌-◌, ◌/◌}
 use Rattle.std.proofs.Common.{map, ◌%◌, ◌<◌, ◌≤◌, inl, inr, cond, arith}
 use Rattle.std.proofs.Math.Path.{fun_ext}

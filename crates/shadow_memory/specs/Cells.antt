@@ -3,7 +3,7 @@ use Rattle.std.specs.Prelude.{ℕ, IsTrue, not, ◌==◌, ◌≡◌, if◌then�
 use Rattle.shadow_memory.specs.Shadows.{Shadow}
 use Rattle.shadow_memory.specs.declared.cells.Cell.{Cell}
 
--- what is known of a cell beside its byte
+-- what is known of a cell besides its byte
 abbrev pub shadow_in : Cell → Shadow
 shadow_in cell = record { accessible = cell.accessible; undef = cell.undef }
 

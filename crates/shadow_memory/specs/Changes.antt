@@ -1,4 +1,4 @@
--- What each call of a memory makes of the cells of its range.
+-- What each call of a memory does to the cells of its range.
 use Rattle.std.specs.Prelude.{ℕ, List, length, slice_index, ◌+◌, ◌-◌, ◌<◌, ◌≡◌, ◌⊎◌, true, false, if◌then◌else◌}
 use Rattle.shadow_memory.specs.Cells.{shadow_in}
 use Rattle.shadow_memory.specs.Marks.{marked, mark_of}
@@ -13,7 +13,7 @@ use Rattle.definedness.specs.declared.Bits.{Bits}
 abbrev pub IsWidth : ℕ → Type 0
 IsWidth n = (n ≡ 1) ⊎ ((n ≡ 2) ⊎ (n ≡ 4))
 
--- a front of n places, less than all of them, of which this holds
+-- a front of n places, fewer than all of them, for which this holds
 abbrev pub SomeFront : ℕ → (ℕ → Type 0) → Type 0
 SomeFront n P = (k : ℕ) × (k < n) × P k
 
@@ -35,7 +35,7 @@ received bytes i cell = record {
       else cell.undef;
 }
 
--- a cell of a range that is made so: its byte stays
+-- a cell of a range that gets a kind: its byte stays
 abbrev pub ranged : RangeKind → ℕ → Cell → Cell
 ranged kind i cell = marked cell.byte (mark_of kind)
 
@@ -43,7 +43,7 @@ ranged kind i cell = marked cell.byte (mark_of kind)
 abbrev pub filled : (ℕ → ℕ) → ℕ → Cell → Cell
 filled bytes i cell = record { byte = bytes i; accessible = true; undef = 0 }
 
--- a cell that takes what another one loads as: an inaccessible one takes the byte and stays inaccessible
+-- a cell that takes over what another is loaded as: an inaccessible one takes the byte and stays inaccessible
 abbrev pub taken_cell : Cell → Cell → Cell
 taken_cell source cell = record {
   byte = source.byte;
@@ -52,7 +52,7 @@ taken_cell source cell = record {
       then loaded_undef (shadow_in source) else cell.undef;
 }
 
--- and one that takes the byte i above an address
+-- and one that takes over the byte i above an address
 abbrev pub copied_cell : (ℕ → Cell) → ℕ → ℕ → Cell → Cell
 copied_cell cells from i cell = taken_cell (cells (above from i)) cell
 

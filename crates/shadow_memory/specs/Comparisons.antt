@@ -6,7 +6,7 @@ use Rattle.shadow_memory.specs.Shadows.{is_bad}
 use Rattle.shadow_memory.specs.Values.{value_at}
 use Rattle.shadow_memory.specs.declared.cells.Cell.{Cell}
 
--- the words at the multiples of 4, from one place up to, not with, another, are those of other cells there
+-- the words at the multiples of 4, from one place up to, but not including, another, are those of other cells there
 abbrev pub AreWordsOf : (ℕ → Cell) → (ℕ → Cell) → ℕ → ℕ → Type 0
 AreWordsOf cells others from to =
     (a : ℕ) → from ≤ a → a + 4 ≤ to → a % 4 ≡ 0 → value_at (λ k. (cells k).byte) a ≡ value_at (λ k. (others k).byte) a

@@ -1,4 +1,4 @@
--- The cells of 1,024 pages in a row.
+-- The cells of 1,024 consecutive pages.
 use Rattle.std.specs.Prelude.{ℕ, List, ◌-◌, ◌/◌, ◌%◌, nat_lt, if◌then◌else◌, slice_index_or}
 use Rattle.shadow_memory.specs.Marks.{blank}
 use Rattle.shadow_memory.specs.Pages.{cells_in}
@@ -13,7 +13,7 @@ unfoldable pub cells_at : PageSlot → ℕ → Cell
 cells_at (Blank kind) = λ at. blank kind
 cells_at (Held page) = cells_in page.value
 
--- the page with a number, where those from a first one on are kept, and the others are inaccessible zeros
+-- the page with a number, if those from a first one on are kept, and the others are inaccessible zeros
 abbrev pub page_of : ℕ → List PageSlot → ℕ → PageSlot
 page_of first pages number =
     if nat_lt number first then Blank NoAccess else slice_index_or pages (number - first) (Blank NoAccess)

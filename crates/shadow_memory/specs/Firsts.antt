@@ -1,11 +1,11 @@
 -- The first place that passes a test.
 use Rattle.std.specs.Prelude.{ℕ, Bool, true, false, ◌<◌, ◌≤◌, ◌≡◌}
 
--- no place from one up to, not with, another passes
+-- no place from one up to, but not including, another passes
 abbrev pub NonePass : (ℕ → Bool) → ℕ → ℕ → Type 0
 NonePass p from to = (k : ℕ) → from ≤ k → k < to → p k ≡ false
 
--- the first one does that passes
+-- the first one that passes
 pub record IsFirst (p : ℕ → Bool) (from to i : ℕ) : Type 0 where
   pub start : from ≤ i
   pub within : i < to

@@ -1,5 +1,4 @@
--- What a call over several cells did to two memories, the one before it and the one after, over the first so many of
--- them.
+-- What a call over several cells did to two memories, the one before it and the one after, over the first few of them.
 use Rattle.std.specs.Prelude.{ℕ, List, slice_index, ◌≡◌}
 use Rattle.shadow_memory.specs.Changes.{received}
 use Rattle.shadow_memory.specs.Ranges.{byte_of, changed_in, copied, written}
@@ -27,11 +26,11 @@ HasReceived old new start n bytes =
     (bytes_in new ≡ written (bytes_in old) start n (slice_index bytes))
     × (shadows_in new ≡ stored_undef (shadows_in old) start n 0)
 
--- the same of cells, by the number of bytes
+-- the same for cells, by the number of bytes
 abbrev pub CellsReceived : Memory → Memory → ℕ → List ℕ → ℕ → Type 0
 CellsReceived old new start bytes n = cells_of new ≡ changed_in (cells_of old) start n (received (slice_index bytes))
 
--- bytes were copied with what is known of them
+-- bytes were copied with their undefined bits
 abbrev pub HasCopied : Memory → Memory → ℕ → ℕ → ℕ → Type 0
 HasCopied old new from to n =
     (bytes_in new ≡ copied (bytes_in old) from to n) × (shadows_in new ≡ copied_undef (shadows_in old) from to n)

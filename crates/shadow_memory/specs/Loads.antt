@@ -6,7 +6,7 @@ use Rattle.shadow_memory.specs.Shadows.{address_at, loaded_undef}
 use Rattle.shadow_memory.specs.declared.cells.Cell.{Cell}
 use Rattle.shadow_memory.specs.declared.cells.Loaded.{Loaded}
 
--- four values by their numbers, the last at each greater number too
+-- four values by their numbers; the last one for each greater number, too
 abbrev pub four : {X : Type 0} → X → X → X → X → ℕ → X
 four first second third fourth i = if i == 0 then first else if i == 1 then second else if i == 2 then third else fourth
 

@@ -1,4 +1,4 @@
--- What a page keeps of each byte beside its value.
+-- What a page keeps of each byte besides its value.
 use Rattle.std.specs.Prelude.{ℕ, IsTrue, true, not, ◌≡◌, if◌then◌else◌}
 use Rattle.shadow_memory.specs.Shadows.{Shadow, loaded_undef, shadow_of}
 use Rattle.shadow_memory.specs.declared.cells.Cell.{Cell}
@@ -6,7 +6,7 @@ use Rattle.shadow_memory.specs.declared.cells.ByteShadow.{ByteShadow}
 use Rattle.shadow_memory.specs.declared.cells.RangeKind.{RangeKind}
 use Rattle.shadow_memory.specs.declared.cells.RangeKind.TheVariants.{Defined}
 
--- what a mark says
+-- the shadow of a mark
 abbrev pub shadow_of_mark : ByteShadow → Shadow
 shadow_of_mark mark = record { accessible = mark.accessible; undef = mark.undef }
 
@@ -18,7 +18,7 @@ mark_of kind = record { accessible = (shadow_of kind).accessible; undef = (shado
 abbrev pub defined : ByteShadow → ByteShadow
 defined mark = if mark.accessible then mark_of Defined else mark
 
--- the mark of a byte that takes the bits undefined that another loads with: an inaccessible one stays inaccessible
+-- the mark of a byte that gets the undefined bits with which another is loaded: an inaccessible one stays inaccessible
 abbrev pub taken : ByteShadow → ByteShadow → ByteShadow
 taken source mark =
     if mark.accessible then record { accessible = true; undef = loaded_undef (shadow_of_mark source) } else mark

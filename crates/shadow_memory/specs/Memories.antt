@@ -1,5 +1,5 @@
--- What a memory holds, whatever it keeps it in: two functions of the address. Contracts speak of `bytes_in` and
--- `shadows_in` alone.
+-- The contents of a memory, however it is kept: two functions of the address. Contracts speak only of `bytes_in` and
+-- `shadows_in`.
 use Rattle.std.specs.Prelude.{ℕ, ◌/◌, ◌%◌}
 use Rattle.shadow_memory.specs.Cells.{shadow_in}
 use Rattle.shadow_memory.specs.Shelves.{shelf_of}

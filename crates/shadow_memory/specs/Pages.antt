@@ -20,7 +20,7 @@ unfoldable pub marks_in : PageShadows → ℕ → ByteShadow
 marks_in (Uniform kind) at = mark_of kind
 marks_in (AsMixed mixed) at = marks_mixed mixed at
 
--- no byte from one place up to, not with, another is held as one that is defined in part
+-- no byte from one place up to, but not including, another is held as a partly defined one
 unfoldable pub AreWhole : PageShadows → ℕ → ℕ → Type 0
 AreWhole (Uniform kind) from to = Unit {0}
 AreWhole (AsMixed mixed) from to = (at : ℕ) → from ≤ at → at < to → code_at mixed.codes at < 3

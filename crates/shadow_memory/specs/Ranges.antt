@@ -7,7 +7,7 @@ use Rattle.std.specs.Prelude.{nat_le, if◌then◌else◌}
 abbrev pub above : ℕ → ℕ → ℕ
 above start i = (start + i) % 2 ^ 32
 
--- how far an address lies above another
+-- the distance of an address above another
 abbrev pub offset : ℕ → ℕ → ℕ
 offset start a = if nat_le start a then a - start else a + 2 ^ 32 - start
 

@@ -1,4 +1,4 @@
--- What is known of a byte beside its value: whether it may be accessed (Memcheck manual, section 4.5.2, valid
+-- What is known of a byte besides its value: whether it may be accessed (Memcheck manual, section 4.5.2, valid
 -- addresses), and which of its bits are undefined (section 4.5.1, valid values).
 use Rattle.std.specs.Prelude.{ℕ, Bool, true, false, Option, Some, None, if◌then◌else◌, not, ◌&&◌, ◌||◌, ◌==◌, ◌+◌, ◌%◌}
 use Rattle.std.specs.Prelude.{◌<◌, ◌≤◌, ◌≡◌}
@@ -11,13 +11,13 @@ pub record Shadow : Type 0 where
   pub accessible : Bool
   pub undef : ℕ
 
--- what the bytes of a range are made
+-- the shadow of bytes of a kind
 abbrev pub shadow_of : RangeKind → Shadow
 shadow_of NoAccess = record { accessible = false; undef = 0 }
 shadow_of Undefined = record { accessible = true; undef = 255 }
 shadow_of Defined = record { accessible = true; undef = 0 }
 
--- the undefined bits that a load takes: an inaccessible byte loads as defined
+-- the undefined bits that a load takes: an inaccessible byte is loaded as defined
 abbrev pub loaded_undef : Shadow → ℕ
 loaded_undef s = if s.accessible then s.undef else 0
 
@@ -25,7 +25,7 @@ loaded_undef s = if s.accessible then s.undef else 0
 abbrev pub stored_shadow : ℕ → Shadow → Shadow
 stored_shadow undef s = if s.accessible then record { accessible = true; undef = undef } else s
 
--- the shadows, with a range made so
+-- the shadows, with a range that gets a kind
 unfoldable pub made_so : (ℕ → Shadow) → ℕ → ℕ → RangeKind → ℕ → Shadow
 made_so shadows start n kind = changed_in shadows start n (λ i s. shadow_of kind)
 
@@ -48,16 +48,16 @@ pub record HasDefined (bytes : ℕ → ℕ) (shadows : ℕ → Shadow) (addr n n
   pub undef : little_word (window (λ a. loaded_undef (shadows a)) addr n) ≡ 0
   pub bad : first_inaccessible shadows addr n ≡ None
 
--- the shadows, with those of n bytes copied, each as it loads
+-- the shadows, with those of n bytes copied, each as it is loaded
 unfoldable pub copied_undef : (ℕ → Shadow) → ℕ → ℕ → ℕ → ℕ → Shadow
 copied_undef shadows from to n =
     changed_in shadows to n (λ i s. stored_shadow (loaded_undef (shadows (above from i))) s)
 
--- is a byte inaccessible or, where asked, has it an undefined bit?
+-- is a byte inaccessible or, if asked, does it have an undefined bit?
 abbrev pub is_bad : Bool → Shadow → Bool
 is_bad need_defined s = not s.accessible || (need_defined && not (s.undef == 0))
 
--- what is told of the bad byte at an offset
+-- the result for the bad byte at an offset
 abbrev pub bad_at : (ℕ → Shadow) → ℕ → Option ℕ → Option Bad
 bad_at shadows start None = None
 bad_at shadows start (Some i) =
@@ -74,11 +74,11 @@ holds_word shadows a =
     not (is_bad true (shadows a)) && not (is_bad true (shadows (a + 1))) && not (is_bad true (shadows (a + 2)))
     && not (is_bad true (shadows (a + 3)))
 
--- no multiple of 4 from one address up to, not with, another has four accessible and defined bytes
+-- no multiple of 4 from one address up to, but not including, another has four accessible and defined bytes
 abbrev pub HoldNoWord : (ℕ → Shadow) → ℕ → ℕ → Type 0
 HoldNoWord shadows from to = (a : ℕ) → from ≤ a → a < to → a % 4 ≡ 0 → holds_word shadows a ≡ false
 
--- the least multiple of 4, at or above an address, that has
+-- the least multiple of 4, at or above an address, that has such bytes
 pub record IsNextWord (shadows : ℕ → Shadow) (from word : ℕ) : Type 0 where
   pub above : from ≤ word
   pub aligned : word % 4 ≡ 0

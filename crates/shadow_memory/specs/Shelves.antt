@@ -1,4 +1,4 @@
--- The cells of 32 directories in a row.
+-- The cells of 32 consecutive directories.
 use Rattle.std.specs.Prelude.{ℕ, List, map, ◌/◌, ◌%◌, slice_index_or}
 use Rattle.shadow_memory.specs.Marks.{blank}
 use Rattle.shadow_memory.specs.Directories.{cells_under}
@@ -15,6 +15,6 @@ cells_below (Held directory) = cells_under directory.value
 unfoldable pub cells_on : Shelf → ℕ → Cell
 cells_on shelf = λ a. cells_below (slice_index_or shelf.directories.items (a / 4194304) Blank) (a % 4194304)
 
--- the cells of the shelf with a number, where those from the end on are blank
+-- the cells of the shelf with a number, if those from the end on are blank
 abbrev pub shelf_of : List Shelf → ℕ → ℕ → Cell
 shelf_of shelves number = slice_index_or (map cells_on shelves) number (λ at. blank NoAccess)

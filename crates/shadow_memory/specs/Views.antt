@@ -1,4 +1,4 @@
--- What is seen of one page of a memory.
+-- One page of a memory, as it is seen.
 use Rattle.std.specs.Prelude.{ℕ}
 use Rattle.shadow_memory.specs.Marks.{blank}
 use Rattle.shadow_memory.specs.Pages.{cells_in}

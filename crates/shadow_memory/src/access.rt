@@ -18,8 +18,8 @@ use definedness::Bits;
 use std::alloc::AllocError;
 
 impl Memory {
-    /// The low n bytes at an address, their undefined bits, and the first inaccessible address among them; n is 1, 2 or 4.
-    /// What is above the n bytes is 0.
+    /// Returns the low `n` bytes at an address, their undefined bits, and the first inaccessible address among them. `n` is 1, 2 or 4. The
+    /// bits above the `n` bytes are 0.
     #[inline(always)]
     #[tactic(auto, unfolding(crate::specs::Loads::loaded_at, crate::specs::Ranges::window, crate::specs::Shadows::first_inaccessible, crate::specs::Memories::bytes_in, crate::specs::Memories::shadows_in))]
     pub fn load(&self, addr: u32, n: u32) -> Loaded
@@ -33,8 +33,8 @@ impl Memory {
         self.load_at(addr, n)
     }
 
-    /// The number of n bytes at an address, as [`Memory::load`] takes it, if one look-up tells that they are all accessible and defined. It
-    /// doesn't tell it of bytes of two pages, nor of zeros that no one changed.
+    /// Returns the number of `n` bytes at an address, as [`Memory::load`] does, if one look-up shows that they are all accessible and
+    /// defined. Returns `None` for bytes of two pages and for unchanged zeros.
     #[inline(always)]
     #[tactic(auto, unfolding(crate::specs::Loads::loaded_at, crate::specs::Ranges::window, crate::specs::Shadows::first_inaccessible, crate::specs::Memories::bytes_in, crate::specs::Memories::shadows_in))]
     pub fn defined(&self, addr: u32, n: u32) -> Option<u32>
@@ -45,7 +45,7 @@ impl Memory {
         self.defined_at(addr, n)
     }
 
-    // The same, of cells.
+    // The same for cells.
     #[inline(always)]
     fn defined_at(&self, addr: u32, n: u32) -> Option<u32>
         requires { IsWidth n }
@@ -60,7 +60,7 @@ impl Memory {
         }
     }
 
-    // The same, of cells: by one look-up, where they lie in one page.
+    // The same for cells. Needs one look-up if they lie in one page.
     #[inline(always)]
     fn load_at(&self, addr: u32, n: u32) -> Loaded
         requires { IsWidth n }
@@ -102,8 +102,8 @@ impl Memory {
         }
     }
 
-    /// Stores the low n bytes of a number with its undefined bits, and answers the first inaccessible address; n is 1, 2 or 4. An
-    /// inaccessible byte takes its value and stays inaccessible. A refusal leaves a front of them stored.
+    /// Stores the low `n` bytes of a number with its undefined bits, and returns the first inaccessible address. `n` is 1, 2 or 4. An
+    /// inaccessible byte takes its value and stays inaccessible. On an error, a front of them is stored.
     #[inline(always)]
     pub fn store(&mut self, addr: u32, n: u32, bits: Bits) -> Result<Option<u32>, AllocError>
         requires { IsWidth n }
@@ -118,8 +118,8 @@ impl Memory {
         self.store_anywhere(addr, n, bits)
     }
 
-    /// The same at once, by one look-up and without memory: of defined bits in one page, if no other memory has it, and what is there is
-    /// all accessible. Says whether it did.
+    /// Stores as [`Memory::store`] does, by one look-up and without allocating, if the bits are defined, the bytes lie in one page that no
+    /// other memory shares, and what is there is all accessible. Returns whether it did.
     #[inline(always)]
     pub fn store_at_once(&mut self, addr: u32, n: u32, bits: Bits) -> bool
         requires { IsWidth n }
@@ -132,8 +132,8 @@ impl Memory {
         self.put_word(addr, n, bits)
     }
 
-    // The same, of cells: by one look-up, which takes no memory: of defined bits in one page, if no other memory has it, and what is there is
-    // all accessible. Says whether it did.
+    // The same for cells: by one look-up, without allocating, if the bits are defined, the bytes lie in one page that no other memory
+    // shares, and the bytes there are all accessible. Returns whether it did.
     #[inline(always)]
     fn put_word(&mut self, addr: u32, n: u32, bits: Bits) -> bool
         requires { IsWidth n }
@@ -148,7 +148,7 @@ impl Memory {
         self.put(addr, &bytes[..n as usize])
     }
 
-    // The same by a look-up for the answer, and others to store.
+    // Stores any bytes: one look-up finds the inaccessible address, and others store.
     #[inline(never)]
     fn store_anywhere(&mut self, addr: u32, n: u32, bits: Bits) -> Result<Option<u32>, AllocError>
         requires { IsWidth n }
@@ -162,7 +162,7 @@ impl Memory {
         Ok(bad)
     }
 
-    // The same, of cells: by one change, where they lie in one page and are stored all defined or all undefined.
+    // Stores cells, by one change if they lie in one page and are stored all defined or all undefined.
     fn store_at(&mut self, addr: u32, n: u32, bits: Bits) -> Result<(), AllocError>
         requires { IsWidth n }
         ensures ok { OnOk result (cells_of self.new ≡ changed_in (cells_of self.old) addr n (stored bits)) }
@@ -220,7 +220,7 @@ impl Memory {
         Ok(())
     }
 
-    /// Changes the byte at an address. What else is known of it stays.
+    /// Changes the byte at an address. Its accessibility and undefined bits stay.
     #[tactic(auto, unfolding(crate::specs::Edits::count_of, crate::specs::Edits::change_of, crate::specs::Edits::Fits))]
     pub fn poke(&mut self, addr: u32, byte: u8) -> Result<(), AllocError>
         ensures bytes { OnOk result (bytes_in self.new ≡ set_at (bytes_in self.old) addr byte) }
@@ -238,7 +238,7 @@ impl Memory {
         )
     }
 
-    /// Changes the four bytes of a word. What else is known of them stays. A refusal leaves a front of them changed.
+    /// Changes the four bytes of a word. Their accessibility and undefined bits stay. On an error, a front of them is changed.
     pub fn poke_word(&mut self, addr: u32, word: u32) -> Result<(), AllocError>
         ensures bytes { OnOk result (bytes_in self.new ≡ written (bytes_in self.old) addr 4 (byte_of word)) }
         ensures shadows { shadows_in self.new ≡ shadows_in self.old }

@@ -1,4 +1,4 @@
-//! What one address holds, and what the calls of a memory take and answer.
+//! What one address holds, and the values that the calls of a memory take and return.
 ghost use Rattle.std.specs.Prelude.{◌≡◌};
 ghost use Rattle.shadow_memory.specs.Cells.{IsClean};
 ghost use Rattle.shadow_memory.specs.Marks.{blank, mark_of, marked, shadow_of_mark, IsCleanMark};
@@ -13,8 +13,7 @@ pub struct Cell {
     pub undef: u8,
 }
 
-/// What a range of bytes is made (Memcheck manual, section 4.7, client requests `VALGRIND_MAKE_MEM_NOACCESS`, `_UNDEFINED` and
-/// `_DEFINED`).
+/// The kind of a range of bytes (Memcheck manual, section 4.7, client requests `VALGRIND_MAKE_MEM_NOACCESS`, `_UNDEFINED` and `_DEFINED`).
 #[derive(Clone, Copy, PartialEq, Eq)]
 pub enum RangeKind {
     /// Inaccessible.
@@ -40,14 +39,14 @@ pub struct Bad {
     pub accessible: bool,
 }
 
-/// What is known of a byte beside its value.
+/// What is known of a byte besides its value.
 #[derive(Clone, Copy, PartialEq, Eq)]
 pub(crate) struct ByteShadow {
     pub(crate) accessible: bool,
     pub(crate) undef: u8,
 }
 
-/// The mark of a byte of a kind.
+/// Returns the mark of a byte of a kind.
 pub(crate) fn mark_of_kind(kind: RangeKind) -> ByteShadow
     ensures value { result ≡ mark_of kind }
     ensures clean { IsCleanMark result }
@@ -68,7 +67,7 @@ pub(crate) fn mark_of_kind(kind: RangeKind) -> ByteShadow
     }
 }
 
-/// The cell of a byte and a mark.
+/// Returns the cell of a byte and a mark.
 pub(crate) fn marked_cell(byte: u8, mark: ByteShadow) -> Cell
     requires { IsCleanMark mark }
     ensures value { result ≡ marked byte mark }
@@ -81,7 +80,7 @@ pub(crate) fn marked_cell(byte: u8, mark: ByteShadow) -> Cell
     }
 }
 
-/// Byte 0, of a kind.
+/// Returns byte 0, of a kind.
 pub(crate) fn blank_cell(kind: RangeKind) -> Cell
     ensures value { result ≡ blank kind }
     ensures clean { IsClean result }
@@ -89,7 +88,7 @@ pub(crate) fn blank_cell(kind: RangeKind) -> Cell
     marked_cell(0, mark_of_kind(kind))
 }
 
-/// Is a byte inaccessible or, where asked, has it an undefined bit?
+/// Returns whether a byte is inaccessible or, if asked, has an undefined bit.
 pub(crate) fn is_bad_mark(mark: ByteShadow, need_defined: bool) -> bool
     ensures { result ≡ is_bad need_defined (shadow_of_mark mark) }
 {

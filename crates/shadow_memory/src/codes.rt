@@ -12,16 +12,16 @@ use std::alloc::{AllocError, Global};
 /// The number of an inaccessible byte.
 pub(crate) const NO_ACCESS: u8 = 0;
 
-/// That of an accessible byte with all bits undefined.
+/// The number of an accessible byte with all bits undefined.
 pub(crate) const UNDEFINED: u8 = 1;
 
-/// That of an accessible byte with all bits defined.
+/// The number of an accessible byte with all bits defined.
 pub(crate) const DEFINED: u8 = 2;
 
-/// That of any other byte, whose undefined bits are in the side map.
+/// The number of any other byte, whose undefined bits are in the side map.
 pub(crate) const PARTLY: u8 = 3;
 
-/// The number of a kind.
+/// Returns the number of a kind.
 pub(crate) fn code_of_kind(kind: RangeKind) -> u8
     ensures small { result < 4 }
     ensures value { result ≡ code_of kind }
@@ -33,7 +33,7 @@ pub(crate) fn code_of_kind(kind: RangeKind) -> u8
     }
 }
 
-/// The kind that has a number.
+/// Returns the kind of a number, if it has one.
 pub(crate) fn kind_of_code(code: u8) -> Option<RangeKind>
     ensures { IfSome result (λ kind. code ≡ code_of kind) }
 {
@@ -45,7 +45,7 @@ pub(crate) fn kind_of_code(code: u8) -> Option<RangeKind>
     }
 }
 
-/// The number of what a byte loads as, where it isn't defined in part.
+/// Returns the number of a byte as it is loaded, if it isn't partly defined.
 pub(crate) fn loaded_code(code: u8) -> u8
     ensures small { result < 4 }
     ensures value { result ≡ loaded_code code }
@@ -57,7 +57,7 @@ pub(crate) fn loaded_code(code: u8) -> u8
     }
 }
 
-// The number of a byte that takes what another has.
+// Returns the number of a byte that takes over another's.
 fn taken_code(made: u8, old: u8) -> u8
     requires { made < 4 }
     ensures small { result < 4 }
@@ -66,10 +66,10 @@ fn taken_code(made: u8, old: u8) -> u8
     if old == NO_ACCESS { NO_ACCESS } else { made }
 }
 
-// How many bytes hold the numbers of a page, four to a byte.
+// The number of bytes that hold the numbers of a page, four in each byte.
 const PACKED: usize = 1024;
 
-// From how many places to how many a long run of one number is looked for.
+// At the multiples of this number of places, a long run of one number is looked for.
 const STRETCH: usize = 512;
 
 // The byte whose four numbers are each 1.
@@ -82,7 +82,7 @@ pub(crate) struct Codes {
     ghost long: { vec_len packed ≡ 1024 },
 }
 
-// One of the four numbers in a byte.
+// Returns one of the four numbers in a byte.
 fn part(byte: u8, place: usize) -> u8
     requires { place < 4 }
     ensures value { result ≡ part_of byte place }
@@ -96,7 +96,7 @@ fn part(byte: u8, place: usize) -> u8
     }
 }
 
-// The byte with one of its four numbers changed.
+// Returns the byte with one of its four numbers changed.
 fn with_part(byte: u8, place: usize, code: u8) -> u8
     requires place { place < 4 }
     requires small { code < 4 }
@@ -110,7 +110,7 @@ fn with_part(byte: u8, place: usize, code: u8) -> u8
     }
 }
 
-// A byte of four numbers.
+// Returns the byte of four numbers.
 fn packed_four(first: u8, second: u8, third: u8, fourth: u8) -> u8
     requires first { first < 4 }
     requires second { second < 4 }
@@ -121,7 +121,7 @@ fn packed_four(first: u8, second: u8, third: u8, fourth: u8) -> u8
     first + 4 * second + 16 * third + 64 * fourth
 }
 
-// The number of a byte, in one place of four, that takes what another there loads as.
+// Returns the number of a byte, in one place of four, that takes over another's as it is loaded.
 fn copied_part(source: u8, target: u8, place: usize) -> u8
     requires { place < 4 }
     ensures small { result < 4 }
@@ -130,14 +130,14 @@ fn copied_part(source: u8, target: u8, place: usize) -> u8
     taken_code(loaded_code(part(source, place)), part(target, place))
 }
 
-// Are the four numbers in a byte all that of undefined bytes, or all that of defined ones?
+// Returns whether the four numbers in a byte are all those of undefined bytes, or all those of defined ones.
 fn are_alike(byte: u8) -> bool
     ensures { IsTrue result → (k : ℕ) → k < 4 → (part_of byte k ≡ 1) ⊎ (part_of byte k ≡ 2) }
 {
     byte == UNDEFINED * FOUR_ONES || byte == DEFINED * FOUR_ONES
 }
 
-// The four numbers in a byte that take what those in another load as.
+// Returns the four numbers of a byte that take over those of another as they are loaded.
 fn copied_four(source: u8, target: u8) -> u8
     ensures { (k : ℕ) → k < 4 → part_of result k ≡ taken_code (loaded_code (part_of source k)) (part_of target k) }
 {
@@ -152,7 +152,7 @@ fn copied_four(source: u8, target: u8) -> u8
     )
 }
 
-// Is none of the four numbers in a byte that of a byte defined in part? `false` may be told of such ones too.
+// Returns whether none of the four numbers in a byte is that of a partly defined byte. May also return `false` for such numbers.
 fn are_whole(byte: u8) -> bool
     ensures { IsTrue result → (k : ℕ) → k < 4 → part_of byte k < 3 }
 {
@@ -183,16 +183,16 @@ impl Codes {
         part(self.packed[at / 4], at % 4)
     }
 
-    /// Is each of the numbers this one?
+    /// Returns whether each of the numbers is this one.
     pub(crate) fn are_all(&self, code: u8) -> bool
         requires { code < 4 }
         ensures { IsTrue result → (at : ℕ) → at < page_len → code_at self.now at ≡ code }
     {
-        // The last four are looked at before the scan: where a stack's end lies in a page, they differ from its first.
+        // The last four are compared before the scan: if a stack's end lies in a page, they differ from its first.
         self.packed[PACKED - 1] == code * FOUR_ONES && all_are(&self.packed, code * FOUR_ONES)
     }
 
-    /// Is each number, from one place up to, not with, another, this one?
+    /// Returns whether each number, from one place up to, but not including, another, is this one.
     #[inline(always)]
     pub(crate) fn are_all_between(&self, from: usize, to: usize, code: u8) -> bool
         requires order { from ≤ to }
@@ -211,7 +211,7 @@ impl Codes {
         true
     }
 
-    /// Is no number, from one place up to, not with, another, that of an inaccessible byte?
+    /// Returns whether no number, from one place up to, but not including, another, is that of an inaccessible byte.
     #[inline(always)]
     pub(crate) fn are_accessible(&self, from: usize, to: usize) -> bool
         requires order { from ≤ to }
@@ -226,8 +226,8 @@ impl Codes {
         true
     }
 
-    /// Has four places, from a multiple of 4 on, take a number at once, if their bytes are all undefined or all defined. Says whether
-    /// it did.
+    /// Gives four places, from a multiple of 4 on, a number at once, if their bytes are all undefined or all defined. Returns whether it
+    /// did.
     #[inline(always)]
     pub(crate) fn take_word(&mut self, from: usize, to: usize, made: u8) -> bool
         requires order { from ≤ to }
@@ -244,7 +244,7 @@ impl Codes {
         true
     }
 
-    /// A place, from a multiple of 4 on, before which each number is this one.
+    /// Returns a place before which each number, from `from` on, is this one. `from` is a multiple of 4.
     pub(crate) fn skip(&self, from: usize, code: u8) -> usize
         requires within { from ≤ page_len }
         requires aligned { from % 4 ≡ 0 }
@@ -258,7 +258,7 @@ impl Codes {
         }
     }
 
-    // A place, from one on, before which each number is this one; the same place, if its number isn't.
+    // Returns a place before which each number, from `at` on, is this one; `at` itself if its number isn't.
     fn run_some(&self, at: usize, to: usize, code: u8) -> usize
         requires order { at < to }
         requires within { to ≤ page_len }
@@ -280,7 +280,7 @@ impl Codes {
         at + 1
     }
 
-    /// The place after one where the run of the number there ends, or another place if that comes first.
+    /// Returns the place after `from` where the run of its number ends, or `to` if that comes first.
     pub(crate) fn run(&self, from: usize, to: usize) -> usize
         requires order { from < to }
         requires within { to ≤ page_len }
@@ -300,7 +300,7 @@ impl Codes {
         at
     }
 
-    // A place, from one on, before which no byte is defined in part; the same place, if its byte is.
+    // Returns a place before which no byte, from `at` on, is partly defined; `at` itself if its byte is.
     fn whole_some(&self, at: usize, to: usize) -> usize
         requires order { at < to }
         requires within { to ≤ page_len }
@@ -317,7 +317,7 @@ impl Codes {
         self.run(at, to)
     }
 
-    /// The first place, from one up to another, whose byte is defined in part; the other place, if there is none.
+    /// Returns the first place, from `from` up to `to`, whose byte is partly defined, or `to` if there is none.
     pub(crate) fn whole_end(&self, from: usize, to: usize) -> usize
         requires order { from ≤ to }
         requires within { to ≤ page_len }
@@ -348,7 +348,7 @@ impl Codes {
         set_all(&mut self.packed, from / 4, to / 4, code * FOUR_ONES);
     }
 
-    // Sets the number of a place, or those of all whole bytes that end before another place; answers the place after them.
+    // Sets the number of a place, or those of all whole bytes that end before another place. Returns the place after them.
     fn set_some(&mut self, at: usize, to: usize, code: u8) -> usize
         requires order { at < to }
         requires within { to ≤ page_len }
@@ -367,7 +367,7 @@ impl Codes {
         }
     }
 
-    /// Sets the numbers from one place up to, not with, another.
+    /// Sets the numbers from one place up to, but not including, another.
     pub(crate) fn make(&mut self, from: usize, to: usize, code: u8)
         requires order { from ≤ to }
         requires within { to ≤ page_len }
@@ -380,7 +380,7 @@ impl Codes {
         }
     }
 
-    // Has the places of a run take a number; answers the place after them.
+    // Gives the places of a run a number. Returns the place after them.
     fn take_some(&mut self, at: usize, to: usize, made: u8) -> usize
         requires order { at < to }
         requires within { to ≤ page_len }
@@ -395,7 +395,7 @@ impl Codes {
         end
     }
 
-    /// Has the places from one up to, not with, another take a number; those of inaccessible bytes keep theirs.
+    /// Gives the places from one up to, but not including, another a number. Inaccessible bytes keep theirs.
     pub(crate) fn take(&mut self, from: usize, to: usize, made: u8)
         requires order { from ≤ to }
         requires within { to ≤ page_len }
@@ -438,7 +438,7 @@ impl Codes {
         }
     }
 
-    // Has four places of a byte take what those of another byte load as.
+    // Gives the four places of a byte the numbers of another byte as they are loaded.
     fn copy_four(&mut self, at: usize, source: &Codes, from: usize)
         requires aligned { at % 4 ≡ 0 }
         requires room { at + 4 ≤ page_len }
@@ -450,7 +450,8 @@ impl Codes {
         self.packed[at / 4] = copied_four(source.packed[from / 4], self.packed[at / 4]);
     }
 
-    // Has places take what others load as, four of a byte or a run of one number; answers the place after the others.
+    // Gives places the numbers of others as they are loaded: the four of a byte, or a run of one number. Returns the place after the
+    // others.
     fn copy_some(&mut self, at: usize, source: &Codes, from: usize, to: usize) -> usize
         requires order { from < to }
         requires within { to ≤ page_len }
@@ -467,7 +468,7 @@ impl Codes {
         self.copy_run(at, source, from, to)
     }
 
-    // Has places take what those of a run of others load as; answers the place after the run.
+    // Gives places the numbers of a run of others as they are loaded. Returns the place after the run.
     fn copy_run(&mut self, at: usize, source: &Codes, from: usize, to: usize) -> usize
         requires order { from < to }
         requires within { to ≤ page_len }
@@ -483,8 +484,8 @@ impl Codes {
         end
     }
 
-    /// Has so many places take what others load as, none of which is that of a byte defined in part; those of inaccessible bytes
-    /// keep theirs.
+    /// Gives `count` places the numbers of others as they are loaded. None of the others is that of a partly defined byte. Inaccessible
+    /// bytes keep theirs.
     pub(crate) fn copy(&mut self, at: usize, source: &Codes, from: usize, count: usize)
         requires room { at + count ≤ page_len }
         requires within { from + count ≤ page_len }

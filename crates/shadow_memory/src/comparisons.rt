@@ -9,8 +9,8 @@ use crate::pages::PAGE;
 use crate::ranges::count_in_page;
 
 impl Memory {
-    /// Whether the words of a range are those of another memory there, and all its bytes are accessible and defined here. `false` may be
-    /// told of such ranges too: it is, of a page that is blank in either. The range begins and ends at a multiple of 4.
+    /// Returns whether the words of a range are the same in another memory, and all its bytes are accessible and defined here. May also
+    /// return `false` for such ranges, as it does for a page that is blank in either memory. The range begins and ends at a multiple of 4.
     pub fn has_words_of(&self, other: &Memory, from: u32, len: u32) -> bool
         requires aligned { from % 4 ≡ 0 }
         requires whole { len % 4 ≡ 0 }

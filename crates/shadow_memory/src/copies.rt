@@ -18,8 +18,8 @@ use crate::words::copied_from;
 use std::alloc::AllocError;
 
 impl Memory {
-    /// Copies bytes, with what is known of them, to a range that is apart. An inaccessible byte is copied as a defined one; an
-    /// inaccessible target takes the byte and stays inaccessible. A refusal leaves a front of the range copied.
+    /// Copies bytes, with their undefined bits, to a range that doesn't overlap theirs. An inaccessible byte is copied as a defined one. An
+    /// inaccessible target takes the byte and stays inaccessible. On an error, a front of the range is copied.
     pub fn copy_with_shadow(&mut self, from: u32, to: u32, len: u32) -> Result<(), AllocError>
         requires { AreApart from to len }
         ensures bytes { OnOk result (bytes_in self.new ≡ copied (bytes_in self.old) from to len) }
@@ -45,7 +45,7 @@ impl Memory {
         Ok(())
     }
 
-    // Copies the first part; answers how many bytes it has.
+    // Copies the first part. Returns the number of its bytes.
     fn copy_some(&mut self, from: u32, to: u32, most: u32) -> Result<u32, AllocError>
         requires { 0 < most }
         ensures some { IfOk result (λ n. 0 < n) }
@@ -78,7 +78,7 @@ impl Memory {
         self.change_all(to, count, Each::Take(kind))
     }
 
-    // Copies bytes from one page to one page, up to the first that is defined in part, or this one alone; answers how many.
+    // Copies bytes from one page to one page, up to the first that is partly defined, or only this one. Returns the number of bytes.
     #[tactic(auto, unfolding(crate::specs::Edits::count_of, crate::specs::Edits::change_of, crate::specs::Edits::Fits))]
     fn copy_part(&mut self, from: u32, to: u32, most: u32) -> Result<u32, AllocError>
         requires some { 0 < most }

@@ -1,4 +1,4 @@
-//! Pages in a row.
+//! A row of pages.
 ghost use Rattle.std.specs.Prelude.{◌≡◌, ℕ, ◌<◌, ◌≤◌, ◌+◌, ◌*◌, ◌/◌, ◌%◌, true, OnOk, OnErr, IfOk, IfNone, IfSome, IsTrue, IsFalse, length, replicate, slice_index, vec_len};
 ghost use Rattle.shadow_memory.specs.Changes.{received};
 ghost use Rattle.shadow_memory.specs.Places.{page_len};
@@ -10,7 +10,7 @@ use crate::slots::PageSlot;
 use crate::views::View;
 use std::alloc::{AllocError, Global};
 
-/// 1,024 pages in a row. Kept are those from the first to the last that was changed.
+/// 1,024 pages in a row. Those from the first to the last that was changed are kept.
 #[derive(Drop)]
 pub(crate) struct Directory {
     first: usize,
@@ -18,7 +18,7 @@ pub(crate) struct Directory {
     ghost within: { first + vec_len pages ≤ 1024 },
 }
 
-/// So many pages that no one changed.
+/// Returns `count` unchanged pages.
 fn untouched(alloc: Global, count: usize) -> Result<Vec<PageSlot>, AllocError>
     ensures { IfOk result (λ pages. pages.items ≡ replicate count (PageSlot.Blank RangeKind.NoAccess)) }
 {
@@ -37,7 +37,7 @@ impl Directory {
     ghost use Rattle.shadow_memory.specs.Views.{cells_seen};
     ghost use Rattle.shadow_memory.specs.Edits.{change_of, count_of, each_of, Fits};
 
-    /// Inaccessible zeros.
+    /// Returns a directory of inaccessible zeros.
     pub(crate) fn new(alloc: Global) -> Directory
         ensures { cells_under result ≡ (λ a. blank RangeKind.NoAccess) }
     {
@@ -47,7 +47,7 @@ impl Directory {
         }
     }
 
-    /// Where the page with this number is kept, if it is.
+    /// Returns where the page with this number is kept, if it is.
     #[inline(always)]
     fn place(&self, number: usize) -> Option<usize>
         ensures some { IfSome result (λ place. (number ≡ self.now.first + place) × (place < vec_len self.now.pages)) }
@@ -63,7 +63,7 @@ impl Directory {
         None
     }
 
-    /// The page of a place, to read.
+    /// Returns the page of a place, to read.
     #[inline(always)]
     pub(crate) fn view(&self, at: usize) -> View<'_>
         requires { at < 4194304 }
@@ -75,7 +75,7 @@ impl Directory {
         }
     }
 
-    /// The page of a place, which the one who asks holds too.
+    /// Returns the page of a place, which the caller then holds too.
     pub(crate) fn slot(&self, at: usize) -> Result<PageSlot, AllocError>
         requires { at < 4194304 }
         ensures { IfOk result (λ slot. (a : ℕ) → a / page_len ≡ at / page_len → cells_under self.now a ≡ cells_at slot (a % page_len)) }
@@ -86,7 +86,7 @@ impl Directory {
         }
     }
 
-    /// Stores bytes in one page, if it is its own and what is there is all accessible. Says whether it did.
+    /// Stores bytes in one page, if no other memory shares it and the bytes there are all accessible. Returns whether it did.
     #[inline(always)]
     pub(crate) fn put(&mut self, at: usize, bytes: &[u8]) -> bool
         requires within { at < 4194304 }
@@ -101,7 +101,7 @@ impl Directory {
         }
     }
 
-    /// Changes cells of one page, if it is its own and that takes no memory. Says whether it did.
+    /// Changes cells of one page, if no other memory shares it and that allocates nothing. Returns whether it did.
     #[inline(always)]
     pub(crate) fn change_own(&mut self, at: usize, edit: &PageEdit<'_>) -> bool
         requires within { at < 4194304 }
@@ -116,7 +116,7 @@ impl Directory {
         }
     }
 
-    /// Keeps the pages from this one, which comes before the first, on.
+    /// Keeps the pages from this one on, which is before the first.
     fn reach_down(&mut self, alloc: Global, number: usize) -> Result<(), AllocError>
         requires { number < self.old.first }
         ensures same { cells_under self.new ≡ cells_under self.old }
@@ -129,7 +129,7 @@ impl Directory {
         Ok(())
     }
 
-    /// Keeps the pages up to this one, which comes after the last.
+    /// Keeps the pages up to this one, which is after the last.
     fn reach_up(&mut self, alloc: Global, number: usize) -> Result<(), AllocError>
         requires within { number < 1024 }
         requires after { self.old.first + vec_len self.old.pages ≤ number }
@@ -142,7 +142,7 @@ impl Directory {
         Ok(())
     }
 
-    /// Has the pages that are kept begin with this one, if none is.
+    /// Makes this page the first that is kept, if none is.
     fn begin_with(&mut self, number: usize)
         requires { number < 1024 }
         ensures same { cells_under self.new ≡ cells_under self.old }
@@ -152,7 +152,7 @@ impl Directory {
         }
     }
 
-    /// Keeps the page with this number too.
+    /// Keeps the page with this number, too.
     fn reach(&mut self, alloc: Global, number: usize) -> Result<(), AllocError>
         requires { number < 1024 }
         ensures same { cells_under self.new ≡ cells_under self.old }
@@ -187,7 +187,7 @@ impl Directory {
         self.pages[place].change(alloc, at % PAGE, edit)
     }
 
-    /// Changes each byte of blank pages, one after another from one that is kept on, and at most so many. Answers how many.
+    /// Changes each byte of blank pages, one page after another from a kept one on, at most `most` of them. Returns the number of pages.
     fn sweep(&mut self, place: usize, most: usize, each: Each) -> usize
         requires { place + most ≤ vec_len self.old.pages }
         ensures within { result ≤ most }
@@ -202,7 +202,7 @@ impl Directory {
         most
     }
 
-    /// The same from a page with a number on.
+    /// Does the same from the page with a number on.
     fn change_blank(
         &mut self,
         alloc: Global,
@@ -226,7 +226,7 @@ impl Directory {
         Ok(self.sweep(place, most.min(kept), each))
     }
 
-    /// Changes bytes of one page alike, at most so many. Answers how many.
+    /// Changes bytes of one page alike, at most `most` of them. Returns the number of bytes.
     #[tactic(auto, unfolding(crate::specs::Edits::count_of, crate::specs::Edits::change_of, crate::specs::Edits::Fits))]
     fn change_page(
         &mut self,
@@ -247,7 +247,7 @@ impl Directory {
         Ok(count)
     }
 
-    /// Changes bytes alike from a place on: those of blank pages, or some of one page. Answers how many.
+    /// Changes bytes alike from a place on: those of blank pages, or some of one page. Returns the number of bytes.
     pub(crate) fn change_some(
         &mut self,
         alloc: Global,

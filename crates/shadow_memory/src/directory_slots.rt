@@ -17,7 +17,7 @@ use crate::views::View;
 use std::alloc::{AllocError, Global};
 use std::rc::Rc;
 
-/// How many bytes a directory has.
+/// The number of bytes of a directory.
 pub(crate) const DIRECTORY: usize = 4194304;
 
 /// 1,024 pages, which may be blank, or shared.
@@ -31,7 +31,7 @@ pub(crate) enum DirectorySlot {
 
 #[tactic(auto, unfolding(crate::specs::Shelves::cells_below, crate::specs::Views::cells_seen, crate::specs::Directories::cells_at))]
 impl DirectorySlot {
-    /// The page of a place, to read.
+    /// Returns the page of a place, to read.
     #[inline(always)]
     pub(crate) fn view(&self, at: usize) -> View<'_>
         requires { at < 4194304 }
@@ -43,7 +43,7 @@ impl DirectorySlot {
         }
     }
 
-    /// The page of a place, which the one who asks holds too.
+    /// Returns the page of a place, which the caller then holds too.
     pub(crate) fn slot(&self, at: usize) -> Result<PageSlot, AllocError>
         requires { at < 4194304 }
         ensures { IfOk result (λ slot. (a : ℕ) → a / page_len ≡ at / page_len → a < 4194304 → cells_below self.now a ≡ cells_at slot (a % page_len)) }
@@ -54,7 +54,7 @@ impl DirectorySlot {
         }
     }
 
-    /// Is it blank?
+    /// Returns whether it is blank.
     pub(crate) fn has_no_word(&self) -> bool
         ensures { IsTrue result → (k : ℕ) → is_bad true (shadow_in (cells_below self.now k)) ≡ true }
     {
@@ -64,7 +64,7 @@ impl DirectorySlot {
         }
     }
 
-    /// Stores bytes in one page, if it and the directory are its own and what is there is all accessible.
+    /// Stores bytes in one page, if no other memory shares it or the directory and the bytes there are all accessible.
     #[inline(always)]
     pub(crate) fn put(&mut self, at: usize, bytes: &[u8]) -> bool
         requires within { at < 4194304 }
@@ -82,7 +82,7 @@ impl DirectorySlot {
         false
     }
 
-    /// Changes cells of one page, if it and the directory are its own and that takes no memory. Says whether it did.
+    /// Changes cells of one page, if no other memory shares it or the directory and that allocates nothing. Returns whether it did.
     #[inline(always)]
     pub(crate) fn change_own(&mut self, at: usize, edit: &PageEdit<'_>) -> bool
         requires within { at < 4194304 }
@@ -99,7 +99,7 @@ impl DirectorySlot {
         false
     }
 
-    /// Changes cells of one page, in a directory of its own.
+    /// Changes cells of one page, in a directory that no other memory shares.
     pub(crate) fn change(
         &mut self,
         alloc: Global,
@@ -126,7 +126,8 @@ impl DirectorySlot {
         }
     }
 
-    /// Changes bytes alike from a place on, at most so many, in a directory of its own. Answers how many.
+    /// Changes bytes alike from a place on, at most `most` of them, in a directory that no other memory shares. Returns the number of
+    /// bytes.
     pub(crate) fn change_some(
         &mut self,
         alloc: Global,

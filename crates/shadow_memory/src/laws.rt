@@ -7,7 +7,7 @@ use std::simd::prelude::*;
 
 const LANES: usize = 16;
 
-// How many of the sixteen bytes from a place on come before the first that differs.
+// Returns the number of the sixteen bytes from a place on that come before the first that differs.
 fn run_at(bytes: &[u8], at: usize, byte: u8) -> u32
     requires { at + 16 ≤ length bytes.now }
     ensures { result ≡ prefix_len (λ x. not (not (x == byte))) (chunk at 16 bytes.now) }
@@ -22,7 +22,7 @@ fn run_at(bytes: &[u8], at: usize, byte: u8) -> u32
     }
 }
 
-/// The least index whose byte differs.
+/// Returns the least index at which a byte differs.
 pub fn first_not(bytes: &[u8], byte: u8) -> Option<usize>
     ensures none { IfNone result (EachIndex bytes.now (λ k. slice_index bytes.now k ≡ byte)) }
     ensures within { IfSome result (λ i. i < length bytes.now) }
@@ -45,7 +45,7 @@ pub fn first_not(bytes: &[u8], byte: u8) -> Option<usize>
     None
 }
 
-/// Is each byte this one?
+/// Returns whether each byte is this one.
 pub fn all_are(bytes: &[u8], byte: u8) -> bool
     ensures { IsTrue result ↔ EachIndex bytes.now (λ k. slice_index bytes.now k ≡ byte) }
 {

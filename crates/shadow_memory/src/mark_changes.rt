@@ -1,4 +1,4 @@
-//! Changes of which bytes of a page are accessible, and which of their bits are undefined.
+//! Changes of a page's accessible bytes and undefined bits.
 ghost use Rattle.std.specs.Prelude.{◌≡◌, ◌+◌, ◌<◌, ◌≤◌, ℕ, true, OnOk, OnErr, IsTrue, IsFalse};
 ghost use Rattle.shadow_memory.specs.Cells.{set_at};
 ghost use Rattle.shadow_memory.specs.Marks.{defined, mark_of, taken, IsCleanMark};
@@ -40,7 +40,7 @@ impl PageShadows {
         }
     }
 
-    /// Sets a mark, if that takes no memory. Says whether it did.
+    /// Sets a mark, if that allocates nothing. Returns whether it did.
     pub(crate) fn set_held(&mut self, at: usize, mark: ByteShadow) -> bool
         requires within { at < page_len }
         requires clean { IsCleanMark mark }
@@ -53,7 +53,7 @@ impl PageShadows {
         }
     }
 
-    // Is each byte of this kind? Then the marks are held as one again.
+    // If each byte is of this kind, the marks are held as one again.
     fn fold(&mut self, kind: RangeKind)
         ensures { AgreeInPage (marks_in self.new) (marks_in self.old) }
     {
@@ -64,7 +64,7 @@ impl PageShadows {
         }
     }
 
-    /// Makes the bits of the accessible bytes from one place up to, not with, another defined.
+    /// Makes the bits of the accessible bytes from one place up to, but not including, another defined.
     pub(crate) fn define(&mut self, alloc: Global, from: usize, to: usize) -> Result<(), AllocError>
         requires order { from ≤ to }
         requires within { to ≤ page_len }
@@ -83,8 +83,8 @@ impl PageShadows {
         }
     }
 
-    /// Makes the bits of the bytes from one place up to, not with, another defined, if all of them are accessible and they are held one by
-    /// one. Says whether they are; it takes no memory.
+    /// Makes the bits of the bytes from one place up to, but not including, another defined, if all of them are accessible and their marks
+    /// are held individually. Returns whether they are. Allocates nothing.
     pub(crate) fn define_accessible(&mut self, from: usize, to: usize) -> bool
         requires order { from ≤ to }
         requires within { to ≤ page_len }
@@ -98,7 +98,8 @@ impl PageShadows {
         }
     }
 
-    /// Has the accessible bytes from one place up to, not with, another take the bits undefined that one of a kind loads with.
+    /// Gives the accessible bytes from one place up to, but not including, another the undefined bits with which a byte of a kind is
+    /// loaded.
     pub(crate) fn take(
         &mut self,
         alloc: Global,
@@ -127,7 +128,7 @@ impl PageShadows {
         }
     }
 
-    // Has the accessible bytes take the bits undefined that others load with, none of which is defined in part.
+    // Gives accessible bytes the undefined bits with which others are loaded, none of which is partly defined.
     fn copy_mixed(
         &mut self,
         alloc: Global,
@@ -158,7 +159,7 @@ impl PageShadows {
         }
     }
 
-    /// Has so many accessible bytes take the bits undefined that others load with, none of which is defined in part.
+    /// Gives `count` accessible bytes the undefined bits with which others are loaded, none of which is partly defined.
     pub(crate) fn copy(
         &mut self,
         alloc: Global,
@@ -184,7 +185,8 @@ impl PageShadows {
         }
     }
 
-    /// Sets the marks from one place up to, not with, another, if they are held one by one. Says whether they are; it takes no memory.
+    /// Sets the marks from one place up to, but not including, another, if they are held individually. Returns whether they are. Allocates
+    /// nothing.
     pub(crate) fn make_held(&mut self, from: usize, to: usize, kind: RangeKind) -> bool
         requires order { from ≤ to }
         requires within { to ≤ page_len }
@@ -201,7 +203,7 @@ impl PageShadows {
         }
     }
 
-    /// The same for the accessible bytes, which take the bits undefined that one of a kind loads with.
+    /// Does the same for the accessible bytes, which get the undefined bits with which a byte of a kind is loaded.
     pub(crate) fn take_held(&mut self, from: usize, to: usize, kind: RangeKind) -> bool
         requires order { from ≤ to }
         requires within { to ≤ page_len }
@@ -219,7 +221,7 @@ impl PageShadows {
         }
     }
 
-    /// Sets the marks from one place up to, not with, another.
+    /// Sets the marks from one place up to, but not including, another.
     pub(crate) fn make(
         &mut self,
         alloc: Global,

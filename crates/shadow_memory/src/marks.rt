@@ -1,4 +1,4 @@
-//! Which bytes of a page are accessible, and which of their bits are undefined.
+//! The accessible bytes of a page, and their undefined bits.
 ghost use Rattle.std.specs.Prelude.{◌≡◌, ◌+◌, ◌%◌, ◌<◌, ◌≤◌, ℕ, true, OnOk, OnErr, IfOk, IfNone, IfSome, IsTrue, IsFalse, not};
 ghost use Rattle.shadow_memory.specs.Firsts.{IsFirst, NonePass};
 ghost use Rattle.shadow_memory.specs.Shadows.{holds_word, is_bad, HoldNoWord, IsNextWord};
@@ -15,7 +15,7 @@ use crate::pages::PAGE;
 use std::alloc::{AllocError, Global};
 use std::collections::BTreeMap;
 
-/// Marks that differ: two bits for each byte, and beside them the undefined bits of the partly defined bytes.
+/// Marks that differ: two bits for each byte, and the undefined bits of the partly defined bytes.
 #[derive(Drop)]
 pub(crate) struct Mixed {
     codes: Codes,
@@ -29,7 +29,7 @@ pub(crate) enum PageShadows {
     Mixed(Mixed),
 }
 
-/// The first multiple of 4, from one on, that has four accessible and defined bytes, where all are of one kind.
+/// Returns the first multiple of 4, from `from` on, that has four accessible and defined bytes, if all bytes are of one kind.
 pub(crate) fn next_word_of(kind: RangeKind, from: usize) -> Option<usize>
     requires within { from ≤ page_len }
     requires aligned { from % 4 ≡ 0 }
@@ -44,7 +44,7 @@ pub(crate) fn next_word_of(kind: RangeKind, from: usize) -> Option<usize>
     }
 }
 
-/// The first bad byte, where all are of one kind.
+/// Returns the first bad byte, if all bytes are of one kind.
 pub(crate) fn first_bad_of(
     kind: RangeKind,
     from: usize,
@@ -103,7 +103,7 @@ impl Mixed {
         }
     }
 
-    /// Sets a mark, if it isn't that of a byte defined in part. Says whether it did.
+    /// Sets a mark, if it isn't that of a partly defined byte. Returns whether it did.
     pub(crate) fn set_whole(&mut self, at: usize, mark: ByteShadow) -> bool
         requires within { at < page_len }
         requires clean { IsCleanMark mark }
@@ -123,7 +123,7 @@ impl Mixed {
         true
     }
 
-    /// The side map is written first, which can fail. What it has of a byte that is not partly defined is never read.
+    /// Sets a mark. The side map is written first, which can fail. What it has of a byte that isn't partly defined is never read.
     pub(crate) fn set(&mut self, at: usize, mark: ByteShadow) -> Result<(), AllocError>
         requires within { at < page_len }
         requires clean { IsCleanMark mark }
@@ -137,7 +137,7 @@ impl Mixed {
         Ok(())
     }
 
-    /// Sets the marks from one place up to, not with, another.
+    /// Sets the marks from one place up to, but not including, another.
     pub(crate) fn make(&mut self, from: usize, to: usize, kind: RangeKind)
         requires order { from ≤ to }
         requires within { to ≤ page_len }
@@ -146,7 +146,8 @@ impl Mixed {
         self.codes.make(from, to, code_of_kind(kind));
     }
 
-    // Are the bytes from one place up to, not with, another all accessible and defined? `false` may be told of such bytes too.
+    // Returns whether the bytes from one place up to, but not including, another are all accessible and defined. May also return `false`
+    // for such bytes.
     #[inline(always)]
     fn are_defined(&self, from: usize, to: usize) -> bool
         requires order { from ≤ to }
@@ -156,7 +157,7 @@ impl Mixed {
         self.codes.are_all_between(from, to, DEFINED)
     }
 
-    // Are they all accessible, with all bits undefined? `false` may be told of such bytes too.
+    // Returns whether they are all accessible, with all bits undefined. May also return `false` for such bytes.
     #[inline(always)]
     fn are_undefined(&self, from: usize, to: usize) -> bool
         requires order { from ≤ to }
@@ -177,7 +178,7 @@ impl Mixed {
         }
     }
 
-    /// Makes the bits of bytes defined, if all of them are accessible. Says whether they are.
+    /// Makes the bits of bytes defined, if all the bytes are accessible. Returns whether they are.
     pub(crate) fn define_accessible(&mut self, from: usize, to: usize) -> bool
         requires order { from ≤ to }
         requires within { to ≤ page_len }
@@ -195,7 +196,7 @@ impl Mixed {
         true
     }
 
-    /// Has the accessible bytes take the bits undefined that one of a kind loads with.
+    /// Gives the accessible bytes the undefined bits with which a byte of a kind is loaded.
     pub(crate) fn take(&mut self, from: usize, to: usize, kind: RangeKind)
         requires order { from ≤ to }
         requires within { to ≤ page_len }
@@ -204,7 +205,7 @@ impl Mixed {
         self.codes.take(from, to, loaded_code(code_of_kind(kind)));
     }
 
-    /// Has the accessible bytes take the bits undefined that others load with, none of which is defined in part.
+    /// Gives the accessible bytes the undefined bits with which others are loaded, none of which is partly defined.
     pub(crate) fn copy(&mut self, at: usize, source: &Mixed, from: usize, count: usize)
         requires room { at + count ≤ page_len }
         requires within { from + count ≤ page_len }
@@ -214,7 +215,7 @@ impl Mixed {
         self.codes.copy(at, &source.codes, from, count);
     }
 
-    // The kind of the bytes from one place up to, not with, another, if they are of one.
+    // Returns the kind of the bytes from one place up to, but not including, another, if they are of one.
     fn kind(&self, from: usize, to: usize) -> Option<RangeKind>
         requires order { from < to }
         requires within { to ≤ page_len }
@@ -228,7 +229,7 @@ impl Mixed {
         }
     }
 
-    // The first bad byte from one place up to, not with, another. Defined bytes are skipped by a scan.
+    // Returns the first bad byte from one place up to, but not including, another. A scan skips defined bytes.
     fn first_bad(&self, from: usize, to: usize, need_defined: bool) -> Option<usize>
         requires order { from ≤ to }
         requires within { to ≤ page_len }
@@ -248,7 +249,7 @@ impl Mixed {
         None
     }
 
-    // Are four bytes all accessible and defined?
+    // Returns whether four bytes are all accessible and defined.
     fn holds_word(&self, at: usize) -> bool
         requires { at + 4 ≤ page_len }
         ensures { result ≡ holds_word (λ k. shadow_of_mark (marks_mixed self.now k)) at }
@@ -259,7 +260,7 @@ impl Mixed {
             && !is_bad_mark(self.mark(at + 3), true)
     }
 
-    // The first multiple of 4, from one on, that has four such bytes.
+    // Returns the first multiple of 4, from `from` on, that has four such bytes.
     fn next_word(&self, from: usize) -> Option<usize>
         requires within { from ≤ page_len }
         requires aligned { from % 4 ≡ 0 }
@@ -275,7 +276,7 @@ impl Mixed {
         None
     }
 
-    /// Is each byte of this kind?
+    /// Returns whether each byte is of this kind.
     pub(crate) fn are_all(&self, kind: RangeKind) -> bool
         ensures { IsTrue result → AgreeInPage (marks_mixed self.now) (λ k. mark_of kind) }
     {
@@ -329,7 +330,7 @@ impl PageShadows {
         }
     }
 
-    /// Are four bytes all accessible and defined?
+    /// Returns whether four bytes are all accessible and defined.
     pub(crate) fn holds_word(&self, at: usize) -> bool
         requires { at + 4 ≤ page_len }
         ensures { result ≡ holds_word (λ k. shadow_of_mark (marks_in self.now k)) at }
@@ -340,7 +341,7 @@ impl PageShadows {
         }
     }
 
-    /// The first multiple of 4, from one on, that has four accessible and defined bytes.
+    /// Returns the first multiple of 4, from `from` on, that has four accessible and defined bytes.
     pub(crate) fn next_word(&self, from: usize) -> Option<usize>
         requires within { from ≤ page_len }
         requires aligned { from % 4 ≡ 0 }
@@ -354,7 +355,7 @@ impl PageShadows {
         }
     }
 
-    /// The first bad byte from one place up to, not with, another.
+    /// Returns the first bad byte from one place up to, but not including, another.
     pub(crate) fn first_bad(&self, from: usize, to: usize, need_defined: bool) -> Option<usize>
         requires order { from ≤ to }
         requires within { to ≤ page_len }
@@ -367,7 +368,8 @@ impl PageShadows {
         }
     }
 
-    /// Are the bytes from one place up to, not with, another all accessible and defined? `false` may be told of such bytes too.
+    /// Returns whether the bytes from one place up to, but not including, another are all accessible and defined. May also return `false`
+    /// for such bytes.
     #[inline(always)]
     pub(crate) fn are_defined(&self, from: usize, to: usize) -> bool
         requires order { from ≤ to }
@@ -380,7 +382,7 @@ impl PageShadows {
         }
     }
 
-    /// Are they all accessible, with all bits undefined? `false` may be told of such bytes too.
+    /// Returns whether they are all accessible, with all bits undefined. May also return `false` for such bytes.
     pub(crate) fn are_undefined(&self, from: usize, to: usize) -> bool
         requires order { from ≤ to }
         requires within { to ≤ page_len }
@@ -392,7 +394,7 @@ impl PageShadows {
         }
     }
 
-    /// The first place, from one up to another, whose byte is defined in part; the other place, if there is none.
+    /// Returns the first place, from `from` up to `to`, whose byte is partly defined, or `to` if there is none.
     pub(crate) fn whole_end(&self, from: usize, to: usize) -> usize
         requires order { from ≤ to }
         requires within { to ≤ page_len }
@@ -406,7 +408,7 @@ impl PageShadows {
         }
     }
 
-    /// The kind of the bytes from one place up to, not with, another, if they are of one.
+    /// Returns the kind of the bytes from one place up to, but not including, another, if they are of one.
     pub(crate) fn kind(&self, from: usize, to: usize) -> Option<RangeKind>
         requires order { from < to }
         requires within { to ≤ page_len }

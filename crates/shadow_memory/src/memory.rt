@@ -1,4 +1,4 @@
-//! The whole memory, and one change of it.
+//! The whole memory, and a change of it.
 ghost use Rattle.std.specs.Prelude.{◌≡◌, ℕ, ◌+◌, ◌/◌, ◌%◌, ◌^◌, ◌<◌, ◌≤◌, true, IfOk, IsTrue, IsFalse, OnOk, OnErr, length, slice_index, vec_len};
 ghost use Rattle.shadow_memory.specs.Changes.{received};
 ghost use Rattle.shadow_memory.specs.Shadows.{is_bad, shadow_of};
@@ -20,14 +20,14 @@ use std::alloc::{AllocError, Global};
 /// A byte for each of 2^32 addresses, and what is known of it.
 #[derive(Drop)]
 pub struct Memory {
-    // Those from its end on are blank.
+    // Shelves from the end of this list on are blank.
     shelves: Vec<Shelf>,
     alloc: Global,
 }
 
 #[tactic(auto, unfolding(crate::specs::Memories::cells_of, crate::specs::Views::cells_seen, crate::specs::Directories::cells_at, crate::specs::Memories::bytes_in, crate::specs::Memories::shadows_in))]
 impl Memory {
-    /// Every byte is 0 and inaccessible.
+    /// Returns a memory whose bytes are 0 and inaccessible.
     pub fn new(alloc: Global) -> Self
         ensures bytes { bytes_in result ≡ (λ a. 0) }
         ensures shadows { shadows_in result ≡ (λ a. shadow_of RangeKind.NoAccess) }
@@ -38,7 +38,7 @@ impl Memory {
         }
     }
 
-    /// What an address holds.
+    /// Returns what an address holds.
     pub fn byte(&self, addr: u32) -> Cell
         ensures byte { result.byte ≡ bytes_in self.now addr }
         ensures shadow { shadow_in result ≡ shadows_in self.now addr }
@@ -54,7 +54,7 @@ impl Memory {
         self.view(addr).cell(addr as usize % PAGE)
     }
 
-    /// The page of an address, to read.
+    /// Returns the page of an address, to read.
     #[inline(always)]
     pub(crate) fn view(&self, addr: u32) -> View<'_>
         ensures { (a : ℕ) → a / page_len ≡ addr / page_len → cells_of self.now a ≡ cells_seen result (a % page_len) }
@@ -67,7 +67,7 @@ impl Memory {
         }
     }
 
-    /// The page of an address, which the one who asks holds too.
+    /// Returns the page of an address, which the caller then holds too.
     pub(crate) fn slot(&self, addr: u32) -> Result<PageSlot, AllocError>
         ensures { IfOk result (λ slot. (a : ℕ) → a / page_len ≡ addr / page_len → cells_of self.now a ≡ cells_at slot (a % page_len)) }
     {
@@ -79,7 +79,7 @@ impl Memory {
         }
     }
 
-    /// Is a directory, by its number, blank?
+    /// Returns whether the directory of a number is blank.
     pub(crate) fn has_no_word(&self, number: u32) -> bool
         ensures { IsTrue result → (a : ℕ) → a / 4194304 ≡ number → is_bad true (shadows_in self.now a) ≡ true }
     {
@@ -92,7 +92,7 @@ impl Memory {
         }
     }
 
-    // Makes room for a shelf, by its number.
+    // Makes room for the shelf of a number.
     fn grow(&mut self, number: usize) -> Result<(), AllocError>
         requires { number < 32 }
         ensures same { cells_of self.new ≡ cells_of self.old }
@@ -104,8 +104,8 @@ impl Memory {
         Ok(())
     }
 
-    /// Stores bytes in one page, if what is there is all accessible, and no other memory has the page. Says whether it
-    /// did; it takes no memory.
+    /// Stores bytes in one page, if the bytes there are all accessible, and no other memory has the page. Returns whether it did. Allocates
+    /// nothing.
     #[inline(always)]
     pub(crate) fn put(&mut self, addr: u32, bytes: &[u8]) -> bool
         requires { addr % page_len + length bytes.now ≤ page_len }
@@ -118,7 +118,7 @@ impl Memory {
         number < self.shelves.len() && self.shelves[number].put(at % SHELF, bytes)
     }
 
-    // Changes cells of one page, if no other memory has it and that takes no memory. Says whether it did.
+    // Changes cells of one page, if no other memory has it and that allocates nothing. Returns whether it did.
     #[inline(never)]
     fn change_own(&mut self, addr: u32, edit: &PageEdit<'_>) -> bool
         requires one_page { addr % page_len + count_of edit.now ≤ page_len }
@@ -144,7 +144,7 @@ impl Memory {
         self.change_any(addr, edit)
     }
 
-    // The same of any page, in one of its own.
+    // Does the same for any page, in a copy if others share it.
     fn change_any(&mut self, addr: u32, edit: &PageEdit<'_>) -> Result<(), AllocError>
         requires one_page { addr % page_len + count_of edit.now ≤ page_len }
         requires fits { Fits edit.now }
@@ -156,7 +156,7 @@ impl Memory {
         self.shelves[at / SHELF].change(self.alloc, at % SHELF, edit)
     }
 
-    // Changes bytes of one page alike, if no other memory has it and that takes no memory. Says whether it did.
+    // Changes bytes of one page alike, if no other memory has it and that allocates nothing. Returns whether it did.
     #[tactic(auto, unfolding(crate::specs::Edits::count_of, crate::specs::Edits::change_of, crate::specs::Edits::Fits))]
     fn change_own_alike(&mut self, addr: u32, count: u32, each: Each) -> bool
         ensures inside { IsTrue result → addr + count ≤ 2 ^ 32 }
@@ -167,7 +167,7 @@ impl Memory {
         addr as usize % PAGE + count <= PAGE && self.change_own(addr, &PageEdit::All(count, each))
     }
 
-    /// Changes bytes alike from an address on, at least one and at most so many, all of them or none. Answers how many.
+    /// Changes bytes alike from an address on, at least one and at most `most`, all of them or none. Returns the number of bytes.
     pub(crate) fn change_some(
         &mut self,
         addr: u32,
@@ -187,7 +187,7 @@ impl Memory {
         self.change_any_some(addr, most, each)
     }
 
-    // The same of any bytes, in pages of its own.
+    // Does the same for any bytes, in copies of pages that others share.
     fn change_any_some(&mut self, addr: u32, most: u32, each: Each) -> Result<u32, AllocError>
         requires { 0 < most }
         ensures some { IfOk result (λ n. 0 < n) }
@@ -204,7 +204,7 @@ impl Memory {
         Ok(count as u32)
     }
 
-    /// A memory that holds the same. Later changes of one of the two don't reach the other.
+    /// Returns a memory with the same contents. Later changes of one of the two don't reach the other.
     pub fn share(&self) -> Result<Memory, AllocError>
         ensures bytes { IfOk result (λ copy. bytes_in copy ≡ bytes_in self.now) }
         ensures shadows { IfOk result (λ copy. shadows_in copy ≡ shadows_in self.now) }

@@ -19,7 +19,7 @@ use crate::slices::{fill_at, set_all, write_at};
 use crate::words::{ABSENT, all_bits, loaded_from, may_lie_within, word, word_bytes};
 use std::alloc::{AllocError, Global};
 
-/// How many bytes a page has.
+/// The number of bytes of a page.
 pub(crate) const PAGE: usize = 4096;
 
 /// The bytes of a page, and their marks.
@@ -38,7 +38,7 @@ impl Page {
     ghost use Rattle.shadow_memory.specs.Edits.{change_of, count_of, each_of, Fits};
     ghost use Rattle.shadow_memory.specs.Pages.{cells_in, AreWhole};
 
-    /// A page of zeros, of a kind.
+    /// Returns a page of zeros, of a kind.
     pub(crate) fn new(alloc: Global, kind: RangeKind) -> Result<Page, AllocError>
         ensures { IfOk result (λ page. AgreeInPage (cells_in page) (λ at. blank kind)) }
     {
@@ -57,7 +57,7 @@ impl Page {
         marked_cell(self.bytes[at], self.marks.mark(at))
     }
 
-    // The number of n bytes from a place on.
+    // Returns the number of `n` bytes from a place on.
     #[inline(always)]
     fn number(&self, at: usize, n: u32) -> u32
         requires width { IsWidth n }
@@ -73,7 +73,7 @@ impl Page {
         }
     }
 
-    /// The number of n bytes from a place on, where they are told to be all accessible and defined.
+    /// Returns the number of `n` bytes from a place on, if they are found to be all accessible and defined.
     #[inline(always)]
     pub(crate) fn defined(&self, at: usize, n: u32) -> Option<u32>
         requires width { IsWidth n }
@@ -88,7 +88,7 @@ impl Page {
         None
     }
 
-    /// What a load takes of n bytes from a place on, which lie from an address on.
+    /// Returns what a load of `n` bytes from a place on takes. The bytes lie from an address on.
     #[inline(always)]
     pub(crate) fn load(&self, at: usize, addr: u32, n: u32) -> Loaded
         requires width { IsWidth n }
@@ -107,8 +107,8 @@ impl Page {
         }
     }
 
-    // The same, where some bits are undefined. What a function out of line answers in memory gets its place, filled with zeros, where the
-    // function that calls it begins, in line or not. So it is called from here, and not where each load begins.
+    // The same, if some bits are undefined. What an out-of-line function returns in memory gets its room, filled with zeros, at the
+    // beginning of the function that calls it, inlined or not. So the call is here, and not where each load begins.
     #[inline(always)]
     fn load_out(&self, at: usize, addr: u32, n: u32) -> Loaded
         requires width { IsWidth n }
@@ -120,7 +120,7 @@ impl Page {
         self.load_undefined(at, addr, n)
     }
 
-    // The same: at once, where all bits are undefined.
+    // The same, at once if all bits are undefined.
     #[inline(never)]
     fn load_undefined(&self, at: usize, addr: u32, n: u32) -> Loaded
         requires width { IsWidth n }
@@ -161,7 +161,7 @@ impl Page {
         }
     }
 
-    /// The first multiple of 4, from one on, that has four accessible and defined bytes.
+    /// Returns the first multiple of 4, from `from` on, that has four accessible and defined bytes.
     pub(crate) fn next_word(&self, from: usize) -> Option<usize>
         requires within { from ≤ page_len }
         requires aligned { from % 4 ≡ 0 }
@@ -172,7 +172,7 @@ impl Page {
         self.marks.next_word(from)
     }
 
-    // Are four bytes accessible and defined, with a value from low up to, not with, high?
+    // Returns whether four bytes are accessible and defined, with a value from `low` up to, but not including, `high`.
     #[inline(always)]
     fn holds_in_range(&self, at: usize, low: u32, high: u64) -> bool
         requires { at + 4 ≤ page_len }
@@ -185,7 +185,7 @@ impl Page {
         low <= value && (value as u64) < high && self.marks.holds_word(at)
     }
 
-    /// The first multiple of 4, from one on, whose four bytes are so.
+    /// Returns the first multiple of 4, from `from` on, with four such bytes.
     pub(crate) fn next_in_range(&self, from: usize, low: u32, high: u64) -> Option<usize>
         requires within { from ≤ page_len }
         requires aligned { from % 4 ≡ 0 }
@@ -201,7 +201,7 @@ impl Page {
         None
     }
 
-    /// The first bad byte from one place up to, not with, another.
+    /// Returns the first bad byte from one place up to, but not including, another.
     pub(crate) fn first_bad(&self, from: usize, to: usize, need_defined: bool) -> Option<usize>
         requires order { from ≤ to }
         requires within { to ≤ page_len }
@@ -211,8 +211,8 @@ impl Page {
         self.marks.first_bad(from, to, need_defined)
     }
 
-    /// Whether the words from one place up to, not with, another are those of another page there, and all their bytes are accessible
-    /// and defined. Both places are multiples of 4.
+    /// Returns whether the words from one place up to, but not including, another are those of another page there, and all their bytes are
+    /// accessible and defined. Both places are multiples of 4.
     pub(crate) fn has_words_of(&self, other: &Page, from: usize, to: usize) -> bool
         requires order { from < to }
         requires within { to ≤ page_len }
@@ -273,7 +273,7 @@ impl Page {
         Ok(())
     }
 
-    // Has bytes become 0, with the bits undefined that one of a kind loads with.
+    // Makes bytes 0, with the undefined bits with which a byte of a kind is loaded.
     fn take(
         &mut self,
         alloc: Global,
@@ -303,7 +303,7 @@ impl Page {
         }
     }
 
-    // Copies bytes of a page, none of which is defined in part.
+    // Copies bytes of a page, none of which is partly defined.
     fn copy(
         &mut self,
         alloc: Global,
@@ -324,7 +324,7 @@ impl Page {
         Ok(())
     }
 
-    /// The first place, from one up to another, whose byte is defined in part; the other place, if there is none.
+    /// Returns the first place, from `from` up to `to`, whose byte is partly defined, or `to` if there is none.
     pub(crate) fn whole_end(&self, from: usize, to: usize) -> usize
         requires order { from ≤ to }
         requires within { to ≤ page_len }
@@ -335,7 +335,7 @@ impl Page {
         self.marks.whole_end(from, to)
     }
 
-    /// The kind of the bytes from one place up to, not with, another, if they are zeros of one.
+    /// Returns the kind of the bytes from one place up to, but not including, another, if they are zeros of one.
     pub(crate) fn zeros(&self, from: usize, to: usize) -> Option<RangeKind>
         requires order { from < to }
         requires within { to ≤ page_len }
@@ -347,7 +347,8 @@ impl Page {
         self.marks.kind(from, to)
     }
 
-    /// The kind of the page once each byte changed so, if it is zeros of one then and that can be told without looking at the bytes.
+    /// Returns the kind of the page after each of its bytes has changed in this way, if it is then zeros of one kind and this can be found
+    /// out without looking at the bytes.
     pub(crate) fn cleared(&self, each: Each) -> Option<RangeKind>
         ensures { IfSome result (λ kind. (k : ℕ) → k < page_len → each_of each (cells_in self.now k) ≡ blank kind) }
     {
@@ -381,7 +382,7 @@ impl Page {
         Ok(())
     }
 
-    /// Stores bytes from a place on, if what is there is all accessible. Says whether it did; it takes no memory.
+    /// Stores bytes from a place on, if the bytes there are all accessible. Returns whether it did. Allocates nothing.
     #[inline(always)]
     pub(crate) fn put(&mut self, at: usize, bytes: &[u8]) -> bool
         requires { at + length bytes.now ≤ page_len }
@@ -397,7 +398,7 @@ impl Page {
         self.put_out(at, bytes)
     }
 
-    // The same, out of line. A word goes there by its number: bytes that are lent stand in memory, and are written one by one above.
+    // The same, out of line. A word is passed as a number: borrowed bytes lie in memory, and are written individually above.
     #[inline(always)]
     fn put_out(&mut self, at: usize, bytes: &[u8]) -> bool
         requires { at + length bytes.now ≤ page_len }
@@ -412,7 +413,7 @@ impl Page {
         self.put_defining(at, bytes)
     }
 
-    // The same, of a word.
+    // The same for a word.
     #[inline(never)]
     fn put_word(&mut self, at: usize, value: u32) -> bool
         requires { at + 4 ≤ page_len }
@@ -423,7 +424,7 @@ impl Page {
         self.put_defining(at, &word_bytes(value))
     }
 
-    // The same, where some bits of what is there are undefined.
+    // The same, if some bits of the bytes there are undefined.
     #[inline(never)]
     fn put_defining(&mut self, at: usize, bytes: &[u8]) -> bool
         requires { at + length bytes.now ≤ page_len }
@@ -439,7 +440,7 @@ impl Page {
         true
     }
 
-    // One cell, if that takes no memory. Says whether it did.
+    // Sets a cell, if that allocates nothing. Returns whether it did.
     fn set_own(&mut self, at: usize, cell: Cell) -> bool
         requires within { at < page_len }
         requires clean { IsClean cell }
@@ -457,7 +458,7 @@ impl Page {
         true
     }
 
-    // Bytes all of whose bits are undefined, if their marks are held one by one. Says whether they are.
+    // Stores bytes all of whose bits are undefined, if the marks are held individually. Returns whether they are.
     fn store_undefined_own(&mut self, at: usize, bytes: &[u8]) -> bool
         requires { at + length bytes.now ≤ page_len }
         ensures done { IsTrue result → AgreeInPage (cells_in self.new) (changed_from (cells_in self.old) at (length bytes.now)
@@ -472,8 +473,8 @@ impl Page {
         true
     }
 
-    /// Changes cells from a place on, if that takes no memory: one, or those of a range that is made so or stored undefined. Says
-    /// whether it did.
+    /// Changes cells from a place on, if that allocates nothing: one cell, or the cells of a range whose kind is set or that is stored
+    /// undefined. Returns whether it did.
     pub(crate) fn change_own(&mut self, at: usize, edit: &PageEdit<'_>) -> bool
         requires within { at + count_of edit.now ≤ page_len }
         requires fits { Fits edit.now }

@@ -1,4 +1,4 @@
-//! Changes of whole ranges: blank pages one after another at once, others page by page.
+//! Changes of whole ranges: consecutive blank pages at once, others page by page.
 ghost use Rattle.std.specs.Prelude.{◌≡◌, ◌+◌, ◌%◌, ◌<◌, ◌≤◌, ◌^◌, IfOk, OnOk, OnErr, length, slice_index};
 ghost use Rattle.shadow_memory.specs.Edits.{each_of};
 ghost use Rattle.shadow_memory.specs.Places.{changed_from, page_len};
@@ -13,10 +13,10 @@ use crate::edits::{Each, PageEdit};
 use crate::memory::Memory;
 use std::alloc::AllocError;
 
-/// How many bytes a page has.
+/// The number of bytes of a page.
 pub(crate) const PAGE_LEN: u32 = 4096;
 
-/// How many bytes of a page there are from an address on, and at most so many.
+/// Returns the number of bytes from an address to the end of its page, or `most` if that is less.
 pub(crate) fn count_in_page(at: u32, most: u32) -> u32
     requires { 0 < most }
     ensures some { 0 < result }
@@ -28,7 +28,7 @@ pub(crate) fn count_in_page(at: u32, most: u32) -> u32
 }
 
 impl Memory {
-    /// Makes a range inaccessible, undefined or defined. Its bytes stay. A refusal leaves a front of it changed.
+    /// Makes a range inaccessible, undefined or defined. Its bytes stay. On an error, a front of it is changed.
     pub fn set_range(&mut self, addr: u32, len: u32, kind: RangeKind) -> Result<(), AllocError>
         ensures bytes { bytes_in self.new ≡ bytes_in self.old }
         ensures shadows { OnOk result (shadows_in self.new ≡ made_so (shadows_in self.old) addr len kind) }
@@ -37,7 +37,7 @@ impl Memory {
         self.change_all(addr, len, Each::Make(kind))
     }
 
-    /// Changes the bytes of a range alike. A refusal leaves a front of it changed.
+    /// Changes the bytes of a range alike. On an error, a front of it is changed.
     pub(crate) fn change_all(&mut self, addr: u32, len: u32, each: Each) -> Result<(), AllocError>
         ensures ok { OnOk result (cells_of self.new ≡ changed_in (cells_of self.old) addr len (λ i cell. each_of each cell)) }
         ensures err { OnErr result (SomeFront len (λ k. cells_of self.new ≡ changed_in (cells_of self.old) addr k (λ i cell. each_of each cell))) }
@@ -51,7 +51,7 @@ impl Memory {
         Ok(())
     }
 
-    /// Makes a range accessible and defined, with these bytes and zeros after them. A refusal leaves a front of it changed.
+    /// Makes a range accessible and defined, with these bytes and zeros after them. On an error, a front of it is changed.
     pub fn fill(&mut self, addr: u32, len: u32, bytes: &[u8]) -> Result<(), AllocError>
         ensures bytes { OnOk result (bytes_in self.new ≡ written (bytes_in self.old) addr len (slice_index bytes.now)) }
         ensures shadows { OnOk result (shadows_in self.new ≡ made_so (shadows_in self.old) addr len RangeKind.Defined) }
@@ -60,7 +60,7 @@ impl Memory {
         self.fill_cells(addr, len, bytes)
     }
 
-    // Some cells of a range, all of them or none; answers how many.
+    // Fills some cells of a range, all of them or none. Returns the number of cells.
     #[tactic(auto, unfolding(crate::specs::Edits::count_of, crate::specs::Edits::change_of, crate::specs::Edits::each_of, crate::specs::Edits::Fits))]
     fn fill_some(&mut self, at: u32, most: u32, bytes: &[u8]) -> Result<u32, AllocError>
         requires { 0 < most }
@@ -78,7 +78,7 @@ impl Memory {
         Ok(count)
     }
 
-    // The cells of a range.
+    // Fills the cells of a range.
     fn fill_cells(&mut self, addr: u32, len: u32, bytes: &[u8]) -> Result<(), AllocError>
         ensures ok { OnOk result (cells_of self.new ≡ changed_in (cells_of self.old) addr len (filled (slice_index bytes.now))) }
         ensures err { OnErr result (SomeFront len (λ k. cells_of self.new ≡ changed_in (cells_of self.old) addr k (filled (slice_index bytes.now)))) }
@@ -93,8 +93,8 @@ impl Memory {
         Ok(())
     }
 
-    /// Stores bytes all of whose bits are defined. An inaccessible one takes its value and stays inaccessible. A refusal
-    /// leaves a front of them stored.
+    /// Stores bytes all of whose bits are defined. An inaccessible byte takes its value and stays inaccessible. On an error, a front of the
+    /// bytes is stored.
     pub fn store_bytes(&mut self, addr: u32, bytes: &[u8]) -> Result<(), AllocError>
         requires { length bytes.now < 2 ^ 32 }
         ensures bytes { OnOk result (bytes_in self.new ≡ written (bytes_in self.old) addr (length bytes.now) (slice_index bytes.now)) }
@@ -104,7 +104,7 @@ impl Memory {
         self.store_bytes_cells(addr, bytes)
     }
 
-    // The cells of a range, page by page.
+    // Stores into the cells of a range, page by page.
     #[tactic(auto, unfolding(crate::specs::Edits::count_of, crate::specs::Edits::change_of, crate::specs::Edits::Fits))]
     fn store_bytes_cells(&mut self, addr: u32, bytes: &[u8]) -> Result<(), AllocError>
         requires { length bytes.now < 2 ^ 32 }

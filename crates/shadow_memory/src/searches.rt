@@ -12,12 +12,12 @@ use crate::memory::Memory;
 use crate::pages::PAGE;
 use crate::ranges::{PAGE_LEN, count_in_page};
 
-// How many pages the addresses have, and how many a directory has.
+// The number of pages of the address space, and of a directory.
 const PAGES: u32 = 1048576;
 
 const DIRECTORY_PAGES: u32 = 1024;
 
-/// So many zeros of one kind.
+/// A number of zeros of one kind.
 #[derive(Clone, Copy)]
 pub(crate) struct Zeros {
     pub(crate) count: u32,
@@ -25,7 +25,7 @@ pub(crate) struct Zeros {
 }
 
 impl Memory {
-    // The kind of so many bytes of one page, if they are zeros of one.
+    // Returns the kind of `count` bytes of one page, if they are zeros of one kind.
     fn zeros_in_page(&self, addr: u32, count: u32) -> Option<RangeKind>
         requires some { 0 < count }
         requires one_page { addr % page_len + count ≤ page_len }
@@ -35,7 +35,7 @@ impl Memory {
         self.view(addr).zeros(place, place + count as usize)
     }
 
-    /// Zeros of one kind from an address on, at most so many, if the bytes there are so up to the end of the page.
+    /// Returns zeros of one kind from an address on, at most `most` of them, if the bytes up to the end of the page are such zeros.
     pub(crate) fn zeros(&self, addr: u32, most: u32) -> Option<Zeros>
         requires { 0 < most }
         ensures some { IfSome result (λ zeros. 0 < zeros.count) }
@@ -55,7 +55,7 @@ impl Memory {
         Some(Zeros { count, kind })
     }
 
-    /// The first byte of a range that is inaccessible or, where asked, has an undefined bit.
+    /// Returns the first byte of a range that is inaccessible or, if asked, has an undefined bit.
     pub fn first_bad(&self, addr: u32, len: u32, need_defined: bool) -> Option<Bad>
         ensures { result ≡ first_bad (shadows_in self.now) addr len need_defined }
     {
@@ -75,7 +75,7 @@ impl Memory {
         None
     }
 
-    /// The least multiple of 4, at or above an address, whose four bytes are all accessible and defined.
+    /// Returns the least multiple of 4, at or above an address, whose four bytes are all accessible and defined.
     pub fn next_word(&self, addr: u32) -> Option<u32>
         ensures none { IfNone result (HoldNoWord (shadows_in self.now) addr (2 ^ 32)) }
         ensures some { IfSome result (IsNextWord (shadows_in self.now) addr) }
@@ -97,8 +97,8 @@ impl Memory {
         None
     }
 
-    /// The least multiple of 4, at or above an address, whose four bytes are all accessible and defined, with a value from low up to,
-    /// not with, high. Zeros are never such a value: a page that is blank, and a directory, costs a step.
+    /// Returns the least multiple of 4, at or above an address, whose four bytes are all accessible and defined, with a value from `low` up
+    /// to, but not including, `high`. Zeros never have such a value, so a blank page costs one step, and so does a blank directory.
     pub fn next_in_range(&self, addr: u32, low: u32, high: u64) -> Option<u32>
         requires { 0 < low }
         ensures none { IfNone result (HoldNoneInRange (bytes_in self.now) (shadows_in self.now) low high addr (2 ^ 32)) }

@@ -1,4 +1,4 @@
-//! Directories in a row.
+//! A row of directories.
 ghost use Rattle.std.specs.Prelude.{◌≡◌, ℕ, ◌+◌, ◌/◌, ◌%◌, ◌<◌, ◌≤◌, true, IfOk, IsTrue, IsFalse, OnOk, OnErr, length, slice_index, vec_len};
 
 use crate::cells::RangeKind;
@@ -8,16 +8,16 @@ use crate::slots::PageSlot;
 use crate::views::View;
 use std::alloc::{AllocError, Global};
 
-/// How many directories a shelf has.
+/// The number of directories of a shelf.
 pub(crate) const DIRECTORIES: usize = 32;
 
-/// How many bytes a shelf has.
+/// The number of bytes of a shelf.
 pub(crate) const SHELF: usize = 134217728;
 
 /// 32 directories in a row.
 #[derive(Drop)]
 pub(crate) struct Shelf {
-    // Those from its end on are blank.
+    // Directories from the end of this list on are blank.
     directories: Vec<DirectorySlot>,
     ghost within: { vec_len directories ≤ 32 },
 }
@@ -34,7 +34,7 @@ impl Shelf {
     ghost use Rattle.shadow_memory.specs.Shelves.{cells_on};
     ghost use Rattle.shadow_memory.specs.Changes.{received};
 
-    /// Inaccessible zeros.
+    /// Returns a shelf of inaccessible zeros.
     pub(crate) fn new(alloc: Global) -> Shelf
         ensures { cells_on result ≡ (λ a. blank RangeKind.NoAccess) }
     {
@@ -43,7 +43,7 @@ impl Shelf {
         }
     }
 
-    /// The page of a place, to read.
+    /// Returns the page of a place, to read.
     #[inline(always)]
     pub(crate) fn view(&self, at: usize) -> View<'_>
         requires { at < 134217728 }
@@ -57,7 +57,7 @@ impl Shelf {
         }
     }
 
-    /// The page of a place, which the one who asks holds too.
+    /// Returns the page of a place, which the caller then holds too.
     pub(crate) fn slot(&self, at: usize) -> Result<PageSlot, AllocError>
         requires { at < 134217728 }
         ensures { IfOk result (λ slot. (a : ℕ) → a / page_len ≡ at / page_len → cells_on self.now a ≡ cells_at slot (a % page_len)) }
@@ -70,7 +70,7 @@ impl Shelf {
         }
     }
 
-    /// Is a directory, by its number, blank?
+    /// Returns whether the directory of a number is blank.
     pub(crate) fn has_no_word(&self, number: usize) -> bool
         ensures { IsTrue result → (a : ℕ) → a / 4194304 ≡ number → is_bad true (shadow_in (cells_on self.now a)) ≡ true }
     {
@@ -81,7 +81,7 @@ impl Shelf {
         }
     }
 
-    // Makes room for a directory, by its number.
+    // Makes room for the directory of a number.
     fn grow(&mut self, number: usize) -> Result<(), AllocError>
         requires { number < 32 }
         ensures same { cells_on self.new ≡ cells_on self.old }
@@ -93,7 +93,8 @@ impl Shelf {
         Ok(())
     }
 
-    /// Stores bytes in one page, if it and its directory are its own and what is there is all accessible. Says whether it did.
+    /// Stores bytes in one page, if no other memory shares it or its directory and the bytes there are all accessible. Returns whether it
+    /// did.
     #[inline(always)]
     pub(crate) fn put(&mut self, at: usize, bytes: &[u8]) -> bool
         requires within { at < 134217728 }
@@ -106,7 +107,7 @@ impl Shelf {
         number < self.directories.len() && self.directories[number].put(at % DIRECTORY, bytes)
     }
 
-    /// Changes cells of one page, if it and its directory are its own and that takes no memory. Says whether it did.
+    /// Changes cells of one page, if no other memory shares it or its directory and that allocates nothing. Returns whether it did.
     #[inline(always)]
     pub(crate) fn change_own(&mut self, at: usize, edit: &PageEdit<'_>) -> bool
         requires within { at < 134217728 }
@@ -137,7 +138,7 @@ impl Shelf {
         self.directories[number].change(alloc, at % DIRECTORY, edit)
     }
 
-    /// Changes bytes of one directory alike from a place on, at least one and at most so many. Answers how many.
+    /// Changes bytes of one directory alike from a place on, at least one and at most `most`. Returns the number of bytes.
     pub(crate) fn change_some(
         &mut self,
         alloc: Global,

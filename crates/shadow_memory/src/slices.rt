@@ -1,9 +1,9 @@
-//! Parts of slices of bytes, written as a whole.
+//! Parts of slices of bytes, written at once.
 ghost use Rattle.std.specs.Prelude.{◌≡◌, ℕ, ◌+◌, ◌-◌, ◌≤◌, if◌then◌else◌, length, slice_index};
 ghost use Rattle.shadow_memory.specs.Places.{is_between};
 ghost use Rattle.shadow_memory.specs.Changes.{overwritten};
 
-/// Sets the bytes from one place up to, not with, another.
+/// Sets the bytes from one place up to, but not including, another.
 pub(crate) fn set_all(bytes: &mut [u8], from: usize, to: usize, byte: u8)
     requires order { from ≤ to }
     requires within { to ≤ length bytes.old }
@@ -33,7 +33,7 @@ pub(crate) fn write_at(bytes: &mut [u8], at: usize, made: &[u8])
     }
 }
 
-/// Writes bytes from a place on, with zeros after them, over so many places.
+/// Writes bytes from a place on, with zeros after them, over `count` places.
 pub(crate) fn fill_at(bytes: &mut [u8], at: usize, count: usize, made: &[u8])
     requires { at + count ≤ length bytes.old }
     ensures { (k : ℕ) → slice_index bytes.new k ≡ (if is_between at (at + count) k then slice_index made.now (k - at) else slice_index bytes.old k) }

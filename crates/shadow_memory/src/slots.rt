@@ -24,7 +24,7 @@ pub(crate) enum PageSlot {
     Held(Rc<Page>),
 }
 
-// The kind that a blank page has after a change, where it stays blank.
+// Returns the kind that a blank page has after a change, if it stays blank.
 #[tactic(auto, unfolding(crate::specs::Edits::count_of, crate::specs::Edits::change_of))]
 fn blank_after(old: RangeKind, edit: &PageEdit<'_>) -> Option<RangeKind>
     ensures { IfSome result (LeavesBlank old edit.now) }
@@ -43,7 +43,7 @@ fn blank_after(old: RangeKind, edit: &PageEdit<'_>) -> Option<RangeKind>
     }
 }
 
-// The kind of a page after a change of all of it, where it is known to be zeros of one.
+// Returns the kind of a page after a change of all of it, if it is known to be zeros of one kind.
 #[tactic(auto, unfolding(crate::specs::Edits::count_of, crate::specs::Edits::change_of, crate::specs::Edits::each_of))]
 fn cleared_by(page: &Page, edit: &PageEdit<'_>) -> Option<RangeKind>
     ensures whole { IfSome result (λ kind. count_of edit.now ≡ page_len) }
@@ -58,7 +58,7 @@ fn cleared_by(page: &Page, edit: &PageEdit<'_>) -> Option<RangeKind>
 
 #[tactic(auto, unfolding(crate::specs::Directories::cells_at, crate::specs::Views::cells_seen, crate::specs::Edits::count_of, crate::specs::Edits::change_of))]
 impl PageSlot {
-    /// The page, to read.
+    /// Returns the page, to read.
     #[inline(always)]
     pub(crate) fn view(&self) -> View<'_>
         ensures { cells_seen result ≡ cells_at self.now }
@@ -69,7 +69,7 @@ impl PageSlot {
         }
     }
 
-    /// Stores bytes from a place on, if the page is its own and what is there is all accessible. Says whether it did.
+    /// Stores bytes from a place on, if no other memory shares the page and the bytes there are all accessible. Returns whether it did.
     #[inline(always)]
     pub(crate) fn put(&mut self, at: usize, bytes: &[u8]) -> bool
         requires { at + length bytes.now ≤ page_len }
@@ -86,7 +86,7 @@ impl PageSlot {
         false
     }
 
-    /// Changes cells from a place on, if the page is its own and that takes no memory. Says whether it did.
+    /// Changes cells from a place on, if no other memory shares the page and that allocates nothing. Returns whether it did.
     #[inline(always)]
     pub(crate) fn change_own(&mut self, at: usize, edit: &PageEdit<'_>) -> bool
         requires within { at + count_of edit.now ≤ page_len }
@@ -102,7 +102,7 @@ impl PageSlot {
         false
     }
 
-    /// Changes each byte of a blank page. Says whether it was one.
+    /// Changes each byte of a blank page. Returns whether it was one.
     pub(crate) fn sweep(&mut self, each: Each) -> bool
         ensures done { IsTrue result → cells_at self.new ≡ (λ k. each_of each (cells_at self.old k)) }
         ensures kept { IsFalse result → cells_at self.new ≡ cells_at self.old }
@@ -116,7 +116,7 @@ impl PageSlot {
         }
     }
 
-    /// Changes cells from a place on, in a page of its own.
+    /// Changes cells from a place on, in a page that no other memory shares.
     pub(crate) fn change(
         &mut self,
         alloc: Global,

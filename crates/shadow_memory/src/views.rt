@@ -38,7 +38,7 @@ impl View<'_> {
         }
     }
 
-    /// The kind of the bytes from one place up to, not with, another, if they are zeros of one.
+    /// Returns the kind of the bytes from one place up to, but not including, another, if they are zeros of one.
     pub(crate) fn zeros(self, from: usize, to: usize) -> Option<RangeKind>
         requires order { from < to }
         requires within { to ≤ page_len }
@@ -50,7 +50,7 @@ impl View<'_> {
         }
     }
 
-    /// The number of n bytes from a place on, where they are told to be all accessible and defined.
+    /// Returns the number of `n` bytes from a place on, if they are found to be all accessible and defined.
     #[inline(always)]
     pub(crate) fn defined(self, at: usize, n: u32) -> Option<u32>
         requires width { IsWidth n }
@@ -65,7 +65,7 @@ impl View<'_> {
         }
     }
 
-    /// What a load takes of n bytes from a place on, which lie from an address on.
+    /// Returns what a load of `n` bytes from a place on takes. The bytes lie from an address on.
     #[inline(always)]
     pub(crate) fn load(self, at: usize, addr: u32, n: u32) -> Loaded
         requires width { IsWidth n }
@@ -87,7 +87,7 @@ impl View<'_> {
         }
     }
 
-    /// The first multiple of 4, from one on, that has four accessible and defined bytes.
+    /// Returns the first multiple of 4, from `from` on, that has four accessible and defined bytes.
     pub(crate) fn next_word(self, from: usize) -> Option<usize>
         requires within { from ≤ page_len }
         requires aligned { from % 4 ≡ 0 }
@@ -101,7 +101,8 @@ impl View<'_> {
         }
     }
 
-    /// The first multiple of 4, from one on, whose four bytes are accessible and defined, with a value from low up to, not with, high.
+    /// Returns the first multiple of 4, from `from` on, whose four bytes are accessible and defined, with a value from `low` up to, but not
+    /// including, `high`.
     pub(crate) fn next_in_range(self, from: usize, low: u32, high: u64) -> Option<usize>
         requires within { from ≤ page_len }
         requires aligned { from % 4 ≡ 0 }
@@ -116,7 +117,7 @@ impl View<'_> {
         }
     }
 
-    /// The first bad byte from one place up to, not with, another.
+    /// Returns the first bad byte from one place up to, but not including, another.
     pub(crate) fn first_bad(self, from: usize, to: usize, need_defined: bool) -> Option<usize>
         requires order { from ≤ to }
         requires within { to ≤ page_len }
@@ -129,8 +130,8 @@ impl View<'_> {
         }
     }
 
-    /// Whether both pages are held, and the words from one place up to, not with, another are those of the other page there, with all
-    /// their bytes accessible and defined. Both places are multiples of 4.
+    /// Returns whether both pages are held, and the words from one place up to, but not including, another are those of the other page
+    /// there, with all their bytes accessible and defined. Both places are multiples of 4.
     pub(crate) fn has_words_of(self, other: View<'_>, from: usize, to: usize) -> bool
         requires order { from < to }
         requires within { to ≤ page_len }

@@ -9,17 +9,17 @@ ghost use Rattle.shadow_memory.specs.Changes.{stored, IsWidth};
 use crate::cells::{Cell, Loaded};
 use definedness::Bits;
 
-/// What a load takes above its bytes.
+/// The cell of the bytes above those that are loaded.
 pub(crate) const ABSENT: Cell = Cell {
     byte: 0,
     accessible: true,
     undef: 0,
 };
 
-/// What one is worth in the highest byte of a word.
+/// The value of a 1 in the highest byte of a word.
 const HIGHEST: u32 = 1 << 24;
 
-/// Byte i of a word, from the low end.
+/// Returns byte `i` of a word, from the low end.
 #[inline(always)]
 #[tactic(auto, unfolding(crate::specs::Ranges::byte_of))]
 pub(crate) fn byte_at(word: u32, i: u32) -> u8
@@ -35,7 +35,7 @@ pub(crate) fn byte_at(word: u32, i: u32) -> u8
     byte as u8
 }
 
-/// The bytes of a word, the lowest first.
+/// Returns the bytes of a word, the lowest first.
 #[inline(always)]
 pub(crate) fn word_bytes(word: u32) -> [u8; 4]
     ensures { (i : ℕ) → i < 4 → slice_index result i ≡ byte_of word i }
@@ -48,7 +48,7 @@ pub(crate) fn word_bytes(word: u32) -> [u8; 4]
     ]
 }
 
-/// The number of four bytes, the lowest first.
+/// Returns the number of four bytes, the lowest first.
 #[inline(always)]
 #[tactic(auto, unfolding(crate::specs::Ranges::little_word))]
 pub(crate) fn word(first: u8, second: u8, third: u8, fourth: u8) -> u32
@@ -57,7 +57,7 @@ pub(crate) fn word(first: u8, second: u8, third: u8, fourth: u8) -> u32
     u32::from_le_bytes([first, second, third, fourth])
 }
 
-/// The number of n bytes, all of whose bits are set.
+/// Returns the number of `n` bytes, all of whose bits are set.
 #[inline(always)]
 #[tactic(auto, unfolding(crate::specs::Ranges::little_word))]
 pub(crate) fn all_bits(n: u32) -> u32
@@ -72,7 +72,7 @@ pub(crate) fn all_bits(n: u32) -> u32
     }
 }
 
-/// Are all bits of the low n bytes of a number set?
+/// Returns whether all bits of the low `n` bytes of a number are set.
 #[tactic(auto, unfolding(crate::specs::Ranges::byte_of))]
 pub(crate) fn has_all_bits(number: u32, n: u32) -> bool
     requires { IsWidth n }
@@ -85,7 +85,7 @@ pub(crate) fn has_all_bits(number: u32, n: u32) -> bool
     }
 }
 
-/// Whether four bytes may have a value from low up to, not with, high, as far as the highest of them tells.
+/// Returns whether four bytes may have a value from `low` up to, but not including, `high`, by their highest byte.
 #[inline(always)]
 pub(crate) fn may_lie_within(bytes: &[u8], low: u32, high: u64) -> bool
     requires { length bytes.now ≡ 4 }
@@ -93,18 +93,18 @@ pub(crate) fn may_lie_within(bytes: &[u8], low: u32, high: u64) -> bool
 {
     let least = u64::from(low / HIGHEST);
     let end = high / u64::from(HIGHEST) + 1;
-    // One comparison, whose jump is mispredicted on random data less often than those of two.
+    // One comparison, whose jump is mispredicted on random data less often than the jumps of two.
     u64::from(bytes[3]).wrapping_sub(least) < end.saturating_sub(least)
 }
 
-// The undefined bits that a load takes of a cell.
+// Returns the undefined bits of a cell as it is loaded.
 fn loaded_undef(cell: Cell) -> u8
     ensures { result ≡ loaded_undef (shadow_in cell) }
 {
     if cell.accessible { cell.undef } else { 0 }
 }
 
-/// A cell after byte i of a number was stored in it.
+/// Returns a cell after byte `i` of a number was stored in it.
 pub(crate) fn stored_cell(bits: Bits, i: u32, cell: Cell) -> Cell
     requires width { i < 4 }
     requires clean { IsClean cell }
@@ -122,7 +122,7 @@ pub(crate) fn stored_cell(bits: Bits, i: u32, cell: Cell) -> Cell
     }
 }
 
-/// A target's cell after a source's was copied to it.
+/// Returns a target's cell after a source's was copied to it.
 pub(crate) fn copied_from(source: Cell, target: Cell) -> Cell
     requires source { IsClean source }
     requires target { IsClean target }
@@ -142,7 +142,7 @@ pub(crate) fn copied_from(source: Cell, target: Cell) -> Cell
     }
 }
 
-/// What a load takes of four cells from an address on.
+/// Returns what a load of four cells from an address on takes.
 #[tactic(auto, unfolding(crate::specs::Loads::loaded_at, crate::specs::Ranges::little_word, crate::specs::Ranges::first_from))]
 pub(crate) fn loaded_from(addr: u32, first: Cell, second: Cell, third: Cell, fourth: Cell) -> Loaded
     ensures { result ≡ loaded_at (four first second third fourth) addr 4 }

@@ -7,7 +7,7 @@ use Rattle.std.proofs.lemmas.List.{take-append-drop, length-append, drop-drop}
 use Rattle.std.proofs.lemmas.Bool.{false≢true}
 use Rattle.suppressions.specs.Fitting.{FitsPieces, FitsFront, IsStar, IsSingle, StandsAt}
 
--- what stands at a place
+-- the piece at a place
 pub stands_here : {X : Type 0} (xs : List X) (at : ℕ) (x : X) → at < length xs → x ≡ get_or xs at x → StandsAt xs at x
 stands_here xs at x lt is = rw (add-one) (drop-cons xs at x lt ∙ ap (λ y. y ∷ drop (suc at) xs) (sym is))
 
@@ -116,7 +116,7 @@ module _ {P X : Type 0} (Fits : P → List X → Type 0) where
     pub none_whole : (ps : List P) → FitsPieces Fits ps [] → FitsFront Fits may_go_on ps []
     none_whole ps h = ([], [], refl, h, inr refl)
 
-  -- items that may not go on after a pattern are all fitted
+  -- items that may not continue after a pattern are all fitted
   pub front_closed : (ps : List P) (xs : List X) → FitsFront Fits false ps xs → FitsPieces Fits ps xs
   front_closed ps xs h = go h.4
     where

@@ -22,12 +22,12 @@ abbrev pub CanResume : {P X : Type 0} → (List P → List X → Type 0) → Lis
 CanResume Front p t at place None = Unit {0}
 CanResume Front p t at place (Some back) = Resumes Front p t at place back.0 back.1
 
--- the last star takes one item more, or more than one
+-- the last star takes another item, or more than one
 abbrev pub FitsLater : {P X : Type 0} → (List P → List X → Type 0) → List P → List X → Option (ℕ × ℕ) → Type 0
 FitsLater Front p t None = ⊥
 FitsLater Front p t (Some back) = (k : ℕ) × Front (drop back.0 p) (drop (back.1 + 1 + k) t)
 
--- the items fit the pattern just where the rest fits from here, or where the last star takes more
+-- the items fit the pattern exactly where the rest fits from here, or where the last star takes more
 pub record Walk {P X : Type 0} (Front : List P → List X → Type 0) (p : List P) (t : List X) (at place : ℕ)
     (back : Option (ℕ × ℕ)) : Type 0 where
   pub in_pattern : at ≤ length p
@@ -142,7 +142,7 @@ module _ {P X : Type 0} (Fits : P → List X → Type 0) (may_go_on : Bool) (p :
             rw one at (rest (drop (at - back.0) u) (r.between u h));
       }
 
-  -- back to the last star, which takes one item more
+  -- back to the last star, which takes another item
   pub walk_back : (at place star from : ℕ) → place < length t → (Front (drop at p) (drop place t) → ⊥)
       → Walk Front p t at place (Some (star, from))
       → Walk Front p t star (from + 1) (Some (star, from + 1))
@@ -201,7 +201,7 @@ module _ {P X : Type 0} (Fits : P → List X → Type 0) (may_go_on : Bool) (p :
           let none = end_closed Fits may_go_on (drop place t) closed (rw (drop_all at p ge) at h) in
           absurd (omega (arith, ap length (sym item ∙ none)))
 
-  -- at the pattern's end, where the items may go on
+  -- at the pattern's end, where the items may continue
   pub walk_goes_on : (at place : ℕ) (back : Option (ℕ × ℕ)) → length p ≤ at → IsTrue may_go_on
       → Walk Front p t at place back → Front p t
   walk_goes_on at place back ge goes_on w =

@@ -15,7 +15,7 @@ use Rattle.text_parts.specs.Parts.{parts}
 use Rattle.suppressions.specs.Rules.{Rule}
 use Rattle.suppressions.specs.Words.{frame_of, plain_subject, leak_kinds, each_kind}
 
--- what a block is read as: the numbers of the lines at fault, whether a parameter or a frame line stands before the
+-- what a block is read as: the numbers of the lines at fault, whether a parameter or a frame line comes before the
 -- first of them, and the suppression, which counts if there are none
 pub record Reading : Type 0 where
   pub faults : List ℕ
@@ -34,7 +34,7 @@ skipped = record { faults = []; kept = false; rule = nothing }
 abbrev pub fault_at : ℕ → Reading
 fault_at number = record { faults = number ∷ []; kept = false; rule = nothing }
 
--- a line that is no frame line is at fault
+-- a line that isn't a frame line is at fault
 abbrev pub frame_fault : Line → Option ℕ
 frame_fault line = if is_some (frame_of line.text) then None else Some line.number
 
@@ -44,7 +44,7 @@ frame_faults lines = filter_map frame_fault lines
 abbrev pub frame_lines : List Line → List FrameLine
 frame_lines lines = filter_map (λ line. frame_of line.text) lines
 
--- does a frame line stand first?
+-- is the first line a frame line?
 abbrev pub begins_framed : List Line → Bool
 begins_framed [] = false
 begins_framed (line ∷ lines) = is_some (frame_of line.text)
@@ -66,7 +66,7 @@ abbrev pub without_spaces : List ℕ → List ℕ
 without_spaces [] = []
 without_spaces (b ∷ bs) = if b == 32 then without_spaces bs else b ∷ bs
 
--- a list of leak kinds, where it is one, and frame lines
+-- a list of leak kinds, if it is one, and frame lines
 abbrev pub listed_block : ℕ → Option LeakKinds → List Line → Reading
 listed_block number None lines = record { faults = number ∷ frame_faults lines; kept = false; rule = nothing }
 listed_block number (Some kinds) lines = framed_block (Leak kinds) lines
@@ -90,11 +90,11 @@ kind_block kind lines close =
     else if bytes_eq kind (codes "Leak") then leak_block lines
     else plain_block (plain_subject kind) lines
 
--- is Memcheck among the tools, which commas (44) part?
+-- is Memcheck among the tools, separated by commas (44)?
 abbrev pub has_memcheck : List ℕ → Bool
 has_memcheck tools = list_any (λ tool. bytes_eq tool (codes "Memcheck")) (parts 44 tools)
 
--- a line `TOOLS:KIND`, parted at its first colon (58), and the lines after it
+-- a line `TOOLS:KIND`, split at its first colon (58), and the lines after it
 abbrev pub tools_block : Option ℕ → Line → List Line → ℕ → Reading
 tools_block None line lines close = fault_at line.number
 tools_block (Some colon) line lines close =
@@ -104,25 +104,25 @@ abbrev pub named_block : List Line → ℕ → Reading
 named_block [] close = fault_at close
 named_block (line ∷ lines) close = tools_block (position (λ b. b == 58) line.text) line lines close
 
--- a name, which may be any line, `TOOLS:KIND`, and the lines after it; where one of them is due, `}` is at fault
+-- a name, which may be any line, `TOOLS:KIND`, and the lines after it; if one of them is missing, `}` is at fault
 unfoldable pub block : List Line → ℕ → Reading
 block [] close = fault_at close
 block (name ∷ lines) close = named_block lines close
 
--- a refusal names the first of the lines at fault; or memory was wanting
+-- a fault names the first of the lines at fault; or memory ran out
 abbrev pub IsFirstFault : List ℕ → SuppFault → Type 0
 IsFirstFault faults Memory = Unit {0}
 IsFirstFault faults (BadSuppression number) = (more : List ℕ) × (faults ≡ number ∷ more)
 
--- a block's refusal names its first fault; or memory was wanting for what stands before that
+-- a block's fault names its first line at fault; or memory ran out for what comes before that
 abbrev pub Refuses : Reading → SuppFault → Type 0
 Refuses reading Memory = IsTrue reading.kept
 Refuses reading (BadSuppression number) = IsFirstFault reading.faults (BadSuppression number)
 
--- a result is a reading's: its suppression where it has no fault, and else a refusal
+-- a result is a reading's: its suppression if it has no fault, and otherwise a fault
 abbrev pub Reads : Reading → Result Rule SuppFault → Type 0
 Reads reading result = MatchResult result (λ rule. (reading.faults ≡ []) × (reading.rule ≡ rule)) (Refuses reading)
 
--- something of a block is kept: all of it, where it has no fault, or what stands before its first one
+-- something of a block is kept: all of it, if it has no fault, or what comes before its first fault
 abbrev pub KeepsSome : Reading → Type 0
 KeepsSome reading = (reading.faults ≡ []) ⊎ IsTrue reading.kept

@@ -1,5 +1,5 @@
 -- Frame lines, and the traces that they match (Valgrind user manual, section 2.5: each line fits one frame, `...` any
--- number; the trace may go on after them). A trace is seen by the names of its frames, the innermost first.
+-- number; the trace may continue after them). A trace is given by the names of its frames, the innermost first.
 use Rattle.std.specs.Prelude.{◌≡◌, ℕ, Bool, true, false, List, [], ◌∷◌, ◌++◌, length, codes}
 use Rattle.suppressions.specs.declared.frames.FrameLine.{FrameLine}
 use Rattle.suppressions.specs.declared.frames.FrameLine.TheVariants.{Function, Object, AnyFrames, Source}
@@ -13,7 +13,7 @@ FitsFrame (Object pattern) names = (length names ≡ 1) × FitsGlob pattern (cod
 FitsFrame AnyFrames names = Unit {0}
 FitsFrame Source names = ⊥
 
--- some frames at the front of the trace fit the frame lines, one by one
+-- some frames at the front of the trace fit the frame lines, in order
 unfoldable pub MatchesTrace : List FrameLine → List (List ℕ) → Type 0
 MatchesTrace frames names =
     (front : List (List ℕ)) × (rest : List (List ℕ)) × (names ≡ front ++ rest) × FitsPieces FitsFrame frames front

@@ -8,7 +8,7 @@ use Rattle.suppressions.specs.Fitting.{FitsPieces, fits_pieces}
 abbrev pub StandsFor : ℕ → List ℕ → Type 0
 StandsFor c part = MatchBool (c == 42) (Unit {0}) (MatchBool (c == 63) (length part ≡ 1) (part ≡ c ∷ []))
 
--- a text fits a pattern when it splits into parts that the pattern's bytes stand for, one by one
+-- a text fits a pattern if it splits into parts that the pattern's bytes stand for, in order
 unfoldable pub FitsGlob : List ℕ → List ℕ → Type 0
 FitsGlob pattern text = FitsPieces StandsFor pattern text
 

@@ -4,7 +4,7 @@ use Rattle.std.specs.Prelude.{ℕ, ◌+◌, ◌==◌, Bool, true, ◌||◌, List
 use Rattle.std.specs.Str.{bytes_eq}
 use Rattle.text_parts.specs.Parts.{parts}
 
--- a line, trimmed, and its number in the text, the first being 1
+-- a line, trimmed, and its number in the text; the first line is 1
 pub record Line : Type 0 where
   pub number : ℕ
   pub text : List ℕ
@@ -41,7 +41,7 @@ unfoldable pub numbered : ℕ → List (List ℕ) → List Line
 numbered number [] = []
 numbered number (line ∷ lines) = onto_lines number (trimmed line) (numbered (number + 1) lines)
 
--- a text's lines lie between newlines (10); an empty rest after the last one doesn't count, like any empty line
+-- a text's lines are between newlines (10); an empty rest after the last one doesn't count, like any empty line
 abbrev pub lines_of : List ℕ → List Line
 lines_of text = numbered 1 (parts 10 text)
 

@@ -1,5 +1,5 @@
 -- A suppression as a value: what it is for, its frame lines, and whether it is switched on. What it matches, and what
--- some that are on leave out of a report (Valgrind user manual, section 2.5).
+-- the suppressions that are on leave out of a report (Valgrind user manual, section 2.5).
 use Rattle.std.specs.Prelude.{ℕ, Bool, IsTrue, ◌&&◌, List}
 use Rattle.std.specs.List.{Any, list_any}
 use Rattle.suppressions.specs.declared.frames.FrameLine.{FrameLine}
@@ -13,7 +13,7 @@ pub record Rule : Type 0 where
   pub frames : List FrameLine
   pub on : Bool
 
--- a suppression matches an error or a leak that it is for, where its frame lines match the trace, whatever its switch
+-- a suppression matches an error or a leak that it is for, if its frame lines match the trace, whatever its switch
 abbrev pub Matches : Rule → Target → List (List ℕ) → Type 0
 Matches rule target names = IsFor rule.subject target × MatchesTrace rule.frames names
 

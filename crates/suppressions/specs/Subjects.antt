@@ -1,5 +1,5 @@
--- What a suppression is for: the kinds of errors of Memcheck (Memcheck manual, section 4.4), an access of 1, 2 or 4
--- bytes being a read or a write.
+-- What a suppression is for: the kinds of errors of Memcheck (Memcheck manual, section 4.4), where an access of 1, 2 or
+-- 4 bytes is a read or a write.
 use Rattle.std.specs.Prelude.{◌≡◌, ◌==◌, Bool, true, false, IsTrue}
 use Rattle.std.specs.Str.{bytes_eq}
 use Rattle.error_events.specs.declared.kind.Kind.TheVariants as kinds
@@ -13,14 +13,14 @@ use Rattle.suppressions.specs.declared.subject.Subject.{Subject}
 use Rattle.suppressions.specs.declared.subject.Subject.TheVariants.{Access, Value, Condition, Parameter, Release, Jump}
 use Rattle.suppressions.specs.declared.subject.Subject.TheVariants.{Leak}
 
--- is a leak kind among some?
+-- does a set have a leak kind?
 abbrev pub has_kind : LeakKinds → LeakKind → Bool
 has_kind kinds Definite = kinds.definite
 has_kind kinds Indirect = kinds.indirect
 has_kind kinds Possible = kinds.possible
 has_kind kinds Reachable = kinds.reachable
 
--- an error of a kind, or a leak of one, is what a suppression is for; a parameter's text is compared exactly
+-- a suppression is for an error of a kind, or a leak of one; a parameter's text is compared exactly
 abbrev pub IsFor : Subject → Target → Type 0
 IsFor (Access size) (targets.Error (kinds.Read n)) = n ≡ size
 IsFor (Access size) (targets.Error (kinds.Write n)) = n ≡ size

@@ -1,4 +1,4 @@
--- A suppression text: blocks, and what stands outside of them (Valgrind user manual, section 2.5).
+-- A suppression text: blocks, and the lines outside of them (Valgrind user manual, section 2.5).
 use Rattle.std.specs.Prelude.{◌≡◌, ◌≤◌, ℕ, Bool, true, IsTrue, false, List, [], ◌∷◌, Option, Some, None, if◌then◌else◌}
 use Rattle.std.specs.Prelude.{All, Contains}
 use Rattle.std.specs.List.{flat_map}
@@ -21,8 +21,8 @@ abbrev pub after_block : List Line → List Line
 after_block [] = []
 after_block (line ∷ lines) = if closes line then lines else after_block lines
 
--- the parts of a text: a line that stands outside a block, by its number; or a block, by the number of its `{`, its
--- lines and the number of its `}`, if it has one
+-- the parts of a text: a line outside of a block, by its number; or a block, by the number of its `{`, its lines and
+-- the number of its `}`, if it has one
 pub data Part : Type 0 where
   stray : ℕ → Part
   block_of : ℕ → List Line → Option ℕ → Part
@@ -35,7 +35,7 @@ text_parts false (line ∷ lines) =
     else stray line.number ∷ text_parts false lines
 text_parts true (line ∷ lines) = text_parts (if closes line then false else true) lines
 
--- the lines at fault in a part; in a block with no `}` it is the `{`, and any others are later lines
+-- the lines at fault in a part; in a block without `}` it is the `{`, and any others are later lines
 abbrev pub part_faults : Part → List ℕ
 part_faults (stray number) = number ∷ []
 part_faults (block_of number lines None) = number ∷ []
@@ -65,7 +65,7 @@ rules text = rules_in (lines_of text)
 abbrev pub IsLeast : ℕ → List ℕ → Type 0
 IsLeast n ns = Contains ns n × All (λ m. n ≤ m) ns
 
--- of the first part of the lines something is kept: it is a block with an end
+-- something of the first part of the lines is kept: it is a block with an end
 abbrev pub KeepsFirst : List Line → Type 0
 KeepsFirst [] = ⊥
 KeepsFirst (line ∷ lines) =

@@ -20,7 +20,7 @@ frame_of word =
     else if starts_with nat_eq word (codes "src:") then Some Source
     else None
 
--- the leak kinds that one word of a list names, if it may stand there; `none` names no kind
+-- the leak kinds that one word of a list names, if it is a word of such a list; `none` names no kind
 unfoldable pub kinds_of_word : List ℕ → Option LeakKinds
 kinds_of_word word =
     if bytes_eq word (codes "definite")
@@ -37,7 +37,7 @@ kinds_of_word word =
     then Some (record { definite = false; indirect = false; possible = false; reachable = false })
     else None
 
--- the kinds of two sets
+-- the kinds that are in either of two sets
 abbrev pub union : LeakKinds → LeakKinds → LeakKinds
 union a b = record {
   definite = a.definite || b.definite;
@@ -46,17 +46,17 @@ union a b = record {
   reachable = a.reachable || b.reachable;
 }
 
--- the kinds that some words name beside others, if each may stand there
+-- the kinds that some words name, and others, if each is a word of such a list
 abbrev pub kinds_beside : LeakKinds → List (List ℕ) → Option LeakKinds
 kinds_beside kinds [] = Some kinds
 kinds_beside kinds (word ∷ words) = option_and_then (λ more. kinds_beside (union kinds more) words) (kinds_of_word word)
 
--- the kinds of a list whose words commas part
+-- the kinds of a list whose words are separated by commas
 unfoldable pub leak_kinds : List ℕ → Option LeakKinds
 leak_kinds list =
     kinds_beside (record { definite = false; indirect = false; possible = false; reachable = false }) (parts 44 list)
 
--- are words frame lines, each of them?
+-- is each of some words a frame line?
 abbrev pub are_frames : List (List ℕ) → Bool
 are_frames words = list_all (λ word. is_some (frame_of word)) words
 
@@ -64,7 +64,7 @@ are_frames words = list_all (λ word. is_some (frame_of word)) words
 abbrev pub frames_among : List (List ℕ) → List FrameLine
 frames_among words = filter_map frame_of words
 
--- what a kind without words of its own is for
+-- what a kind that has no extra line is for
 unfoldable pub plain_subject : List ℕ → Option Subject
 plain_subject kind =
     if bytes_eq kind (codes "Addr1") then Some (Access 1)
@@ -76,6 +76,6 @@ plain_subject kind =
     else if bytes_eq kind (codes "Jump") then Some Jump
     else None
 
--- each leak kind
+-- all leak kinds
 abbrev pub each_kind : LeakKinds
 each_kind = record { definite = true; indirect = true; possible = true; reachable = true }

@@ -17,7 +17,7 @@ const GUEST: &[u8] = b"guest";
 pub(crate) enum FrameLine {
     /// `fun:P`: one frame whose name fits the pattern.
     Function(Text),
-    /// `obj:P`: one frame, where the object's name fits the pattern.
+    /// `obj:P`: one frame, if the object's name fits the pattern.
     Object(Text),
     /// `...`: any number of frames.
     AnyFrames,
@@ -47,7 +47,7 @@ impl<'a> Piece<&'a [u8]> for FrameLine {
     }
 }
 
-/// The byte that each text begins with which fits a pattern, where the pattern's first byte stands for itself.
+/// Returns the first byte of each text that fits a pattern, if the pattern's first byte stands for itself.
 fn initial_of(pattern: &[u8]) -> Option<u8>
     ensures { result ≡ initial_of pattern.now }
 {
@@ -57,7 +57,7 @@ fn initial_of(pattern: &[u8]) -> Option<u8>
     }
 }
 
-/// The byte that the name of the innermost frame begins with in each trace that frame lines match, where the first of them says so.
+/// Returns the first byte of the innermost frame's name in each trace that frame lines match, if the first of them gives it.
 fn innermost_initial(lines: &[FrameLine]) -> Option<u8>
     ensures { result ≡ innermost_initial lines.now }
 {
@@ -67,7 +67,8 @@ fn innermost_initial(lines: &[FrameLine]) -> Option<u8>
     }
 }
 
-/// Whether the innermost frame of a trace, given by the names of its frames, begins with a byte, where one is known.
+/// Returns whether the name of a trace's innermost frame begins with a byte; true if no byte is known. The trace is given by the names of
+/// its frames.
 fn may_match(initial: Option<u8>, names: &[&[u8]]) -> bool
     ensures { result ≡ may_match initial (map (λ name. name.now) names.now) }
 {
@@ -80,7 +81,7 @@ fn may_match(initial: Option<u8>, names: &[&[u8]]) -> bool
     }
 }
 
-/// The frame lines of a suppression, with what can be told of most traces at a glance. Contracts see their list.
+/// The frame lines of a suppression, with a byte that rules out most traces at a glance. Contracts see their list.
 #[derive(Drop)]
 pub(crate) struct Frames {
     lines: Vec<FrameLine>,
@@ -100,7 +101,7 @@ impl Model for Frames {
 }
 
 impl Frames {
-    /// Some frame lines.
+    /// Returns frame lines to match.
     pub(crate) fn new(lines: Vec<FrameLine>) -> Self
         ensures { result ≡ lines.items }
     {
@@ -108,7 +109,7 @@ impl Frames {
         Frames { lines, initial }
     }
 
-    /// Whether some frames at the front of a trace, given by their names, fit the frame lines one by one.
+    /// Returns whether some frames at the front of a trace, given by their names, fit the frame lines in order.
     pub(crate) fn matches(&self, names: &[&[u8]]) -> bool
         ensures { result ≡ matches_trace self.now (map (λ name. name.now) names.now) }
     {
@@ -116,7 +117,7 @@ impl Frames {
     }
 }
 
-/// The same of any frame lines, by the walk alone.
+/// Returns the same for any frame lines, only by the walk.
 fn matches_trace(frames: &[FrameLine], names: &[&[u8]]) -> bool
     ensures { result ≡ matches_trace frames.now (map (λ name. name.now) names.now) }
 {

@@ -12,7 +12,7 @@ pub const TEXT_LIMIT: usize = 1_048_576;
 /// The line that ends a block.
 pub(crate) const CLOSE: &[u8] = b"}";
 
-/// A line without blanks at its ends, and its number. Contracts see these two.
+/// A line without blanks at its ends, and its number. Contracts see both.
 #[derive(Drop)]
 pub(crate) struct Line<'a> {
     number: u32,
@@ -41,7 +41,7 @@ impl<'a> Line<'a> {
     }
 }
 
-/// Whether a byte is dropped at the ends of a line.
+/// Returns whether a byte is dropped at the ends of a line.
 fn is_blank(b: u8) -> bool
     ensures { result ≡ is_blank b }
 {
@@ -74,7 +74,7 @@ fn trim_end(line: &[u8]) -> &[u8]
     rest
 }
 
-/// A line without blanks at its ends.
+/// Returns a line without blanks at its ends.
 #[tactic(auto, unfolding(crate::specs::Lines::trimmed))]
 fn trim(line: &[u8]) -> &[u8]
     ensures { result.now ≡ trimmed line.now }
@@ -82,7 +82,7 @@ fn trim(line: &[u8]) -> &[u8]
     trim_end(trim_start(line))
 }
 
-/// Whether a line, trimmed, is empty or a comment.
+/// Returns whether a line, trimmed, is empty or a comment.
 fn is_skipped(line: &[u8]) -> bool
     ensures { result ≡ is_skipped line.now }
 {
@@ -92,7 +92,7 @@ fn is_skipped(line: &[u8]) -> bool
     }
 }
 
-/// The lines that count and are left. Contracts see their list.
+/// The remaining lines that count. Contracts see their list.
 #[derive(Drop)]
 pub(crate) struct Lines<'a> {
     parts: Parts<'a>,
@@ -111,7 +111,7 @@ impl<'a> Model for Lines<'a> {
 }
 
 impl<'a> Lines<'a> {
-    /// The lines of a text.
+    /// Returns the lines of a text.
     pub(crate) fn new(text: &'a [u8]) -> Self
         requires { length text.now ≤ TEXT_LIMIT }
         ensures { result ≡ lines_of text.now }
@@ -122,7 +122,7 @@ impl<'a> Lines<'a> {
         }
     }
 
-    /// The same lines.
+    /// Returns the same lines.
     pub(crate) fn fork(&self) -> Self
         ensures { result ≡ self.now }
     {
@@ -132,7 +132,7 @@ impl<'a> Lines<'a> {
         }
     }
 
-    /// The next line.
+    /// Returns the next line.
     pub(crate) fn next(&mut self) -> Option<Line<'a>>
         ensures none { IfNone result ((self.old ≡ []) × (self.new ≡ [])) }
         ensures some { IfSome result (λ line. self.old ≡ line ∷ self.new) }
@@ -148,7 +148,7 @@ impl<'a> Lines<'a> {
         None
     }
 
-    /// Passes over a block, and answers the number of its last line, if there is one.
+    /// Skips a block, and returns the number of its last line, if there is one.
     pub(crate) fn pass_block(&mut self) -> Option<u32>
         ensures number { result ≡ closing self.old }
         ensures after { OnSome result (self.new ≡ after_block self.old) }

@@ -12,7 +12,7 @@ use std::alloc::Global;
 /// The line that begins a block.
 const OPEN: &[u8] = b"{";
 
-/// The suppressions of some lines, or the first line at fault.
+/// Returns the suppressions of some lines, or the first line at fault.
 fn read_lines(alloc: Global, mut lines: Lines<'_>) -> Result<Vec<Suppression>, SuppFault>
     ensures read { MatchResult result (λ list. (faults_in lines.entry ≡ []) × (list.items ≡ rules_in lines.entry)) (IsFirstFault (faults_in lines.entry)) }
     ensures memory { result ≡ Err SuppFault.Memory → KeepsFirst lines.entry }
@@ -32,10 +32,14 @@ fn read_lines(alloc: Global, mut lines: Lines<'_>) -> Result<Vec<Suppression>, S
     Ok(list)
 }
 
-/// The suppressions of a text of at most [`TEXT_LIMIT`] bytes, each switched on, in order; or the least number of a line at fault, the
-/// first being 1. Where memory fails, that may be answered in place of a fault, but not of one that comes before all that is kept:
-/// before the first block's end, where it has none, and before its parameter or its first frame line. The text's form is that of
-/// Valgrind's suppression files (user manual, section 2.5).
+/// Returns the suppressions of a text of at most [`TEXT_LIMIT`] bytes, each switched on, in order. The text's form is that of Valgrind's
+/// suppression files (user manual, section 2.5).
+///
+/// # Errors
+///
+/// Fails with the least number of a line at fault; the first line is 1. If memory runs out, `Memory` may be returned instead, but only if
+/// something of the text is kept before that fault: not if the first block has no end, nor if the fault comes before the block's parameter
+/// or its first frame line.
 pub fn parse(alloc: Global, text: &[u8]) -> Result<Vec<Suppression>, SuppFault>
     requires { length text.now ≤ TEXT_LIMIT }
     ensures read { IfOk result (λ list. (faults text.now ≡ []) × (list.items ≡ rules text.now)) }

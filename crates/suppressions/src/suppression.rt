@@ -27,15 +27,15 @@ impl Model for Suppression {
 }
 
 impl Suppression {
-    /// The suppression, switched on, of the words KIND WORDS.. of a session's command `supp add`: a kind, what Param and Leak take,
-    /// and frame lines, parted by one space each. Other words are refused as line 1, and that before want of memory.
+    /// Returns the suppression, switched on, of the arguments KIND WORDS.. of a session's command `supp add`: the kind, its extra line (for
+    /// Param and Leak), and frame lines, separated by one space each. Other arguments are rejected as line 1, even if memory would run out.
     pub fn from_words(alloc: Global, words: &[u8]) -> Result<Self, SuppFault>
         ensures { Gives (added words.now) result }
     {
         adding::added(alloc, words)
     }
 
-    /// Whether it matches an error or a leak with a trace, given by the names of its frames; whatever its switch.
+    /// Returns whether it matches an error or a leak with a trace, whatever its switch. The trace is given by the names of its frames.
     pub fn matches(&self, target: &Target, names: &[&[u8]]) -> bool
         ensures value { result ≡ matches self.now target.now (map (λ name. name.now) names.now) }
         ensures meaning { IsTrue result ↔ Matches self.now target.now (map (λ name. name.now) names.now) }
@@ -43,7 +43,7 @@ impl Suppression {
         self.subject.is_for(target) && self.frames.matches(names)
     }
 
-    /// Whether it is switched on.
+    /// Returns whether it is switched on.
     pub fn is_on(&self) -> bool
         ensures { result ≡ self.now.on }
     {
@@ -58,8 +58,8 @@ impl Suppression {
     }
 }
 
-/// Whether an error or a leak with a trace, given by the names of its frames, is left out of a report: some suppression that is
-/// switched on matches it.
+/// Returns whether an error or a leak is left out of a report: some suppression that is switched on matches it. Its trace is given by the
+/// names of its frames.
 pub fn is_suppressed(suppressions: &[Suppression], target: &Target, names: &[&[u8]]) -> bool
     ensures value { result ≡ is_suppressed suppressions.now target.now (map (λ name. name.now) names.now) }
     ensures meaning { IsTrue result ↔ IsSuppressed suppressions.now target.now (map (λ name. name.now) names.now) }

@@ -29,7 +29,7 @@ map-more f (y ∷ ys) x = ap (λ zs. f y ∷ zs) (map-more f ys x)
 plus-one : (n : ℕ) → n + 1 ≡ suc n
 plus-one n = omega arith
 
--- one value more
+-- another value
 pub byte-more : (values : ByteValues) (old n : ℕ)
     → byte_values values old (n + 1) ≡ byte_values values old n
     ++ (if not (n == old) && is_wanted values old n then n ∷ [] else [])

@@ -43,7 +43,7 @@ module _ (plan : Plan) (parts : ℕ) (some : 0 < parts) where
       let first : before + 1 - 1 ≡ before = omega arith in
       ap (λ b. numbers_from (start b) (start (before + 1) - start b)) first
 
-  -- so many parts, one after another
+  -- a number of parts, one after another
   parts-are : (n : ℕ) → flat_map part (below n) ≡ numbers_from 0 (start n)
   unfolding below numbers_from
   parts-are zero =

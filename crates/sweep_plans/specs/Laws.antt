@@ -1,4 +1,4 @@
--- The parts of a sweep, and the whole of it.
+-- The parts of a sweep, and the whole sweep.
 use Rattle.std.specs.Prelude.{◌≡◌, ℕ, zero, suc, ◌+◌, ◌-◌, ◌≤◌, List, [], ◌∷◌, ◌++◌}
 use Rattle.std.specs.List.{flat_map}
 use Rattle.sweep_plans.specs.Planned.{part_from, part_to}
@@ -6,7 +6,7 @@ use Rattle.sweep_plans.specs.Plans.{below, place_count}
 use Rattle.sweep_plans.specs.declared.plan.Plan.{Plan}
 use Rattle.sweep_plans.specs.declared.request.Part.{Part}
 
--- some numbers one after another, from one on
+-- consecutive numbers from one on
 unfoldable pub numbers_from : ℕ → ℕ → List ℕ
 numbers_from first zero = []
 numbers_from first (suc n) = numbers_from first n ++ (first + n) ∷ []

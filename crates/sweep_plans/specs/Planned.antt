@@ -1,4 +1,4 @@
--- The places that a request means in a program with an input.
+-- The places of a request, in a program with an input.
 use Rattle.std.specs.Prelude.{◌≡◌, ℕ, ◌+◌, ◌-◌, ◌*◌, ◌/◌, ◌≤◌, ◌⊎◌, ◌&&◌, nat_lt, nat_le, Bool, true, false}
 use Rattle.std.specs.Prelude.{if◌then◌else◌, List, Option, Some, None, is_some}
 use Rattle.guest_elf.specs.declared.image.Image.{Image}
@@ -20,7 +20,7 @@ use Rattle.sweep_plans.specs.declared.request.Part.{Part}
 use Rattle.sweep_plans.specs.declared.request.Range.{Range}
 use Rattle.sweep_plans.specs.declared.request.Request.{Request}
 
--- the request that the words of a sweep make
+-- the request in the arguments of a sweep
 pub record IsRequestOf (asked : SweepWords) (request : Request) : Type 0 where
   pub bytes : NamesRange range_of (text_of asked.bytes) request.bytes
   pub byte_values : NamesByteValues asked.byte_values.now request.byte_values
@@ -28,12 +28,12 @@ pub record IsRequestOf (asked : SweepWords) (request : Request) : Type 0 where
   pub word_values : NamesWordValues asked.word_values.now request.word_values
   pub part : part_of asked.part.now ≡ Some request.part
 
--- the sweep ends since a text was given for an option
+-- the sweep ends because of the text of an option
 abbrev pub NamesText : SweepOption → List ℕ → End → Type 0
 NamesText option text (BadText named given) = (named ≡ option) × (given.now ≡ text)
 NamesText option text end = ⊥
 
--- a text that is no range, no values or no part is how the sweep ends; or, where a list may be read, want of memory
+-- a text that is no range, no values or no part is how the sweep ends; or, if a list may be read, lack of memory
 abbrev pub IsBadRange : SweepOption → (List ℕ → Option Range) → Option (List ℕ) → End → Type 0
 IsBadRange option reading None end = ⊥
 IsBadRange option reading (Some text) end = (reading text ≡ None) × NamesText option text end
@@ -47,8 +47,8 @@ AreBadWordValues text end = (end ≡ NoMemory) ⊎ (NamesNoWordValues text × Na
 abbrev pub IsBadPart : List ℕ → End → Type 0
 IsBadPart text end = (part_of text ≡ None) × NamesText ThePart text end
 
--- why the words of a sweep make no request. Its options are read in this order: `--bytes`, `--values`, `--words`,
--- `--words-values` and `--part`; the first of a text that means nothing is how the sweep ends
+-- why the arguments of a sweep make no request. Its options are read in this order: `--bytes`, `--values`, `--words`,
+-- `--words-values` and `--part`; the first whose text can't be read is how the sweep ends
 abbrev pub NoWordValues : SweepWords → End → Type 0
 NoWordValues asked end =
     AreBadWordValues asked.word_values.now end
@@ -72,16 +72,16 @@ IsNoRequest asked end =
 abbrev pub nowhere : Places
 nowhere = record { first = 0; end = 0 }
 
--- the end behind a last place, or behind all of them
+-- the end after a last place, or after all places
 abbrev pub end_behind : Option ℕ → ℕ → ℕ
 end_behind (Some last) all = last + 1
 end_behind None all = all
 
--- places inside of an input of so many bytes, if there is one and they are
+-- places in an input of this length, if there are any and they are in it
 abbrev pub inside : ℕ → ℕ → ℕ → Option Places
 inside first end len = if nat_lt first end && nat_le end len then Some (record { first = first; end = end }) else None
 
--- the bytes that are meant in an input of so many: those that are named, or all where no words are
+-- the bytes to edit in an input of this length: those that are named, or all if no words are
 abbrev pub bytes_by : Option Range → Bool → ℕ → Option Places
 bytes_by (Some range) words len = inside range.first (end_behind range.last len) len
 bytes_by None true len = Some nowhere
@@ -90,8 +90,8 @@ bytes_by None false len = inside 0 len len
 unfoldable pub bytes_meant : Request → ℕ → Option Places
 bytes_meant request len = bytes_by request.bytes (is_some request.words) len
 
--- the words of a program that are meant, by a quarter of their addresses: those of the multiples of 4 from one address
--- to another, if one of them is loaded whole
+-- the words to edit of a program, by a quarter of their addresses: those at the multiples of 4 from one address to
+-- another, if one of them is loaded whole
 abbrev pub loaded_places : Image → Places → Option Places
 loaded_places image words = if any_word image words.first (count words) then Some words else None
 
@@ -100,21 +100,21 @@ words_by image (Some range) =
     loaded_places image (record { first = (range.first + 3) / 4; end = (end_behind range.last 4294967296 + 3) / 4 })
 words_by image None = Some nowhere
 
--- why a request has no plan: its bytes are judged first, and then its words
+-- why a request has no plan: its bytes are checked first, and then its words
 abbrev pub HasNoPlan : Request → Image → ℕ → End → Type 0
 HasNoPlan request image len end =
     ((end ≡ BytesRefused) × (bytes_meant request len ≡ None))
     ⊎ ((bytes : Places) × (bytes_meant request len ≡ Some bytes) × (end ≡ WordsRefused)
     × (words_by image request.words ≡ None))
 
--- the plan of a request for a program and an input of so many bytes
+-- the plan of a request for a program and an input of this length
 pub record IsPlanOf (request : Request) (image : Image) (len : ℕ) (plan : Plan) : Type 0 where
   pub bytes : bytes_meant request len ≡ Some plan.bytes
   pub byte_values : plan.byte_values ≡ request.byte_values
   pub words : words_by image request.words ≡ Some plan.words
   pub word_values : plan.word_values ≡ request.word_values
 
--- the first place of a part, where there are so many places and parts, and so many parts come before
+-- the first place of a part, given the number of places, of parts, and of parts that come before it
 abbrev pub first_place : ℕ → ℕ → ℕ → ℕ
 first_place places done parts = places * done / parts
 
@@ -124,7 +124,7 @@ part_from plan part = first_place (place_count plan) (part.index - 1) part.count
 abbrev pub part_to : Plan → Part → ℕ
 part_to plan part = first_place (place_count plan) part.index part.count
 
--- a part is one of so many, from 1 on, and there aren't too many
+-- a part has a number from 1 to the number of parts, of which there aren't too many
 pub record IsPart (part : Part) : Type 0 where
   pub some : 1 ≤ part.index
   pub within : part.index ≤ part.count

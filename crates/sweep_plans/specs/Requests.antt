@@ -1,4 +1,4 @@
--- Which edits the words of a sweep ask for.
+-- The edits that the arguments of a sweep ask for.
 use Rattle.std.specs.Prelude.{◌≡◌, ℕ, ◌&&◌, ◌||◌, nat_lt, nat_le, ◌==◌, true, false, if◌then◌else◌, List, [], ◌∷◌, ◌++◌}
 use Rattle.std.specs.Prelude.{codes, length, Option, Some, None, is_some}
 use Rattle.std.specs.List.{list_any}
@@ -22,7 +22,7 @@ abbrev pub between : ℕ → Option ℕ → Option Range
 between a (Some b) = if nat_lt b a then None else Some (record { first = a; last = Some b })
 between a None = None
 
--- what comes behind the two dots: nothing, where all from a place on are meant
+-- what follows the two dots; nothing, if all from a place on are meant
 abbrev pub up_to : Option ℕ → List ℕ → Option Range
 up_to (Some a) end = if length end == 0 then Some (record { first = a; last = None }) else between a (number end)
 up_to None end = None
@@ -36,18 +36,18 @@ range_in _ = None
 abbrev pub range_of : List ℕ → Option Range
 range_of text = range_in (parts 46 text)
 
--- one more number of a list, where it is small enough and not there yet
+-- a list with another number, if that is small enough and not in the list yet
 abbrev pub joined_by : ℕ → List ℕ → Option ℕ → Option (List ℕ)
 joined_by most list None = None
 joined_by most list (Some n) = if nat_lt most n || list_any (λ m. m == n) list then None else Some (list ++ n ∷ [])
 
--- the numbers of the parts, put behind those of a list
+-- the numbers of the parts, appended to those of a list
 unfoldable pub listed_from : ℕ → Option (List ℕ) → List (List ℕ) → Option (List ℕ)
 listed_from most None parts = None
 listed_from most (Some list) [] = Some list
 listed_from most (Some list) (part ∷ parts) = listed_from most (joined_by most list (number part)) parts
 
--- numbers between commas, none twice, and none above another
+-- numbers between commas, none twice, and none above another number
 abbrev pub list_of : ℕ → List ℕ → Option (List ℕ)
 list_of most text = listed_from most (Some []) (parts 44 text)
 
@@ -95,7 +95,7 @@ pub record NamesNoWordValues (text : List ℕ) : Type 0 where
   pub flips : bytes_eq text (codes "flips") ≡ false
   pub list : listed_words text ≡ None
 
--- of words, a range has an end
+-- for words, a range must have an end
 abbrev pub closed : Option Range → Option Range
 closed (Some range) = if is_some range.last then Some range else None
 closed None = None
@@ -103,7 +103,7 @@ closed None = None
 abbrev pub closed_range_of : List ℕ → Option Range
 closed_range_of text = closed (range_of text)
 
--- a range that may be named, by a reading of its text
+-- a range that may be named, as its text is read
 abbrev pub NamesRange : (List ℕ → Option Range) → Option (List ℕ) → Option Range → Type 0
 NamesRange reading None range = range ≡ None
 NamesRange reading (Some text) range = (reading text ≡ range) × (is_some range ≡ true)

@@ -14,7 +14,7 @@ pub enum Change {
 }
 
 impl Change {
-    /// The edit of a scenario that makes it.
+    /// Returns the edit of a scenario that applies the change.
     pub fn edit(self) -> Edit
         ensures { result ≡ edit_of self }
     {
@@ -24,7 +24,7 @@ impl Change {
         }
     }
 
-    /// The change at the same place to another value; to its low eight bits where a byte stands there.
+    /// Returns the change at the same place to another value; for a byte, to the low eight bits of that value.
     pub fn to(self, value: u32) -> Change
         ensures { result ≡ changed_to self value }
     {

@@ -1,4 +1,4 @@
-//! Which words of a program are there to be edited.
+//! The words of a program that can be edited.
 ghost use Rattle.std.specs.Prelude.{◌≡◌, ◌*◌, ◌<◌, ◌≤◌, ◌^◌};
 ghost use Rattle.guest_elf.specs.Images.{is_word};
 ghost use Rattle.sweep_plans.specs.Plans.{any_word, count};
@@ -6,7 +6,7 @@ ghost use Rattle.sweep_plans.specs.Plans.{any_word, count};
 use crate::plan::Places;
 use guest_elf::Image;
 
-/// Whether a word, which is named by a quarter of its address, is loaded whole.
+/// Returns whether a word, given by a quarter of its address, is loaded whole.
 #[tactic(auto, unfolding(guest_elf::specs::Images::is_word))]
 fn is_word(image: &Image, word: u32) -> bool
     requires { word < 2 ^ 30 }
@@ -16,7 +16,7 @@ fn is_word(image: &Image, word: u32) -> bool
     addr % 4 == 0 && image.patchable(addr)
 }
 
-/// Whether one of some words, which are named by a quarter of their addresses, is loaded whole.
+/// Returns whether one of some words, given by a quarter of their addresses, is loaded whole.
 pub fn has_word(image: &Image, words: Places) -> bool
     requires { words.end ≤ 2 ^ 30 }
     ensures { result ≡ any_word image.now words.first (count words) }

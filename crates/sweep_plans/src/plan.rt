@@ -1,17 +1,17 @@
-//! Which changes are made: the places, and the values at each.
+//! The changes of a sweep: the places, and the values at each.
 ghost use Rattle.std.specs.Prelude.{◌≤◌, ◌^◌};
 
 use crate::change::Change;
 use crate::values::{byte_values, flips, others};
 use std::alloc::{AllocError, Global};
 
-/// Places one after another, from the first one on, before an end. Bytes are counted by their offsets in the input, words by a quarter of
-/// their addresses.
+/// Consecutive places from the first one up to an end. Bytes are numbered by their offsets in the input, words by a quarter of their
+/// addresses.
 #[derive(Clone, Copy)]
 pub struct Places {
     /// The first place.
     pub first: u32,
-    /// The end, which is no place of them.
+    /// The end, which isn't one of the places.
     pub end: u32,
 }
 
@@ -19,14 +19,14 @@ impl Places {
     ghost use Rattle.std.specs.Prelude.{◌≡◌, ◌<◌, IfSome};
     ghost use Rattle.sweep_plans.specs.Plans.{count, nth};
 
-    /// How many there are.
+    /// Returns the number of places.
     pub fn count(self) -> u32
         ensures { result ≡ count self }
     {
         self.end.saturating_sub(self.first)
     }
 
-    /// One of them, by its number from 0, if there is it.
+    /// Returns the place of a number, counted from 0, if there is one.
     fn at(self, i: u64) -> Option<u32>
         ensures place { result ≡ nth self i }
         ensures within { IfSome result (λ place. place < self.end) }
@@ -46,7 +46,7 @@ pub enum Place {
     Byte(u32),
     /// The word of the program at an address.
     Word(u32),
-    /// There is none.
+    /// No place.
     Nowhere,
 }
 
@@ -57,9 +57,9 @@ pub enum ByteValues {
     All,
     /// Each value that differs in one bit.
     Flips,
-    /// 0, 1, 127, 128, 255, one more and one less.
+    /// 0, 1, 127, 128, 255, one above and one below.
     Edges,
-    /// These.
+    /// These values.
     Listed(Vec<u32>),
 }
 
@@ -68,20 +68,20 @@ pub enum ByteValues {
 pub enum WordValues {
     /// Each value that differs in one bit, from bit 0 on.
     Flips,
-    /// These, in their order.
+    /// These values, in their order.
     Listed(Vec<u32>),
 }
 
-/// Which changes a sweep makes.
+/// The changes that a sweep tries.
 #[derive(Drop)]
 pub struct Plan {
     /// The bytes of the input, which come first.
     pub bytes: Places,
-    /// What each gets.
+    /// The values that each byte gets.
     pub byte_values: ByteValues,
     /// The words of the program, by a quarter of their addresses.
     pub words: Places,
-    /// What each gets.
+    /// The values that each word gets.
     pub word_values: WordValues,
     ghost addresses: { words.end ≤ 2 ^ 30 },
 }
@@ -90,7 +90,7 @@ impl Plan {
     ghost use Rattle.std.specs.Prelude.{◌≡◌, ◌<◌, ◌^◌, IfOk};
     ghost use Rattle.sweep_plans.specs.Plans.{place_at, place_count, values_of};
 
-    /// How many places there are.
+    /// Returns the number of places.
     pub fn places(&self) -> u64
         ensures number { result ≡ place_count self.now }
         ensures few { result < 2 ^ 33 }
@@ -98,7 +98,7 @@ impl Plan {
         u64::from(self.bytes.count()) + u64::from(self.words.count())
     }
 
-    /// The place of a number: the bytes come first, then the words.
+    /// Returns the place of a number: the bytes come first, then the words.
     pub fn place(&self, i: u64) -> Place
         ensures { result ≡ place_at self.now i }
     {
@@ -114,7 +114,7 @@ impl Plan {
         }
     }
 
-    /// The values where something stands: in order, each that is wanted but that one.
+    /// Returns the values that a place gets instead of its own, in order.
     #[tactic(auto, unfolding(crate::specs::Plans::values_of))]
     pub fn values(&self, alloc: Global, standing: Change) -> Result<Vec<u32>, AllocError>
         ensures { IfOk result (λ values. values.items ≡ values_of self.now standing) }

@@ -12,10 +12,10 @@ use guest_elf::Image;
 /// No places.
 const NOWHERE: Places = Places { first: 0, end: 0 };
 
-/// How many addresses there are.
+/// The number of addresses.
 const ADDRESSES: u64 = 1 << 32;
 
-/// The end behind a last place, or behind all of them.
+/// Returns the end after a last place, or after all places.
 fn end_behind(last: Option<u32>, all: u64) -> u64
     ensures { result ≡ end_behind last all }
 {
@@ -25,7 +25,7 @@ fn end_behind(last: Option<u32>, all: u64) -> u64
     }
 }
 
-/// The bytes that are edited in an input of some length: those that are named, or all where no words are.
+/// Returns the bytes to edit in an input of some length: those that are named, or all if no words are.
 fn bytes_of<'a>(named: Option<Range>, has_words: bool, len: u32) -> Result<Places, End<'a>>
     ensures ok { IfOk result (λ places. bytes_by named has_words len ≡ Some places) }
     ensures err { IfErr result (λ end. (end ≡ BytesRefused) × (bytes_by named has_words len ≡ None)) }
@@ -45,7 +45,7 @@ fn bytes_of<'a>(named: Option<Range>, has_words: bool, len: u32) -> Result<Place
     }
 }
 
-/// The first multiple of 4 from an address on, by a quarter of it.
+/// Returns the first multiple of 4 from an address on, divided by 4.
 fn quarter(address: u64) -> u32
     requires { address ≤ 2 ^ 32 }
     ensures value { result ≡ (address + 3) / 4 }
@@ -54,7 +54,7 @@ fn quarter(address: u64) -> u32
     ((address + 3) / 4) as u32
 }
 
-/// The words that are edited.
+/// Returns the words to edit.
 fn words_of<'a>(named: Option<Range>, image: &Image) -> Result<Places, End<'a>>
     ensures ok { IfOk result (λ places. words_by image.now named ≡ Some places) }
     ensures small { IfOk result (λ places. places.end ≤ 2 ^ 30) }
@@ -74,7 +74,7 @@ fn words_of<'a>(named: Option<Range>, image: &Image) -> Result<Places, End<'a>>
     }
 }
 
-/// The plan of a sweep of a program with an input of some length.
+/// Returns the plan of a sweep of a program with an input of some length.
 #[tactic(auto, unfolding(crate::specs::Planned::bytes_meant))]
 pub fn plan_of<'a>(request: Request, image: &Image, len: u32) -> Result<Plan, End<'a>>
     ensures ok { IfOk result (λ plan. IsPlanOf request image.now len plan) }

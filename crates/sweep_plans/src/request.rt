@@ -1,4 +1,4 @@
-//! The words of a sweep, read.
+//! Reads the arguments of a sweep.
 ghost use Rattle.std.specs.Prelude.{◌≡◌, IfErr, IfOk, IfSome, MatchOption, Some, option_map};
 ghost use Rattle.command_line.specs.Orders.{text_of};
 ghost use Rattle.sweep_plans.specs.Planned.{AreBadByteValues, AreBadWordValues, IsBadPart, IsBadRange, IsNoRequest, IsPart, IsRequestOf};
@@ -22,10 +22,10 @@ const SKIP: &[u8] = b"skip";
 
 /// The instruction that does nothing.
 const NO_OP: u32 = 0x13;
-/// The most parts of a sweep.
+/// The greatest number of parts of a sweep.
 const MOST_PARTS: u32 = 1_000_000;
 
-/// Places from a first one to a last one; or to the last that there is.
+/// Places from a first one to a last one, or to the last that exists.
 #[derive(Clone, Copy)]
 pub struct Range {
     /// The first place.
@@ -34,31 +34,31 @@ pub struct Range {
     pub last: Option<u32>,
 }
 
-/// One of the parts into which places are cut.
+/// One of the parts into which the places are split.
 #[derive(Clone, Copy)]
 pub struct Part {
-    /// Which one, from 1.
+    /// The number of this part, from 1.
     pub index: u32,
-    /// How many there are.
+    /// The number of parts.
     pub count: u32,
 }
 
-/// What a sweep is asked for.
+/// The request that the arguments of a sweep make.
 #[derive(Drop)]
 pub struct Request {
     /// The bytes of the input, if some are named.
     pub bytes: Option<Range>,
-    /// What they get.
+    /// The values that they get.
     pub byte_values: ByteValues,
     /// The addresses of words, if some are named.
     pub words: Option<Range>,
-    /// What they get.
+    /// The values that they get.
     pub word_values: WordValues,
     /// The part of the places.
     pub part: Part,
 }
 
-/// A range from a place on, of what comes behind the dots.
+/// Returns a range from a place on, given what follows the dots.
 fn range_to(first: u32, end: &[u8]) -> Option<Range>
     ensures { result ≡ up_to (Some first) end.now }
 {
@@ -75,7 +75,7 @@ fn range_to(first: u32, end: &[u8]) -> Option<Range>
     })
 }
 
-/// A range, of its parts between dots.
+/// Returns a range, given its parts between dots.
 #[tactic(auto, unfolding(crate::specs::Requests::range_in))]
 fn range_in(mut parts: Parts<'_>) -> Option<Range>
     ensures { result ≡ range_in parts.entry }
@@ -95,7 +95,7 @@ fn range_in(mut parts: Parts<'_>) -> Option<Range>
     range_to(number(first)?, end)
 }
 
-/// A range that has an end.
+/// Returns a range that has an end.
 fn closed_range(text: &[u8]) -> Option<Range>
     ensures { result ≡ closed_range_of text.now }
 {
@@ -107,7 +107,7 @@ fn closed_range(text: &[u8]) -> Option<Range>
     }
 }
 
-/// One of the parts of a sweep, of its numbers.
+/// Returns a part of a sweep, given its numbers.
 #[tactic(auto, unfolding(crate::specs::Requests::part_in))]
 fn part_in(mut parts: Parts<'_>) -> Option<Part>
     ensures value { result ≡ part_in parts.entry }
@@ -127,7 +127,7 @@ fn part_in(mut parts: Parts<'_>) -> Option<Part>
     }
 }
 
-/// A list with one more number, where that is small enough and not there yet.
+/// Returns a list with another number appended, if that is small enough and not in the list yet.
 fn join(list: Vec<u32>, most: u32, next: Option<u32>) -> Result<Option<Vec<u32>>, AllocError>
     ensures { IfOk result (λ longer. option_map (λ v. v.items) longer ≡ joined_by most list.items next) }
 {
@@ -142,7 +142,7 @@ fn join(list: Vec<u32>, most: u32, next: Option<u32>) -> Result<Option<Vec<u32>>
     Ok(Some(list))
 }
 
-/// Numbers between commas, none twice, and none above another.
+/// Returns the numbers between commas, if none is there twice and none is above `most`.
 #[tactic(auto, unfolding(crate::specs::Requests::listed_from))]
 fn list_of(alloc: Global, text: &[u8], most: u32) -> Result<Option<Vec<u32>>, AllocError>
     ensures { IfOk result (λ list. option_map (λ v. v.items) list ≡ list_of most text.now) }
@@ -158,7 +158,7 @@ fn list_of(alloc: Global, text: &[u8], most: u32) -> Result<Option<Vec<u32>>, Al
     Ok(Some(list))
 }
 
-/// The values that a text names for bytes.
+/// Returns the values that a text names for bytes.
 fn byte_values(alloc: Global, text: &[u8]) -> Result<Option<ByteValues>, AllocError>
     ensures { IfOk result (λ values. MatchOption values (NamesNoByteValues text.now) (NamesByteValues text.now)) }
 {
@@ -177,7 +177,7 @@ fn byte_values(alloc: Global, text: &[u8]) -> Result<Option<ByteValues>, AllocEr
     }
 }
 
-/// The words that a text lists.
+/// Returns the words that a text lists.
 fn listed_words(alloc: Global, text: &[u8]) -> Result<Option<Vec<u32>>, AllocError>
     ensures { IfOk result (λ list. option_map (λ v. v.items) list ≡ listed_words text.now) }
 {
@@ -189,7 +189,7 @@ fn listed_words(alloc: Global, text: &[u8]) -> Result<Option<Vec<u32>>, AllocErr
     list_of(alloc, text, u32::MAX)
 }
 
-/// The values that a text names for words.
+/// Returns the values that a text names for words.
 fn word_values(alloc: Global, text: &[u8]) -> Result<Option<WordValues>, AllocError>
     ensures { IfOk result (λ values. MatchOption values (NamesNoWordValues text.now) (NamesWordValues text.now)) }
 {
@@ -202,7 +202,7 @@ fn word_values(alloc: Global, text: &[u8]) -> Result<Option<WordValues>, AllocEr
     }
 }
 
-/// The range of bytes that is named, if one is.
+/// Returns the range of bytes that is named, if one is.
 fn named_bytes<'a>(text: Option<&'a str>) -> Result<Option<Range>, End<'a>>
     ensures ok { IfOk result (NamesRange range_of (text_of text.entry)) }
     ensures err { IfErr result (IsBadRange Bytes range_of (text_of text.entry)) }
@@ -219,7 +219,7 @@ fn named_bytes<'a>(text: Option<&'a str>) -> Result<Option<Range>, End<'a>>
     }
 }
 
-/// The range of words that is named, if one is.
+/// Returns the range of words that is named, if one is.
 fn named_words<'a>(text: Option<&'a str>) -> Result<Option<Range>, End<'a>>
     ensures ok { IfOk result (NamesRange closed_range_of (text_of text.entry)) }
     ensures err { IfErr result (IsBadRange Words closed_range_of (text_of text.entry)) }
@@ -236,7 +236,7 @@ fn named_words<'a>(text: Option<&'a str>) -> Result<Option<Range>, End<'a>>
     }
 }
 
-/// The values that are named for bytes.
+/// Returns the values that are named for bytes.
 fn named_byte_values<'a>(alloc: Global, text: &'a str) -> Result<ByteValues, End<'a>>
     ensures ok { IfOk result (NamesByteValues text.entry.now) }
     ensures err { IfErr result (AreBadByteValues text.entry.now) }
@@ -251,7 +251,7 @@ fn named_byte_values<'a>(alloc: Global, text: &'a str) -> Result<ByteValues, End
     }
 }
 
-/// The values that are named for words.
+/// Returns the values that are named for words.
 fn named_word_values<'a>(alloc: Global, text: &'a str) -> Result<WordValues, End<'a>>
     ensures ok { IfOk result (NamesWordValues text.entry.now) }
     ensures err { IfErr result (AreBadWordValues text.entry.now) }
@@ -266,7 +266,7 @@ fn named_word_values<'a>(alloc: Global, text: &'a str) -> Result<WordValues, End
     }
 }
 
-/// The part that is named.
+/// Returns the part that is named.
 fn named_part<'a>(text: &'a str) -> Result<Part, End<'a>>
     ensures ok { IfOk result (λ part. part_of text.entry.now ≡ Some part) }
     ensures right { IfOk result IsPart }
@@ -282,7 +282,8 @@ fn named_part<'a>(text: &'a str) -> Result<Part, End<'a>>
 }
 
 impl Request {
-    /// What the words of a sweep ask for. Their texts are read in the order of the fields of [`SweepWords`]: the first that means nothing is how the sweep ends.
+    /// Returns the request in the arguments of a sweep. They are read in the order of the fields of [`SweepWords`]. The first that can't be
+    /// read is how the sweep ends.
     pub fn of<'a>(alloc: Global, words: &SweepWords<'a>) -> Result<Request, End<'a>>
         ensures ok { IfOk result (λ request. IsRequestOf words.now request) }
         ensures part { IfOk result (λ request. IsPart request.part) }

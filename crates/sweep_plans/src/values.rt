@@ -5,7 +5,7 @@ ghost use Rattle.sweep_plans.specs.Plans.{byte_values, flips_below, is_edge, is_
 use crate::plan::ByteValues;
 use std::alloc::{AllocError, Global};
 
-/// Whether two bytes differ in one bit.
+/// Returns whether two bytes differ in one bit.
 #[tactic(auto, unfolding(crate::specs::Plans::is_flip))]
 fn is_flip(old: u8, new: u8) -> bool
     ensures { result ≡ is_flip old new }
@@ -13,7 +13,7 @@ fn is_flip(old: u8, new: u8) -> bool
     matches!(old ^ new, 1 | 2 | 4 | 8 | 16 | 32 | 64 | 128)
 }
 
-/// Whether a value is on the edge.
+/// Returns whether a value is an edge value.
 #[tactic(auto, unfolding(crate::specs::Plans::is_edge))]
 fn is_edge(old: u8, new: u8) -> bool
     ensures { result ≡ is_edge old new }
@@ -24,7 +24,7 @@ fn is_edge(old: u8, new: u8) -> bool
 }
 
 impl ByteValues {
-    /// Whether a value is wanted where another stands.
+    /// Returns whether `new` is one of these values, for a byte that is `old`.
     #[tactic(auto, unfolding(crate::specs::Plans::is_wanted))]
     fn wants(&self, old: u8, new: u8) -> bool
         ensures { result ≡ is_wanted self.now old new }
@@ -37,7 +37,7 @@ impl ByteValues {
         }
     }
 
-    /// The same, and whether it is another.
+    /// Returns the same, but false if `new` is `old`.
     fn wants_other(&self, old: u8, new: u8) -> bool
         ensures { result ≡ (not (new == old) && is_wanted self.now old new) }
     {
@@ -45,7 +45,7 @@ impl ByteValues {
     }
 }
 
-/// A value put at the end, if it is wanted.
+/// Appends a value, if it is wanted.
 #[inline(always)]
 fn push_if(values: &mut Vec<u32>, is_wanted: bool, value: u32) -> Result<(), AllocError>
     ensures { OnOk result (values.new.items ≡ values.old.items ++ (if is_wanted then value ∷ [] else [])) }
@@ -56,7 +56,7 @@ fn push_if(values: &mut Vec<u32>, is_wanted: bool, value: u32) -> Result<(), All
     Ok(())
 }
 
-/// The values that a byte gets in the place of another.
+/// Returns the values that a byte gets instead of its own.
 pub fn byte_values(alloc: Global, wanted: &ByteValues, old: u8) -> Result<Vec<u32>, AllocError>
     ensures { IfOk result (λ values. values.items ≡ byte_values wanted.now old 256) }
 {
@@ -68,7 +68,7 @@ pub fn byte_values(alloc: Global, wanted: &ByteValues, old: u8) -> Result<Vec<u3
     Ok(values)
 }
 
-/// A word with each of its bits flipped, from bit 0 on.
+/// Returns a word with each of its bits flipped, from bit 0 on.
 pub fn flips(alloc: Global, old: u32) -> Result<Vec<u32>, AllocError>
     ensures { IfOk result (λ words. words.items ≡ flips_below old 32) }
 {
@@ -79,7 +79,7 @@ pub fn flips(alloc: Global, old: u32) -> Result<Vec<u32>, AllocError>
     Ok(words)
 }
 
-/// The values of a list but one.
+/// Returns the values of a list, except for one.
 pub fn others(alloc: Global, words: &[u32], old: u32) -> Result<Vec<u32>, AllocError>
     ensures { IfOk result (λ values. values.items ≡ word_values old words.now) }
 {

@@ -1,4 +1,4 @@
--- How far a table came: one place more, and where it stops.
+-- How much of a table is written: another place, and where it stops.
 use Rattle.std.proofs.Common.{◌≡◌, ℕ, suc, ◌+◌, ◌<◌, ◌≤◌, Bool, List, [], ◌++◌, map, Option, Result, Ok, Err, OnOk}
 use Rattle.std.proofs.Common.{IfErr, inl, inr, refl, ap, ap₂, sym, ◌∙◌, subst, append_assoc, arith}
 use Rattle.std.proofs.Math.Path.{transport}

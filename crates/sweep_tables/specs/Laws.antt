@@ -4,7 +4,7 @@ use Rattle.sweeps.specs.Outcomes.{Met}
 use Rattle.sweeps.specs.Tables.{table_text}
 use Rattle.sweep_tables.specs.Swept.{AreOf, Case}
 
--- a text is the whole table of so many places
+-- a text is the whole table for this number of places
 abbrev pub IsTableOf : Case → ℕ → List ℕ → Type 0
 IsTableOf case n text =
     (first : List ℕ) × (met : List Met) × AreOf case.with_output case.sc case.plan case.from n first met

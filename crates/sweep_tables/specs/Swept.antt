@@ -1,4 +1,4 @@
--- The table of a sweep as it is written: its head, how far it came, and what is swept.
+-- The table of a sweep as it is written: its head, how much of it is written, and what is swept.
 use Rattle.std.specs.Prelude.{◌≡◌, ℕ, ◌-◌, ◌≤◌, ◌⊎◌, Bool, if◌then◌else◌, nat_lt, List, [], ◌++◌, codes, length, map}
 use Rattle.std.specs.Prelude.{Option, Some, None, unwrap_or}
 use Rattle.std.specs.Fmt.{decimal}
@@ -35,7 +35,7 @@ unfoldable pub file_lines : List ℕ → List ℕ → List ℕ → List ℕ
 file_lines program input rules =
     file_line (codes "program ") program ++ file_line (codes "input ") input ++ file_line (codes "supp ") rules
 
--- the bytes that are edited, if some are, and the values that they get
+-- the bytes that are edited, if there are any, and the values that they get
 unfoldable pub bytes_line : Places → List ℕ → List ℕ
 bytes_line bytes values =
     if nat_lt bytes.first bytes.end
@@ -43,7 +43,7 @@ bytes_line bytes values =
     ++ newline
     else []
 
--- the addresses whose words are edited, if some are, and the values that they get
+-- the addresses whose words are edited, if there are any, and the values that they get
 unfoldable pub words_line : Option Range → List ℕ → List ℕ
 words_line None values = []
 words_line (Some range) values =
@@ -68,14 +68,14 @@ head_text program input rules words bytes named part =
 
 -- ---- how far it came
 
--- these are the edits of so many places from one on, each with its own outcome, and the outcome of the unedited run
+-- these are the edits of a number of places from one on, each with its own outcome, and the outcome of the unedited run
 pub record AreOf (with_output : Bool) (sc : Scenario) (plan : Plan) (from n : ℕ) (first : List ℕ)
     (met : List Met) : Type 0 where
   pub unedited : IsOutlineOf with_output sc first
   pub changes : map (λ (m : Met). m.change) met ≡ changes_from sc plan from n
   pub right : AreMet with_output sc met
 
--- what is swept: the head of the table, whether outcomes tell how much was written, the scenario, the places
+-- what is swept: the head of the table, whether outcomes have the number of bytes written, the scenario, the places
 pub record Case : Type 0 where
   pub head : List ℕ
   pub with_output : Bool
@@ -83,34 +83,34 @@ pub record Case : Type 0 where
   pub plan : Plan
   pub from : ℕ
 
--- the rows of so many places were written, and nothing else
+-- the rows of this number of places were written, and nothing else
 abbrev pub WritesRows : Case → ℕ → Option (List ℕ) → Option (List ℕ) → Type 0
 WritesRows case n old new =
     (first : List ℕ) × (met : List Met) × AreOf case.with_output case.sc case.plan case.from n first met
     × Appends old new (case.head ++ rows_text first met)
 
--- the whole table of so many places
+-- the whole table of this number of places
 abbrev pub WritesTable : Case → ℕ → Option (List ℕ) → Option (List ℕ) → Type 0
 WritesTable case n old new =
     (first : List ℕ) × (met : List Met) × AreOf case.with_output case.sc case.plan case.from n first met
     × Appends old new (case.head ++ table_text first met)
 
--- a front of the rows of so many places, or of the whole table of all
+-- a front of the rows of this number of places, or of the whole table of all
 abbrev pub WritesFront : Case → ℕ → ℕ → Option (List ℕ) → Option (List ℕ) → Type 0
 WritesFront case n all old new =
     (first : List ℕ) × (met : List Met) × AreOf case.with_output case.sc case.plan case.from n first met
     × (AppendsFront old new (case.head ++ rows_text first met)
     ⊎ ((n ≡ all) × AppendsFront old new (case.head ++ table_text first met)))
 
--- a sweep of so many places: its whole table was written; or a front of it, after which a write failed; or nothing, or
--- the rows of whole places, for want of memory
+-- a sweep of this number of places: its whole table was written; or a front of it, after which a write failed; or
+-- nothing, or the rows of whole places, if memory ran out
 abbrev pub Writes : Case → ℕ → Option (List ℕ) → Option (List ℕ) → End → Type 0
 Writes case all old new Done = WritesTable case all old new
 Writes case all old new CannotWrite = (n : ℕ) × (n ≤ all) × WritesFront case n all old new
 Writes case all old new NoMemory = Appends old new [] ⊎ ((n : ℕ) × (n ≤ all) × WritesRows case n old new)
 Writes case all old new end = ⊥
 
--- a sweep has met the edits of so many places, and their rows were written
+-- a sweep has met the edits of this number of places, and their rows were written
 abbrev pub Reached : Case → ℕ → Option (List ℕ) → Option (List ℕ) → Sweep → Type 0
 Reached case n old now sweep =
     (scenario_of sweep ≡ case.sc) × (tells_output sweep ≡ case.with_output) × (first : List ℕ) × (met : List Met)
@@ -120,8 +120,8 @@ Reached case n old now sweep =
 
 -- ---- what is swept
 
--- the sweep of a program with an input and suppressions, of which these bytes were read, by a plan: where words are
--- named, those, and a part of the places
+-- the sweep of a program with an input and suppressions, of which these bytes were read, by a plan: with words, if some
+-- are named, and a part of the places
 abbrev pub case_with : List ℕ → List ℕ → ProgramImage → List ℕ → List Rule → SweepWords → Option Range → Part → Plan
     → Case
 case_with file text image input list words named part plan = record {
@@ -137,8 +137,8 @@ abbrev pub case_of : List ℕ → List ℕ → ProgramImage → List ℕ → Lis
 case_of file text image input list words request plan =
     case_with file text image input list words request.words request.part plan
 
--- the places that are meant are refused, the bytes before the words, and nothing is written; or the table of those of
--- the part is
+-- the places are rejected, the bytes before the words, and nothing is written; or the table of the places of the part
+-- is written
 abbrev pub Sweeps : List ℕ → List ℕ → ProgramImage → List ℕ → List Rule → SweepWords → Request → Option (List ℕ)
     → Option (List ℕ) → End → Type 0
 Sweeps file text image input list words request old new end =

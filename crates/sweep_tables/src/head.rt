@@ -1,4 +1,4 @@
-//! The first lines of a table: its format, the files that were read, and what was asked for.
+//! The first lines of a table: its format, the files that were read, and the request.
 ghost use Rattle.std.specs.Prelude.{◌≡◌, ◌++◌, OnOk, codes};
 ghost use Rattle.hex.specs.Hex.{encode_lower};
 ghost use Rattle.sha2.specs.Sha256.{sha256};
@@ -19,7 +19,7 @@ pub(crate) struct Sources<'a> {
     pub(crate) suppressions: &'a [u8],
 }
 
-/// The SHA-256 of bytes, in hexadecimal digits.
+/// Appends the SHA-256 of bytes, in hexadecimal digits.
 fn push_digest(alloc: Global, out: &mut Vec<u8>, bytes: &[u8]) -> Result<(), AllocError>
     ensures { OnOk result (out.new.items ≡ out.old.items ++ encode_lower (sha256 bytes.now)) }
 {
@@ -27,7 +27,7 @@ fn push_digest(alloc: Global, out: &mut Vec<u8>, bytes: &[u8]) -> Result<(), All
     push_text(out, digest.as_bytes())
 }
 
-/// A line of a file: how many bytes were read, and their digest.
+/// Appends the line of a file: the number of bytes read, and their digest.
 #[tactic(auto, unfolding(crate::specs::Swept::file_line), using(std::proofs::Common::append_assoc))]
 fn push_file(alloc: Global, out: &mut Vec<u8>, word: &[u8], bytes: &[u8]) -> Result<(), AllocError>
     ensures { OnOk result (out.new.items ≡ out.old.items ++ file_line word.now bytes.now) }
@@ -39,7 +39,7 @@ fn push_file(alloc: Global, out: &mut Vec<u8>, word: &[u8], bytes: &[u8]) -> Res
     push_text(out, b"\n")
 }
 
-/// The lines of the files.
+/// Appends the lines of the files.
 #[tactic(auto, unfolding(crate::specs::Swept::file_lines), using(std::proofs::Common::append_assoc))]
 fn push_files(alloc: Global, out: &mut Vec<u8>, sources: &Sources) -> Result<(), AllocError>
     ensures { OnOk result (out.new.items ≡ out.old.items ++ file_lines sources.now.program.now sources.now.input.now sources.now.suppressions.now) }
@@ -49,7 +49,7 @@ fn push_files(alloc: Global, out: &mut Vec<u8>, sources: &Sources) -> Result<(),
     push_file(alloc, out, b"supp ", sources.suppressions)
 }
 
-/// What ends a line of what is edited: the values.
+/// Appends the end of a line on edited bytes or words: the values.
 fn push_values(out: &mut Vec<u8>, values: &str) -> Result<(), AllocError>
     ensures { OnOk result (out.new.items ≡ out.old.items ++ (codes " " ++ values.now ++ newline)) }
 {
@@ -58,7 +58,7 @@ fn push_values(out: &mut Vec<u8>, values: &str) -> Result<(), AllocError>
     push_text(out, b"\n")
 }
 
-/// The line of the bytes that are edited, where some are.
+/// Appends the line on the edited bytes, if there are any.
 #[tactic(auto, unfolding(crate::specs::Swept::bytes_line), using(std::proofs::Common::append_assoc))]
 fn push_bytes(out: &mut Vec<u8>, bytes: Places, values: &str) -> Result<(), AllocError>
     ensures { OnOk result (out.new.items ≡ out.old.items ++ bytes_line bytes values.now) }
@@ -73,7 +73,7 @@ fn push_bytes(out: &mut Vec<u8>, bytes: Places, values: &str) -> Result<(), Allo
     push_values(out, values)
 }
 
-/// The line of the words that are edited, where some are.
+/// Appends the line on the edited words, if there are any.
 #[tactic(auto, unfolding(crate::specs::Swept::words_line), using(std::proofs::Common::append_assoc))]
 fn push_words(out: &mut Vec<u8>, words: Option<Range>, values: &str) -> Result<(), AllocError>
     ensures { OnOk result (out.new.items ≡ out.old.items ++ words_line words values.now) }
@@ -88,7 +88,7 @@ fn push_words(out: &mut Vec<u8>, words: Option<Range>, values: &str) -> Result<(
     push_values(out, values)
 }
 
-/// The line of what an outcome has.
+/// Returns the line on what an outcome has.
 fn output_line(with_output: bool) -> &'static [u8]
     ensures { result.now ≡ output_line with_output }
 {
@@ -99,7 +99,7 @@ fn output_line(with_output: bool) -> &'static [u8]
     }
 }
 
-/// The lines of the step, of what an outcome has, and of the part.
+/// Appends the lines on the step, on what an outcome has, and on the part.
 #[tactic(auto, unfolding(crate::specs::Swept::step_lines), using(std::proofs::Common::append_assoc))]
 fn push_rest(out: &mut Vec<u8>, step: u32, with_output: bool, part: Part) -> Result<(), AllocError>
     ensures { OnOk result (out.new.items ≡ out.old.items ++ step_lines step with_output part) }
@@ -113,7 +113,7 @@ fn push_rest(out: &mut Vec<u8>, step: u32, with_output: bool, part: Part) -> Res
     push_text(out, b"\n")
 }
 
-/// The head of a table.
+/// Appends the head of a table.
 #[tactic(auto, unfolding(crate::specs::Swept::head_text), using(std::proofs::Common::append_assoc))]
 pub(crate) fn push_head(
     alloc: Global,

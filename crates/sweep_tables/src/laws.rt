@@ -1,4 +1,4 @@
-//! What a sweep's table is. The law is the contract of a function that does nothing; a caller has it after the call.
+//! A law of a sweep's table. The law is the contract of a function that does nothing; a caller has it after the call.
 ghost use Rattle.sweep_tables.specs.Laws.{TableIsOne};
 
 /// Two texts that are the table of one case are equal.

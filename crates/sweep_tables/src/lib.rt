@@ -1,7 +1,8 @@
-//! The table of a sweep, written row by row as it comes.
+//! The table of a sweep, written row by row as the sweep proceeds.
 //!
-//! [`sweep_program`] sweeps a program with an input and suppressions, as a request has it: the places that are meant are refused and nothing is
-//! written, or the table of those of the part is; or a front of it, before a write that failed or where memory ended (`Sweeps`).
+//! [`sweep_program`] sweeps a program with an input and suppressions, as a request says. Either the places are rejected and nothing is
+//! written, or the table of the places of the part is written, or a front of the table, before a write that failed or until memory ran out
+//! (`Sweeps`).
 //!
 //! In `specs/`: `Swept`, the table as it is written; `Laws`, that a sweep has one table ([`laws::table_is_one`]).
 #![tactic(auto)]

@@ -19,7 +19,7 @@ use suppressions::Suppression;
 use sweep_plans::{Part, Places, Plan, Range, Request, plan_of};
 use sweeps::Sweep;
 
-/// The head of a table, and the unedited run's outcome behind it; and the sweep that has met that run.
+/// Returns the head of a table with the unedited run's outcome after it, and the sweep that has met that run.
 fn begin_table<'p>(
     alloc: Global,
     file: &[u8],
@@ -58,7 +58,7 @@ fn begin_table<'p>(
     )
 }
 
-/// Writes the first lines of a table, and behind them the rows of the places from one on, up to another, and what ends it.
+/// Writes the first lines of a table, then the rows of the places from one on, up to another, and then the end of the table.
 fn write_behind<'a, W: Write>(
     alloc: Global,
     first_lines: &[u8],
@@ -119,7 +119,7 @@ fn sweep_part<'a, W: Write>(
     write_behind(alloc, &out, &mut sweep, plan, from, to, writer)
 }
 
-/// Sweeps a program with an input and suppressions, as a request has it, and writes the table.
+/// Sweeps a program with an input and suppressions, as a request says, and writes the table.
 pub fn sweep_program<'a, W: Write>(
     alloc: Global,
     file: &[u8],

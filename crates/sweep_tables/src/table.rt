@@ -18,7 +18,7 @@ use std::io::Write;
 use sweep_plans::Plan;
 use sweeps::Sweep;
 
-/// The first place of a part, of so many, where so many come before.
+/// Returns the first place of a part, given the number of parts and how many of them come before it.
 pub(crate) fn first_place(places: u64, before: u32, parts: u32) -> u64
     requires few { places < 2 ^ 33 }
     requires fewer { before ≤ 1000000 }
@@ -28,7 +28,7 @@ pub(crate) fn first_place(places: u64, before: u32, parts: u32) -> u64
     places * u64::from(before) / u64::from(parts)
 }
 
-/// Writes some bytes.
+/// Writes bytes, all of them.
 pub(crate) fn write_all<'a, W: Write>(writer: &mut W, bytes: &[u8]) -> Result<(), End<'a>>
     ensures ok { OnOk result (Appends (W.contents writer.old) (W.contents writer.new) bytes.now) }
     ensures err { IfErr result (λ end. (end ≡ CannotWrite) × AppendsFront (W.contents writer.old) (W.contents writer.new) bytes.now) }
@@ -40,7 +40,7 @@ pub(crate) fn write_all<'a, W: Write>(writer: &mut W, bytes: &[u8]) -> Result<()
     }
 }
 
-/// The rows of a place.
+/// Returns the rows of a place.
 fn rows_of(
     alloc: Global,
     sweep: &mut Sweep<'_>,
@@ -58,7 +58,7 @@ fn rows_of(
     Ok(out)
 }
 
-/// Makes the edits of a place, and writes their rows.
+/// Applies the edits of a place, and writes their rows.
 fn write_place<'a, W: Write>(
     alloc: Global,
     sweep: &mut Sweep<'_>,
@@ -77,7 +77,7 @@ fn write_place<'a, W: Write>(
     write_all(writer, &out)
 }
 
-/// Makes the edits of the places from one on, up to another, and writes their rows.
+/// Applies the edits of the places from one on, up to another, and writes their rows.
 fn write_places<'a, W: Write>(
     alloc: Global,
     sweep: &mut Sweep<'_>,
@@ -98,7 +98,7 @@ fn write_places<'a, W: Write>(
     Ok(())
 }
 
-/// What ends a table.
+/// Returns the end of a table.
 fn totals_of(alloc: Global, sweep: &Sweep<'_>) -> Result<Vec<u8>, AllocError>
     ensures { IfOk result (λ out. (first : List ℕ) (met : List Met) → HasMet sweep.now first met → table_text first met ≡ rows_text first met ++ out.items) }
 {
@@ -107,7 +107,7 @@ fn totals_of(alloc: Global, sweep: &Sweep<'_>) -> Result<Vec<u8>, AllocError>
     Ok(out)
 }
 
-/// Writes the rows of the places from one on, up to another, and what ends the table.
+/// Writes the rows of the places from one on, up to another, and the end of the table.
 pub(crate) fn write_table<'a, W: Write>(
     alloc: Global,
     sweep: &mut Sweep<'_>,

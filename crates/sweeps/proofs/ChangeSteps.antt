@@ -1,4 +1,4 @@
--- A change of what stands at a place is no refused edit, and what takes it back leaves the scenario as it was.
+-- A change of the value at a place is no rejected edit, and what takes it back leaves the scenario as it was.
 use Rattle.std.proofs.Common.{◌≡◌, ℕ, ◌-◌, ◌%◌, nat_lt, nat_le, Bool, true, false, not, if◌then◌else◌, length, take}
 use Rattle.std.proofs.Common.{Some, None, unwrap_or, Result, Ok, Err, OnOk, OnErr, refl, ap, sym, ◌∙◌, subst, arith}
 use Rattle.std.proofs.Common.{slice_set, slice_index_or}
@@ -20,12 +20,12 @@ use Rattle.sweep_plans.specs.declared.plan.Place.TheVariants.{Byte as ByteAt, Wo
 use Rattle.sweep_plans.specs.declared.change.Change.{Change}
 use Rattle.sweep_plans.specs.declared.change.Change.TheVariants.{Byte, Word}
 
--- something that stands where a test holds
+-- a value that is there if a test holds
 there : {A : Type 0} (b : Bool) (x y : A) → (if b then Some x else None) ≡ Some y → (b ≡ true) × (x ≡ y)
 there true x y h = (refl, ap (λ o. unwrap_or o x) h)
 there false x y h = cc
 
--- what stands at a place stands at that of its change
+-- the value at a place is that at the place of its change
 pub stands-there : (sc : Scenario) (place : Place) (s : Change) → standing_in sc place ≡ Some s → stood sc s ≡ Some s
 unfolding standing_byte standing_word
 stands-there sc (ByteAt offset) s h =
@@ -58,7 +58,7 @@ taken sc (Byte offset old) value h =
 taken sc (Word addr old) value h =
     taken-where (not (is_word sc.image addr)) NotPatchable (ap not (loaded sc addr (Word addr old) h))
 
--- the edit that puts back what stood there
+-- the edit that puts back the old value
 pub taken-back : (sc : Scenario) (standing : Change) (value : ℕ) → stood sc standing ≡ Some standing
     → IsTaken (row sc (edit_of (changed_to standing value))).after (edit_of standing)
 taken-back sc (Byte offset old) value h =
@@ -91,13 +91,13 @@ pub back-word : (sc : Scenario) (addr old value : ℕ)
 back-word sc addr old value =
     ap (λ words. record sc { words = words }) (cut-appended sc.words (record { addr = addr; word = value }))
 
--- an edit that can't want memory was made
+-- an edit that needs no memory was applied
 pub made : {E : Type 0} (result : Result Unit E) (P : Type 0) (Q : Type 0) → OnOk result P
     → OnErr result ((false ≡ true) × Q) → P
 made (Ok u) P Q ok err = ok
 made (Err e) P Q ok err = absurd (false≢true err.0)
 
--- what stood there stands there again
+-- the old value is there again
 pub put-back-byte : {E : Type 0} → TakesBack
     → (sc now new : Scenario) (offset old value : ℕ) (standing : Change) (edit : Edit) (result : Result Unit E)
     → standing ≡ Byte offset old → edit ≡ edit_of standing → stood sc standing ≡ Some standing

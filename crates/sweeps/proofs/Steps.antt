@@ -1,4 +1,4 @@
--- One more change that was met, and the rows of some changes after those of others.
+-- Another change that was met, and the rows of some changes after those of others.
 use Rattle.std.proofs.Common.{◌≡◌, ℕ, ◌+◌, Bool, List, [], ◌∷◌, ◌++◌, length, fold, refl, ap, sym, ◌∙◌, append_assoc}
 use Rattle.std.proofs.Common.{append-nil, arith, rules}
 use Rattle.std.proofs.lemmas.List.{length-append}
@@ -42,7 +42,7 @@ rows-more first met more =
 stands-on : (n k a : ℕ) → a ≡ standing n → standing (a + k) ≡ standing (n + k)
 stands-on n k a e = omega arith
 
--- one more is counted
+-- another one is counted
 pub counted-more : (with_output : Bool) (sc : Scenario) (first : List ℕ) (met : List Met) (m : Met) (old new : Counts)
     → Counted old with_output sc first met
     → IsOutcome with_output sc m.change m.outcome → TakesSteps sc m.change m.steps
@@ -58,7 +58,7 @@ counted-more with_output sc first met m old new h outcome takes entries edits st
       ∙ ap standing (sym (sum_by_push (λ (n : Met). n.steps) met m));
 }
 
--- and so are some and one more, of which the row is written
+-- and so are some and another, of which the row is written
 pub row-more : (first : List ℕ) (met more : List Met) (m : Met) → rows_after (tallied first met) (more ++ m ∷ [])
     ≡ rows_after (tallied first met) more ++ met_text (tallied first (met ++ more)) m.change m.outcome
 unfolding rows_after
@@ -69,7 +69,7 @@ row-more first met more m =
     ∙ ap (λ es. rows_after (tallied first met) more ++ met_text es m.change m.outcome)
     (sym (tallied-more first met more))
 
--- one tally more
+-- another tally
 pub tally-more : (from : ℕ) (counts : List ℕ) (count : ℕ)
     → tally_lines from (counts ++ count ∷ []) ≡ tally_lines from counts ++ tally_line (from + length counts) count
 unfolding tally_lines

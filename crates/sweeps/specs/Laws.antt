@@ -1,5 +1,5 @@
--- What a sweep's table says of its edits: how its outcomes are numbered and counted; that each edit has one outcome and
--- one number of steps; and that the parts of a sweep have the edits of the whole.
+-- What a sweep's table says about its edits: how its outcomes are numbered and counted; that each edit has one outcome
+-- and one number of steps; and that the parts of a sweep have the edits of the whole.
 use Rattle.std.specs.Prelude.{◌≡◌, ℕ, ◌+◌, ◌-◌, ◌≤◌, Bool, List, [], ◌∷◌, ◌++◌, Some, count_by, map, slice_get}
 use Rattle.std.specs.List.{flat_map}
 use Rattle.std.specs.Str.{bytes_eq}
@@ -19,14 +19,14 @@ use Rattle.sweep_plans.specs.declared.request.Part.{Part}
 abbrev pub outcomes_of : List ℕ → List Met → List (List ℕ)
 outcomes_of first met = distinct bytes_eq (first ∷ map (λ (m : Met). m.outcome) met)
 
--- they are what is tallied, each with the number of edits that lead to it
+-- they are the tallied ones, each with the number of edits that lead to it
 abbrev pub TalliesCount : Type 0
 TalliesCount = (first : List ℕ) (met : List Met) → tallied first met
     ≡ map (λ outcome. (outcome, standing (count_by (λ (m : Met). bytes_eq m.outcome outcome) met)))
     (outcomes_of first met)
 
--- the row of an edit has a number by what was tallied before it; that is the place of the edit's outcome among them,
--- whatever comes after it
+-- the number in the row of an edit is given by what was tallied before it; that is the place of the edit's outcome
+-- among all outcomes, whatever comes after it
 abbrev pub RowsHaveNumbers : Type 0
 RowsHaveNumbers = (first : List ℕ) (before : List Met) (m : Met) → rows_text first (before ++ m ∷ [])
     ≡ rows_text first before ++ met_text (tallied first before) m.change m.outcome
@@ -35,7 +35,7 @@ abbrev pub NumbersArePlaces : Type 0
 NumbersArePlaces = (first : List ℕ) (before : List Met) (m : Met) (after : List Met)
     → slice_get (outcomes_of first (before ++ m ∷ after)) (number_of (tallied first before) m.outcome) ≡ Some m.outcome
 
--- an edit takes one number of steps
+-- an edit needs one number of steps
 abbrev pub StepsAreOne : Type 0
 StepsAreOne = (sc : Scenario) (change : Change) (m n : ℕ) → TakesSteps sc change m → TakesSteps sc change n → m ≡ n
 

@@ -1,4 +1,5 @@
--- What an edit comes to: the outcome of one run from step zero with only that edit, and how many steps the edit takes.
+-- The outcome of an edit: the outcome of one run from step zero with only that edit, and the number of steps that the
+-- edit needs.
 use Rattle.std.specs.Prelude.{◌≡◌, ℕ, ◌-◌, Bool, List, [], ◌∷◌, fold, min, sum_by}
 use Rattle.checkpoints.specs.Forks.{IsLastUnshown}
 use Rattle.scenario.specs.Edits.{row}
@@ -11,13 +12,13 @@ use Rattle.sweep_plans.specs.declared.change.Change.{Change}
 unfoldable pub IsOutcome : Bool → Scenario → Change → List ℕ → Type 0
 IsOutcome with_output sc change text = IsOutlineOf with_output (row sc (edit_of change)).after text
 
--- a change takes this many steps: those from the last one at which it doesn't show yet, up to the chosen one. The
+-- a change needs this number of steps: those from the last one at which it doesn't show yet, up to the chosen one. The
 -- number follows from the run, and doesn't say how many steps a sweep executes, which may be fewer
 unfoldable pub TakesSteps : Scenario → Change → ℕ → Type 0
 TakesSteps sc change steps =
     (from : ℕ) × IsLastUnshown (row sc (edit_of change)).effect (run_of sc) sc.step from × (steps ≡ sc.step - from)
 
--- a change, its outcome, and the steps that it takes
+-- a change, its outcome, and the steps that it needs
 pub record Met : Type 0 where
   pub change : Change
   pub outcome : List ℕ
@@ -34,10 +35,10 @@ AreMet with_output sc (m ∷ ms) =
 unfoldable pub tallied : List ℕ → List Met → List (List ℕ × ℕ)
 tallied first met = fold (λ entries (m : Met). with_text entries m.outcome) ((first, 0) ∷ []) met
 
--- a number that stands still at the greatest 64-bit one
+-- a number that stops at the greatest 64-bit one
 abbrev pub standing : ℕ → ℕ
 standing n = min n 18446744073709551615
 
--- how many steps all of them take
+-- the number of steps that all of them need
 abbrev pub steps_of : List Met → ℕ
 steps_of met = sum_by (λ (m : Met). m.steps) met

@@ -1,4 +1,4 @@
--- What a sweep is of, and what it has met.
+-- The scenario of a sweep, and what it has met.
 use Rattle.std.specs.Prelude.{◌≡◌, ℕ, Bool, List, length}
 use Rattle.scenario.specs.Scenario.{Scenario, IsOutlineOf}
 use Rattle.tallies.specs.Tallied.{entries_of}
@@ -6,7 +6,7 @@ use Rattle.sweeps.specs.Outcomes.{Met, AreMet, standing, steps_of, tallied}
 use Rattle.sweeps.specs.declared.counting.Counts.{Counts}
 use Rattle.sweeps.specs.declared.sweep.Sweep.{Sweep}
 
--- the scenario whose edits are made, and whether outcomes tell how much was written
+-- the scenario whose edits are tried, and whether outcomes have the number of bytes written
 unfoldable pub scenario_of : Sweep → Scenario
 scenario_of sweep = sweep.scenario
 

@@ -1,5 +1,5 @@
--- The table of a sweep: for each edit a row with the number of its outcome, and before the first row of a number what
--- the outcome is.
+-- The table of a sweep: for each edit a row with the number of its outcome, and before the first row with a number the
+-- outcome itself.
 use Rattle.std.specs.Prelude.{ℕ, ◌+◌, Bool, if◌then◌else◌, List, [], ◌∷◌, ◌++◌, codes, length}
 use Rattle.std.specs.Fmt.{decimal}
 use Rattle.report_lines.specs.Text.{address_text, newline}
@@ -9,7 +9,7 @@ use Rattle.sweeps.specs.Outcomes.{Met, standing, steps_of, tallied}
 use Rattle.sweep_plans.specs.declared.change.Change.{Change}
 use Rattle.sweep_plans.specs.declared.change.Change.TheVariants.{Byte, Word}
 
--- a change, as a line of a session makes it: `input OFFSET BYTE` or `patch ADDR WORD`
+-- a change, as a line of a session that applies it: `input OFFSET BYTE` or `patch ADDR WORD`
 unfoldable pub change_text : Change → List ℕ
 change_text (Byte offset byte) = codes "input " ++ decimal offset ++ codes " " ++ decimal byte
 change_text (Word addr word) = codes "patch " ++ address_text addr ++ codes " " ++ address_text word
@@ -18,7 +18,7 @@ change_text (Word addr word) = codes "patch " ++ address_text addr ++ codes " " 
 unfoldable pub change_row : Change → ℕ → List ℕ
 change_row change number = change_text change ++ codes " " ++ decimal number ++ newline
 
--- what an outcome is
+-- the lines of an outcome
 unfoldable pub outcome_lines : ℕ → List ℕ → List ℕ
 outcome_lines number outcome = codes "outcome " ++ decimal number ++ newline ++ outcome
 
@@ -26,7 +26,7 @@ outcome_lines number outcome = codes "outcome " ++ decimal number ++ newline ++ 
 unfoldable pub first_lines : List ℕ → List ℕ
 first_lines first = outcome_lines 0 first ++ codes "unedited 0\n"
 
--- what is written for one more change: by the number of its outcome, and whether that was met before
+-- the text for another change: by the number of its outcome, and whether that was met before
 abbrev pub text_with : Bool → ℕ → Change → List ℕ → List ℕ
 text_with is_met number change outcome =
     (if is_met then [] else outcome_lines number outcome) ++ change_row change number
@@ -55,11 +55,11 @@ unfoldable pub end_line : ℕ → ℕ → ℕ → List ℕ
 end_line edits outcomes steps =
     codes "end " ++ decimal edits ++ codes " " ++ decimal outcomes ++ codes " " ++ decimal steps ++ newline
 
--- what ends a table of so many edits that take so many steps
+-- the end of a table with this number of edits that need this number of steps
 unfoldable pub total_lines : List (List ℕ × ℕ) → ℕ → ℕ → List ℕ
 total_lines entries edits steps = tally_lines 0 (counts_of entries) ++ end_line edits (length entries) steps
 
--- the rows of a table, and a whole one but for its head
+-- the rows of a table, and a whole one without its head
 unfoldable pub rows_text : List ℕ → List Met → List ℕ
 rows_text first met = first_lines first ++ rows_after ((first, 0) ∷ []) met
 

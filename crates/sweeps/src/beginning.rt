@@ -1,4 +1,4 @@
-//! How a sweep begins: with a scenario that nothing has edited, and what its run comes to.
+//! How a sweep begins: with an unedited scenario, and the outcome of its run.
 ghost use Rattle.std.specs.Prelude.{◌≡◌, ◌≤◌, ◌++◌, [], ℕ, List, IfOk, length};
 ghost use Rattle.checkpoints.specs.Edits.{IsRightForRun};
 ghost use Rattle.checkpoints.specs.Trails.{LoadsAs};
@@ -18,7 +18,7 @@ use std::alloc::{AllocError, Global};
 use suppressions::Suppression;
 use tallies::Tallies;
 
-/// The scenario of a program with an input and suppressions, with nothing edited and a step chosen.
+/// Returns the scenario of a program with an input and suppressions, without edits and with a step chosen.
 pub(crate) fn scenario_at<'a>(
     alloc: Global,
     image: Image<'a>,
@@ -34,7 +34,7 @@ pub(crate) fn scenario_at<'a>(
     Ok(scenario)
 }
 
-/// What the unedited run comes to.
+/// Returns the outcome of the unedited run.
 fn unedited_outcome(
     trail: &mut Trail,
     scenario: &Scenario,
@@ -50,7 +50,7 @@ fn unedited_outcome(
     scenario.outline(&machine, with_output)
 }
 
-/// Counts what the unedited run comes to, before any edit, and appends it.
+/// Counts the outcome of the unedited run, before any edit, and appends it.
 fn count_unedited(
     alloc: Global,
     trail: &mut Trail,
@@ -75,7 +75,7 @@ fn count_unedited(
     })
 }
 
-/// The machine before the unedited run, the trail of that run, and its outcome counted and appended.
+/// Returns the machine before the unedited run, the trail of that run, and the counts of its outcome; appends the outcome.
 pub(crate) fn unedited_run(
     alloc: Global,
     scenario: &Scenario,

@@ -1,4 +1,5 @@
-//! What a sweep has met so far: how many edits lead to each outcome, how many edits there are, and how many steps they take by definition.
+//! What a sweep has met so far: the number of edits that lead to each outcome, the number of edits, and the number of steps that they need
+//! by definition.
 ghost use Rattle.std.specs.Prelude.{◌≡◌, ◌+◌, ◌++◌, OnOk};
 ghost use Rattle.tallies.specs.Tallied.{entries_of, with_text};
 ghost use Rattle.sweeps.specs.Outcomes.{standing};
@@ -9,8 +10,8 @@ use std::alloc::{AllocError, Global};
 use sweep_plans::Change;
 use tallies::{Found, Tallies};
 
-/// The outcomes, the number of edits, and the number of steps that the edits take by definition (`TakesSteps`): a sweep may execute fewer. Both
-/// numbers stop at 2^64 - 1.
+/// The outcomes, the number of edits, and the number of steps that the edits need by definition (`TakesSteps`). A sweep may execute fewer.
+/// Both numbers stop at 2^64 - 1.
 #[derive(Drop)]
 pub(crate) struct Counts {
     pub(crate) tallies: Tallies,
@@ -18,7 +19,7 @@ pub(crate) struct Counts {
     pub(crate) steps: u64,
 }
 
-/// What an outcome is, where it is new, and the row of the change that has it.
+/// Appends an outcome, if it is new, and the row of the change that has it.
 #[tactic(auto, unfolding(crate::specs::Tables::met_text), using(std::proofs::Common::append_assoc))]
 fn push_met(
     out: &mut Vec<u8>,
@@ -35,7 +36,7 @@ fn push_met(
 }
 
 impl Counts {
-    /// Counts a change with its outcome and the steps that it takes, and appends its row.
+    /// Counts a change with its outcome and the steps that it needs, and appends its row.
     #[tactic(auto, unfolding(crate::specs::Tables::met_text))]
     pub(crate) fn count(
         &mut self,
@@ -56,7 +57,7 @@ impl Counts {
         Ok(())
     }
 
-    /// Appends what ends a table.
+    /// Appends the end of a table.
     #[tactic(auto, unfolding(crate::specs::Tables::total_lines), using(std::proofs::Common::append_assoc))]
     pub(crate) fn push_totals(&self, alloc: Global, out: &mut Vec<u8>) -> Result<(), AllocError>
         ensures { OnOk result (out.new.items ≡ out.old.items ++ total_lines (entries_of self.now.tallies) self.now.edits self.now.steps) }

@@ -1,10 +1,11 @@
-//! What a sweep's table says of its edits. Each law is the contract of a function that does nothing; a caller has it after the call.
+//! Laws of a sweep's table. Each law is the contract of a function that does nothing; a caller has it after the call.
 ghost use Rattle.sweeps.specs.Laws.{MetAreOne, NumbersArePlaces, OutlineIsOne, PartsHaveAllChanges, RowsHaveNumbers, StepsAreOne, TalliesCount};
 
 use sweep_plans::laws::parts_make_the_whole;
 use tallies::laws::texts_are_counted;
 
-/// The number of a row is the place of its outcome among the distinct outcomes, and the tally of a number is how many edits have that outcome.
+/// The number of a row is the place of its outcome among the distinct outcomes. The tally of a number is the number of edits with that
+/// outcome.
 pub fn outcomes_are_counted()
     ensures tallies { TalliesCount }
     ensures rows { RowsHaveNumbers }
@@ -13,12 +14,12 @@ pub fn outcomes_are_counted()
     texts_are_counted();
 }
 
-/// An edit takes one number of steps.
+/// An edit needs one number of steps.
 pub fn steps_are_one()
     ensures { StepsAreOne }
 {}
 
-/// A scenario has one outline, and so edits of it have one list of outcomes and steps.
+/// A scenario has one outline, so edits of it have one list of outcomes and steps.
 pub fn outcomes_are_one()
     ensures outline { OutlineIsOne }
     ensures met { MetAreOne }

@@ -1,4 +1,4 @@
-//! The edits of one place, one after another.
+//! The edits of one place, one at a time.
 ghost use Rattle.std.specs.Prelude.{◌≡◌, ◌++◌, ◌∷◌, [], ℕ, List, Some, OnOk, map};
 ghost use Rattle.checkpoints.specs.Forks.{IsForkFor};
 ghost use Rattle.scenario.specs.Edits.{row};
@@ -16,7 +16,7 @@ use scenario::Scenario;
 use std::alloc::AllocError;
 use sweep_plans::Change;
 
-/// What stands at a place, and the machine from which each run goes on in which another value stands there.
+/// The value at a place, and the machine from which each run continues that has another value there.
 #[derive(Clone, Copy)]
 pub(crate) struct Spot<'a> {
     pub(crate) standing: Change,
@@ -24,7 +24,7 @@ pub(crate) struct Spot<'a> {
     pub(crate) with_output: bool,
 }
 
-/// Puts another value there alone, counts what that comes to, and appends its row. The scenario is as it was then.
+/// Puts another value there, and no other edit, counts the outcome, and appends its row. Afterwards the scenario is as it was.
 fn meet(
     scenario: &mut Scenario,
     counts: &mut Counts,
@@ -45,7 +45,7 @@ fn meet(
     Ok(())
 }
 
-/// The same of each of some values.
+/// Does the same for each of some values.
 pub(crate) fn meet_each(
     scenario: &mut Scenario,
     counts: &mut Counts,

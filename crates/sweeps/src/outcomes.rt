@@ -1,4 +1,4 @@
-//! Where the runs of edits go on, and what each comes to.
+//! Where the runs of edits continue, and the outcome of each.
 ghost use Rattle.std.specs.Prelude.{◌≡◌, ◌≤◌, ℕ, IfOk, IfSome, Some};
 ghost use Rattle.checkpoints.specs.Effects.{LeadsTo, Run};
 ghost use Rattle.checkpoints.specs.Edits.{IsRightForRun};
@@ -18,7 +18,7 @@ use scenario::laws::{edits_follow, edits_go_back};
 use std::alloc::AllocError;
 use sweep_plans::Change;
 
-/// The machine from which each run goes on in which another value stands somewhere.
+/// Returns the machine from which each run continues that has another value at a place.
 pub(crate) fn fork_at(
     trail: &mut Trail,
     scenario: &Scenario,
@@ -44,7 +44,7 @@ pub(crate) fn fork_at(
     }
 }
 
-/// The outline of an edited scenario, whose run goes on from a fork of the run that an effect leads from.
+/// Returns the outline of an edited scenario, whose run continues from a fork. An effect leads to it from the run of the fork.
 fn outline_from(
     scenario: &Scenario,
     fork: &Fork,
@@ -65,7 +65,7 @@ fn outline_from(
     scenario.outline(&machine, with_output)
 }
 
-/// Takes a change back: what stood there stands there again.
+/// Takes a change back: the place gets its old value again.
 fn take_back(scenario: &mut Scenario, standing: Change)
     requires { IsTaken scenario.old (edit_of standing) }
     ensures { (sc : ScenarioOf) (value : ℕ) → stood sc standing ≡ Some standing → scenario.old ≡ (row sc (edit_of (changed_to standing value))).after → scenario.new ≡ sc }
@@ -79,7 +79,7 @@ fn take_back(scenario: &mut Scenario, standing: Change)
     }
 }
 
-/// The outcome of another value in the place of what stands somewhere, whose run goes on from a fork. The scenario is as it was then.
+/// Returns the outcome of another value at a place, whose run continues from a fork. Afterwards the scenario is as it was.
 pub(crate) fn outcome_of(
     scenario: &mut Scenario,
     fork: &Fork,

@@ -6,7 +6,7 @@ use replay_report::{push_address, push_number, push_text};
 use std::alloc::AllocError;
 use sweep_plans::Change;
 
-/// A change, as a line of a session makes it.
+/// Appends a change, as the line of a session that applies it.
 #[tactic(auto, unfolding(crate::specs::Tables::change_text), using(std::proofs::Common::append_assoc))]
 fn push_change(out: &mut Vec<u8>, change: Change) -> Result<(), AllocError>
     ensures { OnOk result (out.new.items ≡ out.old.items ++ change_text change) }
@@ -27,7 +27,7 @@ fn push_change(out: &mut Vec<u8>, change: Change) -> Result<(), AllocError>
     }
 }
 
-/// The row of a change.
+/// Appends the row of a change.
 #[tactic(auto, unfolding(crate::specs::Tables::change_row), using(std::proofs::Common::append_assoc))]
 pub(crate) fn push_row(out: &mut Vec<u8>, change: Change, number: u64) -> Result<(), AllocError>
     ensures { OnOk result (out.new.items ≡ out.old.items ++ change_row change number) }
@@ -38,7 +38,7 @@ pub(crate) fn push_row(out: &mut Vec<u8>, change: Change, number: u64) -> Result
     push_text(out, b"\n")
 }
 
-/// What an outcome is.
+/// Appends an outcome.
 #[tactic(auto, unfolding(crate::specs::Tables::outcome_lines), using(std::proofs::Common::append_assoc))]
 pub(crate) fn push_outcome(out: &mut Vec<u8>, number: u64, outcome: &[u8]) -> Result<(), AllocError>
     ensures { OnOk result (out.new.items ≡ out.old.items ++ outcome_lines number outcome.now) }
@@ -49,7 +49,7 @@ pub(crate) fn push_outcome(out: &mut Vec<u8>, number: u64, outcome: &[u8]) -> Re
     push_text(out, outcome)
 }
 
-/// What the unedited run comes to.
+/// Appends the outcome of the unedited run.
 #[tactic(auto, unfolding(crate::specs::Tables::first_lines), using(std::proofs::Common::append_assoc))]
 pub(crate) fn push_first(out: &mut Vec<u8>, outcome: &[u8]) -> Result<(), AllocError>
     ensures { OnOk result (out.new.items ≡ out.old.items ++ first_lines outcome.now) }
@@ -58,7 +58,7 @@ pub(crate) fn push_first(out: &mut Vec<u8>, outcome: &[u8]) -> Result<(), AllocE
     push_text(out, b"unedited 0\n")
 }
 
-/// How many edits lead to an outcome.
+/// Appends the number of edits that lead to an outcome.
 #[tactic(auto, unfolding(crate::specs::Tables::tally_line), using(std::proofs::Common::append_assoc))]
 fn push_tally(out: &mut Vec<u8>, number: u64, count: u64) -> Result<(), AllocError>
     ensures { OnOk result (out.new.items ≡ out.old.items ++ tally_line number count) }
@@ -70,7 +70,7 @@ fn push_tally(out: &mut Vec<u8>, number: u64, count: u64) -> Result<(), AllocErr
     push_text(out, b"\n")
 }
 
-/// The same for each outcome.
+/// Appends the same for each outcome.
 pub(crate) fn push_tallies(out: &mut Vec<u8>, counts: &[u64]) -> Result<(), AllocError>
     ensures { OnOk result (out.new.items ≡ out.old.items ++ tally_lines 0 counts.now) }
 {
@@ -80,7 +80,7 @@ pub(crate) fn push_tallies(out: &mut Vec<u8>, counts: &[u64]) -> Result<(), Allo
     Ok(())
 }
 
-/// The last line.
+/// Appends the last line.
 #[tactic(auto, unfolding(crate::specs::Tables::end_line), using(std::proofs::Common::append_assoc))]
 pub(crate) fn push_end(
     out: &mut Vec<u8>,

@@ -19,8 +19,8 @@ use std::alloc::{AllocError, Global};
 use suppressions::Suppression;
 use sweep_plans::{Change, Place, Plan};
 
-/// A run whose edits are tried individually, one after another; their outcomes so far; the number of edits; and the number of steps that they
-/// take by definition.
+/// A run whose edits are tried individually, one after another; their outcomes so far; the number of edits; and the number of steps that
+/// they need by definition.
 #[derive(Drop)]
 pub struct Sweep<'a> {
     alloc: Global,
@@ -47,7 +47,7 @@ impl<'a> Sweep<'a> {
     ghost use Rattle.sweeps.specs.Sweeps.{HasMet, scenario_of, tells_output};
     ghost use Rattle.sweeps.specs.Tables.{rows_text, table_text};
 
-    /// A sweep of a program with an input and suppressions at a step: its unedited run is made, and its outcome appended.
+    /// Returns a sweep of a program with an input and suppressions at a step. Executes the unedited run, and appends its outcome.
     #[tactic(auto, unfolding(crate::specs::Sweeps::scenario_of, crate::specs::Sweeps::tells_output))]
     pub fn begin(
         alloc: Global,
@@ -69,7 +69,7 @@ impl<'a> Sweep<'a> {
         Sweep::over(alloc, scenario, copy, with_output, out)
     }
 
-    /// A sweep of a scenario that nothing has edited, with a copy of its input: its run is made, and its outcome appended.
+    /// Returns a sweep of an unedited scenario, with a copy of its input. Executes its run, and appends the outcome.
     #[tactic(auto, unfolding(crate::specs::Sweeps::scenario_of, crate::specs::Sweeps::tells_output))]
     fn over(
         alloc: Global,
@@ -97,7 +97,7 @@ impl<'a> Sweep<'a> {
         })
     }
 
-    /// What stands at a byte of the input, if there is one.
+    /// Returns the value at a byte of the input, if there is one.
     #[tactic(auto, unfolding(crate::specs::Sweeps::scenario_of, crate::specs::Standing::standing_byte))]
     fn standing_byte(&self, offset: u32) -> Option<Change>
         ensures { result ≡ standing_byte (scenario_of self.now) offset }
@@ -106,7 +106,7 @@ impl<'a> Sweep<'a> {
         Some(Change::Byte { offset, byte })
     }
 
-    /// What stands at a word of the program, if it is loaded whole.
+    /// Returns the value at a word of the program, if it is loaded whole.
     #[tactic(auto, unfolding(crate::specs::Sweeps::scenario_of, crate::specs::Standing::standing_word))]
     fn standing_word(&self, addr: u32) -> Option<Change>
         ensures { result ≡ standing_word (scenario_of self.now) addr }
@@ -119,7 +119,7 @@ impl<'a> Sweep<'a> {
         Some(Change::Word { addr, word })
     }
 
-    /// What stands at a place, if something does.
+    /// Returns the value at a place, if there is one.
     fn standing_at(&self, plan: &Plan, place: u64) -> Option<Change>
         ensures { result ≡ standing_at (scenario_of self.now) plan.now place }
     {
@@ -130,7 +130,7 @@ impl<'a> Sweep<'a> {
         }
     }
 
-    /// Makes each edit of a place alone, and appends its row, after what its outcome is where that is new.
+    /// Applies each edit of a place, one at a time, and appends its row, after its outcome if that is new.
     #[tactic(auto, unfolding(crate::specs::Sweeps::scenario_of, crate::specs::Sweeps::tells_output))]
     pub fn visit(&mut self, plan: &Plan, place: u64, out: &mut Vec<u8>) -> Result<(), AllocError>
         ensures scenario { scenario_of self.new ≡ scenario_of self.old }
@@ -153,8 +153,8 @@ impl<'a> Sweep<'a> {
         meet_each(&mut self.scenario, &mut self.counts, &spot, &values, out)
     }
 
-    /// Appends the number of edits that lead to each outcome, and then the number of edits, of outcomes and of steps. The steps are those that the
-    /// edits take by definition (`TakesSteps`); a sweep may execute fewer.
+    /// Appends the number of edits that lead to each outcome, and then the number of edits, of outcomes and of steps. The steps are those
+    /// that the edits need by definition (`TakesSteps`); a sweep may execute fewer.
     #[tactic(auto, unfolding(crate::specs::Tables::table_text, crate::specs::Sweeps::HasMet))]
     pub fn finish(&self, out: &mut Vec<u8>) -> Result<(), AllocError>
         ensures { OnOk result ((first : List ℕ) (met : List Met) → HasMet self.now first met

@@ -13,7 +13,7 @@ use Rattle.tallies.specs.Laws.{CountsTexts, NumbersTexts, times}
 use Rattle.tallies.specs.Tallied.{next_count, number_of, with_text}
 use Rattle.tallies.proofs.Grouping.{any-distinct, any-left, any-right, apart, distinct-more, put, put-next, valued}
 
--- the entries with one text more are those with its count raised
+-- the entries with another text are those with its count raised
 with-text-is : (entries : List (List ℕ × ℕ)) (text : List ℕ)
     → with_text entries text ≡ put bytes_eq bytes_eq-Decides next_count 1 entries text
 unfolding with_text
@@ -110,7 +110,7 @@ stays-there (y ∷ xs) ys (suc i) x h = stays-there xs ys i x h
 one-on : {A : Type 0} (x : A) (xs : List A) (n : ℕ) → slice_get (x ∷ xs) (1 + n) ≡ slice_get xs n
 one-on x xs n = let one : 1 + n ≡ suc n = omega arith in ap (slice_get (x ∷ xs)) one
 
--- a text stands at its place, or is put there as the last one
+-- a text is at its place, or is put there as the last one
 found : (text : List ℕ) (ds : List (List ℕ)) → slice_get (cond (list_any (bytes_eq text) ds) ds (ds ++ text ∷ []))
     (position_or_len (bytes_eq text) ds) ≡ Some text
 found text [] = refl

@@ -100,7 +100,7 @@ module _ {K : Type 0} (same : K → K → Bool) (decides : (a b : K) → Decides
         (are-apart ks),
   )
 
-  -- one item more
+  -- another item
   pub distinct-more : (ks : List K) (k : K) → distinct same (ks ++ k ∷ [])
       ≡ cond (list_any (same k) ks) (distinct same ks) (distinct same ks ++ k ∷ [])
   unfolding distinct

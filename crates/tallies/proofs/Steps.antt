@@ -25,7 +25,7 @@ module _ {Z : Type 0} where
   counts_keyed (e ∷ es) = ap (λ counts. e.1 ∷ counts) (counts_keyed es)
 
   module _ (text : List ℕ) where
-    -- where the text stands
+    -- the place of the text
     abbrev place : List (Vec ℕ Z × ℕ) → ℕ
     place entries = position_or_len (λ e. bytes_eq text e.0) (keyed entries)
 
@@ -50,7 +50,7 @@ module _ {Z : Type 0} where
         go true rest = refl
         go false rest = rest
 
-    -- the text at a place below the end stands there first
+    -- the text at a place below the end is first there
     first : (entries : List (Vec ℕ Z × ℕ)) (i : ℕ) → i < length entries → i ≡ number_of (keyed entries) text
         → place entries ≡ i
     first entries i within is = go (nat_lt (place entries) (length (keyed entries))) is
@@ -79,7 +79,7 @@ module _ {Z : Type 0} where
         go false (suc i) within is there rest =
             ap (λ others. (e.0.items, e.1) ∷ others) (rest i count (omega arith) (omega arith) there)
 
-    -- one more of the text at a place
+    -- another occurrence of the text at a place
     pub counted_again : (entries : List (Vec ℕ Z × ℕ)) (i count : ℕ) → i < length entries
         → i ≡ number_of (keyed entries) text → slice_get (values_of entries) i ≡ Some count
         → keyed (set_value_at entries i (next_count count)) ≡ with_text (keyed entries) text

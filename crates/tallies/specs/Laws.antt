@@ -1,14 +1,14 @@
--- What texts come to that are counted one after another.
+-- What the counts of texts are.
 use Rattle.std.specs.Prelude.{◌≡◌, ℕ, List, [], ◌∷◌, ◌++◌, Some, count_by, fold, map, min, slice_get}
 use Rattle.std.specs.Str.{bytes_eq}
 use Rattle.tallies.specs.Distinct.{distinct}
 use Rattle.tallies.specs.Tallied.{number_of, with_text}
 
--- some texts, counted one after another after a first one, which isn't counted itself
+-- some texts, counted one after another, after a first one that isn't counted itself
 abbrev pub counted : List ℕ → List (List ℕ) → List (List ℕ × ℕ)
 counted first texts = fold with_text ((first, 0) ∷ []) texts
 
--- how often a text is among some, up to the greatest 64-bit number
+-- how often a text is among others, at most the greatest 64-bit number
 abbrev pub times : List (List ℕ) → List ℕ → ℕ
 times texts text = min (count_by (λ other. bytes_eq other text) texts) 18446744073709551615
 

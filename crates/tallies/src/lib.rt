@@ -1,17 +1,17 @@
-//! Texts that are counted: each is kept once, in order of first occurrence, with how often it was met.
+//! Counts texts: each is kept once, in order of first occurrence, with how often it was met.
 //!
 //! | Call | What it does |
 //! |---|---|
-//! | [`Tallies::begin`] | a first text, of number 0, which is counted no time yet |
-//! | [`Tallies::meet`] | one more of a text: its number, and whether it was met before |
-//! | [`Tallies::counts`] | how often each text was met, in their order |
-//! | [`laws::texts_are_counted`] | nothing: its contract says that the entries are the distinct texts with how often each was met |
+//! | [`Tallies::begin`] | starts with a first text, of number 0, with count 0 |
+//! | [`Tallies::meet`] | counts a text; returns its number, and whether it was met before |
+//! | [`Tallies::counts`] | returns how often each text was met, in their order |
+//! | [`laws::texts_are_counted`] | does nothing; its contract says that the entries are the distinct texts with how often each was met |
 //!
-//! A text that was met before costs one look-up of it, and no memory. Of a new one a copy is kept. Where memory is wanting, the texts
-//! and their counts stay as they were. Counts stand still at 2^64 - 1.
+//! A text that was met before costs one look-up, and no memory. A new one is copied. If memory runs out, the texts and their counts stay as
+//! they were. Counts stop at 2^64 - 1.
 //!
-//! Contracts speak of `entries_of`, the list of the texts with their counts. In `specs/`: `Tallied` has the definitions, `Distinct` the distinct items
-//! of a list, and `Laws` what the entries are.
+//! Contracts speak of `entries_of`, the list of the texts with their counts. In `specs/`: `Tallied` has the definitions, `Distinct` the
+//! distinct items of a list, and `Laws` what the entries are.
 #![tactic(auto)]
 
 pub mod laws;
@@ -28,23 +28,23 @@ pub struct Tallies {
     texts: IndexMap<Vec<u8>, u64>,
 }
 
-/// What is told of a text.
+/// The result of a look-up of a text.
 #[derive(Clone, Copy)]
 pub struct Found {
-    /// Its number: how many other texts were met before its first occurrence.
+    /// Its number: the number of other texts that were met before its first occurrence.
     pub number: usize,
-    /// Was it met before?
+    /// Whether it was met before.
     pub is_met: bool,
 }
 
-/// One more.
+/// Returns the next count, at most the greatest `u64`.
 fn next_count(count: u64) -> u64
     ensures { result ≡ next_count count }
 {
     count.saturating_add(1)
 }
 
-/// What is told of a text.
+/// Looks up a text.
 fn find_in(texts: &IndexMap<Vec<u8>, u64>, text: &[u8]) -> Found
     ensures number { result.number ≡ number_of (keyed texts.now.entries) text.now }
     ensures met { result.is_met ≡ is_met (keyed texts.now.entries) text.now }
@@ -62,7 +62,7 @@ fn find_in(texts: &IndexMap<Vec<u8>, u64>, text: &[u8]) -> Found
     }
 }
 
-/// One more of the text at a place.
+/// Counts the text at a place again.
 fn count_again(texts: &mut IndexMap<Vec<u8>, u64>, place: usize)
     requires { place < length texts.old.entries }
     ensures { (text : List ℕ) → place ≡ number_of (keyed texts.old.entries) text
@@ -71,7 +71,7 @@ fn count_again(texts: &mut IndexMap<Vec<u8>, u64>, place: usize)
     texts[place] = next_count(texts[place]);
 }
 
-/// A copy of a new text, met once.
+/// Adds a copy of a new text, met once.
 fn add_new(texts: &mut IndexMap<Vec<u8>, u64>, text: &[u8]) -> Result<(), AllocError>
     requires { is_met (keyed texts.old.entries) text.now ≡ false }
     ensures ok { OnOk result (keyed texts.new.entries ≡ with_text (keyed texts.old.entries) text.now) }
@@ -84,7 +84,7 @@ fn add_new(texts: &mut IndexMap<Vec<u8>, u64>, text: &[u8]) -> Result<(), AllocE
 
 #[tactic(auto, unfolding(crate::specs::Tallied::entries_of))]
 impl Tallies {
-    /// A first text, which is counted no time yet.
+    /// Returns the tallies of a first text, with count 0.
     pub fn begin(alloc: Global, first: Vec<u8>) -> Result<Tallies, AllocError>
         ensures { IfOk result (λ tallies. entries_of tallies ≡ (first.items, 0) ∷ []) }
     {
@@ -93,7 +93,7 @@ impl Tallies {
         Ok(Tallies { texts })
     }
 
-    /// One more of a text: its number, and whether it was met before. Where memory is wanting for a new text, all stays as it was.
+    /// Counts a text. Returns its number, and whether it was met before. If memory runs out for a new text, nothing changes.
     pub fn meet(&mut self, text: &[u8]) -> Result<Found, AllocError>
         ensures number { IfOk result (λ found. found.number ≡ number_of (entries_of self.old) text.now) }
         ensures met { IfOk result (λ found. found.is_met ≡ is_met (entries_of self.old) text.now) }
@@ -109,7 +109,7 @@ impl Tallies {
         Ok(found)
     }
 
-    /// How often each text was met, in their order.
+    /// Returns how often each text was met, in their order.
     #[tactic(auto, unfolding(crate::specs::Tallied::entries_of), using(crate::proofs::Steps::counts_keyed))]
     pub fn counts(&self, alloc: Global) -> Result<Vec<u64>, AllocError>
         ensures { IfOk result (λ counts. counts.items ≡ counts_of (entries_of self.now)) }

@@ -21,7 +21,7 @@ impl Heap {
     ghost use Rattle.guest_heap.specs.States.{AreNoPlaces};
     ghost use Rattle.guest_heap.specs.Bounds.{Holds};
 
-    /// The least place from an address on, where there is none below it.
+    /// Returns the least place from an address on, provided that there is none below it.
     fn place_from(&self, from: u64, size: u32, redzone: u32, known: &Bound) -> Option<u32>
         requires multiple { from % 16 ≡ 0 }
         requires above { heap_begin + redzone ≤ from }
@@ -46,7 +46,7 @@ impl Heap {
         None
     }
 
-    /// The bounds are those of a redzone.
+    /// Makes the bounds those of a redzone. What was known for another one is forgotten.
     #[tactic(auto, unfolding(crate::specs::Heaps::blocks_of, crate::specs::Heaps::redzone_in))]
     fn use_redzone(&mut self, alloc: Global, redzone: u32) -> Result<(), AllocError>
         ensures same { blocks_of self.new ≡ blocks_of self.old }
@@ -59,7 +59,7 @@ impl Heap {
         Ok(())
     }
 
-    /// The bound of a class, raised to the least place of its least block.
+    /// Returns the bound of a class, raised to the least place of its least block.
     #[tactic(auto, unfolding(crate::specs::Heaps::blocks_of, crate::specs::Heaps::redzone_in))]
     fn raised(&self, class: &SizeClass) -> Bound
         requires index { class.now.index < 268 }
@@ -82,7 +82,7 @@ impl Heap {
         }
     }
 
-    /// Raises the bound of a class, and answers it. The list of bounds is left to copies to share where that is the bound already.
+    /// Raises the bound of a class, and returns it. If the bound already has that value, copies still share the list.
     #[tactic(auto, unfolding(crate::specs::Heaps::blocks_of, crate::specs::Heaps::redzone_in))]
     fn raise_bound(&mut self, class: &SizeClass) -> Result<Bound, AllocError>
         requires index { class.now.index < 268 }
@@ -100,7 +100,7 @@ impl Heap {
         Ok(raised)
     }
 
-    /// The least place for a block.
+    /// Returns the least place for a block, if there is one.
     fn place(&mut self, alloc: Global, size: u32, redzone: u32) -> Result<Option<u32>, AllocError>
         ensures same { blocks_of self.new ≡ blocks_of self.old }
         ensures place { IfOk result (λ start. Places (blocks_of self.new) size redzone start) }
@@ -114,7 +114,7 @@ impl Heap {
         Ok(self.place_from(from, size, redzone, &bound))
     }
 
-    /// A new live block at a place.
+    /// Puts a new live block at a place.
     fn put(&mut self, alloc: Global, entry: Entry) -> Result<(), AllocError>
         requires place { IsPlace (blocks_of self.old) entry.size entry.redzone entry.start }
         requires live { entry.freed ≡ None }
@@ -127,8 +127,9 @@ impl Heap {
         Ok(())
     }
 
-    /// A new live block of `size` bytes, with `redzone` bytes on either side and the trace of its allocation: where it begins, at the least
-    /// place for it. `None` where there is no place, as for more than 16,777,216 bytes. Where memory fails the heap is as before.
+    /// Allocates a block of `size` bytes, with `redzone` bytes on either side and the trace of its allocation, and returns its start: the
+    /// least place for it. Returns `None` if there is no place, as for more than 16,777,216 bytes. If memory runs out, the heap stays as it
+    /// was.
     pub fn allocate(
         &mut self,
         alloc: Global,

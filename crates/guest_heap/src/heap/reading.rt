@@ -1,4 +1,4 @@
-//! What a heap answers of its blocks.
+//! Blocks of a heap by their addresses.
 ghost use Rattle.std.specs.Prelude.{◌≡◌, ◌≤◌, ℕ, None};
 ghost use Rattle.guest_heap.specs.Blocks.{near_of, high_end};
 ghost use Rattle.guest_heap.specs.Entries.{block_of};
@@ -46,7 +46,7 @@ impl Heap {
     ghost use Rattle.guest_heap.specs.Steps.{near, live_from};
     ghost use Rattle.guest_heap.specs.Heaps.{blocks_of, live_in};
 
-    /// The first live block from a slot on.
+    /// Returns the first live block from a slot on.
     fn first_live(&self, slot: usize) -> Option<&Entry>
         requires { slot ≤ 33554432 }
         ensures { IsNextKept (live_block (live_in self.now)) slot (option_map block_of (option_copied result)) }
@@ -57,7 +57,7 @@ impl Heap {
         }
     }
 
-    /// The live block with the least start that isn't below an address.
+    /// Returns the live block with the least start that isn't below an address.
     fn next_live(&self, from: u32) -> Option<Block>
         ensures some { IfSome result (λ b. IsFirstLive (blocks_of self.now).live from b) }
         ensures none { IfNone result ((a : ℕ) → from ≤ a → (blocks_of self.now).live a ≡ None) }
@@ -70,7 +70,7 @@ impl Heap {
         }
     }
 
-    /// The live block with the least start that isn't below an address. It takes no memory.
+    /// Returns the live block with the least start that isn't below an address. Allocates nothing.
     pub fn live(&self, from: u32) -> Option<Block>
         ensures first { result ≡ live_from (blocks_of self.now) from }
         ensures some { IfSome result (λ b. IsFirstLive (blocks_of self.now).live from b) }
@@ -79,7 +79,7 @@ impl Heap {
         self.next_live(from)
     }
 
-    /// The kept block whose interval holds an address, of which there is at most one, and how far from it the address is.
+    /// Returns the kept block whose interval holds an address, and how far from the block the address is. There is at most one such block.
     fn holding(&self, address: u32) -> Option<Near>
         ensures kept { IfSome result (λ near. IsKept (blocks_of self.now) near.block) }
         ensures holds { IfSome result (λ near. Holds near.block address) }
@@ -99,8 +99,8 @@ impl Heap {
         }
     }
 
-    /// The kept block whose interval holds an address, of which there is at most one, and how far from it the address is. It takes no
-    /// memory.
+    /// Returns the kept block whose interval holds an address, and how far from the block the address is. There is at most one such block.
+    /// Allocates nothing.
     pub fn block_near(&self, address: u32) -> Option<Near>
         ensures near { result ≡ near (blocks_of self.now) address }
         ensures kept { IfSome result (λ near. IsKept (blocks_of self.now) near.block) }

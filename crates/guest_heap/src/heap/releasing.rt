@@ -1,4 +1,4 @@
-//! Blocks that are freed, and blocks that are forgotten.
+//! Freed blocks, and blocks that leave the queue.
 ghost use Rattle.std.specs.Prelude.{◌≡◌, ◌<◌, ◌≤◌, ◌∷◌, ◌++◌, ◌⊎◌, [], None, Some, IfOk, OnErr, OnOk};
 ghost use Rattle.guest_heap.specs.Blocks.{freed_by};
 ghost use Rattle.guest_heap.specs.Entries.{block_of, entry_for, with_entry};
@@ -28,8 +28,8 @@ fn freed_by(block: &Block, trace: Trace) -> Block
     }
 }
 
-/// What is kept of a block that is freed: with the trace of its allocation, which blocks share as they do that of its release, and with how
-/// many were freed before it.
+/// Returns what is kept of a block that is freed: the traces of its allocation and its release, which blocks share, and the number of
+/// blocks freed before it.
 fn freed_entry(
     alloc: Global,
     block: &Block,
@@ -51,7 +51,7 @@ fn freed_entry(
     Ok(Rc::new(alloc, entry)?)
 }
 
-/// Takes a block out of the live ones, and puts its entry among the freed. Where memory fails it stays live.
+/// Moves a block from the live ones to the freed ones. If memory runs out, it stays live.
 fn move_to_freed(
     alloc: Global,
     live: &mut Table,
@@ -77,7 +77,7 @@ impl Heap {
     ghost use Rattle.guest_heap.specs.Steps.{released_blocks};
     ghost use Rattle.guest_heap.specs.Heaps.{blocks_of};
 
-    /// The live block that begins at an address.
+    /// Returns the live block that begins at an address.
     fn live_at(&self, address: u32) -> Option<&Entry>
         ensures { option_map block_of (option_copied result) ≡ (blocks_of self.now).live address }
     {
@@ -98,7 +98,7 @@ impl Heap {
         }
     }
 
-    /// A live block goes to the end of the queue.
+    /// Appends a live block to the queue.
     fn enqueue(
         &mut self,
         alloc: Global,
@@ -111,7 +111,7 @@ impl Heap {
         ensures ok { OnOk result (blocks_of self.new ≡ queue_with (blocks_of self.old) (freed_by trace block.now)) }
         ensures err { OnErr result (blocks_of self.new ≡ blocks_of self.old) }
     {
-        // No run comes to 2^64 releases or bytes; there it would be want of memory.
+        // No run has 2^64 releases or freed bytes; one that had would fail as if memory ran out.
         let Some(next) = self.next.checked_add(1) else {
             return Err(AllocError);
         };
@@ -128,7 +128,7 @@ impl Heap {
         Ok(())
     }
 
-    /// The oldest block leaves the queue.
+    /// Removes the oldest block from the queue.
     fn forget_oldest(&mut self, alloc: Global)
         ensures live { (blocks_of self.new).live ≡ (blocks_of self.old).live }
         ensures queue { (blocks_of self.new).queue ≡ drop 1 (blocks_of self.old).queue }
@@ -145,11 +145,11 @@ impl Heap {
         self.first += 1;
         self.held -= u64::from(size);
         self.bounds.lower(&Opened { first, end, room });
-        // Where this fails the entry stays, and counts for nothing: its number is too small.
+        // If this fails, the entry stays but doesn't count: its number is too small.
         let _ = self.freed.set(alloc, slot_of(start), None);
     }
 
-    /// The oldest blocks leave the queue, until the sizes in it sum to no more than a volume.
+    /// Removes the oldest blocks from the queue, until the sizes in it sum to at most a volume.
     fn forget(&mut self, alloc: Global, volume: u32)
         ensures live { (blocks_of self.new).live ≡ (blocks_of self.old).live }
         ensures queue { IsLongestFitting volume (blocks_of self.old).queue (blocks_of self.new).queue }
@@ -159,8 +159,8 @@ impl Heap {
         }
     }
 
-    /// Frees the live block that begins at `ptr`, with the trace of the release. It goes to the end of the queue, from which the oldest
-    /// blocks leave while the sizes in it sum to more than `volume`. Where memory fails the heap is as before.
+    /// Frees the live block that begins at `ptr`, with the trace of the release. The block goes to the end of the queue. The oldest blocks
+    /// leave the queue while the sizes in it sum to more than `volume`. If memory runs out, the heap stays as it was.
     pub fn release(
         &mut self,
         alloc: Global,

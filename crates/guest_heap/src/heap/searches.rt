@@ -1,4 +1,4 @@
-//! Blocks found by their places.
+//! Blocks by their places.
 ghost use Rattle.std.specs.Prelude.{◌≡◌, ◌<◌, ◌≤◌, ◌+◌, ◌*◌, ◌==◌, ℕ, IsNone};
 
 use crate::entry::Entry;
@@ -17,7 +17,7 @@ impl Heap {
     ghost use Rattle.guest_heap.specs.Blocks.{IsKept, Meets, high_end};
     ghost use Rattle.memory_map.specs.Regions.{heap_begin, heap_end};
 
-    /// The kept block of a slot.
+    /// Returns the kept block of a slot.
     fn kept_in(&self, slot: usize) -> Option<&Entry>
         requires { slot < 33554432 }
         ensures { option_map block_of (option_copied result) ≡ kept_at (live_in self.now) (freed_in self.now) (first_in self.now) slot }
@@ -36,7 +36,7 @@ impl Heap {
         }
     }
 
-    /// The first slot from this one on that has an entry in one of the tables.
+    /// Returns the first slot from this one on that has an entry in one of the tables.
     fn used_from(&self, at: usize) -> Option<usize>
         requires { at ≤ 33554432 }
         ensures { IsNext (either (live_in self.now) (freed_in self.now)) at 33554432 result }
@@ -50,7 +50,7 @@ impl Heap {
         }
     }
 
-    /// The last slot below this one that has an entry in one of the tables.
+    /// Returns the last slot below this one that has an entry in one of the tables.
     fn used_below(&self, at: usize) -> Option<usize>
         requires { at ≤ 33554432 }
         ensures { IsLast (either (live_in self.now) (freed_in self.now)) at result }
@@ -64,7 +64,7 @@ impl Heap {
         }
     }
 
-    /// The first kept block from a slot on.
+    /// Returns the first kept block from a slot on.
     #[tactic(auto, using(crate::proofs::KeptSteps::none_kept), unfolding(crate::specs::Heaps::live_in, crate::specs::Heaps::freed_in, crate::specs::Heaps::first_in))]
     fn kept_from(&self, from: usize) -> Option<&Entry>
         requires { from ≤ 33554432 }
@@ -80,7 +80,7 @@ impl Heap {
         None
     }
 
-    /// The last kept block below a slot.
+    /// Returns the last kept block below a slot.
     #[tactic(auto, using(crate::proofs::KeptSteps::none_kept), unfolding(crate::specs::Heaps::live_in, crate::specs::Heaps::freed_in, crate::specs::Heaps::first_in))]
     fn kept_below(&self, to: usize) -> Option<&Entry>
         requires { to ≤ 33554432 }
@@ -96,7 +96,7 @@ impl Heap {
         None
     }
 
-    /// A kept block that begins below a slot and whose interval goes past an address.
+    /// Returns a kept block that begins below a slot and whose interval extends past an address.
     fn meeting_below(&self, to: usize, low: u64) -> Option<&Entry>
         requires { to ≤ 33554432 }
         ensures { MeetsBelow (blocks_of self.now) to low (option_map block_of (option_copied result)) }
@@ -112,7 +112,7 @@ impl Heap {
         }
     }
 
-    /// A kept block that begins at a slot or above it, and whose interval begins below an address.
+    /// Returns a kept block that begins at a slot or above it, and whose interval begins below an address.
     fn meeting_from(&self, from: usize, high: u64) -> Option<&Entry>
         requires { from ≤ 33554432 }
         ensures { MeetsFrom (blocks_of self.now) from high (option_map block_of (option_copied result)) }
@@ -128,7 +128,7 @@ impl Heap {
         }
     }
 
-    /// Where the kept block's interval ends that begins below an address, or the region begins.
+    /// Returns the end of the interval of the last kept block that begins below an address, or the region's begin if there is none.
     pub(crate) fn end_below(&self, start: u32) -> u64
         requires above { heap_begin ≤ start }
         requires below { start < heap_end }
@@ -141,7 +141,7 @@ impl Heap {
         }
     }
 
-    /// Where the kept block's interval begins that begins above an address, or the region ends.
+    /// Returns the begin of the interval of the first kept block that begins above an address, or the region's end if there is none.
     pub(crate) fn begin_above(&self, start: u32) -> u64
         requires above { heap_begin ≤ start }
         requires below { start < heap_end }
@@ -153,7 +153,7 @@ impl Heap {
         }
     }
 
-    /// A kept block whose interval meets a range.
+    /// Returns a kept block whose interval meets a range.
     pub(crate) fn meeting(&self, low: u64, high: u64) -> Option<&Entry>
         requires above { heap_begin ≤ low }
         requires below { low ≤ heap_end }
@@ -163,7 +163,8 @@ impl Heap {
         ensures within { IfSome result (λ e. high_end (block_of e.now) ≤ heap_end) }
         ensures none { IfNone result ((b : Block) → IsKept (blocks_of self.now) b → ¬ (Meets low high b)) }
     {
-        // The one behind first: a walk from block to block then has each in front of it, and seldom looks back.
+        // Looks first at the blocks that begin in the range or after it: a walk from block to block has each ahead of it, and seldom looks
+        // back.
         let from = ((low - HEAP_BEGIN + 15) / 16) as usize;
         match self.meeting_from(from, high) {
             Some(entry) => Some(entry),

@@ -1,4 +1,4 @@
-//! What a table is made of: runs of places, in parts that copies share.
+//! The parts of a table: runs of places, which copies share.
 ghost use Rattle.std.specs.Prelude.{◌≡◌, ◌<◌, ◌≤◌, IfOk, OnOk, OnErr, IsTrue, None};
 ghost use Rattle.std.specs.Option.{option_copied};
 ghost use Rattle.guest_heap.specs.Entries.{entries_at, entry_of, with_entry, IsNext, IsLast};
@@ -7,21 +7,21 @@ use crate::entry::Entry;
 use std::alloc::{AllocError, Global};
 use std::rc::Rc;
 
-/// Places in a row, each for a block. A part that has none is left out of what it is a part of.
+/// Consecutive places, each for a block. A part without blocks is left out of the part that would hold it.
 pub(crate) trait Part: Drop {
     ghost use Rattle.std.specs.Prelude.{ℕ};
     ghost use Rattle.guest_heap.specs.Entries.{Entries};
     ghost use Rattle.guest_heap.specs.Sizes.{IsSize};
 
-    /// How many places it has.
+    /// The number of its places.
     ghost PLACES: { ℕ };
 
     const PLACES: usize;
 
-    /// What is at its places.
+    /// The entries at its places.
     ghost entries: { Self → Entries };
 
-    /// A part with no blocks.
+    /// Returns a part with no blocks.
     fn empty(alloc: Global) -> Result<Self, AllocError>
         ensures { IfOk result (λ part. entries part ≡ (λ _. None)) };
 
@@ -34,7 +34,7 @@ pub(crate) trait Part: Drop {
         ensures ok { OnOk result (entries self.new ≡ with_entry (entries self.old) at (entry_of entry)) }
         ensures err { OnErr result (entries self.new ≡ entries self.old) };
 
-    /// Changes what is at a place, in a part of its own where copies share the one behind the reference; whether it has no blocks then.
+    /// Sets the entry at a place, in a copy if others share the part. Returns whether the part has no blocks then.
     fn set(
         shared: &mut Rc<Self>,
         alloc: Global,
@@ -46,17 +46,17 @@ pub(crate) trait Part: Drop {
         ensures empty { IfOk result (λ empty. IsTrue empty → entries shared.new.value ≡ (λ _. None)) }
         ensures err { OnErr result (entries shared.new.value ≡ entries shared.old.value) };
 
-    /// The first place from this one on that has a block.
+    /// Returns the first place from this one on that has a block.
     fn next_from(&self, at: usize) -> Option<usize>
         requires { at ≤ PLACES }
         ensures { IsNext (entries self.now) at PLACES result };
 
-    /// The last place below this one that has a block.
+    /// Returns the last place below this one that has a block.
     fn last_below(&self, at: usize) -> Option<usize>
         requires { at ≤ PLACES }
         ensures { IsLast (entries self.now) at result };
 
-    /// There are some places, and no more than the heap region has.
+    /// It has at least one place, and at most as many as the heap region.
     ghost sized: { IsSize PLACES };
 }
 
@@ -71,7 +71,7 @@ pub(crate) fn get_in<P: Part>(slot: &Option<Rc<P>>, at: usize) -> Option<&Entry>
     }
 }
 
-/// A new part, with an entry at one of its places.
+/// Returns a new part, with an entry at one place.
 fn part_with<P: Part>(
     alloc: Global,
     at: usize,
@@ -85,7 +85,7 @@ fn part_with<P: Part>(
     Ok(Rc::new(alloc, part)?)
 }
 
-/// Changes a part, which is left out once it has no blocks.
+/// Sets the entry at a place of a part. A part is left out once it has no blocks.
 #[tactic(auto, unfolding(crate::specs::Entries::entries_at))]
 pub(crate) fn set_in<P: Part>(
     slot: &mut Option<Rc<P>>,
@@ -108,7 +108,7 @@ pub(crate) fn set_in<P: Part>(
     Ok(())
 }
 
-/// The first place from this one on that has a block.
+/// Returns the first place from this one on that has a block.
 #[tactic(auto, unfolding(crate::specs::Entries::entries_at))]
 pub(crate) fn next_in<P: Part>(slot: &Option<Rc<P>>, at: usize) -> Option<usize>
     requires { at ≤ P.PLACES }
@@ -120,7 +120,7 @@ pub(crate) fn next_in<P: Part>(slot: &Option<Rc<P>>, at: usize) -> Option<usize>
     }
 }
 
-/// The last place below this one that has a block.
+/// Returns the last place below this one that has a block.
 #[tactic(auto, unfolding(crate::specs::Entries::entries_at))]
 pub(crate) fn last_in<P: Part>(slot: &Option<Rc<P>>, at: usize) -> Option<usize>
     requires { at ≤ P.PLACES }

@@ -1,4 +1,4 @@
-//! Parts in a row, each of which may be absent, or shared with copies.
+//! Consecutive parts, each of which may be absent, or shared with copies.
 ghost use Rattle.std.specs.Prelude.{◌≡◌, ◌<◌, ◌≤◌, vec_len, OnOk, OnErr, IsTrue, None};
 ghost use Rattle.guest_heap.specs.Entries.{entry_of};
 ghost use Rattle.guest_heap.specs.Rows.{grid_of, with_cell, begin_in, end_in};
@@ -10,10 +10,11 @@ use crate::table::part::{Part, get_in, last_in, next_in, set_in};
 use std::alloc::{AllocError, Global};
 use std::rc::Rc;
 
-/// How many places a row of 64 rows of 64 leaves has.
+/// The number of places in a row of 64 rows of 64 leaves.
 const THIRD_LEVEL: usize = 262144;
 
-/// How many parts a row has, each with so many places: 64, or as many as the heap region has where one is a row of 64 rows of 64 leaves.
+/// Returns the number of parts of a row, each with `each` places: 64, or, if each part is a row of 64 rows of 64 leaves, as many as the
+/// heap region has.
 #[tactic(auto, unfolding(crate::specs::Sizes::parts_of))]
 const fn parts_of(each: usize) -> usize
     requires { IsSize each }
@@ -22,30 +23,30 @@ const fn parts_of(each: usize) -> usize
     if each < THIRD_LEVEL { 64 } else { SLOTS / each }
 }
 
-/// Where in a part a search upwards begins, which begins at a place of one.
+/// Returns the place of a part at which an upward search from a place of the row begins.
 fn begin_in(part: usize, at: usize, i: usize) -> usize
     ensures { result ≡ begin_in part at i }
 {
     if i == part { at } else { 0 }
 }
 
-/// Where in a part a search downwards begins, which begins below a place of one.
+/// Returns the place of a part at which a downward search from below a place of the row begins.
 fn end_in(places: usize, part: usize, at: usize, i: usize) -> usize
     ensures { result ≡ end_in places part at i }
 {
     if i == part { at } else { places }
 }
 
-/// Parts in a row, the places of which are numbered through.
+/// Consecutive parts, whose places are numbered through.
 #[derive(Drop)]
 pub(crate) struct Row<P> {
-    // From its end on there is no part.
+    // From the end of this list on there are no parts.
     parts: Vec<Option<Rc<P>>>,
 }
 
 #[tactic(auto, unfolding(crate::specs::Rows::grid_of))]
 impl<P: Part> Row<P> {
-    /// Makes room for a part, by its number.
+    /// Makes room for the part of a number.
     fn grow(&mut self, part: usize) -> Result<(), AllocError>
         requires { part ≤ 33554432 }
         ensures same { grid_of P.entries self.new ≡ grid_of P.entries self.old }
@@ -72,7 +73,7 @@ impl<P: Part> Row<P> {
         set_in(&mut self.parts[part], alloc, at, entry)
     }
 
-    /// Parts that went from the end leave the row.
+    /// Removes absent parts from the end of the row.
     fn shrink(&mut self)
         ensures { grid_of P.entries self.new ≡ grid_of P.entries self.old }
     {

@@ -1,4 +1,4 @@
-//! What is done to a machine between steps.
+//! The calls on a machine between steps.
 ghost use Rattle.std.specs.Prelude.{◌≡◌, IfOk, OnOk, []};
 ghost use Rattle.shadow_memory.specs.Memories.{bytes_in, shadows_in};
 ghost use Rattle.guest_machine.specs.Loading.{loaded_bytes, loaded_shadows};
@@ -74,7 +74,7 @@ impl Guest {
         self.share_over(memory)
     }
 
-    /// As [`Guest::share`]. The copy has decoded the same.
+    /// See [`Guest::share`]. The copy has decoded the same.
     fn share_ready(&self) -> Result<Guest, AllocError>
         ensures { IfOk result (λ copy. (s : State) → Holds self.now s → Holds copy s) }
     {
@@ -82,14 +82,15 @@ impl Guest {
         self.share_over(memory)
     }
 
-    /// Has decoded what another guest has, of the words that its memory has the same.
+    /// Copies what another guest has decoded, for the words that are the same in both memories.
     fn learn(&mut self, other: &Guest)
         ensures { self.new ≡ self.old }
     {
         self.memory.learn(self.alloc, &other.memory);
     }
 
-    /// Takes over what another guest has decoded, of the words that its memory has the same, where it has decoded nothing itself.
+    /// Takes over what another guest has decoded, for the words that are the same in both memories, unless this one has decoded something
+    /// itself.
     fn take_over(&mut self, other: &mut Guest)
         ensures same { self.new ≡ self.old }
         ensures other { other.new ≡ other.old }
@@ -97,7 +98,7 @@ impl Guest {
         self.memory.take_over(self.alloc, &mut other.memory);
     }
 
-    /// As [`Guest::share`]. What was decoded goes over to the copy.
+    /// See [`Guest::share`]. What was decoded moves to the copy.
     fn hand_on(&mut self) -> Result<Guest, AllocError>
         ensures same { self.new ≡ self.old }
         ensures copy { IfOk result (λ copy. (s : State) → Holds self.old s → Holds copy s) }
@@ -106,7 +107,7 @@ impl Guest {
         self.share_over(memory)
     }
 
-    /// A guest that shares all but its memory, of which it has a copy already.
+    /// A guest that shares everything except its memory, of which it already has a copy.
     fn share_over(&self, memory: CachedMemory) -> Result<Guest, AllocError>
         requires bytes { bytes_in memory ≡ bytes_of self.now }
         requires shadows { shadows_in memory ≡ (core_of self.now).shadow }
@@ -131,8 +132,8 @@ impl Guest {
 
 #[tactic(auto, unfolding(crate::specs::Shows::Shows))]
 impl Machine {
-    /// The machine before step 0: the image's bytes are loaded, accessible and defined, as are sixteen zero bytes at the top of
-    /// the stack, to which x2 points; pc is the entry, the other registers are 0, and all registers are defined.
+    /// Returns the machine before step 0. The image's bytes are loaded, accessible and defined, as are sixteen zero bytes at the top of the
+    /// stack, to which x2 points. pc is the entry, the other registers are 0, and all registers are defined.
     pub fn start(alloc: Global, image: &Image) -> Result<Machine, AllocError>
         ensures { IfOk result (λ machine. Shows machine (start_state image.now)) }
     {
@@ -142,7 +143,7 @@ impl Machine {
         })
     }
 
-    /// The machine with a range made inaccessible, undefined or defined; byte values stay. One for which memory fails is dropped.
+    /// Returns the machine with a range made inaccessible, undefined or defined; byte values stay. Drops the machine if memory runs out.
     pub fn mark(self, mark: &Mark) -> Result<Machine, AllocError>
         ensures { IfOk result (λ r. (s : State) → Shows self s → Shows r (marked s mark.now)) }
     {
@@ -151,8 +152,8 @@ impl Machine {
         Ok(machine)
     }
 
-    /// The machine with the four bytes from `addr` on (modulo 2^32) set to a word, the lowest first; whether they may be
-    /// accessed and their undefined bits stay. One for which memory fails is dropped.
+    /// Returns the machine with the four bytes from `addr` on (modulo 2^32) set to a word, the lowest first. Their accessibility and
+    /// undefined bits stay. Drops the machine if memory runs out.
     pub fn poke_word(self, addr: u32, word: u32) -> Result<Machine, AllocError>
         ensures { IfOk result (λ r. (s : State) → Shows self s → Shows r (poked s addr word)) }
     {
@@ -161,7 +162,7 @@ impl Machine {
         Ok(machine)
     }
 
-    /// A machine of its own that shows the same.
+    /// Returns another machine that shows the same.
     pub fn share(&self) -> Result<Machine, AllocError>
         ensures { IfOk result (λ copy. (s : State) → Shows self.now s → Shows copy s) }
     {
@@ -171,8 +172,8 @@ impl Machine {
         })
     }
 
-    /// As [`Machine::share`], for several copies that each go on with the run: they have decoded what this machine has, so that their first
-    /// steps are no dearer than later ones. Where memory fails for that alone, a copy has decoded nothing.
+    /// Returns a copy as [`Machine::share`] does, for several copies that each continue the run: they have decoded what this machine has,
+    /// so that their first steps cost no more than later ones. If memory runs out only for that, a copy has decoded nothing.
     pub fn share_ready(&self) -> Result<Machine, AllocError>
         ensures { IfOk result (λ copy. (s : State) → Shows self.now s → Shows copy s) }
     {
@@ -182,15 +183,15 @@ impl Machine {
         })
     }
 
-    /// Has decoded the instructions that another machine has, of the words that it has the same. What this machine shows stays.
+    /// Copies the instructions that another machine has decoded, for the words that are the same in both. What this machine shows stays.
     pub fn learn(&mut self, other: &Machine)
         ensures { self.new ≡ self.old }
     {
         self.guest.learn(&other.guest);
     }
 
-    /// Takes over the instructions that another machine has decoded, of the words that it has the same, where it has decoded none itself. The other
-    /// one's next steps are dearer then. What the two show stays.
+    /// Takes over the instructions that another machine has decoded, for the words that are the same in both, unless this one has decoded
+    /// some itself. The other one's next steps cost more then. What the two show stays.
     pub fn take_over(&mut self, other: &mut Machine)
         ensures same { self.new ≡ self.old }
         ensures other { other.new ≡ other.old }
@@ -198,8 +199,8 @@ impl Machine {
         self.guest.take_over(&mut other.guest);
     }
 
-    /// As [`Machine::share`], for the copy that goes on with the run: instructions that were decoded go over to it. What this machine shows
-    /// stays, and its next steps are dearer.
+    /// Returns a copy as [`Machine::share`] does, for the copy that continues the run: instructions that were decoded move to it. What this
+    /// machine shows stays, and its next steps cost more.
     pub fn hand_on(&mut self) -> Result<Machine, AllocError>
         ensures same { self.new ≡ self.old }
         ensures copy { IfOk result (λ copy. (s : State) → Shows self.old s → Shows copy s) }
@@ -211,7 +212,7 @@ impl Machine {
     }
 }
 
-/// Loads segments, the first last, so that of segments that share an address the first counts.
+/// Loads segments, the first one last, so that it counts where segments share an address.
 fn load_segments(memory: &mut Memory, segments: &[Segment]) -> Result<(), AllocError>
     ensures bytes { OnOk result (bytes_in memory.new ≡ loaded_bytes segments.now (bytes_in memory.old)) }
     ensures shadows { OnOk result (shadows_in memory.new ≡ loaded_shadows segments.now (shadows_in memory.old)) }

@@ -19,7 +19,7 @@ use run_values::{Span, Status};
 use shadow_memory::Bad;
 use std::alloc::AllocError;
 
-/// The register of a call's first argument, and of its answer.
+/// The register of a call's first argument, and of its result.
 pub(super) const A0: u8 = 10;
 /// The register of a call's second argument.
 pub(super) const A1: u8 = 11;
@@ -28,14 +28,14 @@ const A2: u8 = 12;
 /// The register of a call's number.
 pub(super) const A7: u8 = 17;
 
-/// The most bytes that one call moves.
+/// The greatest number of bytes that one call moves.
 const MOST_MOVED: u32 = 4096;
 
-/// EBADF negated, modulo 2^32: what a call answers that names no open file.
+/// EBADF negated, modulo 2^32: the result of a call that names no open file.
 const BAD_DESCRIPTOR: u32 = u32::MAX - 8;
-/// ENOSPC negated: what a `write` answers that has no room.
+/// ENOSPC negated: the result of a `write` for which there is no room.
 const NO_SPACE: u32 = u32::MAX - 27;
-/// ENOSYS negated: what a call answers whose number is unknown.
+/// ENOSYS negated: the result of a call whose number is unknown.
 const NO_SUCH_CALL: u32 = u32::MAX - 37;
 
 impl Guest {
@@ -82,7 +82,7 @@ impl Guest {
         self.test_parameters(parameters_of(call))
     }
 
-    /// A call that only answers.
+    /// A call that only returns a result.
     #[tactic(auto, unfolding(crate::specs::Doing::note_events))]
     fn test_and_answer(&mut self, call: EnvironmentCall, n: u32) -> Result<Used, AllocError>
         ensures does { OnOk result (Does self.old self.new (answers (core_of self.old) call n) nothing false no_intake) }
@@ -104,7 +104,7 @@ impl Guest {
         Ok(())
     }
 
-    /// Notes the first of n bytes that may not be accessed or, where its value is asked for, has an undefined bit.
+    /// Notes the first of n bytes that may not be accessed or, if its value is asked for, has an undefined bit.
     #[tactic(auto, unfolding(crate::specs::Errors::buffer_event, crate::specs::Doing::note_events))]
     fn test_buffer(
         &mut self,
@@ -182,7 +182,7 @@ impl Guest {
         })
     }
 
-    /// Carries ECALL out, and says which bytes it took and which it wrote.
+    /// Executes ECALL, and returns which bytes it read and which it wrote.
     #[cold]
     #[inline(never)]
     #[tactic(auto, unfolding(crate::specs::Calls::call_at, crate::specs::Exec::call_effect, crate::specs::Exec::call_uses, crate::specs::Exec::calls_heap, crate::specs::Exec::row_asks, crate::specs::Exec::call_asks, crate::specs::Exec::row_uses, crate::specs::Exec::row_effect))]

@@ -12,7 +12,7 @@ use instructions::{Comparison, Register, is_undecided};
 use memory_map::{STACK_BEGIN, STACK_END};
 use std::alloc::AllocError;
 
-/// What is said of an address that is near no block.
+/// The note on an address that is near no block.
 fn region_note(addr: u32) -> Note
     ensures { result ≡ region_note addr }
 {
@@ -24,7 +24,7 @@ fn region_note(addr: u32) -> Note
 }
 
 impl Guest {
-    /// What is said of an address.
+    /// The note on an address.
     #[tactic(auto, unfolding(crate::specs::Errors::note_at))]
     pub(super) fn note_at(&self, addr: u32) -> Note
         ensures { result ≡ note_at (core_of self.now).blocks addr }
@@ -46,7 +46,7 @@ impl Guest {
         self.noted.add(Event { kind, trace, note })
     }
 
-    /// Records that a word with undefined bits is carried out. Out of line, as it has no place in the code of a step.
+    /// Records that a word with undefined bits is executed. Out of line, to keep it out of the code of a step.
     #[cold]
     #[inline(never)]
     #[tactic(auto, unfolding(crate::specs::Errors::event_unless, crate::specs::Doing::note_events))]
@@ -56,7 +56,7 @@ impl Guest {
         self.raise(Kind::Value, Note::Absent)
     }
 
-    /// Tests the undefined bits of a word that is to be carried out.
+    /// Tests the undefined bits of a word that is to be executed.
     #[inline(always)]
     #[tactic(auto, unfolding(crate::specs::Errors::event_unless, crate::specs::Doing::note_events))]
     pub(super) fn test_word(&mut self, undef: u32) -> Result<(), AllocError>
@@ -82,7 +82,7 @@ impl Guest {
         Ok(())
     }
 
-    /// Records the first inaccessible byte of a load of so many, if there is one.
+    /// Records the first inaccessible byte of a load of `len` bytes, if there is one.
     #[inline(always)]
     #[tactic(auto, unfolding(crate::specs::Errors::event_about, crate::specs::Doing::note_events))]
     pub(super) fn test_load(&mut self, len: u8, bad: Option<u32>) -> Result<(), AllocError>
@@ -94,7 +94,7 @@ impl Guest {
         }
     }
 
-    /// Records the first inaccessible byte of a store of so many, if there is one.
+    /// Records the first inaccessible byte of a store of `len` bytes, if there is one.
     #[inline(always)]
     #[tactic(auto, unfolding(crate::specs::Errors::event_about, crate::specs::Doing::note_events))]
     pub(super) fn test_store(&mut self, len: u8, bad: Option<u32>) -> Result<(), AllocError>

@@ -30,7 +30,7 @@ fn follow(frames: &mut CallStack, hint: StackHint, pc: u32, to: u32)
 }
 
 impl Guest {
-    /// Goes on to the next instruction.
+    /// Advances to the next instruction.
     #[inline(always)]
     pub(super) fn advance(&mut self)
         ensures { Sets self.old self.new (advanced (core_of self.old)) }
@@ -46,7 +46,7 @@ impl Guest {
         self.status = Status::Stopped(stop);
     }
 
-    /// Goes to an address, or stops where it is no multiple of 4.
+    /// Jumps to an address, or stops if it is no multiple of 4.
     #[inline(always)]
     #[tactic(auto, unfolding(crate::specs::Effects::jumped))]
     pub(super) fn jump(&mut self, to: u32)
@@ -59,7 +59,7 @@ impl Guest {
         }
     }
 
-    /// Goes to an address, and leaves the address after this instruction in rd.
+    /// Jumps to an address, and leaves the address after this instruction in rd.
     #[tactic(auto, unfolding(crate::specs::Effects::linked_jump))]
     pub(super) fn linked_jump(&mut self, hint: StackHint, rd: Register, to: u32)
         ensures { Sets self.old self.new (linked_jump (core_of self.old) hint rd to) }

@@ -22,7 +22,7 @@ use run_values::Span;
 use shadow_memory::Loaded;
 use std::alloc::AllocError;
 
-/// Stores the low bytes of a number, and answers the first inaccessible address: each width by itself, so that a word is stored as one.
+/// Stores the low bytes of a number, and returns the first inaccessible address. Each width is separate, so that a word is stored as one.
 #[inline(always)]
 fn put(
     memory: &mut CachedMemory,
@@ -42,7 +42,7 @@ fn put(
 }
 
 impl Guest {
-    /// Writes rd and goes on.
+    /// Writes rd and advances.
     #[inline(always)]
     #[tactic(auto, unfolding(crate::specs::Doing::note_events))]
     pub(super) fn result_in(&mut self, rd: Register, bits: Bits)
@@ -52,7 +52,7 @@ impl Guest {
         self.advance();
     }
 
-    /// The low bytes at an address, their undefined bits and the first inaccessible one: each width by itself, so that a word is
+    /// Returns the low bytes at an address, their undefined bits and the first inaccessible one. Each width is separate, so that a word is
     /// loaded as one.
     #[inline(always)]
     fn loaded(&self, start: u32, width: Width) -> Loaded
@@ -86,7 +86,7 @@ impl Guest {
         })
     }
 
-    /// A load, with each test that it wants.
+    /// A load, with each test that it needs.
     #[inline(never)]
     #[tactic(auto, unfolding(crate::specs::Doing::note_events), using(crate::proofs::Showing::note_events_append))]
     fn load_testing(
@@ -120,7 +120,7 @@ impl Guest {
         }
     }
 
-    /// The number at an address, if one look-up tells that it is accessible and defined.
+    /// The number at an address, if one look-up shows that it is accessible and defined.
     #[inline(always)]
     fn defined(&self, start: u32, width: Width) -> Option<u32>
         ensures has { IfSome result (λ value. HasDefined (bytes_of self.now) (core_of self.now).shadow start (width_len width) value) }
@@ -133,7 +133,7 @@ impl Guest {
         }
     }
 
-    /// A load: at once, where its address and what it loads are defined.
+    /// A load: at once, if its address and what it loads are defined.
     #[inline(always)]
     fn load_of(
         &mut self,
@@ -155,7 +155,7 @@ impl Guest {
         self.load_testing(width, signed, rd, rs1, imm)
     }
 
-    /// A load, each width by itself.
+    /// A load; each width is separate.
     #[inline(always)]
     pub(super) fn load(
         &mut self,
@@ -175,7 +175,7 @@ impl Guest {
         }
     }
 
-    /// A store, with each test that it wants.
+    /// A store, with each test that it needs.
     #[inline(never)]
     #[tactic(auto, unfolding(crate::specs::Doing::note_events), using(crate::proofs::Showing::note_events_append))]
     fn store_testing(
@@ -197,7 +197,7 @@ impl Guest {
         Ok(())
     }
 
-    /// Stores the low bytes of a number at once, if it is defined and one look-up tells that they are accessible. Says whether it did.
+    /// Stores the low bytes of a number at once, if it is defined and one look-up shows that they are accessible. Returns whether it did.
     #[inline(always)]
     fn put_at_once(&mut self, start: u32, width: Width, bits: Bits) -> bool
         ensures done { IsTrue result → Changes self.old self.new (stored_core (core_of self.old) start (width_len width) bits.undef)
@@ -212,7 +212,7 @@ impl Guest {
         }
     }
 
-    /// The same, and goes on.
+    /// Does the same, and advances.
     #[inline(always)]
     #[tactic(auto, unfolding(crate::specs::Doing::note_events))]
     fn store_at_once(&mut self, start: u32, width: Width, bits: Bits) -> bool
@@ -228,7 +228,7 @@ impl Guest {
         done
     }
 
-    /// A store: at once, where its address and what it stores are defined.
+    /// A store: at once, if its address and what it stores are defined.
     #[inline(always)]
     fn store_of(
         &mut self,
@@ -248,7 +248,7 @@ impl Guest {
         self.store_testing(width, rs1, rs2, imm)
     }
 
-    /// A store, each width by itself.
+    /// A store; each width is separate.
     #[inline(always)]
     pub(super) fn store(
         &mut self,

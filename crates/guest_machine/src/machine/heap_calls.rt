@@ -1,4 +1,4 @@
-//! What the calls of the heap do, and those by number.
+//! The effect of the heap calls, and the heap calls by number.
 ghost use Rattle.std.specs.Prelude.{◌≡◌, ◌+◌, ◌*◌, ◌≤◌, ◌<◌, max, None, Some, IfSome, IfOk, OnOk};
 ghost use Rattle.std.specs.Option.{option_map};
 ghost use Rattle.shadow_memory.specs.Ranges.{written, window};
@@ -72,7 +72,7 @@ impl Guest {
         Ok(())
     }
 
-    /// A block of a size, if there is a place for it, whose address is answered; 0 is answered where there is none.
+    /// Allocates a block of a size, if there is a place for it, and leaves its address as the result; 0 if there is none.
     #[tactic(auto, unfolding(crate::specs::HeapCalls::block_at))]
     fn give_block(&mut self, size: u32, redzone: u32) -> Result<(), AllocError>
         ensures { OnOk result (Changes self.old self.new (given_block (core_of self.old) size redzone RangeKind.Undefined) (bytes_of self.old)) }
@@ -87,7 +87,7 @@ impl Guest {
         Ok(())
     }
 
-    /// The same with zeros in it; where they are is told.
+    /// Does the same with zeros in the block. Returns where they are.
     #[tactic(auto, unfolding(crate::specs::HeapCalls::block_at))]
     fn give_zeros(&mut self, size: u32, redzone: u32) -> Result<Option<Span>, AllocError>
         ensures span { IfOk result (λ span. span ≡ option_map (λ p. span_at p size) (place (core_of self.old).blocks size redzone)) }
@@ -111,7 +111,7 @@ impl Guest {
         }
     }
 
-    /// Nothing: there is no place for a block of 2^32 bytes or more.
+    /// Does nothing. Its contract says that there is no place for a block of 2^32 bytes or more.
     #[tactic(auto, using(crate::proofs::HeapSteps::no_place))]
     fn has_no_place(&self, size: u64, redzone: u32)
         requires { 0xFFFFFFFF < size }
@@ -122,7 +122,7 @@ impl Guest {
         place_is_least();
     }
 
-    /// A block for so many members of a size, with zeros in it; where they are is told.
+    /// Allocates a block for a number of members of a size, with zeros in it. Returns where they are.
     #[tactic(auto, unfolding(crate::specs::HeapCalls::block_at))]
     fn give_members(
         &mut self,
@@ -145,7 +145,7 @@ impl Guest {
         }
     }
 
-    /// Frees a live block; at another address nothing. Answers whether the address is neither a live block's nor 0.
+    /// Frees a live block; does nothing at another address. Returns whether the address is neither a live block's nor 0.
     #[tactic(auto, unfolding(crate::specs::HeapCalls::freed))]
     fn release(&mut self, p: u32, volume: u32) -> Result<bool, AllocError>
         ensures invalid { IfOk result (λ invalid. invalid ≡ is_invalid (released_here (core_of self.old) p)) }
@@ -198,7 +198,7 @@ impl Guest {
         Ok(())
     }
 
-    /// Moves a live block to a place for another size, which is answered; where there is none, it stays and 0 is answered.
+    /// Moves a live block to a place for another size, whose address is the result. If there is none, the block stays and the result is 0.
     #[tactic(auto, unfolding(crate::specs::HeapCalls::resized))]
     fn move_block(
         &mut self,
@@ -234,7 +234,7 @@ impl Guest {
         }
     }
 
-    /// Gives what is at an address another size.
+    /// Changes the size of the block at an address.
     #[tactic(auto, unfolding(crate::specs::HeapCalls::resizing, crate::specs::HeapCalls::resized, crate::specs::HeapCalls::resize_errors, crate::specs::Doing::note_events))]
     fn resize(&mut self, p: u32, size: u32, redzone: u32, volume: u32) -> Result<Used, AllocError>
         ensures uses { IfOk result (λ used. used ≡ used_in_move (resizing (core_of self.old).blocks p size redzone) p size) }
@@ -260,8 +260,8 @@ impl Guest {
         self.move_block(block, size, redzone, volume)
     }
 
-    /// Does what a heap call does, with the values of a0 and a1, and says which bytes it took and which it wrote. It is counted; its
-    /// answer is in a0.
+    /// Executes a heap call with the values of a0 and a1, and returns which bytes it read and which it wrote. The call is counted; its
+    /// result is in a0.
     #[tactic(auto, unfolding(crate::specs::HeapCalls::heap_work, crate::specs::Exec::work_uses, crate::specs::Doing::note_events))]
     pub(super) fn heap_work(
         &mut self,

@@ -15,7 +15,7 @@ use std::alloc::AllocError;
 const RA: u8 = 1;
 
 impl Guest {
-    /// Does the heap call in place of a function, and returns to its caller; says which bytes it took and which it wrote.
+    /// Executes the heap call in place of a function, and returns to its caller. Returns which bytes it read and which it wrote.
     #[cold]
     #[inline(never)]
     #[tactic(auto, unfolding(crate::specs::NamedCalls::named_by, crate::specs::Exec::named_uses_by, crate::specs::Doing::note_events), using(crate::proofs::Showing::note_events_append))]

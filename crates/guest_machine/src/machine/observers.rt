@@ -18,56 +18,56 @@ use shadow_memory::Memory;
 
 #[tactic(auto, unfolding(crate::specs::Shows::Shows))]
 impl Machine {
-    /// Whether the machine runs.
+    /// Returns whether the machine runs.
     pub fn status(&self) -> Status
         ensures { (s : State) → Shows self.now s → result ≡ s.core.status }
     {
         self.guest.status
     }
 
-    /// The address of the next instruction; of a stopped or exited machine, of its last one.
+    /// Returns the address of the next instruction; for a stopped or exited machine, of its last one.
     pub fn pc(&self) -> u32
         ensures { (s : State) → Shows self.now s → result ≡ s.core.pc }
     {
         self.guest.pc
     }
 
-    /// How many bytes of input were read.
+    /// Returns the number of bytes of input read.
     pub fn position(&self) -> u64
         ensures { (s : State) → Shows self.now s → result ≡ s.position }
     {
         self.guest.progress.position
     }
 
-    /// Whether a read of the input has asked for more bytes than were left.
+    /// Returns whether a read of the input has asked for more bytes than were left.
     pub fn end_seen(&self) -> bool
         ensures { (s : State) → Shows self.now s → result ≡ s.end_seen }
     {
         self.guest.progress.end_seen
     }
 
-    /// How many bytes were written out.
+    /// Returns the number of bytes written.
     pub fn output_len(&self) -> u64
         ensures { (s : State) → Shows self.now s → result ≡ length s.output }
     {
         self.guest.progress.output_len
     }
 
-    /// How many heap calls were made.
+    /// Returns the number of heap calls.
     pub fn heap_calls(&self) -> u64
         ensures { (s : State) → Shows self.now s → result ≡ s.heap_calls }
     {
         self.guest.progress.heap_calls
     }
 
-    /// A register's value and undefined bits; x0 is 0.
+    /// Returns a register's value and undefined bits; x0 is 0.
     pub fn register(&self, register: Register) -> Bits
         ensures { (s : State) → Shows self.now s → result ≡ register_of s.core register }
     {
         self.guest.read_register(register)
     }
 
-    /// Whether the last step raised an error.
+    /// Returns whether the last step raised an error.
     #[tactic(auto, unfolding(crate::specs::Shows::has_raised))]
     pub fn has_raised(&self) -> bool
         ensures { result ≡ has_raised self.now }
@@ -75,7 +75,7 @@ impl Machine {
         self.guest.noted.raised
     }
 
-    /// The memory: each byte, and what is known of it.
+    /// Returns the memory: each byte, and what is known of it.
     pub fn memory(&self) -> &Memory
         ensures bytes { (s : State) → Shows self.now s → bytes_in result.now ≡ s.bytes }
         ensures shadows { (s : State) → Shows self.now s → shadows_in result.now ≡ s.core.shadow }
@@ -83,14 +83,14 @@ impl Machine {
         self.guest.memory.memory()
     }
 
-    /// The heap: its live blocks, and those freed that are not forgotten yet.
+    /// Returns the heap: its live blocks, and those freed that are not forgotten yet.
     pub fn heap(&self) -> &Heap
         ensures { (s : State) → Shows self.now s → blocks_of result.now ≡ s.core.blocks }
     {
         &self.guest.heap
     }
 
-    /// The errors so far, counted by kind and trace, in order of first occurrence.
+    /// Returns the errors so far, counted by kind and trace, in order of first occurrence.
     pub fn groups(&self) -> &Groups
         ensures { (s : State) → Shows self.now s → groups_of result.now ≡ grouped s.events }
     {

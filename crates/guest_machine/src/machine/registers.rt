@@ -46,7 +46,7 @@ impl Guest {
         self.set_register(r, known(value));
     }
 
-    /// Where a load, a store or JALR goes.
+    /// The address of a load, a store or JALR.
     #[inline(always)]
     #[tactic(auto, unfolding(crate::specs::Effects::target))]
     pub(super) fn target(&self, rs1: Register, imm: u32) -> u32
@@ -55,7 +55,7 @@ impl Guest {
         self.read_register(rs1).value.wrapping_add(imm)
     }
 
-    /// Leaves a call's answer in a0.
+    /// Leaves a call's result in a0.
     pub(super) fn answer(&mut self, n: u32)
         ensures { Sets self.old self.new (answered (core_of self.old) n) }
     {

@@ -14,7 +14,7 @@ use std::alloc::AllocError;
 /// The most bytes that a stack frame may have.
 const LARGEST_FRAME: u32 = 2_000_000;
 
-/// Is it a defined address in the stack region, its end included?
+/// Whether it is a defined address in the stack region, including its end.
 fn is_stack_pointer(bits: Bits) -> bool
     ensures { result ≡ is_stack_pointer bits }
 {
@@ -42,7 +42,7 @@ impl Guest {
         Ok(())
     }
 
-    /// The rule, after an instruction that found x2 so.
+    /// The rule, after an instruction before which x2 was `old`.
     #[inline(always)]
     #[tactic(auto, unfolding(crate::specs::StackPointer::stack_ruled, crate::specs::StackPointer::stack_moved))]
     pub(super) fn stack_rule(&mut self, old: Bits) -> Result<(), AllocError>

@@ -24,7 +24,7 @@ use instructions::{Instruction, Register, computed, row_of};
 use run_values::{Span, Status, Stop};
 use std::alloc::AllocError;
 
-/// The ranges whose bytes an instruction took and wrote.
+/// The ranges whose bytes an instruction read and wrote.
 #[derive(Clone, Copy)]
 pub(super) struct Used {
     pub(super) reads: Option<Span>,
@@ -57,7 +57,7 @@ impl Used {
         }
     }
 
-    /// These, beside the word that was taken.
+    /// These, besides the word that was fetched.
     #[inline(always)]
     fn touched(self, fetch: Option<Span>) -> Touched
         ensures { result ≡ touched_in self fetch }
@@ -69,7 +69,7 @@ impl Used {
         }
     }
 
-    /// These, beside the word at pc.
+    /// These, besides the word at pc.
     #[inline(always)]
     fn touched_at(self, pc: u32) -> Touched
         requires { pc % 4 ≡ 0 }
@@ -81,8 +81,8 @@ impl Used {
 }
 
 impl Guest {
-    // What a function out of line answers in memory gets its place, filled with zeros, where the function that calls it begins, in line or
-    // not. So what a step seldom calls is called by a function of its own, here and below.
+    // What an out-of-line function returns in memory gets its room, filled with zeros, at the beginning of the function that calls it,
+    // inlined or not. So what a step seldom calls is called by a function of its own, here and below.
 
     /// An environment call.
     #[inline(always)]
@@ -94,7 +94,7 @@ impl Guest {
         Ok(used)
     }
 
-    /// Carries an instruction out; says which bytes it took and which it wrote.
+    /// Executes an instruction. Returns which bytes it read and which it wrote.
     #[inline(always)]
     #[tactic(auto, unfolding(crate::specs::Exec::row_effect, crate::specs::Exec::row_uses, crate::specs::Exec::calls_heap, crate::specs::Exec::row_asks, crate::specs::Exec::call_asks, crate::specs::Doing::note_events))]
     fn execute(&mut self, setup: &Setup, instruction: Instruction) -> Result<Used, AllocError>
@@ -210,7 +210,7 @@ impl Guest {
         }
     }
 
-    /// The word at pc with its undefined bits, where it may be taken.
+    /// The word at pc with its undefined bits, if it may be fetched.
     #[inline(always)]
     #[tactic(auto, unfolding(crate::specs::Exec::fetches))]
     pub(super) fn fetch(&self) -> Option<Bits>
@@ -244,7 +244,7 @@ impl Guest {
         Ok(())
     }
 
-    /// A step that takes no word and calls no function by name.
+    /// A step that fetches no word and calls no function by name.
     #[inline(always)]
     #[tactic(auto, unfolding(crate::specs::Exec::unfetched, crate::specs::Doing::note_events))]
     fn halt(&mut self) -> Result<(), AllocError>
@@ -261,7 +261,7 @@ impl Guest {
         Ok(())
     }
 
-    /// The instruction at pc, where it runs and the word there was decoded lately.
+    /// The instruction at pc, if the machine runs and the word there was decoded recently.
     #[inline(always)]
     #[tactic(auto, unfolding(crate::specs::Exec::fetches))]
     pub(super) fn decoded(&self) -> Option<Instruction>
@@ -273,7 +273,7 @@ impl Guest {
         self.memory.decoded(self.pc)
     }
 
-    /// Keeps the instruction at pc, where no bit of its word is undefined.
+    /// Keeps the instruction at pc, if no bit of its word is undefined.
     #[inline(always)]
     #[tactic(auto, unfolding(crate::specs::Exec::fetches))]
     fn keep(&mut self, undef: u32, instruction: Instruction)
@@ -301,7 +301,7 @@ impl Guest {
         row
     }
 
-    /// Carries an instruction out, between the test of its word's undefined bits and the stack pointer rule.
+    /// Executes an instruction, between the test of its word's undefined bits and the stack pointer rule.
     #[inline(always)]
     #[tactic(auto, using(crate::proofs::Showing::note_events_append))]
     fn round(
@@ -343,7 +343,7 @@ impl Guest {
         self.stack_rule(stack_pointer)
     }
 
-    /// Decodes a word that may be taken, and carries it out.
+    /// Decodes a word that may be fetched, and executes it.
     fn round_anew(&mut self, setup: &Setup, word: Bits) -> Result<Used, AllocError>
         requires { IsFetched (core_of self.old) (bytes_of self.old) word }
         ensures does { OnOk result (DoesRound self.old self.new (row_of word.value) setup.now) }
@@ -358,7 +358,7 @@ impl Guest {
         }
     }
 
-    /// The step where no function of the heap begins at pc, and the word there is to be decoded first, or can't be taken.
+    /// The step if no function of the heap begins at pc, and the word there is still to be decoded, or can't be fetched.
     #[inline(never)]
     #[tactic(auto, unfolding(crate::specs::Exec::fetched, crate::specs::Exec::uses_at, crate::specs::Exec::intake_at, crate::specs::Exec::effect_at, crate::specs::Exec::touched_at))]
     fn perform_anew(&mut self, setup: &Setup) -> Result<Touched, AllocError>
@@ -405,7 +405,7 @@ impl Guest {
         Ok(used.touched(None))
     }
 
-    /// Calls the function of the heap that begins at pc, carries out the word there, or halts; says which bytes that took or wrote.
+    /// Calls the function of the heap that begins at pc, executes the word there, or halts. Returns which bytes that read or wrote.
     #[inline(always)]
     #[tactic(auto, unfolding(crate::specs::Exec::fetched, crate::specs::Exec::uses_at, crate::specs::Exec::intake_at, crate::specs::Exec::effect_at, crate::specs::Exec::touched_at))]
     fn perform(&mut self, setup: &Setup) -> Result<Touched, AllocError>
@@ -435,7 +435,7 @@ impl Guest {
         self.noted.raised = false;
     }
 
-    /// What [`Guest::perform`] does, said of each state that is held.
+    /// What [`Guest::perform`] does, for each state that is held.
     #[inline(always)]
     pub(super) fn step_on(&mut self, setup: &Setup) -> Result<Touched, AllocError>
         ensures holds { OnOk result ((s : State) → Holds self.old s → Holds self.new (exec s setup.now)) }
@@ -461,7 +461,7 @@ impl Guest {
         Ok(touched)
     }
 
-    /// So many steps; once it is halted they leave it as it is.
+    /// Executes a number of steps; once the machine is halted, they leave it as it is.
     fn run(&mut self, setup: &Setup, steps: u32) -> Result<(), AllocError>
         ensures { OnOk result ((s : State) → Holds self.old s → Holds self.new (pre s setup.now [] steps)) }
     {
@@ -476,8 +476,8 @@ impl Guest {
 }
 
 impl Machine {
-    /// One step, and the ranges whose bytes it took or wrote, for a caller that counts its steps itself and doesn't ask whether they raise errors:
-    /// [`Machine::has_raised`] doesn't tell it. A machine for which memory fails is dropped.
+    /// Executes one step. Returns the ranges whose bytes it read or wrote. This is for a caller that counts its steps itself and doesn't
+    /// ask whether they raise errors: [`Machine::has_raised`] doesn't say so. Drops the machine if memory runs out.
     #[inline(always)]
     #[tactic(auto, unfolding(crate::specs::Shows::Shows))]
     pub fn step_on(self, setup: &Setup) -> Result<(Machine, Touched), AllocError>
@@ -490,8 +490,8 @@ impl Machine {
         Ok((machine, touched))
     }
 
-    /// One step, and the ranges whose bytes it took or wrote. [`Machine::has_raised`] then tells whether the step raised an error. The meter
-    /// rises by one. A machine for which memory fails is dropped, and the meter stays.
+    /// Executes one step. Returns the ranges whose bytes it read or wrote. [`Machine::has_raised`] then says whether the step raised an
+    /// error. The meter rises by one. If memory runs out, drops the machine and leaves the meter as it was.
     #[inline(always)]
     #[tactic(auto, unfolding(crate::specs::Shows::Shows, crate::specs::Shows::has_raised))]
     pub fn step(self, setup: &Setup, meter: &mut Meter) -> Result<(Machine, Touched), AllocError>
@@ -508,9 +508,9 @@ impl Machine {
         Ok((machine, touched))
     }
 
-    /// So many steps. The meter rises by as many, also where the machine halts on the way: a step of a halted one leaves it as it is
-    /// ([`laws::stays_halted`](crate::laws::stays_halted)), so that none is carried out. A machine for which memory fails is dropped, and the
-    /// meter stays.
+    /// Executes a number of steps. The meter rises by that number, even if the machine halts on the way: a step of a halted machine leaves
+    /// it as it is ([`laws::stays_halted`](crate::laws::stays_halted)), so none is executed. If memory runs out, drops the machine and
+    /// leaves the meter as it was.
     #[tactic(auto, unfolding(crate::specs::Shows::Shows))]
     pub fn run(self, setup: &Setup, steps: u32, meter: &mut Meter) -> Result<Machine, AllocError>
         requires metered { meter.old ≤ u64.MAX }

@@ -1,4 +1,4 @@
-//! One line, answered to a writer.
+//! One line, and the reply to it.
 ghost use Rattle.std.specs.Prelude.{◌≡◌, ◌+◌, if◌then◌else◌, IfErr, IfOk, OnOk, OnErr};
 ghost use Rattle.line_server.specs.Served.{standing};
 ghost use Rattle.line_server.specs.Serving.{Answered, Cut, IsWriteFailure};
@@ -8,7 +8,7 @@ use crate::listener::Listener;
 use crate::serving::send::{Sent, send};
 use std::io::Write;
 
-/// How many whole replies were written, and how many bytes. At the greatest `u64` they stand still.
+/// The number of whole replies and of bytes that were written. Both stop at the greatest `u64`.
 #[derive(Clone, Copy, Debug, PartialEq, Eq)]
 pub(crate) struct Written {
     pub(crate) replies: u64,
@@ -16,7 +16,7 @@ pub(crate) struct Written {
 }
 
 impl Written {
-    /// Adds bytes, and the reply that they may have made whole.
+    /// Adds bytes, and the reply that they may have completed.
     fn add(&mut self, bytes: usize, whole: bool)
         ensures replies { self.new.replies ≡ standing (self.old.replies + (if whole then 1 else 0)) }
         ensures bytes { self.new.bytes ≡ standing (self.old.bytes + bytes) }
@@ -26,8 +26,8 @@ impl Written {
     }
 }
 
-/// Has a line answered, and writes its reply. Tells whether all lines were given before that are answered, or that a write or a flush
-/// failed.
+/// Has a line answered, and writes its reply. Returns whether this line was the last: the limit of lines was reached before it. Fails if a
+/// write or a flush fails.
 pub(crate) fn answer<L: Listener, W: Write>(
     listener: &mut L,
     written: &mut Written,

@@ -2,7 +2,7 @@
 ghost use Rattle.std.specs.Prelude.{◌≡◌, ◌≤◌, length, take};
 ghost use Rattle.std.specs.Str.Lines.{strip_carriage_return};
 
-/// How many bytes a line has without a carriage return at its end.
+/// Returns the length of a line without a carriage return at its end.
 pub(crate) fn line_len(line: &[u8]) -> usize
     ensures within { result ≤ length line.now }
     ensures stripped { take result line.now ≡ strip_carriage_return line.now }

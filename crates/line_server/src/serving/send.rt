@@ -1,20 +1,20 @@
-//! Writing all of some bytes.
+//! Writes bytes, all of them.
 ghost use Rattle.std.specs.Prelude.{◌≡◌, ◌≤◌, length, take, IsTrue};
 ghost use Rattle.std.specs.Io.KnownBytes.{Appends};
 
 use std::io::Write;
 
-/// How much of some bytes was sent.
+/// How much was sent.
 #[derive(Clone, Copy, Debug, PartialEq, Eq)]
 pub struct Sent {
-    /// How many bytes the writer took.
+    /// The number of bytes that the writer took.
     pub taken: usize,
     /// Whether it took all of them, and flushed.
     pub whole: bool,
 }
 
-/// Writes all of some bytes and flushes. A write that fails, even where it was interrupted, or that takes nothing ends it, as does a
-/// flush that fails.
+/// Writes bytes, all of them, and flushes. Stops at a write that fails, even if it was interrupted, or that takes nothing, and at a flush
+/// that fails.
 pub fn send<W: Write>(writer: &mut W, bytes: &[u8]) -> Sent
     ensures within { result.taken ≤ length bytes.now }
     ensures sent { Appends (W.contents writer.old) (W.contents writer.new) (take result.taken bytes.now) }

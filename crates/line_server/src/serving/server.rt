@@ -1,4 +1,4 @@
-//! What is kept of a service between two reads.
+//! The state of a server between two reads.
 ghost use Rattle.std.specs.Prelude.{◌≡◌, ◌≤◌, vec_len, vec_capacity};
 ghost use Rattle.line_server.specs.Lines.{most_kept};
 
@@ -10,7 +10,7 @@ use crate::serving::line_end::line_len;
 use std::alloc::{AllocError, Global};
 use std::io::{ErrorKind, Read, Write};
 
-/// How much of a line is kept: more than the longest line and a carriage return.
+/// The number of bytes of a line that are kept: more than the longest line and a carriage return.
 const KEPT: usize = LONGEST_LINE + 2;
 
 /// A front of the line so far, and how much was written.
@@ -55,7 +55,7 @@ impl Server {
         }
     }
 
-    /// Takes the next byte. Tells whether all lines were given that are answered.
+    /// Takes the next byte. Returns whether the last line was answered, since the limit of lines is reached.
     fn take<L: Listener, W: Write>(
         &mut self,
         listener: &mut L,
@@ -81,7 +81,7 @@ impl Server {
         Ok(over)
     }
 
-    /// Takes the next bytes. Tells whether all lines were given that are answered.
+    /// Takes the next bytes. Returns whether the last line was answered, since the limit of lines is reached.
     pub(crate) fn feed<L: Listener, W: Write>(
         &mut self,
         listener: &mut L,
@@ -106,7 +106,7 @@ impl Server {
         Ok(false)
     }
 
-    /// Answers a last line with no newline, if there is one.
+    /// Answers a last line without a newline, if there is one.
     pub(crate) fn finish<L: Listener, W: Write>(
         &mut self,
         listener: &mut L,
@@ -125,8 +125,8 @@ impl Server {
         Ok(())
     }
 
-    /// Reads once, into room for it, and answers the lines whose newline was read, or the last one at the reader's end. Tells whether it
-    /// has ended.
+    /// Reads once, into room for it, and answers the lines whose newline was read, or the last one at the reader's end. Returns whether
+    /// serving has ended.
     pub(crate) fn turn<L: Listener, R: Read, W: Write>(
         &mut self,
         listener: &mut L,
@@ -163,7 +163,7 @@ impl Server {
         }
     }
 
-    /// The fault of a reader that has no end.
+    /// Returns the fault of a reader without an end.
     pub(crate) fn endless(&self) -> ServeFault
         ensures { IsEndlessFault self.now.written result }
     {
@@ -173,14 +173,14 @@ impl Server {
         }
     }
 
-    /// How many whole replies were written.
+    /// Returns the number of whole replies that were written.
     fn replies(&self) -> u64
         ensures { result ≡ self.now.written.replies }
     {
         self.written.replies
     }
 
-    /// How many bytes were written.
+    /// Returns the number of bytes that were written.
     fn bytes(&self) -> u64
         ensures { result ≡ self.now.written.bytes }
     {

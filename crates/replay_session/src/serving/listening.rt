@@ -1,4 +1,4 @@
-//! A session that lines are given to one after another.
+//! A session that gets one line after another.
 use crate::serving::texts::Texts;
 use crate::session::Session;
 use line_server::Listener;

@@ -8,7 +8,7 @@ use commands::Fault;
 use itoa::Buffer;
 use std::alloc::{AllocError, Global};
 
-/// Room for the longest reply that is no report.
+/// The room for the longest reply that isn't a report.
 const SHORT: usize = 64;
 
 const DONE: &[u8] = b"ok\n";
@@ -17,8 +17,8 @@ const WORKED: &[u8] = b"worked ";
 
 const REFUSED: &[u8] = b"refused ";
 
-/// The texts of a session's replies: the bytes of a report, and those of another reply, whose room is taken once. So the text of a reply
-/// never wants memory, but for a report.
+/// The texts of a session's replies: the bytes of a report, and those of any other reply, whose room is allocated once. So memory can run
+/// out only for the text of a report.
 #[derive(Drop)]
 pub struct Texts {
     report: Vec<u8>,
@@ -28,7 +28,7 @@ pub struct Texts {
     ghost written: { short.items ≡ short_text outcome },
 }
 
-/// Writes a word, a number and a newline in room for them.
+/// Writes a word, a number and a newline into a text that has room for them.
 fn put_number(text: &mut Vec<u8>, word: &[u8], n: u64)
     requires roomy { 64 ≤ vec_capacity text.old }
     requires few { length word.now ≤ 20 }
@@ -49,7 +49,7 @@ fn put_number(text: &mut Vec<u8>, word: &[u8], n: u64)
     };
 }
 
-/// Writes a reply that is no report in room for it.
+/// Writes a reply that isn't a report into a text that has room for it.
 fn put_short(text: &mut Vec<u8>, outcome: Result<Reply, Fault>)
     requires { 64 ≤ vec_capacity text.old }
     ensures text { text.new.items ≡ short_text outcome }
@@ -74,7 +74,7 @@ impl Texts {
     ghost use Rattle.replay_session.specs.Stages.{stage_of};
     ghost use Rattle.replay_session.specs.Texts.{last_text, report_in};
 
-    /// Room for texts, with an empty report.
+    /// Returns texts with an empty report and room for other replies.
     pub fn new(alloc: Global) -> Result<Self, AllocError> {
         Ok(Texts {
             report: Vec::new(alloc),
@@ -83,7 +83,7 @@ impl Texts {
         })
     }
 
-    /// Puts a reply in: its text, or that it is the report.
+    /// Stores a reply: its text, or that it is the report.
     #[tactic(auto, unfolding(crate::specs::Texts::last_text, crate::specs::Texts::report_in))]
     pub fn put(&mut self, outcome: Result<Reply, Fault>)
         ensures text { last_text self.new ≡ text_of outcome (report_in self.old) }
@@ -93,7 +93,7 @@ impl Texts {
         self.outcome = outcome;
     }
 
-    /// Answers a line of a session, and puts the reply in.
+    /// Answers a line of a session, and stores the reply.
     #[tactic(auto, unfolding(crate::specs::Texts::last_text, crate::specs::Texts::report_in))]
     pub fn answer(&mut self, session: &mut Session<'_>, line: &[u8])
         ensures { Replies (stage_of session.old) line.now (last_text self.new) (stage_of session.new) }
@@ -103,7 +103,7 @@ impl Texts {
         self.put(outcome);
     }
 
-    /// The text of the reply that was put in last.
+    /// Returns the text of the reply that was stored last.
     #[tactic(auto, unfolding(crate::specs::Texts::last_text))]
     pub fn text(&self) -> &[u8]
         ensures { result.now ≡ last_text self.now }

@@ -10,7 +10,7 @@ use guest_machine::Input;
 use std::alloc::AllocError;
 use std::mem;
 
-/// An input with one byte replaced.
+/// Returns an input with one byte replaced.
 fn with_byte(input: Input, offset: u32, byte: u8) -> Input
     requires { offset < length input }
     ensures { result ≡ slice_set input offset byte }
@@ -49,7 +49,7 @@ impl<'a> Scenario<'a> {
         refused_if(self.setup.input.len() < 1, Refusal::OutsideInput)
     }
 
-    /// Where the last byte of the input shows.
+    /// Returns where the removal of the input's last byte shows.
     pub(crate) fn last_byte(&self) -> Effect
         ensures { result ≡ (row self.now Cut).effect }
     {
@@ -65,7 +65,7 @@ impl<'a> Scenario<'a> {
         self.setup.input = with_byte(input, offset, byte);
     }
 
-    /// Puts a byte at the end.
+    /// Appends a byte.
     pub(crate) fn append(&mut self, byte: u8) -> Result<(), AllocError>
         requires { IsTaken self.old (Append byte) }
         ensures ok { OnOk result (self.new ≡ (row self.old (Append byte)).after) }
@@ -74,7 +74,7 @@ impl<'a> Scenario<'a> {
         self.setup.input.push(byte)
     }
 
-    /// Takes the last byte off.
+    /// Removes the last byte.
     pub(crate) fn cut(&mut self)
         ensures { self.new ≡ (row self.old Cut).after }
     {

@@ -10,7 +10,7 @@ use commands::Refusal;
 use guest_machine::Mark;
 use std::alloc::AllocError;
 
-/// Why a mark is refused where there are so many.
+/// Returns why a mark is rejected, for this number of marks so far.
 #[tactic(auto, unfolding(crate::specs::Edits::mark_refusal))]
 fn refusal_of(marks: usize, mark: &Mark) -> Option<Refusal>
     ensures { result ≡ mark_refusal marks mark.now }
@@ -44,7 +44,7 @@ impl<'a> Scenario<'a> {
         refused_if(index as usize >= self.marks.len(), Refusal::NoSuchMark)
     }
 
-    /// Where the mark at an index shows.
+    /// Returns where the mark at an index shows.
     pub(crate) fn mark_at(&self, index: u32) -> Effect
         ensures { result ≡ (row self.now (Unmark index)).effect }
     {
@@ -54,7 +54,7 @@ impl<'a> Scenario<'a> {
         }
     }
 
-    /// Puts a mark at the end of the list.
+    /// Appends a mark to the list.
     pub(crate) fn mark(&mut self, mark: Mark) -> Result<(), AllocError>
         ensures ok { OnOk result (self.new ≡ (row self.old (MarkEdit mark)).after) }
         ensures err { OnErr result (self.new ≡ self.old) }
@@ -63,7 +63,7 @@ impl<'a> Scenario<'a> {
         Ok(())
     }
 
-    /// Takes the mark at an index out.
+    /// Removes the mark at an index.
     pub(crate) fn unmark(&mut self, index: u32)
         requires { IsTaken self.old (Unmark index) }
         ensures { self.new ≡ (row self.old (Unmark index)).after }

@@ -28,7 +28,7 @@ impl<'a> Scenario<'a> {
         refused_if(n > LARGEST_VOLUME, Refusal::BadOption)
     }
 
-    /// Chooses how many addresses of a trace are shown.
+    /// Sets the number of addresses of a trace that are shown.
     pub(crate) fn set_callers(&mut self, n: u32)
         requires { IsTaken self.old (Callers n) }
         ensures { self.new ≡ (row self.old (Callers n)).after }
@@ -36,21 +36,21 @@ impl<'a> Scenario<'a> {
         self.options.callers = n;
     }
 
-    /// Chooses the redzone of the blocks that are allocated.
+    /// Sets the redzone of the blocks that are allocated.
     pub(crate) fn set_redzone(&mut self, n: u32)
         ensures { self.new ≡ (row self.old (Redzone n)).after }
     {
         self.setup.redzone = n;
     }
 
-    /// Chooses how many bytes the freed blocks may have.
+    /// Sets the number of bytes that freed blocks may have in all.
     pub(crate) fn set_volume(&mut self, n: u32)
         ensures { self.new ≡ (row self.old (Volume n)).after }
     {
         self.setup.volume = n;
     }
 
-    /// Chooses which kinds of leak are shown.
+    /// Sets the kinds of leak that are shown.
     pub(crate) fn show(&mut self, kinds: LeakKinds)
         ensures { self.new ≡ (row self.old (Show kinds)).after }
     {

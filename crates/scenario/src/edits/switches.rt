@@ -17,7 +17,7 @@ impl<'a> Scenario<'a> {
         refused_if(beyond, Refusal::NoSuchSuppression)
     }
 
-    /// Switches the suppression at an index.
+    /// Switches the suppression at an index on or off.
     pub(crate) fn switch(&mut self, index: u32, on: bool)
         requires { IsTaken self.old (Switch index on) }
         ensures { self.new ≡ (row self.old (Switch index on)).after }
@@ -25,7 +25,7 @@ impl<'a> Scenario<'a> {
         self.suppressions[index as usize].switch(on);
     }
 
-    /// Puts a suppression at the end of the list.
+    /// Appends a suppression to the list.
     pub(crate) fn add(&mut self, suppression: Suppression) -> Result<(), AllocError>
         ensures ok { OnOk result (self.new ≡ (row self.old (Add suppression)).after) }
         ensures err { OnErr result (self.new ≡ self.old) }

@@ -9,7 +9,7 @@ use commands::Refusal;
 use guest_elf::Image;
 use std::alloc::AllocError;
 
-/// Whether an address is that of a loaded word.
+/// Returns whether an address is that of a loaded word.
 #[tactic(auto, unfolding(guest_elf::specs::Images::is_word))]
 fn is_word(image: &Image, addr: u32) -> bool
     ensures { result ≡ is_word image.now addr }
@@ -37,7 +37,7 @@ impl<'a> Scenario<'a> {
         Ok(())
     }
 
-    /// Takes the word off again that was written last, if there is one.
+    /// Removes the word that was written last, if there is one.
     pub fn drop_word(&mut self)
         ensures { self.new ≡ record self.old { words = take (length self.old.words - 1) self.old.words } }
     {

@@ -9,7 +9,7 @@ use Rattle.checkpoints.proofs.entering.spans_of.Goals as goal
 abbrev at : Segment → Span
 at s = span_at s.vaddr s.memsz
 
--- one more segment
+-- another segment
 more : (old new : List Span) (segments : List Segment) (i : ℕ) (s : Segment) → i < length segments
     → s ≡ get_or segments i s → old ≡ map at (take i segments) → new ≡ old ++ at s ∷ []
     → new ≡ map at (take (i + 1) segments)

@@ -54,7 +54,7 @@ loop-k-preserved c =
 pub returns-clause-price : goal.returns-clause-price
 returns-clause-price c = omega (arith, c.loop-k.invariant.within, c.loop-k.invariant.meter)
 
--- what a search of some steps is made for
+-- what a search of some steps is for
 steps-price : (old now from k end : ℕ) → k < end → now ≡ min (old + (k - from)) 18446744073709551615
     → now ≤ old + (end - from)
 steps-price old now from k end l e = omega arith

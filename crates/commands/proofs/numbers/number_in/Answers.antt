@@ -1,4 +1,4 @@
--- Each byte is a digit of the number, or the field is refused.
+-- Each byte is a digit of the number, or the field is rejected.
 use Rattle.std.proofs.Common.{◌*◌, ◌^◌, ◌<◌, ◌≤◌, length, take_all, sym, ◌∙◌, arith, rules}
 use Rattle.std.proofs.Math.Nat.{mul-le-mul}
 use Rattle.std.proofs.lemmas.Bool.Decides.{nat_tests}

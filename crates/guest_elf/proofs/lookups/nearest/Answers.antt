@@ -5,7 +5,7 @@ use Rattle.guest_elf.proofs.Nearest.{nearest_at, nearest_of_none}
 use Rattle.guest_elf.specs.declared.symbols.Symbol.{Symbol}
 use Rattle.guest_elf.proofs.lookups.nearest.Goals as goal
 
--- what stands past the end
+-- the value past the end
 abbrev no_symbol : Symbol
 no_symbol = record { name = 0; value = 0; size = 0; info = 0; section = 0 }
 

@@ -3,7 +3,7 @@ use Rattle.guest_elf.proofs.Meeting.{begins_early, early_found, early_next, earl
 use Rattle.guest_elf.specs.declared.program.ProgramHeader.{ProgramHeader}
 use Rattle.guest_elf.proofs.overlaps.any_two_meet.Goals as goal
 
--- what stands past the end
+-- the value past the end
 abbrev no_header : ProgramHeader
 no_header = record { kind = 0; offset = 0; vaddr = 0; filesz = 0; memsz = 0 }
 

@@ -4,7 +4,7 @@ use Rattle.guest_elf.specs.declared.hook.Hook.TheVariants.{Malloc}
 use Rattle.guest_machine.proofs.HookSteps.{marked_more}
 use Rattle.guest_machine.proofs.hooks.sieve_of.Goals as goal
 
--- what stands past the end
+-- the value past the end
 abbrev no_hook : ℕ × Hook
 no_hook = (0, Malloc)
 

@@ -9,7 +9,7 @@ use Rattle.leak_search.specs.Gathering.{AreRecordsBy, IsEntryBy}
 use Rattle.leak_search.proofs.LiveSteps.{row_push}
 use Rattle.leak_search.proofs.searching.records.Goals as goal
 
--- one more record
+-- another record
 more : (blocks : List Block) (kinds : List LeakKind) (entries : List LeakRecord) (n : ℕ) (last : LeakRecord)
     → IsEntryBy blocks kinds n last → AreRecordsBy blocks kinds entries n
     → AreRecordsBy blocks kinds (entries ++ last ∷ []) (n + 1)

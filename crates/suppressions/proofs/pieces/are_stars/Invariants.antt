@@ -1,4 +1,4 @@
--- The pieces so far fit no items just where those that are left do.
+-- The pieces so far fit no items exactly where those that are left do.
 use Rattle.std.proofs.Common.{drop, []}
 use Rattle.suppressions.specs.Fitting.{FitsPieces}
 use Rattle.suppressions.proofs.pieces.are_stars.Given as goal

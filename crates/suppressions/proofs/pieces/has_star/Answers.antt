@@ -1,4 +1,4 @@
--- What stands at a place is the item that was read there.
+-- The piece at a place is the one that was read there.
 use Rattle.std.proofs.Common.{subst, arith}
 use Rattle.suppressions.specs.Fitting.{IsSingle}
 use Rattle.suppressions.proofs.FittingSteps.{stands_here, stands_within, one_stands}

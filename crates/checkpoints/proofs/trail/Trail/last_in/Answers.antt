@@ -14,7 +14,7 @@ place-held k n some h = omega arith
 first-of : (from end first : ℕ) → first ≡ max from (end / 1024 * 1024) → first ≡ max from (floor end)
 first-of from end first e = omega arith
 
--- how many steps are made
+-- the number of steps executed
 price : (old now new from end first : ℕ) → from < end → first ≡ max from ((end - 1) / 1024 * 1024)
     → now ≡ min (old + (first - (end - 1) / 1024 * 1024)) 18446744073709551615
     → new ≤ now + (end - first) → new ≤ old + (end - floor (end - 1))

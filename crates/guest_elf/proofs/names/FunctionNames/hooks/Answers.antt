@@ -8,7 +8,7 @@ use Rattle.guest_elf.specs.declared.symbols.Symbol.{Symbol}
 use Rattle.guest_elf.proofs.names.FunctionNames.hooks.Goals as goal
 use Rattle.guest_elf.proofs.names.FunctionNames.hooks.Goals.{in-Some+in_ok-push, in_default}
 
--- what stands past the end
+-- the value past the end
 abbrev no_symbol : Symbol
 no_symbol = record { name = 0; value = 0; size = 0; info = 0; section = 0 }
 
