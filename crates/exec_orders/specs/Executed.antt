@@ -32,6 +32,9 @@ pub record Pipes : Type 0 where
   pub held : Option (List ℕ)
   pub logged : Option (List ℕ)
 
+abbrev pub pipes : Option (List ℕ) → Option (List ℕ) → Option (List ℕ) → Pipes
+pipes left held logged = record { left = left; held = held; logged = logged }
+
 -- ---- a run
 
 -- how a run stands at its last step; of the kinds of leak these count as errors
@@ -53,15 +56,17 @@ Tells sc told =
     (found : Bool) × HasFindings (chosen_state sc) sc.image sc.rules sc.options.callers sc.options.show found
     × (told ≡ (is_stopped (chosen_state sc).core.status || found))
 
--- the report was written; or nothing, where only one that tells something is asked for, and it doesn't
-abbrev pub WritesReport : Bool → Scenario → Option (List ℕ) → Option (List ℕ) → Type 0
-WritesReport quiet sc old new =
-    ((text : List ℕ) × IsReportOf sc text × Appends old new text) ⊎ ((quiet ≡ true) × Tells sc false × Appends old new [])
+-- a text is the report; or nothing, if only one that tells something is asked for, and it doesn't
+abbrev pub IsTold : Bool → Scenario → List ℕ → Type 0
+IsTold quiet sc text = IsReportOf sc text ⊎ ((quiet ≡ true) × Tells sc false × (text ≡ []))
 
--- a front of the report was, before a write failed
-abbrev pub CutsReport : Scenario → Option (List ℕ) → Option (List ℕ) → Type 0
-CutsReport sc old new =
-    (text : List ℕ) × (sent : ℕ) × IsReportOf sc text × (sent ≤ length text) × Appends old new (take sent text)
+-- it was written, or a front of it
+abbrev pub WritesReport : Bool → Scenario → Option (List ℕ) → Option (List ℕ) → Type 0
+WritesReport quiet sc old new = (text : List ℕ) × IsTold quiet sc text × Appends old new text
+
+abbrev pub CutsReport : Bool → Scenario → Option (List ℕ) → Option (List ℕ) → Type 0
+CutsReport quiet sc old new =
+    (text : List ℕ) × (sent : ℕ) × IsTold quiet sc text × (sent ≤ length text) × Appends old new (take sent text)
 
 -- a front of the program's output was written, and nothing of the report
 abbrev pub CutsOutput : Scenario → Pipes → Pipes → Type 0
@@ -73,29 +78,53 @@ CutsOutput sc old new =
 abbrev pub WritesOutput : Scenario → Pipes → Pipes → Type 0
 WritesOutput sc old new = Appends old.held new.held (chosen_state sc).output
 
--- the run was made: its output was written, and then its report; or a write failed; or memory ran out
+-- with the output written: the report was written, and the end says how the run stands; or a write failed; or memory
+-- ran out
+abbrev pub Finishes : Bool → Codes → LeakKinds → Scenario → Option (List ℕ) → Option (List ℕ) → ExecEnd → Type 0
+Finishes quiet codes count sc old new (Ran chosen outcome) =
+    (chosen ≡ codes) × IsOutcome sc count outcome × WritesReport quiet sc old new
+Finishes quiet codes count sc old new (Early CannotWrite) = CutsReport quiet sc old new
+Finishes quiet codes count sc old new (Early NoMemory) = Appends old new []
+Finishes quiet codes count sc old new end = ⊥
+
+-- the run ends early: a write failed, or memory ran out
+abbrev pub IsFault : ExecEnd → Type 0
+IsFault end = (end ≡ Early CannotWrite) ⊎ (end ≡ Early NoMemory)
+
+-- the run is made: its output is written, and then its report; or a front of its output
 abbrev pub Ends : Bool → Codes → LeakKinds → Scenario → Pipes → Pipes → ExecEnd → Type 0
-Ends quiet codes count sc old new (Ran chosen outcome) =
-    (chosen ≡ codes) × IsOutcome sc count outcome × WritesOutput sc old new
-    × WritesReport quiet sc old.logged new.logged
-Ends quiet codes count sc old new (Early CannotWrite) =
-    CutsOutput sc old new ⊎ (WritesOutput sc old new × CutsReport sc old.logged new.logged)
-Ends quiet codes count sc old new (Early NoMemory) = CutsOutput sc old new
-Ends quiet codes count sc old new end = ⊥
+Ends quiet codes count sc old new end =
+    (WritesOutput sc old new × Finishes quiet codes count sc old.logged new.logged end)
+    ⊎ (IsFault end × CutsOutput sc old new)
 
 -- ---- its input
 
--- the run of a scenario with an empty input never asks for a byte of it
-abbrev pub NeverAsks : Scenario → Type 0
-NeverAsks sc = (chosen_state sc).end_seen ≡ false
+-- the run never asks for more of its input than there is, if it comes to its last step
+abbrev pub NeverAsks : Scenario → ExecEnd → Type 0
+NeverAsks sc end =
+    (codes : Codes) (outcome : Outcome) → end ≡ Ran codes outcome → (chosen_state sc).end_seen ≡ false
 
--- with the input that was given; or, where none was, with an empty one if it is never asked for, and else with all of
--- standard input, which ends the program if it can't be read
+-- with the input that was given; or, if none was, with an empty one that it never asks for, or else with all of standard
+-- input, which ends the program if it can't be read
 abbrev pub Executes : Bool → Bool → Codes → LeakKinds → Scenario → Pipes → Pipes → ExecEnd → Type 0
 Executes waits quiet codes count sc old new end =
-    (Consumes old.left new.left [] × Ends quiet codes count sc old new end)
+    (Consumes old.left new.left [] × (waits ≡ true → NeverAsks sc end) × Ends quiet codes count sc old new end)
     ⊎ ((waits ≡ true) × (input : List ℕ) × HasStream old.left input
     × Ends quiet codes count (with_input sc input) old new end)
+    ⊎ ((waits ≡ true) × (why : End) × (end ≡ Early why) × NoStream old.left why × CutsOutput sc old new)
+
+-- what became of the input: it is as it was given; or it is all of standard input
+abbrev pub HasInputOf : Bool → Option (List ℕ) → Option (List ℕ) → Scenario → Scenario → Type 0
+HasInputOf waits left rest sc done =
+    ((done ≡ sc) × Consumes left rest [] × (waits ≡ true → (chosen_state sc).end_seen ≡ false))
+    ⊎ ((waits ≡ true) × (input : List ℕ) × HasStream left input × (done ≡ with_input sc input))
+
+-- a run ended before its last step
+abbrev pub Cuts : Bool → Scenario → Pipes → Pipes → ExecEnd → Type 0
+Cuts waits sc old new end =
+    (Consumes old.left new.left [] × IsFault end × CutsOutput sc old new)
+    ⊎ ((waits ≡ true) × (input : List ℕ) × HasStream old.left input × IsFault end
+    × CutsOutput (with_input sc input) old new)
     ⊎ ((waits ≡ true) × (why : End) × (end ≡ Early why) × NoStream old.left why × CutsOutput sc old new)
 
 -- ---- all of it

@@ -1,27 +1,30 @@
 -- A state that rests in a jump to itself stays as it is.
-use Rattle.std.proofs.Common.{◌≡◌, ◌⊎◌, inl, inr, ℕ, ◌+◌, ◌%◌, ◌^◌, ◌<◌, ◌&&◌, ◌==◌, nat_eq, nat_lt, Bool, true, false, cond, List, []}
+use Rattle.std.proofs.Common.{◌≡◌, ◌⊎◌, inl, inr, ℕ, ◌+◌, ◌%◌, ◌^◌, ◌<◌, ◌&&◌, ◌==◌, nat_eq, nat_lt, Bool, true, false, cond, List, [], ◌∷◌}
 use Rattle.std.proofs.Common.{◌++◌, length, append-nil, Option, Some, None, refl, ap, ap₂, sym, subst, ◌∙◌, arith}
 use Rattle.std.proofs.Common.{add-zero}
 use Rattle.std.proofs.lemmas.Bool.Decides.{nat_tests}
 use Rattle.definedness.specs.declared.Bits.{Bits}
 use Rattle.guest_elf.specs.declared.hook.Hook.{Hook}
-use Rattle.instructions.specs.Instructions.{row_of}
+use Rattle.instructions.specs.Instructions.{instruction_of, row_of}
+use Rattle.rv_decode.specs.Table.{insn, rows}
 use Rattle.instructions.specs.CallStack.{hint_by, hinted, jal_hint}
 use Rattle.instructions.specs.declared.instruction.Instruction.{Instruction}
-use Rattle.instructions.specs.declared.instruction.Instruction.TheVariants.{LoadUpper, AddUpper, Jump, JumpRegister}
-use Rattle.instructions.specs.declared.instruction.Instruction.TheVariants.{Branch, Load, Store, Immediate, Registers}
-use Rattle.instructions.specs.declared.instruction.Instruction.TheVariants.{Fence, CallEnvironment, Breakpoint}
+use Rattle.instructions.specs.declared.instruction.Instruction.TheVariants.{Jump}
 use Rattle.guest_machine.specs.State.{Core, State}
-use Rattle.guest_machine.specs.Effects.{Effect, quiet, jump, linked_jump}
-use Rattle.guest_machine.specs.Errors.{fetch_undef, fetch_errors, event_unless, here}
+use Rattle.guest_machine.specs.Effects.{Effect, linked_jump, stopped}
+use Rattle.guest_machine.specs.Errors.{fetch_undef, fetch_errors, event_of, event_unless, here}
+use Rattle.error_events.specs.declared.kind.Kind.TheVariants.{Value}
+use Rattle.error_events.specs.declared.event.Note.TheVariants.{Absent}
 use Rattle.guest_machine.specs.Registers.{known, register, set_register}
-use Rattle.guest_machine.specs.StackPointer.{is_stack_pointer, stack_moved, stack_ruled}
+use Rattle.guest_machine.specs.StackPointer.{framed, stack_moved, stack_ruled}
+use Rattle.shadow_memory.specs.declared.cells.RangeKind.TheVariants.{NoAccess, Undefined}
+use Rattle.run_values.specs.declared.status.Stop.TheVariants.{Misaligned}
 use Rattle.guest_machine.specs.Exec.{Deed, Takes, CallsByName, Halts, Terms, deed_at, deed_by, deed_terms, exec, outcome}
 use Rattle.guest_machine.specs.Exec.{called_here, fetched, fetches, intake_at, intake_of, left_at, deed_asks, is_aligned}
 use Rattle.guest_machine.specs.Exec.{given_at, taken_from, plan, row_asks, row_effect, row_uses, uses_at, effect_at}
 use Rattle.guest_machine.specs.Exec.{is_heap_deed, calls_heap, counted, is_running, rounded, seen_also, terms_of}
 use Rattle.guest_machine.specs.Exec.{written_to}
-use Rattle.guest_machine.specs.Streams.{calls_out, is_idle, jumps_to_itself, row_at, row_in, StaysAtRest}
+use Rattle.guest_machine.specs.Streams.{calls_out, is_idle, jumps_to_itself, row_at, row_in, self_jump, StaysAtRest}
 use Rattle.guest_machine.specs.declared.setup.Setup.{Setup}
 use Rattle.guest_machine.proofs.Fetching.{at_multiple}
 use Rattle.guest_machine.proofs.Halted.{halts, stays-halted}
@@ -33,29 +36,14 @@ both false q h = cc
 number : (m n : ℕ) → (m == n) ≡ true → m ≡ n
 number m n h = grind (arith, nat_tests)
 
--- the instruction is `jal x0, 0`
-idle-row : (row : Option Instruction) → jumps_to_itself row ≡ true → row ≡ Some (Jump 0 0)
-unfolding jumps_to_itself
-idle-row (Some (Jump rd imm)) h =
-    let parts = both (rd == 0) (imm == 0) h in
-    ap₂ (λ rd imm. Some (Jump rd imm)) (number rd 0 parts.0) (number imm 0 parts.1)
-idle-row None h = cc
-idle-row (Some (LoadUpper rd imm)) h = cc
-idle-row (Some (AddUpper rd imm)) h = cc
-idle-row (Some (JumpRegister rd rs1 imm)) h = cc
-idle-row (Some (Branch test rs1 rs2 imm)) h = cc
-idle-row (Some (Load width signed rd rs1 imm)) h = cc
-idle-row (Some (Store width rs1 rs2 imm)) h = cc
-idle-row (Some (Immediate operation rd rs1 imm)) h = cc
-idle-row (Some (Registers operation rd rs1 rs2)) h = cc
-idle-row (Some Fence) h = cc
-idle-row (Some CallEnvironment) h = cc
-idle-row (Some Breakpoint) h = cc
+-- it is `jal x0, 0`
+self-row : row_of self_jump ≡ Some (Jump 0 0)
+unfolding row_of insn rows instruction_of
+self-row = refl
 
-idle-deed : (deed : Deed) → jumps_to_itself (row_in deed) ≡ true
-    → (word : ℕ) × (deed ≡ Takes word) × (row_of word ≡ Some (Jump 0 0))
-unfolding row_in jumps_to_itself
-idle-deed (Takes word) h = (word, refl, idle-row (row_of word) h)
+idle-deed : (deed : Deed) → jumps_to_itself deed ≡ true → deed ≡ Takes self_jump
+unfolding jumps_to_itself
+idle-deed (Takes word) h = ap Takes (number word self_jump h)
 idle-deed (CallsByName function) h = cc
 idle-deed Halts h = cc
 
@@ -75,8 +63,9 @@ may-fetch core bytes hooks word h = taken-by (called_here core hooks) (fetches c
 
 stands : (b : Bool) (core : Core) (v : ℕ) → cond b (stack_moved core v v) core ≡ core
 unfolding stack_moved
-stands true core v = let none : nat_lt v v ≡ false = grind (arith, nat_tests) in
-    ap (λ b. cond b _ (cond b _ core)) none
+stands true core v =
+    let none : nat_lt v v ≡ false = grind (arith, nat_tests) in
+    ap (λ b. cond b (framed core v v Undefined) (cond b (framed core v v NoAccess) core)) none
 stands false core v = refl
 
 stack-stands : (core : Core) → stack_ruled (register core 2) core ≡ core
@@ -90,7 +79,7 @@ unfolding linked_jump set_register hinted hint_by
 jumps-here core small multiple =
     let here : (core.pc + 0) % 2 ^ 32 ≡ core.pc = omega (arith, small) in
     let even : (core.pc % 4 == 0) ≡ true = grind (arith, nat_tests) in
-    ap (λ to. linked_jump core (jal_hint 0) 0 to) here ∙ ap (λ b. cond b core _) even
+    ap (λ to. linked_jump core (jal_hint 0) 0 to) here ∙ ap (λ b. cond b core (stopped core Misaligned)) even
 
 -- ---- the step
 
@@ -149,7 +138,8 @@ jumped-state s setup small multiple defined =
     let there = jumps-here s.core small multiple in
     let core : stack_ruled (register s.core 2) (linked_jump s.core (jal_hint 0) 0 ((s.core.pc + 0) % 2 ^ 32)) ≡ s.core =
     ap (λ core. stack_ruled (register s.core 2) core) there ∙ stack-stands s.core in
-    let raised : fetch_errors s.core ++ [] ≡ [] = ap (λ b. cond b [] _ ++ []) defined in
+    let raised : fetch_errors s.core ++ [] ≡ [] =
+    ap (λ b. cond b [] (event_of (here s.core) Value Absent ∷ []) ++ []) defined in
     λ i. record {
       bytes = s.bytes;
       core = core i;
@@ -161,23 +151,26 @@ jumped-state s setup small multiple defined =
     }
 
 idle-step : (setup : Setup) (s : State) → s.core.pc < 2 ^ 32 → is_idle s setup ≡ true → exec s setup ≡ s
-unfolding exec intake_at uses_at effect_at row_at is_idle by by-row
+unfolding exec intake_at uses_at effect_at is_idle by by-row
 idle-step setup s small idle =
-    let parts = both _ _ idle in
+    let parts = both (jumps_to_itself (deed_at s.core s.bytes setup.hooks)) (fetch_undef s.core == 0) idle in
     let found = idle-deed (deed_at s.core s.bytes setup.hooks) parts.0 in
-    let multiple = at_multiple s.core (may-fetch s.core s.bytes setup.hooks found.0 found.1) in
-    ap (by s setup) found.1 ∙ ap (by-row s setup) found.2 ∙ jumped-state s setup small multiple parts.1
+    let multiple = at_multiple s.core (may-fetch s.core s.bytes setup.hooks self_jump found) in
+    ap (by s setup) found ∙ ap (by-row s setup) self-row ∙ jumped-state s setup small multiple parts.1
 
-quiet-jump : (row : Option Instruction) → jumps_to_itself row ≡ true → calls_out row ≡ false
-unfolding calls_out
-quiet-jump row h = ap calls_out (idle-row row h)
+quiet-jump : (deed : Deed) → jumps_to_itself deed ≡ true → calls_out (row_in deed) ≡ false
+unfolding calls_out row_in
+quiet-jump deed h = ap (λ d. calls_out (row_in d)) (idle-deed deed h) ∙ ap calls_out self-row
 
 quiet-halt : (s : State) (setup : Setup) → is_running s.core.status ≡ false → calls_out (row_at s setup) ≡ false
 unfolding row_at row_in calls_out
 quiet-halt s setup h = ap (λ deed. calls_out (row_in deed)) (halts s.core s.bytes setup.hooks h)
 
 pub stays-at-rest : StaysAtRest
-unfolding is_idle
+unfolding is_idle row_at
 stays-at-rest setup s (inl halted) = ((stays-halted setup s halted).0, quiet-halt s setup halted)
-stays-at-rest setup s (inr idle) =
-    (idle-step setup s idle.0 idle.1, quiet-jump (row_at s setup) (both _ _ idle.1).0)
+stays-at-rest setup s (inr idle) = (
+  idle-step setup s idle.0 idle.1,
+  quiet-jump (deed_at s.core s.bytes setup.hooks)
+      (both (jumps_to_itself (deed_at s.core s.bytes setup.hooks)) (fetch_undef s.core == 0) idle.1).0,
+)

@@ -98,10 +98,10 @@ Spoken : (ℕ → ℕ) → Uses → List ℕ → Type 0
 Spoken bytes uses output = (output ≡ []) ⊎ ((output ≡ bytes_over bytes uses.reads) × (uses.writes ≡ None))
 
 -- of `write`, by whether the descriptor is the output, and whether there is room
-write-spoken : (open fits : Bool) (bytes : ℕ → ℕ) (range : Span) (full : (ℕ → ℕ) → Effect) (other closed : Effect)
+write-spoken : (is_out fits : Bool) (bytes : ℕ → ℕ) (range : Span) (full : (ℕ → ℕ) → Effect) (other closed : Effect)
     → ((taken : ℕ → ℕ) → (full taken).output ≡ bytes_taken taken range.len) → other.output ≡ [] → closed.output ≡ []
-    → Spoken bytes (record { reads = cond (open && fits) (Some range) None; writes = None })
-    (cond open (cond fits (full (taken_from bytes (cond (open && fits) (Some range) None))) other) closed).output
+    → Spoken bytes (record { reads = cond (is_out && fits) (Some range) None; writes = None })
+    (cond is_out (cond fits (full (taken_from bytes (cond (is_out && fits) (Some range) None))) other) closed).output
 unfolding Spoken bytes_over
 write-spoken true true bytes range full other closed f h k = inr (f (window bytes range.start range.len), refl)
 write-spoken true false bytes range full other closed f h k = inl h
@@ -158,8 +158,8 @@ writes-what-it-reads setup s =
     let effect = outcome s.core terms deed (given_at s.position terms.intake.count setup)
     (taken_from s.bytes uses.reads) in
     elim (deed-spoken s.core deed terms (given_at s.position terms.intake.count setup) s.bytes) [
-      inl none → inl (ap (λ xs. s.output ++ xs) none ∙ append-nil s.output),
-      inr some → inr (ap (λ xs. s.output ++ xs) some.0, ap (λ range. written_to s.bytes range effect.made) some.1),
+      | inl none ↦ inl (ap (λ xs. s.output ++ xs) none ∙ append-nil s.output)
+      | inr some ↦ inr (ap (λ xs. s.output ++ xs) some.0, ap (λ range. written_to s.bytes range effect.made) some.1)
     ]
 
 deed-quiet : (core : Core) (deed : Deed) (terms : Terms) (given : List ℕ) (taken : ℕ → ℕ)
@@ -192,6 +192,10 @@ only-calls-speak setup s h =
 
 -- ---- a run
 
+exec-adds : (s : State) (setup : Setup) → (more : List ℕ) × ((exec s setup).output ≡ s.output ++ more)
+unfolding exec
+exec-adds s setup = ((effect_at s.core s.bytes s.position (length s.output) setup).output, refl)
+
 pub output-grows : OutputGrows
 output-grows start setup n zero =
     ([], ap (λ k. (pre start setup [] k).output) (omega arith) ∙ sym (append-nil (pre start setup [] n).output))
@@ -204,7 +208,3 @@ output-grows start setup n (suc d) =
       ∙ ap (λ t. t.output) (one-more start setup (n + d)) ∙ last.1
       ∙ ap (λ xs. xs ++ last.0) before.1 ∙ append_assoc (pre start setup [] n).output before.0 last.0,
     )
-  where
-    exec-adds : (s : State) (setup : Setup) → (more : List ℕ) × ((exec s setup).output ≡ s.output ++ more)
-    unfolding exec
-    exec-adds s setup = ((effect_at s.core s.bytes s.position (length s.output) setup).output, refl)

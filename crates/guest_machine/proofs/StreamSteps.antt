@@ -5,9 +5,6 @@ use Rattle.std.proofs.lemmas.Bool.Decides.{nat_tests}
 use Rattle.guest_elf.specs.declared.hook.Hook.{Hook}
 use Rattle.instructions.specs.Instructions.{row_of}
 use Rattle.instructions.specs.declared.instruction.Instruction.{Instruction}
-use Rattle.instructions.specs.declared.instruction.Instruction.TheVariants.{LoadUpper, AddUpper, Jump, JumpRegister}
-use Rattle.instructions.specs.declared.instruction.Instruction.TheVariants.{Branch, Load, Store, Immediate, Registers}
-use Rattle.instructions.specs.declared.instruction.Instruction.TheVariants.{Fence, CallEnvironment, Breakpoint}
 use Rattle.shadow_memory.specs.Ranges.{little_word, window}
 use Rattle.guest_machine.specs.State.{Core, State}
 use Rattle.guest_machine.specs.Exec.{Deed, Takes, CallsByName, Halts, called_here, deed_asks, deed_at, deed_by, exec}
@@ -21,22 +18,6 @@ use Rattle.guest_machine.specs.declared.setup.Setup.{Setup}
 
 -- ---- the next instruction
 
-other-row : (row : Option Instruction) → (row ≡ Some CallEnvironment → ⊥) → calls_out row ≡ false
-unfolding calls_out
-other-row (Some CallEnvironment) h = absurd (h refl)
-other-row None h = refl
-other-row (Some (LoadUpper rd imm)) h = refl
-other-row (Some (AddUpper rd imm)) h = refl
-other-row (Some (Jump rd imm)) h = refl
-other-row (Some (JumpRegister rd rs1 imm)) h = refl
-other-row (Some (Branch test rs1 rs2 imm)) h = refl
-other-row (Some (Load width signed rd rs1 imm)) h = refl
-other-row (Some (Store width rs1 rs2 imm)) h = refl
-other-row (Some (Immediate operation rd rs1 imm)) h = refl
-other-row (Some (Registers operation rd rs1 rs2)) h = refl
-other-row (Some Fence) h = refl
-other-row (Some Breakpoint) h = refl
-
 -- where a word is taken, or a function called in its place
 quiet-by : (function : Option Hook) (word : ℕ) → calls_out (row_of word) ≡ false
     → calls_out (row_in (deed_by function (Some word))) ≡ false
@@ -44,16 +25,12 @@ unfolding row_in calls_out
 quiet-by (Some function) word h = refl
 quiet-by None word h = h
 
-same-some : (x y : Instruction) → ◌≡◌ {A = Option Instruction} (Some x) (Some y) → x ≡ y
-same-some x y e = cc
-
 pub quiet-decoded : (core : Core) (bytes : ℕ → ℕ) (row : Instruction) → IsDecoded core bytes row
-    → (row ≡ CallEnvironment → ⊥) → (hooks : List (ℕ × Hook)) → calls_out (row_in (deed_at core bytes hooks)) ≡ false
+    → calls_out (Some row) ≡ false → (hooks : List (ℕ × Hook)) → calls_out (row_in (deed_at core bytes hooks)) ≡ false
 unfolding fetched
 quiet-decoded core bytes row d h hooks =
     let word = little_word (window bytes core.pc 4) in
-    let other : calls_out (row_of word) ≡ false =
-    other-row (row_of word) (λ e. h (same-some row CallEnvironment (sym d.row ∙ e))) in
+    let other : calls_out (row_of word) ≡ false = ap calls_out d.row ∙ h in
     let taken : fetched core bytes ≡ Some word = ap (λ b. cond b (Some word) None) d.taken in
     subst (λ found. calls_out (row_in (deed_by (called_here core hooks) found)) ≡ false) (sym taken)
     (quiet-by (called_here core hooks) word other)
@@ -73,8 +50,8 @@ quiet-none s setup = λ k less. absurd (omega arith)
 pub quiet-more : (s : State) (setup : Setup) (n : ℕ) → IsQuietFor s setup n
     → calls_out (row_at (pre s setup [] n) setup) ≡ false → IsQuietFor s setup (n + 1)
 quiet-more s setup n before now = λ k less. elim (split k n (omega arith)) [
-  inl earlier → before k earlier,
-  inr last → subst (λ k. calls_out (row_at (pre s setup [] k) setup) ≡ false) (sym last) now,
+  | inl earlier ↦ before k earlier
+  | inr last ↦ subst (λ k. calls_out (row_at (pre s setup [] k) setup) ≡ false) (sym last) now
 ]
   where
     split : (k n : ℕ) → k < n + 1 → (k < n) ⊎ (k ≡ n)

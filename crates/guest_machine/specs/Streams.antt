@@ -9,7 +9,7 @@ use Rattle.guest_machine.specs.Exec.{Deed, Takes, CallsByName, Halts, deed_at, e
 use Rattle.guest_machine.specs.Run.{pre}
 use Rattle.instructions.specs.Instructions.{row_of}
 use Rattle.instructions.specs.declared.instruction.Instruction.{Instruction}
-use Rattle.instructions.specs.declared.instruction.Instruction.TheVariants.{CallEnvironment as CallRow, Jump}
+use Rattle.instructions.specs.declared.instruction.Instruction.TheVariants.{CallEnvironment as CallRow}
 use Rattle.guest_machine.specs.declared.environment_call.EnvironmentCall.{EnvironmentCall}
 use Rattle.guest_machine.specs.declared.environment_call.EnvironmentCall.TheVariants.{Write as WriteCall}
 use Rattle.run_values.specs.declared.span.Span.{Span}
@@ -31,10 +31,15 @@ unfoldable pub calls_out : Option Instruction → Bool
 calls_out (Some CallRow) = true
 calls_out _ = false
 
--- is it a jump to itself that leaves no link, `jal x0, 0`?
-unfoldable pub jumps_to_itself : Option Instruction → Bool
-jumps_to_itself (Some (Jump rd imm)) = (rd == 0) && (imm == 0)
-jumps_to_itself _ = false
+-- `jal x0, 0`: a jump to itself that leaves no link (RISC-V Unprivileged ISA 20191213, section 2.5)
+abbrev pub self_jump : ℕ
+self_jump = 0x6F
+
+-- is it the word that is taken?
+unfoldable pub jumps_to_itself : Deed → Bool
+jumps_to_itself (Takes word) = word == self_jump
+jumps_to_itself (CallsByName function) = false
+jumps_to_itself Halts = false
 
 -- ---- what a step does
 
@@ -61,11 +66,11 @@ refused_writes start setup (suc n) =
     refused_writes start setup n + (if refuses_write (pre start setup [] n) setup then 1 else 0)
 
 -- is a state in a jump to itself, whose word is defined?
-abbrev pub idles_in : Core → Option Instruction → Bool
-idles_in core row = jumps_to_itself row && (fetch_undef core == 0)
+abbrev pub idles_in : Core → Deed → Bool
+idles_in core deed = jumps_to_itself deed && (fetch_undef core == 0)
 
 unfoldable pub is_idle : State → Setup → Bool
-is_idle s setup = idles_in s.core (row_at s setup)
+is_idle s setup = idles_in s.core (deed_at s.core s.bytes setup.hooks)
 
 -- the first n steps of a run without marks are no ECALLs
 abbrev pub IsQuietFor : State → Setup → ℕ → Type 0

@@ -1,41 +1,31 @@
 //! What the next step has to do with the program's input and output, and steps up to one that may have.
-ghost use Rattle.std.specs.Prelude.{◌≡◌, ◌≤◌, ◌==◌, ℕ, List, [], false, IfOk, IsTrue};
+ghost use Rattle.std.specs.Prelude.{◌≡◌, ◌≤◌, ℕ, List, [], false, IfOk, IsTrue, Some};
 ghost use Rattle.guest_elf.specs.declared.hook.Hook.{Hook as HookOf};
 ghost use Rattle.guest_machine.specs.State.{State};
 ghost use Rattle.guest_machine.specs.Calls.{call_at};
-ghost use Rattle.guest_machine.specs.Errors.{fetch_undef};
 ghost use Rattle.guest_machine.specs.Exec.{call_asks, deed_at, intake_at, row_asks};
 ghost use Rattle.guest_machine.specs.Run.{pre};
 ghost use Rattle.guest_machine.specs.Shows.{core_of, bytes_of, Holds, Shows};
-ghost use Rattle.guest_machine.specs.Streams.{calls_out, idles_in, is_idle, is_refused, jumps_to_itself, refuses_row, refuses_write, IsQuietFor, Rests, row_in, sees_end};
+ghost use Rattle.guest_machine.specs.Streams.{calls_out, idles_in, is_idle, is_refused, refuses_row, refuses_write, IsQuietFor, Rests, row_in, sees_end};
 
 use crate::environment_call::EnvironmentCall;
 use crate::hooks::Hooks;
 use crate::machine::calls::{A0, A7};
 use crate::machine::{Guest, Machine};
 use crate::setup::Setup;
-use instructions::{Instruction, Register, row_of};
+use instructions::{Instruction, row_of};
 use std::alloc::AllocError;
 
-/// Whether a register is x0.
-fn is_zero(register: Register) -> bool
-    ensures { result ≡ (register == 0) }
-{
-    register.number() == 0
-}
+/// `jal x0, 0`.
+const SELF_JUMP: u32 = 0x6F;
 
-/// Whether an instruction is `jal x0, 0`.
-#[tactic(auto, unfolding(crate::specs::Streams::jumps_to_itself))]
-fn jumps_to_itself(row: Option<Instruction>) -> bool
-    ensures { result ≡ jumps_to_itself row }
+/// Whether an instruction is ECALL.
+#[inline(always)]
+#[tactic(auto, unfolding(crate::specs::Streams::calls_out))]
+fn is_call(instruction: Instruction) -> bool
+    ensures { result ≡ calls_out (Some instruction) }
 {
-    let Some(instruction) = row else {
-        return false;
-    };
-    match instruction {
-        Instruction::Jump { rd, imm } => is_zero(rd) && imm == 0,
-        _ => false,
-    }
+    matches!(instruction, Instruction::CallEnvironment)
 }
 
 impl Guest {
@@ -53,14 +43,14 @@ impl Guest {
         }
     }
 
-    /// Whether the next step may be an ECALL. It is none where the instruction at pc was decoded lately and is another one.
+    /// Whether the next step may be an ECALL. It isn't if the instruction at pc was decoded lately and is another one.
     #[inline(always)]
     fn may_call(&self) -> bool
         ensures { result ≡ false → (hooks : List (ℕ × HookOf)) → calls_out (row_in (deed_at (core_of self.now) (bytes_of self.now) hooks)) ≡ false }
     {
         match self.decoded() {
-            None | Some(Instruction::CallEnvironment) => true,
-            Some(_) => false,
+            Some(instruction) => is_call(instruction),
+            None => true,
         }
     }
 
@@ -130,18 +120,18 @@ impl Guest {
         }
     }
 
-    /// The undefined bits of the word at pc.
-    fn fetch_undef(&self) -> u32
-        ensures { result ≡ fetch_undef (core_of self.now) }
-    {
-        self.memory.load(self.pc, 4).undef
-    }
-
     /// Whether the next step is a jump to itself, whose word is defined.
+    #[tactic(auto, unfolding(crate::specs::Exec::fetched, crate::specs::Streams::jumps_to_itself))]
     fn is_idle(&self, hooks: &Hooks) -> bool
-        ensures { result ≡ idles_in (core_of self.now) (row_in (deed_at (core_of self.now) (bytes_of self.now) hooks.now)) }
+        ensures { result ≡ idles_in (core_of self.now) (deed_at (core_of self.now) (bytes_of self.now) hooks.now) }
     {
-        jumps_to_itself(self.row_here(hooks)) && self.fetch_undef() == 0
+        if self.called_here(hooks).is_some() {
+            return false;
+        }
+        match self.fetch() {
+            Some(word) => word.value == SELF_JUMP && word.undef == 0,
+            None => false,
+        }
     }
 
     /// Steps up to the first that may be an ECALL, so many at most; none once it is halted.
@@ -179,7 +169,7 @@ impl Machine {
     }
 
     /// Whether the next step is a jump to itself, whose word is defined.
-    #[tactic(auto, unfolding(crate::specs::Shows::Shows, crate::specs::Streams::is_idle, crate::specs::Streams::row_at))]
+    #[tactic(auto, unfolding(crate::specs::Shows::Shows, crate::specs::Streams::is_idle))]
     pub fn is_idle(&self, setup: &Setup) -> bool
         ensures { (s : State) → Shows self.now s → result ≡ is_idle s setup.now }
     {
@@ -192,6 +182,7 @@ impl Machine {
     pub fn rests(&self, setup: &Setup) -> bool
         ensures { IsTrue result → (s : State) → Shows self.now s → Rests s setup.now }
     {
+        let _pc = self.pc();
         !self.guest.runs() || self.is_idle(setup)
     }
 

@@ -1,0 +1,119 @@
+//! An order for `exec` is followed: options and files are judged, and then the run is made.
+ghost use Rattle.std.specs.Prelude.{◌≡◌};
+ghost use Rattle.exec_orders.specs.Executed.{Executed, pipes};
+
+use crate::executing::{Choices, execute};
+use crate::log::Log;
+use crate::preparing::{kinds_of, prepare};
+use command_line::{ExecWords, Order};
+use ends::{Codes, End, ExecEnd};
+use guest_elf::read;
+use program_files::{Files, MOST_READ, read_front};
+use std::alloc::Global;
+use std::io::{Read, Write};
+
+/// Returns whether a path is one of those that an order reads.
+fn is_read(order: &Order, path: &str) -> bool
+{
+    path == order.file || is_path(path, order.input) || is_path(path, order.suppressions)
+}
+
+/// Returns whether a path is another one, if there is one.
+fn is_path(path: &str, other: Option<&str>) -> bool
+{
+    match other {
+        Some(other) => path == other,
+        None => false,
+    }
+}
+
+/// Judges the options that no file decides: the lists of leak kinds, and the file of the report.
+fn choices_of<'a>(
+    order: &Order<'a>,
+    asked: &ExecWords<'a>,
+) -> Result<(LeakKinds, Choices), ExecEnd<'a>>
+    ensures ok { IfOk result (λ r. IsChoice asked.now r.0 r.1) }
+    ensures err { IfErr result (NoChoice order.now asked.now) }
+{
+    let show = kinds_of(asked.show)?;
+    let count = kinds_of(asked.count)?;
+    if let Some(path) = asked.report {
+        if is_read(order, path) {
+            return Err(ExecEnd::ReportInPlace(path));
+        }
+    }
+    let codes = Codes {
+        errors: asked.error_exitcode,
+        idle: asked.idle_exitcode,
+    };
+    let quiet = asked.quiet;
+    Ok((
+        show,
+        Choices {
+            codes,
+            count,
+            quiet,
+        },
+    ))
+}
+
+/// Opens the file of the report, and makes the run of a scenario.
+fn open_and_execute<'a, R: Read, W: Write, L: Log>(
+    alloc: Global,
+    order: &Order<'a>,
+    asked: &ExecWords<'a>,
+    scenario: &mut Scenario,
+    choices: Choices,
+    reader: &mut R,
+    writer: &mut W,
+    log: &mut L,
+) -> ExecEnd<'a>
+    requires marks { scenario.old.marks ≡ [] }
+    requires empty { input_path order.now ≡ None → scenario.old.setup.input ≡ [] }
+    ensures { WithScenario order.now choices scenario.old
+        (pipes (R.remaining reader.old) (W.contents writer.old) (L.contents log.old))
+        (pipes (R.remaining reader.new) (W.contents writer.new) (L.contents log.new)) result }
+{
+    if !log.open(asked.report) {
+        return ExecEnd::Early(End::CannotWrite);
+    }
+    let waits = order.input.is_none();
+    execute(alloc, scenario, waits, choices, reader, writer, log)
+}
+
+/// Follows an order for `exec` whose options are judged: its files are read, each judged before the next, and the run is made.
+fn follow<'a, F: Files, R: Read, W: Write, L: Log>(
+    alloc: Global,
+    order: &Order<'a>,
+    asked: &ExecWords<'a>,
+    files: &F,
+    reader: &mut R,
+    writer: &mut W,
+    log: &mut L,
+) -> Result<ExecEnd<'a>, ExecEnd<'a>>
+{
+    let (show, choices) = choices_of(order, asked)?;
+    let file = read_front(alloc, files, order.file, MOST_READ)?;
+    let image = read(alloc, &file)?;
+    let mut scenario = prepare(alloc, image, order, asked, show, files)?;
+    Ok(open_and_execute(alloc, order, asked, &mut scenario, choices, reader, writer, log))
+}
+
+/// Follows an order for `exec`, and returns how the program ends.
+pub fn exec_order<'a, F: Files, R: Read, W: Write, L: Log>(
+    alloc: Global,
+    order: &Order<'a>,
+    asked: &ExecWords<'a>,
+    files: &F,
+    reader: &mut R,
+    writer: &mut W,
+    log: &mut L,
+) -> ExecEnd<'a>
+    ensures { Executed (F.gives files.now) order.now asked.now
+        (pipes (R.remaining reader.old) (W.contents writer.old) (L.contents log.old))
+        (pipes (R.remaining reader.new) (W.contents writer.new) (L.contents log.new)) result }
+{
+    match follow(alloc, order, asked, files, reader, writer, log) {
+        Ok(end) | Err(end) => end,
+    }
+}
