@@ -9,6 +9,7 @@ ghost use Rattle.ends.specs.declared.exec_ends.ExecEnd.TheVariants.{Early};
 ghost use Rattle.exec_orders.specs.Executed.{Cuts, Executes, Finishes, HasInputOf, IsOutcome, IsTold, Tells, WritesOutput, end_of_fault, is_stopped, pipes};
 
 use ends::{Codes, End, ExecEnd, Outcome};
+use executions::laws::moves_on;
 use executions::{Execution, ExecutionFault};
 use guest_machine::{Machine, Status};
 use line_server::send;

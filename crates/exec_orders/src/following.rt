@@ -9,8 +9,10 @@ use command_line::{ExecWords, Order};
 use ends::{Codes, End, ExecEnd};
 use guest_elf::read;
 use program_files::{Files, MOST_READ, read_front};
+use scenario::Scenario;
 use std::alloc::Global;
 use std::io::{Read, Write};
+use suppressions::LeakKinds;
 
 /// Returns whether a path is one of those that an order reads.
 fn is_read(order: &Order, path: &str) -> bool

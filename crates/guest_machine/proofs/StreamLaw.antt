@@ -12,8 +12,13 @@ use Rattle.instructions.specs.declared.instruction.Instruction.TheVariants.{Load
 use Rattle.instructions.specs.declared.instruction.Instruction.TheVariants.{Branch, Load, Store, Immediate, Registers}
 use Rattle.instructions.specs.declared.instruction.Instruction.TheVariants.{Fence, CallEnvironment, Breakpoint}
 use Rattle.guest_machine.specs.State.{Core, State}
-use Rattle.guest_machine.specs.Effects.{Effect, quiet, stops}
-use Rattle.guest_machine.specs.Calls.{argument, answers, appends, bytes_taken, call_at, is_output, moved_len, failure}
+use Rattle.std.specs.Prelude.{slice_index}
+use Rattle.error_events.specs.declared.parameter.Parameter.TheVariants.{ReadBuffer, WriteBuffer}
+use Rattle.run_values.specs.declared.status.Stop.TheVariants.{Misaligned}
+use Rattle.guest_machine.specs.Errors.{buffer_errors}
+use Rattle.guest_machine.specs.Effects.{Effect, advanced, no_bytes, quiet, stops, stored_core}
+use Rattle.guest_machine.specs.Calls.{answered, argument, answers, appends, bytes_taken, call_at, is_output, moved_len, failure}
+use Rattle.guest_machine.specs.Calls.{call_errors, call_tested, ebadf, enospc}
 use Rattle.guest_machine.specs.Calls.{read_call, write_call, output_room}
 use Rattle.guest_machine.specs.HeapCalls.{heap_work}
 use Rattle.guest_machine.specs.NamedCalls.{named_by, returns}
@@ -21,6 +26,7 @@ use Rattle.guest_machine.specs.Exec.{Deed, Takes, CallsByName, Halts, Terms, Use
 use Rattle.guest_machine.specs.Exec.{call_effect, call_uses, row_asks, row_effect, row_uses, exec}
 use Rattle.guest_machine.specs.Exec.{deed_at, deed_asks, deed_terms, effect_at, uses_at, intake_at, intake_of, left_at}
 use Rattle.guest_machine.specs.Exec.{given_at, outcome, plan, taken_from, written_to, touched_at, touched_of, unfetched}
+use Rattle.guest_machine.specs.Exec.{fetch_fault, is_aligned, is_running}
 use Rattle.guest_machine.specs.Exec.{jump_fault, named_uses_by, seen_also, write_uses}
 use Rattle.guest_machine.specs.Run.{pre}
 use Rattle.guest_machine.specs.Streams.{row_in, row_at, calls_out, refuses_row, refuses_write, SameStreams, bytes_over}
@@ -89,7 +95,11 @@ of-two false one other h k = k
 
 halt-silent : (core : Core) → (unfetched core).output ≡ []
 unfolding unfetched
-halt-silent core = of-two _ _ (quiet core) (of-two _ _ _ (fault-silent core _) refl) refl
+halt-silent core =
+    of-two (is_running core.status)
+    (cond (is_aligned core.pc) (jump_fault core (fetch_fault core)) (stops core Misaligned)) (quiet core)
+    (of-two (is_aligned core.pc) (jump_fault core (fetch_fault core)) (stops core Misaligned)
+    (fault-silent core (fetch_fault core)) refl) refl
 
 -- ---- ECALL
 
@@ -107,14 +117,39 @@ write-spoken true true bytes range full other closed f h k = inr (f (window byte
 write-spoken true false bytes range full other closed f h k = inl h
 write-spoken false fits bytes range full other closed f h k = inl k
 
+-- what `read` and `write` leave where they are carried out
+reads-in : Core → ℕ → List ℕ → Effect
+reads-in core n given =
+    let now = call_tested core Read in
+    record {
+      core = advanced (answered (stored_core now (argument core 11) n 0) n);
+      raised = call_errors core Read ++ buffer_errors now ReadBuffer false (argument core 11) (moved_len core);
+      made = slice_index given;
+      output = [];
+    }
+
+writes-from : Core → (ℕ → ℕ) → Effect
+writes-from core taken =
+    let now = call_tested core Write in
+    let n = moved_len core in
+    record {
+      core = advanced (answered now n);
+      raised = call_errors core Write ++ buffer_errors now WriteBuffer true (argument core 11) n;
+      made = no_bytes;
+      output = bytes_taken taken n;
+    }
+
 call-spoken : (core : Core) (call : EnvironmentCall) (terms : Terms) (given : List ℕ) (bytes : ℕ → ℕ)
     → Spoken bytes (call_uses core call terms)
     (call_effect core call terms given (taken_from bytes (call_uses core call terms).reads)).output
-unfolding call_effect call_uses Spoken read_call write_call appends
-call-spoken core Read terms given bytes = inl (of-two (argument core 10 == 0) _ _ refl refl)
+unfolding call_effect call_uses Spoken read_call write_call appends reads-in writes-from
+call-spoken core Read terms given bytes =
+    inl (of-two (argument core 10 == 0) (reads-in core terms.intake.count given) (answers core Read (failure ebadf)) refl
+    refl)
 call-spoken core Write terms given bytes =
     write-spoken (is_output (argument core 10)) (nat_le (terms.written + moved_len core) output_room) bytes
-    (record { start = argument core 11; len = moved_len core }) _ _ _ (λ taken. refl) refl refl
+    (record { start = argument core 11; len = moved_len core }) (writes-from core) (answers core Write (failure enospc))
+    (answers core Write (failure ebadf)) (λ taken. refl) refl refl
 call-spoken core Exit terms given bytes = inl refl
 call-spoken core ExitGroup terms given bytes = inl refl
 call-spoken core (Heap function) terms given bytes = inl (heap-silent function _ _ _ _ _ _)
@@ -150,7 +185,7 @@ deed-spoken core (CallsByName function) terms given bytes =
 deed-spoken core Halts terms given bytes = inl (halt-silent core)
 
 pub writes-what-it-reads : WritesWhatItReads
-unfolding Spoken exec uses_at effect_at touched_of touched_at
+unfolding Spoken exec uses_at effect_at touched_at
 writes-what-it-reads setup s =
     let deed = deed_at s.core s.bytes setup.hooks in
     let terms = deed_terms s.core deed s.position (length s.output) setup in
