@@ -14,13 +14,7 @@ use std::alloc::{AllocError, Global};
 const USUAL_KINDS: &str = "definite,possible";
 
 /// An option with a number from `least` to `most`.
-fn number_option<'a>(
-    alloc: Global,
-    name: &'a str,
-    least: u32,
-    most: u32,
-    help: &'a str,
-) -> Arg<'a>
+fn number_option<'a>(alloc: Global, name: &'a str, least: u32, most: u32, help: &'a str) -> Arg<'a>
     ensures rule { rule_of result ≡ number_option name.entry.now least most }
     ensures local { result.global ≡ false }
 {

@@ -25,7 +25,8 @@ pub(crate) const CERTIFY: &str =
     "Says whether what undefined or inaccessible memory holds can change the run";
 
 /// What `exec` does.
-pub(crate) const EXEC: &str = "Runs a program as a test: its output and its exit status, and a report of its errors";
+pub(crate) const EXEC: &str =
+    "Runs a program as a test: its output and its exit status, and a report of its errors";
 
 /// A text with the end of the help of each command: statuses, with these for success and these last, and refusals.
 macro_rules! with_statuses {

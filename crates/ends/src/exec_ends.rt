@@ -150,7 +150,11 @@ fn write_standing<W: Write>(codes: Codes, outcome: Outcome, writer: &mut W) -> b
             if codes.idle.is_some() && outcome.idles {
                 return true;
             }
-            write_number(writer, "replaycheck exec: still running at step ", outcome.step)
+            write_number(
+                writer,
+                "replaycheck exec: still running at step ",
+                outcome.step,
+            )
         }
         Status::Exited(_) | Status::Stopped(_) => true,
     }
@@ -164,7 +168,8 @@ fn write_lost<W: Write>(lost: u32, writer: &mut W) -> bool
     if lost == 0 {
         return true;
     }
-    let word = "replaycheck exec: 65536 bytes of output are all there is room for; writes refused: ";
+    let word =
+        "replaycheck exec: 65536 bytes of output are all there is room for; writes refused: ";
     write_number(writer, word, lost)
 }
 

@@ -182,8 +182,7 @@ fn run_all<'a, R: Read, W: Write>(
     waits: bool,
     reader: &mut R,
     writer: &mut W,
-) -> Result<Execution, ExecEnd<'a>>
-{
+) -> Result<Execution, ExecEnd<'a>> {
     let execution = run_first(alloc, scenario, waits, writer)?;
     if execution.at() == scenario.step() {
         return Ok(execution);

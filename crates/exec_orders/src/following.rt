@@ -15,14 +15,12 @@ use std::io::{Read, Write};
 use suppressions::LeakKinds;
 
 /// Returns whether a path is one of those that an order reads.
-fn is_read(order: &Order, path: &str) -> bool
-{
+fn is_read(order: &Order, path: &str) -> bool {
     path == order.file || is_path(path, order.input) || is_path(path, order.suppressions)
 }
 
 /// Returns whether a path is another one, if there is one.
-fn is_path(path: &str, other: Option<&str>) -> bool
-{
+fn is_path(path: &str, other: Option<&str>) -> bool {
     match other {
         Some(other) => path == other,
         None => false,
@@ -92,13 +90,21 @@ fn follow<'a, F: Files, R: Read, W: Write, L: Log>(
     reader: &mut R,
     writer: &mut W,
     log: &mut L,
-) -> Result<ExecEnd<'a>, ExecEnd<'a>>
-{
+) -> Result<ExecEnd<'a>, ExecEnd<'a>> {
     let (show, choices) = choices_of(order, asked)?;
     let file = read_front(alloc, files, order.file, MOST_READ)?;
     let image = read(alloc, &file)?;
     let mut scenario = prepare(alloc, image, order, asked, show, files)?;
-    Ok(open_and_execute(alloc, order, asked, &mut scenario, choices, reader, writer, log))
+    Ok(open_and_execute(
+        alloc,
+        order,
+        asked,
+        &mut scenario,
+        choices,
+        reader,
+        writer,
+        log,
+    ))
 }
 
 /// Follows an order for `exec`, and returns how the program ends.

@@ -99,5 +99,5 @@ module _ (law : OnlyCallsSpeak) (start : State) (setup : Setup) (n : ℕ) where
   rests-on rest h k = (
     resting rest h k,
     (silence k (λ i less. ap (λ s. calls_out (row_at s setup)) (resting rest h i)
-    ∙ (rest setup (pre start setup [] n) h).1)).refused,
+        ∙ (rest setup (pre start setup [] n) h).1)).refused,
   )

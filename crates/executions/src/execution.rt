@@ -98,7 +98,9 @@ impl Execution {
         only_calls_speak();
         stays_at_rest();
         let Execution {
-            machine, refused, ..
+            machine,
+            refused,
+            ..
         } = self;
         Execution {
             machine,

@@ -240,6 +240,6 @@ output-grows start setup n (suc d) =
     let next : n + suc d ≡ suc (n + d) = omega arith in (
       before.0 ++ last.0,
       ap (λ k. (pre start setup [] k).output) next
-      ∙ ap (λ t. t.output) (one-more start setup (n + d)) ∙ last.1
-      ∙ ap (λ xs. xs ++ last.0) before.1 ∙ append_assoc (pre start setup [] n).output before.0 last.0,
+          ∙ ap (λ t. t.output) (one-more start setup (n + d)) ∙ last.1
+          ∙ ap (λ xs. xs ++ last.0) before.1 ∙ append_assoc (pre start setup [] n).output before.0 last.0,
     )
