@@ -3,6 +3,7 @@ ghost use Rattle.std.specs.Prelude.{◌≡◌, [], IsTrue, decimal, if◌then◌
 ghost use Rattle.std.specs.Io.KnownBytes.{Appends};
 ghost use Rattle.ends.specs.Ends.{AppendsFront, line_with};
 ghost use Rattle.ends.specs.ExecEnds.{early_status, exec_lines, exec_status, lost_line, run_lines, run_status, running_line, standing_lines, standing_status, stop_status};
+ghost use Rattle.ends.specs.declared.ends.End.TheVariants.{Image};
 ghost use Rattle.ends.specs.declared.exec_ends.ExecEnd.TheVariants.{Early};
 
 use crate::ends::{End, write_line};
@@ -70,6 +71,14 @@ impl<'a> From<End<'a>> for ExecEnd<'a> {
 
     fn from(end: End<'a>) -> Self {
         ExecEnd::Early(end)
+    }
+}
+
+impl From<ElfFault> for ExecEnd<'_> {
+    ghost from_gives = { λ fault exec. exec ≡ Early (Image fault) };
+
+    fn from(fault: ElfFault) -> Self {
+        ExecEnd::Early(End::Image(fault))
     }
 }
 

@@ -119,7 +119,7 @@ fn follow(rt: &HostRuntime, order: &Order) -> u8 {
 /// Returns whether a command line names `exec`, whose exit statuses are others.
 fn names_exec(words: &[String]) -> bool {
     match words.get(1) {
-        Some(word) => word == "exec",
+        Some(word) => word.as_str() == "exec",
         None => false,
     }
 }
