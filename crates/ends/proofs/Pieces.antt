@@ -5,7 +5,7 @@ use Rattle.std.proofs.Math.Nat.{suc-add}
 use Rattle.std.proofs.KnownBytes.{Appends-trans}
 use Rattle.std.proofs.lemmas.List.{length-append, take-append-le}
 use Rattle.std.specs.Io.KnownBytes.{Appends}
-use Rattle.ends.specs.Ends.{AppendsFront}
+use Rattle.ends.specs.Ends.{AppendsFront, line_with}
 
 taken : (xs ys : List ℕ) (n : ℕ) → take (length xs + n) (xs ++ ys) ≡ xs ++ take n ys
 taken [] ys n = ap (λ k. take k ys) (zero-add n)
@@ -24,3 +24,14 @@ front-next a b c xs ys first (n, fits, sent) = (
   subst (Appends a c) (sym (taken xs ys n))
       (Appends-trans a b c xs (take n ys) first sent),
 )
+
+-- a line whose end is given in another way
+pub line-front : (a b : Option (List ℕ)) (word rest text lines : List ℕ) → rest ≡ text → line_with word text ≡ lines
+    → AppendsFront a b (line_with word rest) → AppendsFront a b lines
+line-front a b word rest text lines same is wrote =
+    subst (AppendsFront a b) (ap (line_with word) same ∙ is) wrote
+
+pub line-whole : (P : Type 0) (a b : Option (List ℕ)) (word rest text lines : List ℕ) → rest ≡ text
+    → line_with word text ≡ lines → (P → Appends a b (line_with word rest)) → P → Appends a b lines
+line-whole P a b word rest text lines same is wrote p =
+    subst (Appends a b) (ap (line_with word) same ∙ is) (wrote p)

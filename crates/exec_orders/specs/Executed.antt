@@ -9,11 +9,15 @@ use Rattle.command_line.specs.declared.order.Order.{Order}
 use Rattle.command_line.specs.declared.order.ExecWords.{ExecWords}
 use Rattle.ends.specs.declared.ends.End.{End}
 use Rattle.ends.specs.declared.ends.End.TheVariants.{CannotWrite, NoMemory}
+use Rattle.executions.specs.declared.fault.ExecutionFault.{ExecutionFault}
+use Rattle.executions.specs.declared.fault.ExecutionFault.TheVariants as Fault
 use Rattle.ends.specs.declared.exec_ends.Codes.{Codes}
 use Rattle.ends.specs.declared.exec_ends.ExecEnd.{ExecEnd}
 use Rattle.ends.specs.declared.exec_ends.ExecEnd.TheVariants.{BadKinds, Early, Ran, ReportInPlace}
 use Rattle.ends.specs.declared.exec_ends.Outcome.{Outcome}
-use Rattle.executions.specs.Executions.{refused_at}
+use Rattle.executions.specs.Executions.{refused_at, state_at, step_of, IsAt, StopsAt}
+use Rattle.executions.specs.declared.execution.Execution.{Execution}
+use Rattle.exec_orders.specs.declared.executing.Choices.{Choices}
 use Rattle.guest_elf.specs.declared.image.Image.{Image}
 use Rattle.guest_machine.specs.Streams.{is_idle}
 use Rattle.program_files.specs.Files.{Giving, HasImage, HasStream, NoImage, NoStream}
@@ -68,15 +72,13 @@ abbrev pub CutsReport : Bool → Scenario → Option (List ℕ) → Option (List
 CutsReport quiet sc old new =
     (text : List ℕ) × (sent : ℕ) × IsTold quiet sc text × (sent ≤ length text) × Appends old new (take sent text)
 
--- a front of the program's output was written, and nothing of the report
-abbrev pub CutsOutput : Scenario → Pipes → Pipes → Type 0
-CutsOutput sc old new =
-    (sent : ℕ) × (sent ≤ length (chosen_state sc).output)
-    × Appends old.held new.held (take sent (chosen_state sc).output) × Appends old.logged new.logged []
+-- the whole output of the program was written, or a front of it
+abbrev pub WritesOutput : Scenario → Option (List ℕ) → Option (List ℕ) → Type 0
+WritesOutput sc old new = Appends old new (chosen_state sc).output
 
--- the whole output was written
-abbrev pub WritesOutput : Scenario → Pipes → Pipes → Type 0
-WritesOutput sc old new = Appends old.held new.held (chosen_state sc).output
+abbrev pub CutsOutput : Scenario → Option (List ℕ) → Option (List ℕ) → Type 0
+CutsOutput sc old new =
+    (sent : ℕ) × (sent ≤ length (chosen_state sc).output) × Appends old new (take sent (chosen_state sc).output)
 
 -- with the output written: the report was written, and the end says how the run stands; or a write failed; or memory
 -- ran out
@@ -87,45 +89,56 @@ Finishes quiet codes count sc old new (Early CannotWrite) = CutsReport quiet sc 
 Finishes quiet codes count sc old new (Early NoMemory) = Appends old new []
 Finishes quiet codes count sc old new end = ⊥
 
+-- how a fault of an execution ends it
+abbrev pub end_of_fault : ExecutionFault → End
+end_of_fault Fault.NoMemory = NoMemory
+end_of_fault Fault.WriteFailed = CannotWrite
+
 -- the run ends early: a write failed, or memory ran out
 abbrev pub IsFault : ExecEnd → Type 0
 IsFault end = (end ≡ Early CannotWrite) ⊎ (end ≡ Early NoMemory)
 
--- the run is made: its output is written, and then its report; or a front of its output
-abbrev pub Ends : Bool → Codes → LeakKinds → Scenario → Pipes → Pipes → ExecEnd → Type 0
-Ends quiet codes count sc old new end =
-    (WritesOutput sc old new × Finishes quiet codes count sc old.logged new.logged end)
-    ⊎ (IsFault end × CutsOutput sc old new)
+-- ---- the input
 
--- ---- its input
-
--- the run never asks for more of its input than there is, if it comes to its last step
-abbrev pub NeverAsks : Scenario → ExecEnd → Type 0
-NeverAsks sc end =
-    (codes : Codes) (outcome : Outcome) → end ≡ Ran codes outcome → (chosen_state sc).end_seen ≡ false
-
--- with the input that was given; or, if none was, with an empty one that it never asks for, or else with all of standard
--- input, which ends the program if it can't be read
-abbrev pub Executes : Bool → Bool → Codes → LeakKinds → Scenario → Pipes → Pipes → ExecEnd → Type 0
-Executes waits quiet codes count sc old new end =
-    (Consumes old.left new.left [] × (waits ≡ true → NeverAsks sc end) × Ends quiet codes count sc old new end)
-    ⊎ ((waits ≡ true) × (input : List ℕ) × HasStream old.left input
-    × Ends quiet codes count (with_input sc input) old new end)
-    ⊎ ((waits ≡ true) × (why : End) × (end ≡ Early why) × NoStream old.left why × CutsOutput sc old new)
-
--- what became of the input: it is as it was given; or it is all of standard input
+-- it is as it was given, and a run with an empty one that may wait for more never asks for more; or, if the run asks for
+-- more, it is all of standard input
 abbrev pub HasInputOf : Bool → Option (List ℕ) → Option (List ℕ) → Scenario → Scenario → Type 0
 HasInputOf waits left rest sc done =
     ((done ≡ sc) × Consumes left rest [] × (waits ≡ true → (chosen_state sc).end_seen ≡ false))
     ⊎ ((waits ≡ true) × (input : List ℕ) × HasStream left input × (done ≡ with_input sc input))
 
--- a run ended before its last step
-abbrev pub Cuts : Bool → Scenario → Pipes → Pipes → ExecEnd → Type 0
-Cuts waits sc old new end =
-    (Consumes old.left new.left [] × IsFault end × CutsOutput sc old new)
-    ⊎ ((waits ≡ true) × (input : List ℕ) × HasStream old.left input × IsFault end
+-- the run ends early: its output can't be written, or memory runs out, or standard input can't be read
+abbrev pub Cuts : Bool → Scenario → Option (List ℕ) → Option (List ℕ) → Option (List ℕ) → ExecEnd → Type 0
+Cuts waits sc left old new end =
+    (IsFault end × CutsOutput sc old new)
+    ⊎ ((waits ≡ true) × (input : List ℕ) × HasStream left input × IsFault end
     × CutsOutput (with_input sc input) old new)
-    ⊎ ((waits ≡ true) × (why : End) × (end ≡ Early why) × NoStream old.left why × CutsOutput sc old new)
+    ⊎ ((waits ≡ true) × (why : End) × (end ≡ Early why) × NoStream left why × CutsOutput sc old new)
+
+-- ---- a run
+
+-- the run of a scenario is made: its output is written, and then its report; or it ends early, and no report is written
+abbrev pub Executes : Bool → Bool → Codes → LeakKinds → Scenario → Pipes → Pipes → ExecEnd → Type 0
+Executes waits quiet codes count sc old new end =
+    ((done : Scenario) × HasInputOf waits old.left new.left sc done × WritesOutput done old.held new.held
+    × Finishes quiet codes count done old.logged new.logged end)
+    ⊎ (Cuts waits sc old.left old.held new.held end × Appends old.logged new.logged [])
+
+-- an execution has come to a step at which it stops: what was written is the output up to there
+pub record HasRun (waits : Bool) (sc : Scenario) (old new : Option (List ℕ)) (e : Execution) : Type 0 where
+  pub at : IsAt e sc
+  pub stops : StopsAt sc waits (step_of e)
+  pub unseen : waits ≡ true → (state_at sc (step_of e)).end_seen ≡ false
+  pub output : Appends old new (state_at sc (step_of e)).output
+
+-- and one with its input to the last step
+pub record HasRunAll (waits : Bool) (sc done : Scenario) (left rest old new : Option (List ℕ)) (e : Execution) : Type 0
+    where
+  pub input : HasInputOf waits left rest sc done
+  pub at : IsAt e done
+  pub last : step_of e ≡ done.step
+  pub output : WritesOutput done old new
+  pub marks : done.marks ≡ []
 
 -- ---- all of it
 
@@ -163,6 +176,16 @@ WithScenario order asked count sc old new end =
     ((end ≡ Early CannotWrite) × IsUntouched old new)
     ⊎ Executes (waits_for order) asked.quiet (codes_of asked) count sc old new end
 
+-- what the options choose, or why they choose nothing
+pub record IsChoice (asked : ExecWords) (show : LeakKinds) (choices : Choices) : Type 0 where
+  pub show : leak_kinds asked.show.now ≡ Some show
+  pub count : leak_kinds asked.count.now ≡ Some choices.count
+  pub codes : choices.codes ≡ codes_of asked
+  pub quiet : choices.quiet ≡ asked.quiet
+
+abbrev pub NoChoice : Order → ExecWords → ExecEnd → Type 0
+NoChoice order asked end = NoKinds asked.show end ⊎ NoKinds asked.count end ⊎ InPlace order asked.report end
+
 -- with a program: the other files are read, and the edits made
 abbrev pub WithImage : Giving → Order → ExecWords → LeakKinds → LeakKinds → Image → Pipes → Pipes → ExecEnd → Type 0
 WithImage gives order asked show count image old new end =
@@ -178,6 +201,6 @@ WithKinds gives order asked show count old new end =
 -- an order for `exec` was carried out
 abbrev pub Executed : Giving → Order → ExecWords → Pipes → Pipes → ExecEnd → Type 0
 Executed gives order asked old new end =
-    ((NoKinds asked.show end ⊎ NoKinds asked.count end ⊎ InPlace order asked.report end) × IsUntouched old new)
+    (NoChoice order asked end × IsUntouched old new)
     ⊎ ((show : LeakKinds) × (count : LeakKinds) × (leak_kinds asked.show.now ≡ Some show)
     × (leak_kinds asked.count.now ≡ Some count) × WithKinds gives order asked show count old new end)

@@ -1,16 +1,17 @@
 //! A run, its output and its report.
-ghost use Rattle.std.specs.Prelude.{◌≡◌, ◌×◌, [], false, IfErr, IfOk, OnOk};
+ghost use Rattle.std.specs.Prelude.{◌≡◌, ◌≤◌, [], true, IfErr, IfOk};
 ghost use Rattle.guest_machine.specs.Shows.{Shows};
 ghost use Rattle.replay_report.specs.Findings.{HasFindings};
 ghost use Rattle.scenario.specs.Edits.{shown};
 ghost use Rattle.scenario.specs.Scenario.{chosen_state};
-ghost use Rattle.executions.specs.Executions.{step_of, IsAt};
+ghost use Rattle.executions.specs.Executions.{step_of, IsAt, Wrote, WroteFront};
 ghost use Rattle.ends.specs.declared.exec_ends.ExecEnd.TheVariants.{Early};
-ghost use Rattle.exec_orders.specs.Executed.{Cuts, Executes, Finishes, HasInputOf, IsOutcome, IsTold, Tells, WritesOutput, end_of_fault, is_stopped, pipes};
+ghost use Rattle.exec_orders.specs.Executed.{Cuts, CutsOutput, Executes, Finishes, HasRun, HasRunAll, IsFault, IsOutcome, IsTold, Tells, end_of_fault, is_stopped, pipes};
 
 use ends::{Codes, End, ExecEnd, Outcome};
 use executions::laws::moves_on;
 use executions::{Execution, ExecutionFault};
+use guest_machine::laws::output_grows;
 use guest_machine::{Machine, Status};
 use line_server::send;
 use program_files::read_stream;
@@ -164,12 +165,34 @@ fn run_first<'a, W: Write>(
 ) -> Result<Execution, ExecEnd<'a>>
     requires { scenario.now.marks ≡ [] }
     ensures ok { IfOk result (HasRun waits scenario.now (W.contents writer.old) (W.contents writer.new)) }
-    ensures err { IfErr result (λ end. IsFault end × IsFrontOf scenario.now (W.contents writer.old) (W.contents writer.new)) }
+    ensures err { IfErr result (λ end. IsFault end × CutsOutput scenario.now (W.contents writer.old) (W.contents writer.new)) }
 {
+    output_grows();
     let Ok(execution) = Execution::begin(scenario) else {
         return Err(ExecEnd::Early(End::NoMemory));
     };
     match execution.run(alloc, scenario, waits, writer) {
+        Ok(execution) => Ok(execution),
+        Err(fault) => Err(end_of(fault)),
+    }
+}
+
+/// Makes the rest of a run that has stopped for its input.
+fn run_rest<'a, W: Write>(
+    alloc: Global,
+    scenario: &Scenario,
+    execution: Execution,
+    writer: &mut W,
+) -> Result<Execution, ExecEnd<'a>>
+    requires marks { scenario.now.marks ≡ [] }
+    requires at { IsAt execution scenario.now }
+    requires within { step_of execution ≤ scenario.now.step }
+    ensures at { IfOk result (λ e. IsAt e scenario.now) }
+    ensures last { IfOk result (λ e. step_of e ≡ scenario.now.step) }
+    ensures ok { IfOk result (λ e. Wrote scenario.now (step_of execution) (step_of e) (W.contents writer.old) (W.contents writer.new)) }
+    ensures err { IfErr result (λ end. IsFault end × WroteFront scenario.now (step_of execution) (W.contents writer.old) (W.contents writer.new)) }
+{
+    match execution.run(alloc, scenario, false, writer) {
         Ok(execution) => Ok(execution),
         Err(fault) => Err(end_of(fault)),
     }
@@ -182,18 +205,21 @@ fn run_all<'a, R: Read, W: Write>(
     waits: bool,
     reader: &mut R,
     writer: &mut W,
-) -> Result<Execution, ExecEnd<'a>> {
+) -> Result<Execution, ExecEnd<'a>>
+    requires marks { scenario.old.marks ≡ [] }
+    requires empty { waits ≡ true → scenario.old.setup.input ≡ [] }
+    ensures ok { IfOk result (HasRunAll waits scenario.old scenario.new (R.remaining reader.old) (R.remaining reader.new) (W.contents writer.old) (W.contents writer.new)) }
+    ensures err { IfErr result (Cuts waits scenario.old (R.remaining reader.old) (W.contents writer.old) (W.contents writer.new)) }
+{
+    moves_on();
+    output_grows();
     let execution = run_first(alloc, scenario, waits, writer)?;
     if execution.at() == scenario.step() {
         return Ok(execution);
     }
     let input = read_stream(alloc, reader)?;
-    moves_on();
     scenario.give(input);
-    match execution.run(alloc, scenario, false, writer) {
-        Ok(execution) => Ok(execution),
-        Err(fault) => Err(end_of(fault)),
-    }
+    run_rest(alloc, scenario, execution, writer)
 }
 
 /// Makes the run of a scenario, and writes its output and its report.

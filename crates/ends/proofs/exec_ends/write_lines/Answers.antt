@@ -1,0 +1,54 @@
+use Rattle.std.proofs.Common.{IsTrue, ap, subst, sym}
+use Rattle.std.specs.Io.KnownBytes.{Appends}
+use Rattle.ends.specs.ExecEnds.{exec_lines}
+use Rattle.ends.proofs.Pieces.{line-front, line-whole}
+use Rattle.ends.proofs.exec_ends.write_lines.Goals as goal
+
+pub returns-in-BadPatch-clause-line : goal.returns-in-BadPatch-clause-line
+returns-in-BadPatch-clause-line g c =
+    line-front (g.W.Write.contents c.args.writer.now) (g.W.Write.contents c.send_line.new.writer) _ _ _ _
+    c.as_bytes.ensures.value (ap exec_lines (sym c.in-BadPatch.is)) c.send_line.ensures.front
+
+pub returns-in-BadPatch-clause-whole : goal.returns-in-BadPatch-clause-whole
+returns-in-BadPatch-clause-whole g c =
+    line-whole (IsTrue c.send_line.result) (g.W.Write.contents c.args.writer.now)
+    (g.W.Write.contents c.send_line.new.writer) _ _ _ _ c.as_bytes.ensures.value
+    (ap exec_lines (sym c.in-BadPatch.is)) c.send_line.ensures.whole
+
+pub returns-in-BadKinds-clause-line : goal.returns-in-BadKinds-clause-line
+returns-in-BadKinds-clause-line g c =
+    line-front (g.W.Write.contents c.args.writer.now) (g.W.Write.contents c.send_line-in-BadKinds.new.writer) _ _ _ _
+    c.as_bytes-in-BadKinds.ensures.value (ap exec_lines (sym c.in-BadKinds.is)) c.send_line-in-BadKinds.ensures.front
+
+pub returns-in-BadKinds-clause-whole : goal.returns-in-BadKinds-clause-whole
+returns-in-BadKinds-clause-whole g c =
+    line-whole (IsTrue c.send_line-in-BadKinds.result) (g.W.Write.contents c.args.writer.now)
+    (g.W.Write.contents c.send_line-in-BadKinds.new.writer) _ _ _ _ c.as_bytes-in-BadKinds.ensures.value
+    (ap exec_lines (sym c.in-BadKinds.is)) c.send_line-in-BadKinds.ensures.whole
+
+pub returns-in-ReportInPlace-clause-line : goal.returns-in-ReportInPlace-clause-line
+returns-in-ReportInPlace-clause-line g c =
+    line-front (g.W.Write.contents c.args.writer.now) (g.W.Write.contents c.send_line-in-ReportInPlace.new.writer) _ _ _ _
+    c.as_bytes-in-ReportInPlace.ensures.value (ap exec_lines (sym c.in-ReportInPlace.is)) c.send_line-in-ReportInPlace.ensures.front
+
+pub returns-in-ReportInPlace-clause-whole : goal.returns-in-ReportInPlace-clause-whole
+returns-in-ReportInPlace-clause-whole g c =
+    line-whole (IsTrue c.send_line-in-ReportInPlace.result) (g.W.Write.contents c.args.writer.now)
+    (g.W.Write.contents c.send_line-in-ReportInPlace.new.writer) _ _ _ _ c.as_bytes-in-ReportInPlace.ensures.value
+    (ap exec_lines (sym c.in-ReportInPlace.is)) c.send_line-in-ReportInPlace.ensures.whole
+
+pub returns-in-PatchRefused-clause-line : goal.returns-in-PatchRefused-clause-line
+returns-in-PatchRefused-clause-line g c =
+    line-front (g.W.Write.contents c.args.writer.now) (g.W.Write.contents c.send_line-in-PatchRefused.new.writer) _ _ _ _
+    c.as_bytes-in-PatchRefused.ensures.value (ap exec_lines (sym c.in-PatchRefused.is)) c.send_line-in-PatchRefused.ensures.front
+
+pub returns-in-PatchRefused-clause-whole : goal.returns-in-PatchRefused-clause-whole
+returns-in-PatchRefused-clause-whole g c =
+    line-whole (IsTrue c.send_line-in-PatchRefused.result) (g.W.Write.contents c.args.writer.now)
+    (g.W.Write.contents c.send_line-in-PatchRefused.new.writer) _ _ _ _ c.as_bytes-in-PatchRefused.ensures.value
+    (ap exec_lines (sym c.in-PatchRefused.is)) c.send_line-in-PatchRefused.ensures.whole
+
+pub returns-in-Ran-clause-whole : goal.returns-in-Ran-clause-whole
+returns-in-Ran-clause-whole g c whole =
+    subst (Appends (g.W.Write.contents c.args.writer.now) (g.W.Write.contents c.write_run.new.writer))
+    (ap exec_lines (sym c.in-Ran.is)) (c.write_run.ensures.whole whole)
