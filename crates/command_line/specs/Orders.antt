@@ -1,15 +1,15 @@
 -- The command line, in `clap`'s own terms (`clap`'s specs: what a line of arguments gives for each argument), and the
 -- order that it gives.
 use denote.Ref.{Bor}
-use Rattle.std.specs.Prelude.{◌≡◌, ℕ, pos, List, [], ◌∷◌, Bool, true, false, Option, Some, None, codes, map}
-use Rattle.std.specs.Prelude.{option_map, unwrap_or, IsSomeAnd}
+use Rattle.std.specs.Prelude.{◌≡◌, ℕ, pos, List, [], ◌∷◌, Bool, true, false, Option, Some, None, codes}
+use Rattle.std.specs.Prelude.{option_map, IsSomeAnd}
 use Rattle.std.specs.Str.{bytes_eq}
 use Rattle.std.specs.Str.Parse.{digits_value, without_leading_plus}
-use Rattle.clap.specs.Words.{App, Row, Rule, Text, all_of, first_of, new_app, new_rule, one_of, subcommand_of, with_rule}
+use Rattle.clap.specs.Words.{App, Row, Rule, Text, first_of, new_app, new_rule, one_of, subcommand_of, with_rule}
 use Rattle.clap.specs.Words.{with_subcommand}
 use Rattle.clap.specs.Simple.{on_top}
 use Rattle.clap.specs.declared.builder.ValueParser.TheVariants.{Signed}
-use Rattle.clap.specs.declared.builder.action.ArgAction.TheVariants.{Append, SetTrue}
+use Rattle.clap.specs.declared.builder.action.ArgAction.TheVariants.{SetTrue}
 use Rattle.command_line.specs.declared.order.Order.{Order}
 use Rattle.command_line.specs.declared.order.SweepWords.{SweepWords}
 use Rattle.command_line.specs.declared.order.Task.{Task}
@@ -113,10 +113,6 @@ number_option name least most = record (option name) { parser = Some (Signed (po
 abbrev pub default_number : Text → ℕ → ℕ → Text → Rule
 default_number name least most default = record (number_option name least most) { defaults = default ∷ [] }
 
--- an option that may be given again and again
-abbrev pub patch_option : Rule
-patch_option = record (option (codes "patch")) { action = Some Append }
-
 -- a flag that also has a short name, q
 abbrev pub quiet_flag : Rule
 quiet_flag =
@@ -126,7 +122,7 @@ quiet_flag =
 abbrev pub exec_runs : App
 exec_runs =
     with_rule (with_rule (with_rule (with_rule (program_command (codes "exec"))
-    (default_number (codes "step") 0 greatest_run (codes "1000000000"))) patch_option)
+    (default_number (codes "step") 0 greatest_run (codes "1000000000"))) (option (codes "patch")))
     (default_number (codes "redzone") 0 4096 (codes "16")))
     (default_number (codes "queue") 0 1000000000 (codes "20000000"))
 
@@ -180,6 +176,7 @@ pub record IsSweepOf (rows : List Row) (asked : SweepWords) : Type 0 where
 -- the arguments of what was found for those of `exec`
 pub record IsExecOf (rows : List Row) (asked : ExecWords) : Type 0 where
   pub step : IsStepOf rows asked.step
+  pub patches : text_of asked.patches ≡ first_of (codes "patch") rows
   pub report : text_of asked.report ≡ first_of (codes "report") rows
   pub error_exitcode : IsNumberIn (codes "error-exitcode") rows asked.error_exitcode
   pub idle_exitcode : IsNumberIn (codes "idle-exitcode") rows asked.idle_exitcode
@@ -189,10 +186,6 @@ pub record IsExecOf (rows : List Row) (asked : ExecWords) : Type 0 where
   pub show : Some asked.show.now ≡ first_of (codes "show") rows
   pub count : Some asked.count.now ≡ first_of (codes "count") rows
   pub quiet : IsFlagOf (codes "quiet") rows asked.quiet
-
--- all texts that an option was given, in order
-abbrev pub texts_of : Text → List Row → List Text
-texts_of name rows = unwrap_or (all_of name rows) []
 
 -- the command of a name, of what was found for its arguments
 abbrev pub IsTaskOf : Text → List Row → Task → Type 0
@@ -212,7 +205,6 @@ pub record IsOrderOf (name : Text) (rows : List Row) (order : Order) : Type 0 wh
   pub input : input_path order ≡ first_of (codes "input") rows
   pub rules : rules_path order ≡ first_of (codes "supp") rows
   pub task : IsTaskOf name rows order.task
-  pub patches : map (λ text. text.now) order.patches.items ≡ texts_of (codes "patch") rows
 
 -- the order of a command line's arguments: of what was found for the command in them
 abbrev pub IsOrderFor : List Text → Order → Type 0

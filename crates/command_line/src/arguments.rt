@@ -4,7 +4,7 @@ ghost use Rattle.clap.specs.Words.{FailsBy, app_of, fault_of, found_of, kind_of,
 ghost use Rattle.clap.specs.declared.builder.command.Command.TheViews.{out-Command};
 ghost use Rattle.command_line.specs.Orders.{IsOrderFor, IsOrderOf, IsStepOf, IsSweepOf, IsTaskOf, certify_command, command_line, default_option, file_argument, input_command, option, output_flag, program_command, run_command, step_option, sweep_command, sweep_of_bytes, with_certify, with_look, with_run, with_session, with_sweep};
 
-use crate::exec::{exec_command, exec_of, patches_of};
+use crate::exec::{exec_command, exec_of};
 use crate::help::{
     ABOUT, AFTER_CERTIFY, AFTER_LOOK, AFTER_RUN, AFTER_SESSION, AFTER_SWEEP, CERTIFY, LOOK, RUN,
     SESSION, SWEEP,
@@ -212,7 +212,7 @@ pub fn read_order<'a>(alloc: Global, words: &'a [String]) -> Result<Order<'a>, E
     ensures taken { IfErr result (λ error. takes command_line (map string_bytes words.entry.now) ≡ true → kind_of error ≡ ErrorKind.OutOfMemory) }
 {
     let matches = make_command(alloc)?.try_get_matches_from(words)?;
-    match order_of(alloc, &matches) {
+    match order_of(&matches) {
         Some(order) => Ok(order),
         None => Err(Error::from(AllocError)),
     }
@@ -260,12 +260,10 @@ fn task_of<'a>(name: &str, chosen: &ArgMatches<'a>) -> Option<Task<'a>>
 }
 
 /// The order of what was found for the arguments of a command.
-fn order_within<'a>(alloc: Global, name: &str, chosen: &ArgMatches<'a>) -> Option<Order<'a>>
+fn order_within<'a>(name: &str, chosen: &ArgMatches<'a>) -> Option<Order<'a>>
     ensures { IfSome result (IsOrderOf name.now (rows_of (found_of chosen.now))) }
 {
-    let patches = patches_of(alloc, chosen)?;
     Some(Order {
-        patches,
         file: chosen.get_str("FILE")?,
         input: chosen.get_str("input"),
         suppressions: chosen.get_str("supp"),
@@ -274,9 +272,9 @@ fn order_within<'a>(alloc: Global, name: &str, chosen: &ArgMatches<'a>) -> Optio
 }
 
 /// The order of what was found for a whole command line.
-fn order_of<'a>(alloc: Global, matches: &ArgMatches<'a>) -> Option<Order<'a>>
+fn order_of<'a>(matches: &ArgMatches<'a>) -> Option<Order<'a>>
     ensures { IfSome result (λ order. IsSomeAnd (subcommand_rows_of matches.now) (λ found. IsOrderOf found.0 found.1 order)) }
 {
     let (name, chosen) = matches.subcommand()?;
-    order_within(alloc, name, chosen)
+    order_within(name, chosen)
 }

@@ -1,8 +1,8 @@
 //! The arguments of `exec`.
-ghost use Rattle.std.specs.Prelude.{◌≡◌, [], IfOk, IfSome, codes, false, map};
+ghost use Rattle.std.specs.Prelude.{◌≡◌, IfOk, IfSome, false};
 ghost use Rattle.clap.specs.Words.{app_of, found_of, rows_of, rule_of};
 ghost use Rattle.clap.specs.declared.builder.command.Command.TheViews.{out-Command};
-ghost use Rattle.command_line.specs.Orders.{default_number, exec_command, exec_reports, exec_runs, number_option, patch_option, quiet_flag, texts_of, IsExecOf, IsNumberIn, IsNumberOf};
+ghost use Rattle.command_line.specs.Orders.{default_number, exec_command, exec_reports, exec_runs, number_option, quiet_flag, IsExecOf, IsNumberIn, IsNumberOf};
 
 use crate::arguments::{default_option, option, program_command, step_of};
 use crate::help::{AFTER_EXEC, EXEC};
@@ -37,15 +37,6 @@ fn default_number<'a>(
     number_option(alloc, name, least, most, help).default_value(default)
 }
 
-/// The option for a patch, which may be given again and again.
-fn patch_option<'a>(alloc: Global) -> Arg<'a>
-    ensures rule { rule_of result ≡ patch_option }
-    ensures local { result.global ≡ false }
-{
-    let help = "Writes a word into the program before the run; again for each word";
-    option(alloc, "patch", "ADDR=WORD", help).action(ArgAction::Append)
-}
-
 /// The flag for a report only where there is something to report.
 fn quiet_flag<'a>(alloc: Global) -> Arg<'a>
     ensures rule { rule_of result ≡ quiet_flag }
@@ -66,7 +57,9 @@ fn exec_runs<'a>(alloc: Global) -> Result<Command<'a>, AllocError>
     let command = program_command(alloc, "exec", EXEC, AFTER_EXEC)?;
     let step = "The last step, up to 4294967295";
     let step = default_number(alloc, "step", 0, u32::MAX, "1000000000", step);
-    let command = command.arg(step)?.arg(patch_option(alloc))?;
+    let command = command.arg(step)?;
+    let patches = "Words that are written into the program before the run, with commas";
+    let command = command.arg(option(alloc, "patch", "ADDR=WORD,..", patches))?;
     let redzone = "Inaccessible bytes beside each block: 0 to 4096";
     let command = command.arg(default_number(alloc, "redzone", 0, 4096, "16", redzone))?;
     let queue = "Bytes of freed blocks that aren't used again yet: up to 1000000000";
@@ -125,6 +118,7 @@ pub(crate) fn exec_of<'a>(chosen: &ArgMatches<'a>) -> Option<ExecWords<'a>>
 {
     Some(ExecWords {
         step: step_of(chosen)?,
+        patches: chosen.get_str("patch"),
         report: chosen.get_str("report"),
         error_exitcode: number_in("error-exitcode", chosen)?,
         idle_exitcode: number_in("idle-exitcode", chosen)?,
@@ -135,26 +129,4 @@ pub(crate) fn exec_of<'a>(chosen: &ArgMatches<'a>) -> Option<ExecWords<'a>>
         count: chosen.get_str("count")?,
         quiet: chosen.get_flag("quiet"),
     })
-}
-
-/// Puts texts at the end of others. Without memory there are none.
-fn extended<'a>(texts: Vec<&'a str>, more: &[&'a str]) -> Option<Vec<&'a str>>
-    requires { texts.items ≡ [] }
-    ensures { IfSome result (λ all. map (λ text. text.now) all.items ≡ map (λ text. text.now) more.now) }
-{
-    let mut texts = texts;
-    match texts.extend_from_slice(more) {
-        Ok(()) => Some(texts),
-        Err(_) => None,
-    }
-}
-
-/// The patches, of what was found for the arguments.
-pub(crate) fn patches_of<'a>(alloc: Global, chosen: &ArgMatches<'a>) -> Option<Vec<&'a str>>
-    ensures { IfSome result (λ patches. map (λ text. text.now) patches.items ≡ texts_of (codes "patch") (rows_of (found_of chosen.now))) }
-{
-    match chosen.get_strs("patch") {
-        Some(texts) => extended(Vec::new(alloc), texts),
-        None => Some(Vec::new(alloc)),
-    }
 }

@@ -1,7 +1,7 @@
 //! The order of a command line.
 
 /// An order: a command on a program, with an input and suppressions.
-#[derive(Drop)]
+#[derive(Clone, Copy)]
 pub struct Order<'a> {
     /// The program's file.
     pub file: &'a str,
@@ -11,8 +11,6 @@ pub struct Order<'a> {
     pub suppressions: Option<&'a str>,
     /// The command.
     pub task: Task<'a>,
-    /// The words that are written into the program before the run, each as it was given: `ADDR=WORD`.
-    pub patches: Vec<&'a str>,
 }
 
 /// A command on a program.
@@ -56,6 +54,8 @@ pub struct SweepWords<'a> {
 pub struct ExecWords<'a> {
     /// The last step.
     pub step: u32,
+    /// The words that are written into the program before the run: `ADDR=WORD`, with commas between them.
+    pub patches: Option<&'a str>,
     /// The file of the report, or none for standard error.
     pub report: Option<&'a str>,
     /// The exit status of a program that exits and has errors or leaks that count.

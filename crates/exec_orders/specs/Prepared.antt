@@ -53,27 +53,36 @@ IsOptionRefused (edit ∷ edits) sc =
     (IsTaken sc edit → ⊥) ⊎ (IsTaken sc edit × IsOptionRefused edits (row sc edit).after)
 
 -- a patch is made
-abbrev pub IsPatchedBy : Bor (List ℕ) → Scenario → Scenario → Type 0
+abbrev pub IsPatchedBy : List ℕ → Scenario → Scenario → Type 0
 IsPatchedBy text sc done =
-    (edit : Edit) × (patch_in text.now ≡ Some edit) × IsTaken sc edit × (done ≡ (row sc edit).after)
+    (edit : Edit) × (patch_in text ≡ Some edit) × IsTaken sc edit × (done ≡ (row sc edit).after)
 
--- it isn't one, or it is refused, or memory runs out
-abbrev pub IsNoPatch : Bor (List ℕ) → Scenario → ExecEnd → Type 0
-IsNoPatch text sc end =
-    ((patch_in text.now ≡ None) × (end ≡ BadPatch text))
-    ⊎ ((edit : Edit) × (patch_in text.now ≡ Some edit)
-    × (((IsTaken sc edit → ⊥) × (end ≡ PatchRefused text)) ⊎ (end ≡ Early NoMemory)))
+-- it isn't one of the list, or it is refused, or memory runs out
+abbrev pub IsNoPatch : Bor (List ℕ) → List ℕ → Scenario → ExecEnd → Type 0
+IsNoPatch list text sc end =
+    ((patch_in text ≡ None) × (end ≡ BadPatch list))
+    ⊎ ((edit : Edit) × (patch_in text ≡ Some edit)
+    × (((IsTaken sc edit → ⊥) × (end ≡ PatchRefused list)) ⊎ (end ≡ Early NoMemory)))
 
--- the same of all patches, in the order in which they are given
-abbrev pub IsPatched : List (Bor (List ℕ)) → Scenario → Scenario → Type 0
+-- the same of all patches, in their order
+abbrev pub IsPatched : List (List ℕ) → Scenario → Scenario → Type 0
 IsPatched [] sc done = done ≡ sc
 IsPatched (text ∷ texts) sc done = (next : Scenario) × IsPatchedBy text sc next × IsPatched texts next done
 
 -- the first of them that isn't made ends the program
-abbrev pub NoPatch : List (Bor (List ℕ)) → Scenario → ExecEnd → Type 0
-NoPatch [] sc end = ⊥
-NoPatch (text ∷ texts) sc end =
-    IsNoPatch text sc end ⊎ ((next : Scenario) × IsPatchedBy text sc next × NoPatch texts next end)
+abbrev pub NoPatch : Bor (List ℕ) → List (List ℕ) → Scenario → ExecEnd → Type 0
+NoPatch list [] sc end = ⊥
+NoPatch list (text ∷ texts) sc end =
+    IsNoPatch list text sc end ⊎ ((next : Scenario) × IsPatchedBy text sc next × NoPatch list texts next end)
+
+-- those of a list with commas, if there is one
+abbrev pub IsPatchedIn : Option (Bor (List ℕ)) → Scenario → Scenario → Type 0
+IsPatchedIn None sc done = done ≡ sc
+IsPatchedIn (Some list) sc done = IsPatched (parts 44 list.now) sc done
+
+abbrev pub NoPatchIn : Option (Bor (List ℕ)) → Scenario → ExecEnd → Type 0
+NoPatchIn None sc end = ⊥
+NoPatchIn (Some list) sc end = NoPatch list (parts 44 list.now) sc end
 
 -- an edit is made, or it is refused
 abbrev pub MakesOr : Bool → Edit → Scenario → Scenario → Type 0
@@ -83,23 +92,23 @@ MakesOr false edit old new = IsTaken old edit → ⊥
 -- ---- the scenario
 
 -- with suppressions and an input: the options' edits, then the patches
-abbrev pub MakesFrom : Order → ExecWords → LeakKinds → Scenario → Scenario → Type 0
-MakesFrom order asked kinds sc done =
+abbrev pub MakesFrom : ExecWords → LeakKinds → Scenario → Scenario → Type 0
+MakesFrom asked kinds sc done =
     (between : Scenario) × IsEdited (option_edits asked kinds) (at_step sc asked.step) between
-    × IsPatched order.patches.items between done
+    × IsPatchedIn asked.patches between done
 
-abbrev pub NotFrom : Order → ExecWords → LeakKinds → Scenario → ExecEnd → Type 0
-NotFrom order asked kinds sc end =
+abbrev pub NotFrom : ExecWords → LeakKinds → Scenario → ExecEnd → Type 0
+NotFrom asked kinds sc end =
     (IsOptionRefused (option_edits asked kinds) (at_step sc asked.step) × (end ≡ Early Usage))
     ⊎ ((between : Scenario) × IsEdited (option_edits asked kinds) (at_step sc asked.step) between
-    × NoPatch order.patches.items between end)
+    × NoPatchIn asked.patches between end)
 
 -- of a program: its suppressions are read, then its input, then it is edited
 abbrev pub Makes : Giving → Order → ExecWords → LeakKinds → Image → Scenario → Type 0
 Makes gives order asked kinds image done =
     (list : List Rule) × (input : List ℕ) × HasRules gives (rules_path order) list
     × HasInput gives (input_path order) input
-    × MakesFrom order asked kinds (begun image input list) done
+    × MakesFrom asked kinds (begun image input list) done
 
 abbrev pub MakesNone : Giving → Order → ExecWords → LeakKinds → Image → ExecEnd → Type 0
 MakesNone gives order asked kinds image end =
@@ -108,4 +117,4 @@ MakesNone gives order asked kinds image end =
     ⊎ ((list : List Rule) × HasRules gives (rules_path order) list
     × (((why : End) × (end ≡ Early why) × NoInput gives (input_path order) why)
     ⊎ ((input : List ℕ) × HasInput gives (input_path order) input
-    × NotFrom order asked kinds (begun image input list) end)))
+    × NotFrom asked kinds (begun image input list) end)))

@@ -4,7 +4,8 @@ ghost use Rattle.scenario.specs.Edits.{IsTaken, row};
 ghost use Rattle.suppressions.specs.Words.{leak_kinds};
 ghost use Rattle.ends.specs.declared.ends.End.TheVariants.{NoMemory, Usage};
 ghost use Rattle.ends.specs.declared.exec_ends.ExecEnd.TheVariants.{Early};
-ghost use Rattle.exec_orders.specs.Prepared.{IsEdited, IsNoPatch, IsOptionRefused, IsPatched, IsPatchedBy, Makes, MakesFrom, MakesNone, MakesOr, NoPatch, NotFrom, option_edits, patch_in};
+ghost use Rattle.exec_orders.specs.Prepared.{IsEdited, IsNoPatch, IsOptionRefused, IsPatched, IsPatchedBy, Makes, MakesFrom, MakesNone, MakesOr, IsPatchedIn, NoPatch, NoPatchIn, NotFrom, option_edits, patch_in};
+ghost use Rattle.text_parts.specs.Parts.{parts};
 ghost use Rattle.exec_orders.specs.Executed.{NoKinds};
 
 use command_line::{ExecWords, Order};
@@ -30,10 +31,10 @@ pub(crate) fn kinds_of<'a>(text: &'a str) -> Result<LeakKinds, ExecEnd<'a>>
 
 /// Returns the patch of a text `ADDR=WORD`, if it is one.
 #[tactic(auto, unfolding(crate::specs::Prepared::patch_of))]
-fn patch_in(text: &str) -> Option<Edit>
+fn patch_in(text: &[u8]) -> Option<Edit>
     ensures { result ≡ patch_in text.now }
 {
-    let mut fields = Parts::new(text.as_bytes(), b'=');
+    let mut fields = Parts::new(text, b'=');
     let addr = fields.next()?;
     let word = fields.next()?;
     if fields.next().is_some() {
@@ -83,47 +84,59 @@ fn choose_all<'a>(
     choose(scenario, Edit::Show(kinds))
 }
 
-/// Makes one patch.
-fn patch<'a>(scenario: &mut Scenario, text: &'a str) -> Result<(), ExecEnd<'a>>
-    ensures ok { OnOk result (IsPatchedBy text.entry scenario.old scenario.new) }
-    ensures err { IfErr result (IsNoPatch text.entry scenario.old) }
+/// Makes one patch of a list.
+fn patch<'a>(scenario: &mut Scenario, list: &'a str, text: &[u8]) -> Result<(), ExecEnd<'a>>
+    ensures ok { OnOk result (IsPatchedBy text.now scenario.old scenario.new) }
+    ensures err { IfErr result (IsNoPatch list.entry text.now scenario.old) }
 {
     let Some(chosen) = patch_in(text) else {
-        return Err(ExecEnd::BadPatch(text));
+        return Err(ExecEnd::BadPatch(list));
     };
     match edit(scenario, chosen) {
         Ok(true) => Ok(()),
-        Ok(false) => Err(ExecEnd::PatchRefused(text)),
+        Ok(false) => Err(ExecEnd::PatchRefused(list)),
         Err(_) => Err(ExecEnd::Early(End::NoMemory)),
     }
 }
 
-/// Makes the patches, in their order.
-fn patch_all<'a>(scenario: &mut Scenario, patches: &[&'a str]) -> Result<(), ExecEnd<'a>>
-    ensures ok { OnOk result (IsPatched patches.now scenario.old scenario.new) }
-    ensures err { IfErr result (NoPatch patches.now scenario.old) }
+/// Makes the patches of a list, in their order.
+fn patch_all<'a>(scenario: &mut Scenario, list: &'a str) -> Result<(), ExecEnd<'a>>
+    ensures ok { OnOk result (IsPatched (parts 44 list.now) scenario.old scenario.new) }
+    ensures err { IfErr result (NoPatch list.entry (parts 44 list.now) scenario.old) }
     ensures marks { OnOk result (scenario.new.marks ≡ scenario.old.marks) }
 {
-    for text in patches {
-        patch(scenario, text)?;
+    let mut texts = Parts::new(list.as_bytes(), b',');
+    while let Some(text) = texts.next() {
+        patch(scenario, list, text)?;
     }
     Ok(())
+}
+
+/// Makes the patches of a list, if there is one.
+fn patch_in_list<'a>(scenario: &mut Scenario, list: Option<&'a str>) -> Result<(), ExecEnd<'a>>
+    ensures ok { OnOk result (IsPatchedIn list.entry scenario.old scenario.new) }
+    ensures err { IfErr result (NoPatchIn list.entry scenario.old) }
+    ensures marks { OnOk result (scenario.new.marks ≡ scenario.old.marks) }
+{
+    match list {
+        Some(list) => patch_all(scenario, list),
+        None => Ok(()),
+    }
 }
 
 /// Edits a scenario by options and patches.
 fn edit_all<'a>(
     scenario: &mut Scenario,
-    order: &Order<'a>,
     asked: &ExecWords<'a>,
     kinds: LeakKinds,
 ) -> Result<(), ExecEnd<'a>>
-    ensures ok { OnOk result (MakesFrom order.now asked.now kinds scenario.old scenario.new) }
-    ensures err { IfErr result (λ end. (end ≡ Early NoMemory) ⊎ NotFrom order.now asked.now kinds scenario.old end) }
+    ensures ok { OnOk result (MakesFrom asked.now kinds scenario.old scenario.new) }
+    ensures err { IfErr result (λ end. (end ≡ Early NoMemory) ⊎ NotFrom asked.now kinds scenario.old end) }
     ensures marks { OnOk result (scenario.new.marks ≡ scenario.old.marks) }
 {
     scenario.choose(asked.step);
     choose_all(scenario, asked, kinds)?;
-    patch_all(scenario, &order.patches)
+    patch_in_list(scenario, asked.patches)
 }
 
 /// Reads the suppressions and the input, and edits the scenario that they make with a program.
@@ -144,6 +157,6 @@ pub(crate) fn prepare<'a, 'b, F: Files>(
     let Ok(mut scenario) = Scenario::begin(alloc, image, input, suppressions) else {
         return Err(ExecEnd::Early(End::NoMemory));
     };
-    edit_all(&mut scenario, order, asked, kinds)?;
+    edit_all(&mut scenario, asked, kinds)?;
     Ok(scenario)
 }
