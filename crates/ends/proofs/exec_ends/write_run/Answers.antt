@@ -1,9 +1,8 @@
-use Rattle.std.proofs.lemmas.Bool.{not-false}
 use Rattle.ends.proofs.Pieces.{front-next}
 use Rattle.ends.proofs.exec_ends.write_run.Goals as goal
 
 pub returns-clause-line : goal.returns-clause-line
 returns-clause-line g c =
     front-next (g.W.Write.contents c.args.writer.now) (g.W.Write.contents c.write_standing.new.writer)
-    (g.W.Write.contents c.write_lost.new.writer) _ _
-    (c.write_standing.ensures.whole (not-false _ c.if-not-write_standing.false)) c.write_lost.ensures.line
+    (g.W.Write.contents c.write_lost.new.writer) _ _ (c.write_standing.ensures.whole c.if-not-write_standing.false)
+    c.write_lost.ensures.line
