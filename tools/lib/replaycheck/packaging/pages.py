@@ -97,7 +97,7 @@ def html(path, sources):
     page = page.replace("</head>\n", STYLE, 1)
     page = re.sub(r'(<h\d id=")([^"]+)(")', lambda it: it[1] + re.sub(r"[^\w-]", "", it[2].lower()) + it[3], page)
     page = re.sub(r'((?:src|href)=")([^"#:]+)', lambda it: it[1] + released(it[2], path, sources), page)
-    return re.sub(r'<a href="(?!#|https?:|[^"]*\.html)[^"]*">(.*?)</a>', r"\1", page)
+    return re.sub(r'<a href="(?!#|https?:|[^"]*\.html)[^"]*">(.*?)</a>', r"\1", page, flags=re.S)
 
 
 def released(target, path, sources):
