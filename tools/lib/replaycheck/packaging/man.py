@@ -17,7 +17,7 @@ PLACEHOLDER = re.compile(r"\b[A-Z][A-Z]*\b")
 PARTS = ("SYNOPSIS", "DESCRIPTION", "COMMANDS", "TOOLS", "OPTIONS", "EXIT STATUS", "ENVIRONMENT", "FILES", "EXAMPLES", "SEE ALSO")
 NAMED = {"Commands": "COMMANDS", "Tools": "TOOLS", "Exit status": "EXIT STATUS", "Environment": "ENVIRONMENT"}
 OF_EACH_TOOL = (("-h, --help", "print the page of help"), ("--version", "print the version"))
-MANUAL = "/usr/share/doc/replaycheck/manual.html"
+MANUAL = "/usr/share/doc/replaycheck/manual/index.html"
 COPIED = "Copy the examples of the package first: the commands below run in that copy."
 COPY = ["$ cp -r /usr/share/replaycheck/examples .", "$ cd examples/firmware"]
 

@@ -151,7 +151,7 @@ STATUSES = {"": (
 ENVIRONMENTS = {"": (("REPLAYCHECK", "the program to run instead of the usual one"),)}
 PAGES = (("/usr/share/replaycheck/replaycheck.html", "the page for a browser, in one file that opens from disk"),
          ("/usr/share/replaycheck/page", "the same as a folder to serve"))
-FILES = {"": (("/usr/share/doc/replaycheck/manual.html", "the manual, with what each error means and how to compile a program"),
+FILES = {"": (("/usr/share/doc/replaycheck/manual/index.html", "the manual, with what each error means and how to compile a program"),
               ("/usr/share/replaycheck/examples", "programs with their sources and inputs, to copy"), *PAGES), "page": PAGES}
 SEE_ALSO = {
     "run": ("session", "certify", "lines", "suppress"), "session": ("talk", "look", "compare"), "look": ("session", "when", "gdb"),

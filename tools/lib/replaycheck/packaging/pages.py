@@ -27,9 +27,9 @@ IN_RELEASE = (
     (" In a checkout the first command proves and builds `replaycheck`, once, in 12 to 40 minutes.", ""),
     ("`./replaycheck` at the top of the repository builds the program first if it has to. If that build fails, it ends with 1 too, and says "
      "at which crate, and where its log is.", ""),
-    ("| `--anew`, `--kept` | `page` | compiles the module again; uses only a kept one | [the page](page.md) |", ""),
+    ("| `--anew`, `--kept` | `page` | compiles the module again; uses only a kept one | [the page](../page.md) |", ""),
     (" `--unproved`, as the first word after `./replaycheck` in a checkout, answers by a build that is "
-     "[tested and not proved](../README.md#get-it).", ""),
+     "[tested and not proved](../../README.md#get-it).", ""),
     ("In a checkout, two commands build it and open it:"
      "```sh ./replaycheck page xdg-open out/replaycheck.html ``` The package has it built:", "The package has it:"),
 )
@@ -65,7 +65,8 @@ def manual():
 
 
 def of_release(name):
-    return name.removesuffix(".md") + ".html"
+    """What a page is called there. The index of a folder is its README in the repository."""
+    return re.sub(r"README$", "index", name.removesuffix(".md")) + ".html"
 
 
 def html(text, name, texts):
