@@ -18,6 +18,7 @@ PARTS = ("SYNOPSIS", "DESCRIPTION", "COMMANDS", "TOOLS", "OPTIONS", "EXIT STATUS
 NAMED = {"Commands": "COMMANDS", "Tools": "TOOLS", "Exit status": "EXIT STATUS", "Environment": "ENVIRONMENT"}
 OF_EACH_TOOL = (("-h, --help", "print the page of help"), ("--version", "print the version"))
 MANUAL = "/usr/share/doc/replaycheck/manual/index.html"
+NOT_BROKEN = (".nr HY 0", ".nh", ".ad l")  # no word is broken, so that each is found by a search
 COPIED = "Copy the examples of the package first: the commands below run in that copy."
 COPY = ["$ cp -r /usr/share/replaycheck/examples .", "$ cd examples/firmware"]
 
@@ -44,7 +45,7 @@ def page(told, names, heads):
     """The page of a command or a tool."""
     parts = sections(told)
     summary = told.summary[:1].lower() + told.summary[1:]
-    lines = [f'.TH "{called(told.name).upper()}" "1" {heads}', ".nh", ".ad l", ".SH NAME", f"{plain(called(told.name))} \\- {plain(summary)}"]
+    lines = [f'.TH "{called(told.name).upper()}" "1" {heads}', *NOT_BROKEN, ".SH NAME", f"{plain(called(told.name))} \\- {plain(summary)}"]
     for name in PARTS:
         if name == "EXAMPLES":
             body = examples(told.name)
@@ -72,7 +73,8 @@ def sections(told):
             continue
         elif head in NAMED and ITEM.match(rest):
             at = NAMED[head]
-            found.setdefault(at, []).extend(listed(rest.split("\n"), references=at in ("COMMANDS", "TOOLS")))
+            shape = as_references if at in ("COMMANDS", "TOOLS") else as_variables if at == "ENVIRONMENT" else tagged
+            found.setdefault(at, []).extend(shape(items_of(rest.split("\n"))))
         elif OPTION.match(rest) or title in ("Arguments:", "Options:"):
             items = [it for it in items_of(rest.split("\n")) if it.name not in [name for name, _ in options]]
             options += items
@@ -82,9 +84,9 @@ def sections(told):
             found.setdefault(at if at in ("EXIT STATUS", "DESCRIPTION") else "DESCRIPTION", []).extend(paragraph(part))
     if told.is_tool:
         found.setdefault("OPTIONS", []).extend(tagged(Item(*it) for it in OF_EACH_TOOL))
-    for name, rows in (("EXIT STATUS", STATUSES), ("ENVIRONMENT", ENVIRONMENTS), ("FILES", FILES)):
+    for name, rows, shape in (("EXIT STATUS", STATUSES, tagged), ("ENVIRONMENT", ENVIRONMENTS, as_variables), ("FILES", FILES, as_variables)):
         if told.name in rows:
-            found.setdefault(name, []).extend(tagged(Item(*it) for it in rows[told.name]))
+            found.setdefault(name, []).extend(shape(Item(*it) for it in rows[told.name]))
     found["SYNOPSIS"] = synopsis(usages if usages != [""] else [own_usage(told.name, options)])
     return found
 
@@ -152,19 +154,25 @@ def tag(name):
     return line_of("".join(found) + (f"\\fB{plain(name[at:])}\\fR" if name[at:] else ""))
 
 
-def tagged(items):
-    return [line for it in items for line in (".TP", tag(it.name), marked(it.text) if it.text else "\\&")]
+def tagged(items, shown=tag):
+    return [line for it in items for line in (".TP", shown(it.name), marked(it.text) if it.text else "\\&")]
 
 
-def listed(lines, references=False):
-    """A list of items with a text each, or where none has a text a paragraph, indented."""
-    if not any(GAP.search(it.strip()) for it in lines):
-        return [".RS 4", marked(" ".join(it.strip() for it in lines)), ".RE"]
-    items = items_of(lines)
-    if not references:
-        return tagged(items)
+def as_variables(items):
+    return tagged(items, lambda name: f"\\fB{plain(name)}\\fR")
+
+
+def as_references(items):
+    """The pages of commands and tools."""
     items = [it._replace(name=it.name.removeprefix("replaycheck ")) for it in items if it.name != "help"]
-    return [line for it in items for line in (".TP", f"\\fBreplaycheck\\-{plain(it.name)}\\fR(1)", marked(it.text))]
+    return tagged(items, lambda name: f"\\fB{plain(called(name))}\\fR(1)")
+
+
+def listed(lines):
+    """A list of items with a text each, or if none has a text a paragraph, indented."""
+    if any(GAP.search(it.strip()) for it in lines):
+        return tagged(items_of(lines))
+    return [".RS 4", marked(" ".join(it.strip() for it in lines)), ".RE"]
 
 
 def paragraph(part):

@@ -100,7 +100,7 @@ changed in check.elf:
                 "replaycheck explore station.elf --input station.input \\\n--svg picture.svg >summary.txt", status=1)),
     "gdb": (
         Example("What gdb has to know before it connects:", "replaycheck gdb --commands >replaycheck.gdb"),
-        Example("The step before the run, and where it begins:",
+        Example("The step at which gdb begins:",
                 "gdb-multiarch -nx -batch -x replaycheck.gdb station.elf \\\n"
                 "-ex 'target remote | replaycheck gdb station.elf' \\\n-ex 'print $step' 2>/dev/null | tail -n 1", "$1 = 0\n",
                 needs=("gdb-multiarch",))),

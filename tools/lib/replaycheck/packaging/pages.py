@@ -30,8 +30,7 @@ IN_RELEASE = (
     ("| `--anew`, `--kept` | `page` | compiles the module again; uses only a kept one | [the page](../page.md) |", ""),
     (" `--unproved`, as the first word after `./replaycheck` in a checkout, answers by a build that is "
      "[tested and not proved](../../README.md#get-it).", ""),
-    ("In a checkout, two commands build it and open it:"
-     "```sh ./replaycheck page xdg-open out/replaycheck.html ``` The package has it built:", "The package has it:"),
+    ("In a checkout `./replaycheck page` [builds it](#in-the-repository).", ""),
 )
 # A part of a page that speaks of the repository only.
 OF_REPOSITORY = re.compile(r"^## In the repository\n(?:(?!## ).*\n)*", re.M)
@@ -43,8 +42,7 @@ def sources():
     docs = TOP / "docs"
     texts = {str(it.relative_to(docs)): it.read_text() for pattern in SHIPPED for it in sorted(docs.glob(pattern))}
     for old, new in IN_RELEASE:
-        pattern = re.compile(r"\s+".join(map(re.escape, old.split())) if old[0] != " " else
-                             r"\s+" + r"\s+".join(map(re.escape, old.split())))
+        pattern = re.compile(re.sub(r"(?:\\ )+", r"\\s+", re.escape(old)))
         changed = {name: pattern.sub(lambda _: new, text) for name, text in texts.items()}
         if changed == texts:
             raise Fault(f"docs: no page of a release has the text that packaging/pages.py replaces: {old.strip()}")
