@@ -198,7 +198,7 @@ class Monitor:
 
 def taken(words, least, most, what):
     if not least <= len(words) <= most:
-        raise Fault(f"too {'few' if len(words) < least else 'many'} words: {what}")
+        raise Fault(f"too {'few' if len(words) < least else 'many'} arguments: {what}")
 
 
 def number(text, greatest=(1 << 32) - 1):

@@ -97,7 +97,7 @@ def document(tree, source):
         put(tree / DOC / name, content)
     changes = TOP / "CHANGELOG.md"
     if f"## [{source.version}]" not in changes.read_text():
-        raise Fault(f"CHANGELOG.md has nothing of version {source.version}")
+        raise Fault(f"CHANGELOG.md: no section on version {source.version}")
     put(tree / DOC / "CHANGELOG.md.gz", compressed(changes.read_text()))
     date = formatdate(source.time).replace("-0000", "+0000")
     put(tree / DOC / "changelog.gz", compressed(ENTRY.format(version=source.version, maintainer=source.maintainer, date=date)))
