@@ -13,7 +13,7 @@ class Example(NamedTuple):
     needs: tuple[str, ...] = ()
 
 
-ADDR2LINE, ASSEMBLER = ("addr2line",), ("riscv64-unknown-elf-as", "riscv64-unknown-elf-ld", "riscv64-unknown-elf-objdump")
+ADDR2LINE, ASSEMBLER = ("riscv64-unknown-elf-addr2line",), ("riscv64-unknown-elf-as", "riscv64-unknown-elf-ld", "riscv64-unknown-elf-objdump")
 SESSION = "replaycheck session station.elf --input station.input"
 EXAMPLES = {
     "": (
