@@ -3,7 +3,7 @@ import os
 import pathlib
 import shutil
 
-from replaycheck.endings import Fault, flush, write
+from replaycheck.endings import Fault, flush, naming, write
 from replaycheck.guest_files import TOP
 from replaycheck.options import Reader
 
@@ -62,9 +62,11 @@ def show(options):
 
 def copy(out):
     """Writes the file and the folder."""
-    out.mkdir(parents=True, exist_ok=True)
-    shutil.copyfile(PLACE / FILE, out / FILE)
-    shutil.copytree(PLACE / FOLDER, out / FOLDER, copy_function=shutil.copyfile, dirs_exist_ok=True)
+    (out / FOLDER).mkdir(parents=True, exist_ok=True)
+    for path in (PLACE / FILE, *sorted((PLACE / FOLDER).iterdir())):
+        to = out / path.relative_to(PLACE)
+        with naming(str(to)):
+            shutil.copyfile(path, to)
     write(f"{out / FILE}: {(out / FILE).stat().st_size} bytes, to open\n{out / FOLDER}: to serve\n")
     return 0
 
