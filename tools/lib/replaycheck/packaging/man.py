@@ -44,7 +44,7 @@ def called(name):
 def page(told, names, heads):
     """The page of a command or a tool."""
     parts = sections(told)
-    summary = told.summary[:1].lower() + told.summary[1:]
+    summary = told.summary[:1].lower() + told.summary[1:].removesuffix(".")
     lines = [f'.TH "{called(told.name).upper()}" "1" {heads}', *NOT_BROKEN, ".SH NAME", f"{plain(called(told.name))} \\- {plain(summary)}"]
     for name in PARTS:
         if name == "EXAMPLES":
@@ -68,13 +68,13 @@ def sections(told):
         title, _, rest = part.partition("\n")
         head = title.partition(":")[0].partition(",")[0].partition(" with ")[0]
         if part.lower().startswith("usage: "):
-            at, usages = "DESCRIPTION", usages or usages_of(part)
+            at, usages = "DESCRIPTION", usages_of(part) if usages in ([], [""]) else usages
         elif part.startswith("Example"):
             continue
         elif head in NAMED and ITEM.match(rest):
             at = NAMED[head]
             shape = as_references if at in ("COMMANDS", "TOOLS") else as_variables if at == "ENVIRONMENT" else tagged
-            found.setdefault(at, []).extend(shape(items_of(rest.split("\n"))))
+            found.setdefault(at, []).extend([*([".PP", marked(title)] if at in found else []), *shape(items_of(rest.split("\n")))])
         elif OPTION.match(rest) or title in ("Arguments:", "Options:"):
             items = [it for it in items_of(rest.split("\n")) if it.name not in [name for name, _ in options]]
             options += items
@@ -183,7 +183,8 @@ def paragraph(part):
         count = next((at for at, it in enumerate(lines) if it.startswith("  ") != is_list), len(lines))
         taken, lines = lines[:count], lines[count:]
         if not is_list:
-            found += [*([".PP"] if found[-1] != ".PP" else []), marked(" ".join(taken))]
+            text = " ".join(taken)
+            found += [*([".PP"] if found[-1] != ".PP" else []), marked(text if lines or not text[-1].isalnum() else text + ".")]
         elif all(it.startswith(("  replaycheck ", "  gdb", "  (gdb)")) for it in taken):
             found = [*(found if found != [".PP"] else []), *as_typed(it.strip() for it in taken)]
         else:

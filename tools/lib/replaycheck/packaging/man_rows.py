@@ -42,7 +42,7 @@ suppressed: 0 bytes in 0 blocks
 ERROR SUMMARY: 0 errors from 0 contexts (suppressed: 0 from 0)
 """),
         Example("A line for CI, here for a program with an error:",
-                "replaycheck run ../use-after-free.elf --error-exitcode=9 >report.txt", status=9)),
+                "replaycheck run ../use-after-free.elf \\\n--error-exitcode=9 >report.txt", status=9)),
     "session": (
         Example("What another second byte of the input would have changed:",
                 f"printf 'goto 2000\\ninput 1 8\\nreport\\n' |\n{SESSION} |\ngrep -v ': 0 bytes'", """\
@@ -79,7 +79,7 @@ changed in check.elf:
 """)),
     "compare": (
         Example("What changes if the first byte of a packet says eight:",
-                "replaycheck compare ../packet.elf --input ../packet.input 'input 0 8'", """\
+                "replaycheck compare ../packet.elf \\\n--input ../packet.input 'input 0 8'", """\
 --- at step 1048576
 +++ after input 0 8
 @@ -2,9 +2,14 @@
