@@ -74,7 +74,8 @@ def sections(told):
         elif head in NAMED and ITEM.match(rest):
             at = NAMED[head]
             shape = as_references if at in ("COMMANDS", "TOOLS") else as_variables if at == "ENVIRONMENT" else tagged
-            found.setdefault(at, []).extend([*([".PP", marked(title)] if at in found else []), *shape(items_of(rest.split("\n")))])
+            subtitle = [".PP", marked(title)] if at in found else []
+            found.setdefault(at, []).extend([*subtitle, *shape(items_of(rest.split("\n")))])
         elif OPTION.match(rest) or title in ("Arguments:", "Options:"):
             items = [it for it in items_of(rest.split("\n")) if it.name not in [name for name, _ in options]]
             options += items
