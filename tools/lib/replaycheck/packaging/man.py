@@ -54,7 +54,7 @@ def page(told, names, heads):
         else:
             body = parts.get(name)
         if body:
-            lines += [f'.SH "{name}"', *body]
+            lines += [f'.SH "{name}"', *(body[1:] if body[0] == ".PP" else body)]
     return "\n".join(lines) + "\n"
 
 

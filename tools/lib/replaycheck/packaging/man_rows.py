@@ -68,7 +68,7 @@ ERROR SUMMARY: 1 errors from 1 contexts (suppressed: 0 from 0)
                 "replaycheck certify station.elf --input station.input | cut -d: -f1", "clean to step 1048576\n"),
         Example("A run that isn't clean:", "replaycheck certify ../use-after-free.elf >verdict.txt", status=5),
         Example("Its line names the first use:", "cut -d: -f1-3 verdict.txt | cut -d' ' -f1-11",
-                "not clean: first use at step 25: Invalid read of size\n")),
+                "not clean: first use at step 14: Invalid read of size\n")),
     "adopt": (
         Example("What keeps the file of a board from running:", "replaycheck adopt board.elf >found.txt", status=1),
         Example("Its last line says how far it will run:", "tail -n 1 found.txt", "board.elf will run once it is cured\n"),
@@ -102,7 +102,7 @@ changed in check.elf:
         Example("What gdb has to know before it connects:", "replaycheck gdb --commands >replaycheck.gdb"),
         Example("The step at which gdb begins:",
                 "gdb-multiarch -nx -batch -x replaycheck.gdb station.elf \\\n"
-                "-ex 'target remote | replaycheck gdb station.elf' \\\n-ex 'print $step' 2>/dev/null | tail -n 1", "$1 = 0\n",
+                "-ex 'target remote | replaycheck gdb station.elf' \\\n-ex 'print $step' 2>/dev/null | grep '^\\$1'", "$1 = 0\n",
                 needs=("gdb-multiarch",))),
     "lines": (
         Example("The source line of an error that an edit leads to:",
