@@ -131,7 +131,7 @@ CASES = [
          "monitor get_vbits 0xffffffff 2", "monitor check_memory 0", "monitor stop_at_errors", "monitor stop_at_errors 1", "monitor step 1",
          "monitor make_memory set 0 1", "monitor origin x", "monitor"],
          ("no such line: jump", "'x' is not a number", "'4194305' is not a number", "too few arguments", "1 to 1048576 bytes", "that end at 2^32",
-          "check_memory addressable, or defined", "too few arguments", "on, or off", "too many words", "make_memory noaccess, undefined",
+          "check_memory addressable, or defined", "too few arguments", "on, or off", "too many arguments", "make_memory noaccess, undefined",
           "'x' is not a number", "step      ")),
     Case("edits that are refused", ["monitor input 41 1", "monitor patch 0 0", "monitor unmark 0", "monitor option colour 1",
          "monitor step"],

@@ -116,7 +116,7 @@ def when_rows():
     yield Row("when: a text of two lines", [*when, "state\nexited"], 2, "", "*two lines in one argument*")
     yield Row("when: no edit", ["when", *PACKET, "--line", "goto 8", "Invalid"], 2, "", "*not an edit: 'goto 8'*")
     yield Row("when: a step that is too great", [*when, "--last", "4194305", "x"], 2, "",
-              "*no number from 0 to 4194304*")
+              "*not a number from 0 to 4194304*")
     yield Row("when: a refused file", ["when", "script", "x"], 2, "", "replaycheck: image refused 20: no ELF file\n")
 
 
@@ -130,7 +130,7 @@ def compare_rows():
     yield Row("compare: lines that take one another back", [*compare, "input 0 8", "input 0 3"], 0)
     yield Row("compare: a suppression", [*compare, "--supp", "free.supp", "option redzone 32"], 0)
     yield Row("compare: a step that is too great", [*compare, "--step", "5000000", "input 0 8"], 2, "",
-              "*no number from 0*")
+              "*not a number from 0*")
     yield Row("compare: a missing program", ["compare", "missing", "input 0 8"], 2, "",
               "replaycheck: cannot read missing: No such file or directory\n")
     yield Row("compare: options behind lines", [*compare, "input 0 8", "--step", "0x3c"], 1, "*--- at step 60\n*")
@@ -269,7 +269,7 @@ def run_rows():
     yield Row("run: no room for freed blocks", [*freed, "--freelist-vol=0"], 0,
               "*is not stack'd, malloc'd or (recently) free'd*")
     yield Row("run: a step", [*freed, "--redzone-size=0x20", "--step=3"], 0, "*step 3\nstate running*", "*still running at step 3: *")
-    yield Row("run: more callers than there are", [*freed, "--num-callers=25"], 2, "", "*no number from 1 to 24*")
+    yield Row("run: more callers than there are", [*freed, "--num-callers=25"], 2, "", "*not a number from 1 to 24*")
     yield Row("run: no kind of leak", [*freed, "--show-leak-kinds=lost"], 2, "", "*no kind of leak: 'lost'*")
     yield Row("run: no format", [*freed, "--format=yaml"], 2, "", "*invalid choice: 'yaml'*")
     yield Row("run: an option twice", [*freed, "--format=gcc", "--format=gcc"], 2, "", "*--format is given twice*")
@@ -356,7 +356,7 @@ def launcher_rows():
     yield Row("a command that is like it", ["sesion"], 2, "", "*did you mean `replaycheck session`?*")
     yield Row("no command: the tools too", [], 2, "", "*  replaycheck explore *  replaycheck word *")
     yield Row("both helps of run", ["run", "--help"], 0,
-              "*Usage: replaycheck* run [OPTIONS] <FILE>*--errors-for-leak-kinds LIST*--require-heap*Exit status: *")
+              "*Usage: replaycheck* run [OPTIONS] <FILE>*--errors-for-leak-kinds LIST*--require-heap*Exit status with these options:*")
     for words in (["run", "--error-exitcode=1", "--help"], ["run", "-h"], ["help", "run"]):
         yield Row(f"both helps of run, by {' '.join(words)}", words, 0, "*Usage: replaycheck* run *--errors-for-leak-kinds LIST*")
     yield Row("help of a tool", ["help", "when"], 0, "*usage: replaycheck when FILE*")
