@@ -85,7 +85,8 @@ def sections(told):
             found.setdefault(at if at in ("EXIT STATUS", "DESCRIPTION") else "DESCRIPTION", []).extend(paragraph(part))
     if told.is_tool:
         found.setdefault("OPTIONS", []).extend(tagged(Item(*it) for it in OF_EACH_TOOL))
-    for name, rows, shape in (("EXIT STATUS", STATUSES, tagged), ("ENVIRONMENT", ENVIRONMENTS, as_variables), ("FILES", FILES, as_variables)):
+    more = (("EXIT STATUS", STATUSES, tagged), ("ENVIRONMENT", ENVIRONMENTS, as_variables), ("FILES", FILES, as_variables))
+    for name, rows, shape in more:
         if told.name in rows:
             found.setdefault(name, []).extend(shape(Item(*it) for it in rows[told.name]))
     found["SYNOPSIS"] = synopsis(usages if usages != [""] else [own_usage(told.name, options)])

@@ -13,7 +13,8 @@ class Example(NamedTuple):
     needs: tuple[str, ...] = ()
 
 
-ADDR2LINE, ASSEMBLER = ("riscv64-unknown-elf-addr2line",), ("riscv64-unknown-elf-as", "riscv64-unknown-elf-ld", "riscv64-unknown-elf-objdump")
+ADDR2LINE = ("riscv64-unknown-elf-addr2line",)
+ASSEMBLER = ("riscv64-unknown-elf-as", "riscv64-unknown-elf-ld", "riscv64-unknown-elf-objdump")
 SESSION = "replaycheck session station.elf --input station.input"
 EXAMPLES = {
     "": (

@@ -25,8 +25,8 @@ IN_RELEASE = (
      "```sh PATH=$PWD:$PATH cd examples/firmware ``` With the package, whose launcher is on the path already:",
      "`replaycheck` is installed. Copy its examples, and type the commands in the copy:"),
     (" In a checkout the first command proves and builds `replaycheck`, once, in 12 to 40 minutes.", ""),
-    ("`./replaycheck` at the top of the repository builds the program first if it has to. If that build fails, it ends with 1 too, and says "
-     "at which crate, and where its log is.", ""),
+    ("`./replaycheck` at the top of the repository builds the program first if it has to. If that build fails, it ends with 1 too, and "
+     "says at which crate, and where its log is.", ""),
     ("| `--anew`, `--kept` | `page` | compiles the module again; uses only a kept one | [the page](../page.md) |", ""),
     (" `--unproved`, as the first word after `./replaycheck` in a checkout, answers by a build that is "
      "[tested and not proved](../../README.md#get-it).", ""),
