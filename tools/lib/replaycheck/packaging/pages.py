@@ -79,7 +79,7 @@ def html(text, name, texts):
 
     title = re.search(r"^# (.+)$", text, re.M)[1]
     page = turned(text, "-m", f"title={title}")
-    page = page.replace("</head>\n", STYLE, 1)
+    page = page.replace("</head>\n", STYLE, 1).replace("&#47;", "/")
     page = re.sub(r'(<h\d id=")([^"]+)(")', lambda it: it[1] + re.sub(r"[^\w-]", "", it[2].lower()) + it[3], page)
     page = re.sub(r'src="[^"]*station\.svg"', f'src="{os.path.relpath("station.svg", folder or ".")}"', page)
     return LINK.sub(link, page)
