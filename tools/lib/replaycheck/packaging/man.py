@@ -174,7 +174,10 @@ def listed(lines):
     """A list of items with a text each, or if none has a text a paragraph, indented."""
     if any(GAP.search(it.strip()) for it in lines):
         return tagged(items_of(lines))
-    return [".RS 4", marked(" ".join(it.strip() for it in lines)), ".RE"]
+    text = " ".join(it.strip() for it in lines)
+    # Each text that is quoted is a line of its own.
+    parts = re.split(r" (?=`)", text) if text.startswith("`") else [text]
+    return [".RS 4", *[line for it in parts for line in (".br", marked(it))][1:], ".RE"]
 
 
 def paragraph(part):
