@@ -126,7 +126,7 @@ REFUSED = [
     ("a value twice", ["p.elf", "--values=1,2,1"], "a number twice"), ("a value of 256", ["p.elf", "--values=256"], "from 256 on"),
     ("no value", ["p.elf", "--values=some"], "neither all, flips, edges nor a list"),
     ("tables and a range", ["--from", "a", "--bytes=0"], "--from takes tables that are there: --bytes makes them"),
-    ("a seed alone", ["p.elf", "--seed=1"], "--seed goes with --sample"), ("no jobs", ["p.elf", "--jobs=0"], "no number from 1"),
+    ("a seed alone", ["p.elf", "--seed=1"], "--seed goes with --sample"), ("no jobs", ["p.elf", "--jobs=0"], "not a number from 1"),
     ("two things for one output", ["p.elf", "--table=-", "--svg=-"], "at once"), ("no script", ["p.elf", "--script=x"], "invalid choice"),
     ("a missing program", ["missing.elf"], "missing.elf: No such file"), ("a folder", ["."], ".: Is a directory"),
     ("a missing input", ["packet.elf", "--input=missing"], "missing: No such file"),

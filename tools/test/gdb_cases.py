@@ -130,9 +130,9 @@ CASES = [
     Case("lines that are none", ["monitor jump", "monitor goto x", "monitor goto 4194305", "monitor goto", "monitor get_vbits 0 0",
          "monitor get_vbits 0xffffffff 2", "monitor check_memory 0", "monitor stop_at_errors", "monitor stop_at_errors 1", "monitor step 1",
          "monitor make_memory set 0 1", "monitor origin x", "monitor"],
-         ("no such line: jump", "'x' is no number", "'4194305' is no number", "too few words", "1 to 1048576 bytes", "that end at 2^32",
-          "check_memory addressable, or defined", "too few words", "on, or off", "too many words", "make_memory noaccess, undefined",
-          "'x' is no number", "step      ")),
+         ("no such line: jump", "'x' is not a number", "'4194305' is not a number", "too few arguments", "1 to 1048576 bytes",
+          "that end at 2^32", "check_memory addressable, or defined", "too few arguments", "on, or off", "too many arguments",
+          "make_memory noaccess, undefined", "'x' is not a number", "step      ")),
     Case("edits that are refused", ["monitor input 41 1", "monitor patch 0 0", "monitor unmark 0", "monitor option colour 1",
          "monitor step"],
          ("refused 3: no such byte", "refused 4: no word", "refused 7: no such mark", "refused 9: ", at(0))),
@@ -227,7 +227,7 @@ COMMANDS = [
     ("suppressions that are none", ["counts.elf", "--supp", "cut.elf"], 2, "suppressions refused 13"),
     ("an option twice", ["counts.elf", "--port=1", "--port=2"], 2, "--port is given twice"),
     ("no port", ["counts.elf", "--port=x"], 2, "'x' is no"),
-    ("a port that there isn't", ["counts.elf", "--port=65536"], 2, "'65536' is no number from 0 to 65535"),
+    ("a port that there isn't", ["counts.elf", "--port=65536"], 2, "'65536' is not a number from 0 to 65535"),
     ("a file of that name", ["--", "-x.elf"], 2, "cannot read ./-x.elf"), ("another option", ["counts.elf", "--tcp"], 2, "--tcp"),
 ]
 

@@ -77,7 +77,7 @@ CASES = [
     Case("the second error", ERRORS, 0, ("Use of uninitialised value of size 4",), ["mark 1 0x7fffffe4 4 defined"],
          ["--error=2"]),
     Case("the third error", ERRORS, 0, ("Syscall param exit(status)",), ["mark 1 0x7fffffe8 4 defined"], ["--error=3"]),
-    Case("no fourth error", ERRORS, 1, ("no such error: at step 5000 3 errors hang",), [], ["--error=4"]),
+    Case("no fourth error", ERRORS, 1, ("no such error: at step 5000 3 errors depend",), [], ["--error=4"]),
     Case("too early for the third error", ERRORS, 1, ("no such error: at step 6 2 errors",), [],
          ["--error=3", "--last=6"]),
     Case("a block that moved", GROWN, 0, ("undefined in step 2 by a call of the heap", "read by", "written by"),

@@ -35,7 +35,7 @@ def toolchain():
     """The module of `rt` that knows how a crate is checked."""
     command = shutil.which("rt")
     if not command:
-        refuse("it takes the toolchain of Rattle, whose command rt is not on the path")
+        refuse("it needs the toolchain of Rattle, and its command rt is not on the path")
     path = str(pathlib.Path(command).resolve().parent / "rtlib.py")
     if not os.path.exists(path):
         refuse("the toolchain's rt has no rtlib.py beside it: this tool is not for that version")

@@ -1,4 +1,5 @@
 """What tests of tools have in common: rows that pass or fail, and texts that are told in turn."""
+import re
 
 
 class Rows:
@@ -32,3 +33,9 @@ def in_turn(told, texts):
             return [f"not told in turn: {text!r}, in\n{told}"]
         at += len(text)
     return []
+
+
+def agrees(expected, printed):
+    """Whether a text is the expected lines, of which `...` is any lines."""
+    pattern = "".join(r"(?:.*\n)*?" if line == "..." else re.escape(line) + "\n" for line in expected)
+    return re.fullmatch(pattern, printed) is not None

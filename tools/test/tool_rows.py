@@ -112,11 +112,11 @@ def when_rows():
     yield Row("when: a refused line", ["when", "packet.elf", "--line", "input 0 8", "x"], 2, "",
               f"replaycheck when: input 0 8: {NO_BYTE}\n")
     yield Row("when: two lines in one word", ["when", *PACKET, "--line", "input 0 8\nreport", "Invalid"], 2, "",
-              "*two lines in one word*")
-    yield Row("when: a text of two lines", [*when, "state\nexited"], 2, "", "*two lines in one word*")
-    yield Row("when: no edit", ["when", *PACKET, "--line", "goto 8", "Invalid"], 2, "", "*no edit: 'goto 8'*")
+              "*two lines in one argument*")
+    yield Row("when: a text of two lines", [*when, "state\nexited"], 2, "", "*two lines in one argument*")
+    yield Row("when: no edit", ["when", *PACKET, "--line", "goto 8", "Invalid"], 2, "", "*not an edit: 'goto 8'*")
     yield Row("when: a step that is too great", [*when, "--last", "4194305", "x"], 2, "",
-              "*no number from 0 to 4194304*")
+              "*not a number from 0 to 4194304*")
     yield Row("when: a refused file", ["when", "script", "x"], 2, "", "replaycheck: image refused 20: no ELF file\n")
 
 
@@ -130,7 +130,7 @@ def compare_rows():
     yield Row("compare: lines that take one another back", [*compare, "input 0 8", "input 0 3"], 0)
     yield Row("compare: a suppression", [*compare, "--supp", "free.supp", "option redzone 32"], 0)
     yield Row("compare: a step that is too great", [*compare, "--step", "5000000", "input 0 8"], 2, "",
-              "*no number from 0*")
+              "*not a number from 0*")
     yield Row("compare: a missing program", ["compare", "missing", "input 0 8"], 2, "",
               "replaycheck: cannot read missing: No such file or directory\n")
     yield Row("compare: options behind lines", [*compare, "input 0 8", "--step", "0x3c"], 1, "*--- at step 60\n*")
@@ -145,10 +145,10 @@ def compare_rows():
     yield Row("compare: no line", compare, 2, "", "*no line, no --before and no --after*")
     yield Row("compare: a refused line", [*compare, "option color 1"], 2, "",
               "replaycheck compare: option color 1: refused 9: no such option, or its value is out of range\n")
-    yield Row("compare: two lines in one word", [*compare, "input 0 8\ninput 0 3"], 2, "", "*two lines in one word*")
-    yield Row("compare: no edit", [*compare, "report"], 2, "", "*no edit: 'report'*")
+    yield Row("compare: two lines in one word", [*compare, "input 0 8\ninput 0 3"], 2, "", "*two lines in one argument*")
+    yield Row("compare: no edit", [*compare, "report"], 2, "", "*not an edit: 'report'*")
     yield Row("compare: a script with another line", [*compare, "--after", "not edits"], 2, "",
-              "*not edits: no edit: 'goto 8'*")
+              "*not edits: not an edit: 'goto 8'*")
     yield Row("compare: a missing script", [*compare, "--before", "none"], 2, "",
               "replaycheck compare: none: No such file or directory\n")
     yield Row("compare: no diff", [*compare, "input 0 8"], 2, "", "*cannot run diff*diffutils*",
@@ -192,7 +192,7 @@ def word_rows():
     yield Row("word: no word", ["word", ""], 1, "", "*0 words, not one*", needs=BINUTILS)
     yield Row("word: no instruction", ["word", "hello a0"], 1, "", "*Error*", needs=BINUTILS)
     yield Row("word: not of RV32IM", ["word", "c.nop"], 1, "", "*Error*", needs=BINUTILS)
-    yield Row("word: two lines", ["word", "nop\nnop"], 2, "", "*two lines in one word*", needs=BINUTILS)
+    yield Row("word: two lines", ["word", "nop\nnop"], 2, "", "*two lines in one argument*", needs=BINUTILS)
     yield Row("word: no assembler", ["word", "nop"], 2, "", "*cannot run missing-as*binutils*",
               environment={"AS": "missing-as"})
     yield Row("word: no linker", ["word", "nop"], 2, "", "*cannot run no-ld*", needs=BINUTILS, environment={"LD": "no-ld"})
@@ -230,7 +230,7 @@ def lines_rows():
     bare = b"   at 0x00010000: main\nok\n"
     yield Row("lines: no debug information", ["lines", "two-callers.elf"], 1, bare.decode(), given=bare,
               needs=ADDR2LINE)
-    yield Row("lines: no program", ["lines", "script"], 2, bare.decode(), "*addr2line has ended*", given=bare,
+    yield Row("lines: no program", ["lines", "script"], 2, bare.decode(), "*addr2line ended*", given=bare,
               needs=ADDR2LINE)
     yield Row("lines: no such file", ["lines", "missing"], 2, bare.decode(),
               "replaycheck lines: missing: no such file\n", given=bare)
@@ -269,7 +269,7 @@ def run_rows():
     yield Row("run: no room for freed blocks", [*freed, "--freelist-vol=0"], 0,
               "*is not stack'd, malloc'd or (recently) free'd*")
     yield Row("run: a step", [*freed, "--redzone-size=0x20", "--step=3"], 0, "*step 3\nstate running*", "*still running at step 3: *")
-    yield Row("run: more callers than there are", [*freed, "--num-callers=25"], 2, "", "*no number from 1 to 24*")
+    yield Row("run: more callers than there are", [*freed, "--num-callers=25"], 2, "", "*not a number from 1 to 24*")
     yield Row("run: no kind of leak", [*freed, "--show-leak-kinds=lost"], 2, "", "*no kind of leak: 'lost'*")
     yield Row("run: no format", [*freed, "--format=yaml"], 2, "", "*invalid choice: 'yaml'*")
     yield Row("run: an option twice", [*freed, "--format=gcc", "--format=gcc"], 2, "", "*--format is given twice*")
@@ -292,9 +292,9 @@ def run_rows():
               "*replaycheck run: no source lines: cannot run no-addr2line: No such file or directory; source lines need*",
               environment={"ADDR2LINE": "no-addr2line"})
     yield Row("run: an addr2line that ends at once", [*freed, "--format=json", "--error-exitcode=7"], 7, '*"place": null*',
-              "*replaycheck run: no source lines: addr2line has ended*", environment={"ADDR2LINE": "false"})
+              "*replaycheck run: no source lines: addr2line ended*", environment={"ADDR2LINE": "false"})
     yield Row("run: a program that answers no report", [*freed, "--error-exitcode=7"], 2, "",
-              "*replaycheck run: echo: its answer is no report: 'run --step*", environment={"REPLAYCHECK": "echo"})
+              "*replaycheck run: echo: what it printed is no report: 'run --step*", environment={"REPLAYCHECK": "echo"})
     yield from running_rows()
     yield from heap_rows()
 
@@ -356,7 +356,7 @@ def launcher_rows():
     yield Row("a command that is like it", ["sesion"], 2, "", "*did you mean `replaycheck session`?*")
     yield Row("no command: the tools too", [], 2, "", "*  replaycheck explore *  replaycheck word *")
     yield Row("both helps of run", ["run", "--help"], 0,
-              "*Usage: replaycheck* run [OPTIONS] <FILE>*--errors-for-leak-kinds LIST*--require-heap*Exit status: *")
+              "*Usage: replaycheck* run [OPTIONS] <FILE>*--errors-for-leak-kinds LIST*--require-heap*Exit status with these options:*")
     for words in (["run", "--error-exitcode=1", "--help"], ["run", "-h"], ["help", "run"]):
         yield Row(f"both helps of run, by {' '.join(words)}", words, 0, "*Usage: replaycheck* run *--errors-for-leak-kinds LIST*")
     yield Row("help of a tool", ["help", "when"], 0, "*usage: replaycheck when FILE*")
@@ -371,9 +371,9 @@ def error_rows():
     yield Row("errors: a value that is missing", ["when", "three-words.elf", "--last"], 2, "",
               "*replaycheck when: --last: its value is missing\n*")
     yield Row("errors: a value that can't be read", ["when", "three-words.elf", "--last=x", "y"], 2, "",
-              "*replaycheck when: --last: 'x' is no number from 0 to 4194304\nusage: *")
+              "*replaycheck when: --last: 'x' is not a number from 0 to 4194304\nusage: *")
     yield Row("errors: a negative number", ["when", "three-words.elf", "--last", "-1", "y"], 2, "",
-              "*replaycheck when: --last: '-1' is no number*")
+              "*replaycheck when: --last: '-1' is not a number*")
     yield Row("errors: a value of a flag", ["lines", "packet.elf", "--full-paths=yes"], 2, "",
               "*replaycheck lines: --full-paths: it takes no value: 'yes'\n*")
     yield Row("errors: a choice", ["run", "packet.elf", "--format", "yaml"], 2, "",

@@ -183,7 +183,7 @@ def checked(options):
     try:
         verdict = Verdict(told)
     except (IndexError, KeyError, ValueError):
-        raise Fault(f"{program()}: its answer is no report: {told[0][:80]!r}") from None
+        raise Fault(f"{program()}: what it printed is no report: {told[0][:80]!r}") from None
     heap = heap_of_run(options.file, options.input, verdict.step, verdict.has_blocks())
     write("".join(line + "\n" for line in told) if options.format == "text" else formatted(told, options, heap))
     flush()

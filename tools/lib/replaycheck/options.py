@@ -189,7 +189,7 @@ def number(least, greatest):
     def read(text):
         value = int(text, 16 if text[:2] in ("0x", "0X") else 10) if is_number(text) else -1
         if not least <= value <= greatest:
-            raise BadValue(f"{text!r} is no number from {least} to {greatest}")
+            raise BadValue(f"{text!r} is not a number from {least} to {greatest}")
         return value
     return read
 
@@ -197,12 +197,12 @@ def number(least, greatest):
 def one_line(text):
     """Reads a line of a session, which must be one."""
     if "\n" in text:
-        raise BadValue(f"two lines in one word: {text!r}")
+        raise BadValue(f"two lines in one argument: {text!r}")
     return text
 
 
 def edit(text):
     """Reads a line of a session that edits the run."""
     if one_line(text).split(" ")[0] in ("", "report", "worked", "goto") or text.startswith("#"):
-        raise BadValue(f"no edit: {text!r}")
+        raise BadValue(f"not an edit: {text!r}")
     return text

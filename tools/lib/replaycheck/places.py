@@ -89,7 +89,7 @@ class Places:
     def ended(self):
         self.child.wait()
         said = self.child.said().decode("utf-8", "surrogateescape").strip()
-        raise Fault(f"addr2line has ended{said and ': ' + said}")
+        raise Fault(f"addr2line ended{said and ': ' + said}")
 
     def learn(self, addresses):
         """Asks for the places of addresses, many at a time."""

@@ -75,7 +75,7 @@ class Ended(Fault):
 
     def __init__(self, code, said, keeps_status=False):
         how = f"signal {-code}" if code < 0 else f"status {code}"
-        super().__init__(f"the program has ended before it replied, with {how}")
+        super().__init__(f"the program ended before it replied, with {how}")
         self.said = "".join(with_words(line) + "\n" for line in said.decode("utf-8", "surrogateescape").splitlines())
         self.status = code if keeps_status and code > 0 else 2
 

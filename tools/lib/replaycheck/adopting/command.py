@@ -80,7 +80,7 @@ def healed(findings, heaps, kept):
     content, changes = cured(findings)
     again = Findings(content, heaps, kept)
     if again.hopeless() or again.cures():
-        raise Fault("the file's code lies over its own tables: it is damaged, or no linker's")
+        raise Fault("the file's code overlaps its own tables: it is damaged, or not from a linker")
     return content, changes
 
 
@@ -99,7 +99,7 @@ def adopt(options):
     out, changes = options.output, []
     if out is not None and not findings.hopeless():
         if same_file(options.file, out):
-            raise Fault(f"{out} is the file itself: write to another one")
+            raise Fault(f"{out}: it is FILE itself: write to another file")
         content, changes = healed(findings, options.heap, options.keep)
         write(out, content, mode_of(options.file))
     written = out if out is not None and not findings.hopeless() else None

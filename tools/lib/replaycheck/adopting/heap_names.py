@@ -17,7 +17,7 @@ LEFT = {
                      "_aligned_alloc_r", "_valloc_r", "_pvalloc_r", "_ZnwjSt11align_val_t", "_ZnajSt11align_val_t"),
                     f"{UNKNOWN_BLOCKS}. Take a larger block of malloc and align within it"),
     **dict.fromkeys(("malloc_usable_size", "_malloc_usable_size_r"),
-                    "it reads before a block, which is an error, and answers what stands there. Take the size that was "
+                    "it reads before a block, which is an error, and returns what is there. Take the size that was "
                     "asked for"),
     **dict.fromkeys(("mem_trim", "malloc_trim", "_malloc_trim_r"),
                     "it works on what the file's own heap writes before a block, which isn't there: errors, and no "

@@ -24,7 +24,7 @@ check_memory addressable|defined ADDR [LEN]
 who_points_at ADDR [LEN]          registers and aligned words that point there
 block_list                        the blocks of the heap that are in use: where bytes of it may be accessed
 stop_at_errors on|off             continue and reverse-continue stop before each step that makes an error that isn't suppressed
-origin [N]                        where the undefined bits came from on which the Nth error so far hangs
+origin [N]                        where the undefined bits came from on which the Nth error so far depends
 make_memory noaccess|undefined|defined ADDR [LEN]     a mark at this step
 input .. | patch .. | mark .. | unmark .. | option .. | supp ..     edits the run, as a line of a session does;
                                   the step stays, and all else is that of the edited run
@@ -198,7 +198,7 @@ class Monitor:
 
 def taken(words, least, most, what):
     if not least <= len(words) <= most:
-        raise Fault(f"too {'few' if len(words) < least else 'many'} words: {what}")
+        raise Fault(f"too {'few' if len(words) < least else 'many'} arguments: {what}")
 
 
 def number(text, greatest=(1 << 32) - 1):

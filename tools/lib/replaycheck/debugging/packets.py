@@ -55,7 +55,7 @@ class Packets:
             if length > MOST:
                 body.clear()
             if length > LONGEST:
-                raise Fault(f"a packet has more than {LONGEST} bytes: gdb was told that {MOST} are the most")
+                raise Fault(f"a packet has more than {LONGEST} bytes: gdb was asked for at most {MOST}")
         told = self.byte() + self.byte()
         if not self.acknowledges:
             return body

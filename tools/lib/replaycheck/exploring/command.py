@@ -174,8 +174,8 @@ def explore(options):
         if request and not options.tables:
             check_heap(options, request)
         if options.sshlogin is not None and not remote.is_there():
-            raise Fault("--sshlogin wants GNU parallel, of Debian's parallel, which isn't there; without it all goes "
-                        "on here")
+            raise Fault("--sshlogin: GNU parallel isn't there, Debian's package parallel; without --sshlogin "
+                        "all parts run here")
         with Outputs(options, room) as outputs:
             if options.tables:
                 sources, notes = tables_given(options, room), []

@@ -46,7 +46,7 @@ class Kept:
         try:
             fcntl.flock(self.lock, fcntl.LOCK_EX | fcntl.LOCK_NB)
         except BlockingIOError:
-            raise Fault(f"{shown_name(path)}: another `explore` works in this folder") from None
+            raise Fault(f"{shown_name(path)}: another `explore` is using this folder") from None
         self.found = [it for it in map(TABLE.fullmatch, sorted(os.listdir(path))) if it]
 
     def count(self, wanted):

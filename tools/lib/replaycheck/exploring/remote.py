@@ -38,7 +38,7 @@ class Remote(Runner):
         """Makes these parts. Gives their tables."""
         with Room() as room:
             if not PLAIN.fullmatch(room):
-                raise Fault(f"--sshlogin wants a TMPDIR with a plain name, not {shown_name(room)}")
+                raise Fault(f"--sshlogin: TMPDIR must have a plain name: {shown_name(room)}")
             child = self.child(room, parts)
             try:
                 found = self.take(child.stdout, room, progress)
@@ -49,7 +49,7 @@ class Remote(Runner):
                 said = shown(file.read(1000).replace(b"\n", b" "))
         missing = sorted(set(parts) - {it.head.part[0] for it in found})
         if missing:
-            raise Fault(f"part {missing[0]}/{self.count} has failed twice: {said or 'it said nothing'}")
+            raise Fault(f"part {missing[0]}/{self.count} failed twice: {said or 'it printed nothing'}")
         return found
 
     def child(self, room, parts):

@@ -206,7 +206,7 @@ class Request:
         for given_file, was, now in zip(self.files, (it.digest for it in self.files), source.head.files):
             if was != now:
                 named = shown_name(given_file.name) or "a file that wasn't given"
-                raise Fault(f"{source}: it is of another {named}, {now[0]} bytes with the digest {now[1][:16]}.., not "
+                raise Fault(f"{source}: it has another {named}, {now[0]} bytes with the digest {now[1][:16]}.., not "
                             f"{was[0]} with {was[1][:16]}..: the file was changed, or the table is of another sweep")
 
     def check(self, source):

@@ -161,7 +161,7 @@ class Runner:
         if status in REFUSED:
             raise Refused(job.said)
         if self.tries[job.part] == AGAIN:
-            raise Fault(f"part {job.part}/{self.count} has failed twice: {failed}")
+            raise Fault(f"part {job.part}/{self.count} failed twice: {failed}")
 
     def clear(self):
         """Ends what runs, and takes away what isn't whole."""

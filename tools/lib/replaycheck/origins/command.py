@@ -30,7 +30,7 @@ def origin(options):
     try:
         errors = errors_of(trials.report(options.last))
         if len(errors) < options.error:
-            of = f"{len(errors)} errors hang" if len(errors) != 1 else "1 error hangs"
+            of = f"{len(errors)} errors depend" if len(errors) != 1 else "1 error depends"
             write(f"no such error: at step {options.last} {of} on undefined bits\n")
             return 1
         image = Image(options.file, options.line)
@@ -45,8 +45,8 @@ def told(search, teller, options):
     teller.error()
     reads = search.needed(search.last_reads())
     if not reads:
-        teller.lines("", "no certificate: no marks of memory remove it. What it hangs on has been in registers alone",
-                     "for long, or lies where this doesn't look")
+        teller.lines("", "no certificate: no marks of memory remove it. What it depends on has only been in registers",
+                     "for long, or is where this doesn't look")
         return 1
     is_short = options.short or search.step >= LONG_RUN and not options.long
     search.floor = max(0, search.step - SHORT) if is_short else 0

@@ -21,7 +21,7 @@ class Image:
         with open(path, "rb") as file:
             data = file.read(LONGEST_FILE + 1)
         if any(not it.readable for it in refusals(data)):
-            raise Fault(f"{path}: it isn't the file that the program has read")
+            raise Fault(f"{path}: it has changed since the program read it")
         self.elf = Elf(data)
         self.heap = {it.value: self.elf.name(it) for it in reversed(self.elf.symbols)
                      if it.info & 15 == FUNCTION and self.elf.name(it) in HEAP_FUNCTIONS}

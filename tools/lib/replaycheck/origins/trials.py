@@ -52,7 +52,7 @@ class Trials:
         """The lines of the report at a step with these marks. Those that the last report had too stay as they are."""
         marks = sorted(marks)
         if len(marks) > self.room:
-            raise Fault(f"it takes {len(marks)} marks, and there is room for {self.room}")
+            raise Fault(f"it needs {len(marks)} marks, and there is room for {self.room}")
         lines = self.changes(marks)
         if self.asked + len(lines) + 2 > MOST_LINES:
             self.open_again()

@@ -22,11 +22,10 @@ class Help(NamedTuple):
         return sorted(set(re.findall(r"(?<![\w-])--[a-z][a-z-]*", self.text)))
 
 
-def helps(home):
-    """Those of an installed launcher: the commands of the program, and then the tools."""
+def helps(home, program=""):
+    """Those of a launcher, with its own program or this one: the commands of the program, and then the tools."""
     launcher = home / "replaycheck"
-    calm = {**os.environ, "PATH": "/usr/bin:/bin", "COLUMNS": "100"}
-    calm.pop("REPLAYCHECK", None)
+    calm = {**os.environ, "PATH": "/usr/bin:/bin", "COLUMNS": "100", "REPLAYCHECK": str(program)}
     ask = lambda *words: output(launcher, *words, "--help", env=calm).decode()  # noqa: E731
     listed = ask()
     commands = listed.partition("Commands:\n")[2].partition("\n\n")[0]

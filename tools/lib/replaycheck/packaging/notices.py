@@ -25,7 +25,7 @@ def notices():
     """The notices, one crate after another; each text once."""
     command = shutil.which("rt")
     if not command:
-        raise Fault("it takes the toolchain of Rattle, whose command rt is not on the path")
+        raise Fault("it needs the toolchain of Rattle, and its command rt is not on the path")
     library = pathlib.Path(output("rt", "doc").decode().strip()).parent / "rattle"
     texts = {}
     for name in crates():

@@ -1,22 +1,11 @@
-"""Man pages and the manual as HTML: Markdown, which lowdown turns into both."""
-import datetime
+"""The manual and other pages as HTML, by lowdown, for a reader of the package."""
+import os
 import re
 
+from replaycheck.endings import Fault
 from replaycheck.guest_files import TOP
 from replaycheck.packaging.source import output
 
-HEAD = """\
-title: {title}
-section: 1
-date: {date}
-source: replaycheck {version}
-volume: Memcheck for RV32IM
-
-"""
-# Paragraphs of help are filled: lines that are shorter have a meaning each.
-SHORT = 50
-# What Markdown would take for its own.
-MARKS = re.compile(r"[\\*_\[\]<>#|~]")
 STYLE = """\
 <style>
 body { max-width: 60em; margin: 2em auto; padding: 0 1em; font: 1em/1.5 system-ui, sans-serif; }
@@ -28,70 +17,69 @@ td, th { border: 1px solid #8888; padding: .2em .5em; vertical-align: top; text-
 </style>
 </head>
 """
+# The pages of a release, of docs/.
+SHIPPED = ("manual.md", "manual/*.md", "glossary.md", "page.md", "case-studies.md", "case-studies/*.md")
+# What a page says of a checkout, and what it says instead in a release, where all is built and installed. Lines may break elsewhere.
+IN_RELEASE = (
+    ("Type the commands in `examples/firmware`, with the launcher `replaycheck` on the path. In a checkout: "
+     "```sh PATH=$PWD:$PATH cd examples/firmware ``` With the package, whose launcher is on the path already:",
+     "`replaycheck` is installed. Copy its examples, and type the commands in the copy:"),
+    (" In a checkout the first command proves and builds `replaycheck`, once, in 12 to 40 minutes.", ""),
+    ("`./replaycheck` at the top of the repository builds the program first if it has to. If that build fails, it ends with 1 too, and "
+     "says at which crate, and where its log is.", ""),
+    ("| `--anew`, `--kept` | `page` | compiles the module again; uses only a kept one | [the page](../page.md) |", ""),
+    (" `--unproved`, as the first word after `./replaycheck` in a checkout, answers by a build that is "
+     "[tested and not proved](../../README.md#get-it).", ""),
+    ("In a checkout `./replaycheck page` [builds it](#in-the-repository).", ""),
+)
+# A part of a page that speaks of the repository only.
+OF_REPOSITORY = re.compile(r"^## In the repository\n(?:(?!## ).*\n)*", re.M)
+LINK = re.compile(r'<a href="(?!#|https?:)([^"#]*)(#[^"]*)?">(.*?)</a>', re.S)
 
 
-def turned(text, to, *words):
+def sources():
+    """The pages of a release, in Markdown as a reader of it needs them, by their paths below docs/."""
+    docs = TOP / "docs"
+    texts = {str(it.relative_to(docs)): it.read_text() for pattern in SHIPPED for it in sorted(docs.glob(pattern))}
+    for old, new in IN_RELEASE:
+        pattern = re.compile(re.sub(r"(?:\\ )+", r"\\s+", re.escape(old)))
+        changed = {name: pattern.sub(lambda _: new, text) for name, text in texts.items()}
+        if changed == texts:
+            raise Fault(f"docs: no page of a release has the text that packaging/pages.py replaces: {old.strip()}")
+        texts = changed
+    return {name: OF_REPOSITORY.sub("", re.sub(r"\n{3,}", "\n\n", text)) for name, text in texts.items()}
+
+
+def turned(text, *words):
     """A page of Markdown as lowdown turns it."""
-    return output("lowdown", "-s", "--out-no-smarty", f"-T{to}", *words, given=text.encode()).decode()
-
-
-def man_pages(helps, source):
-    """A page for the program and one for each tool, by their files' names."""
-    date = datetime.datetime.fromtimestamp(source.time, datetime.timezone.utc).strftime("%Y-%m-%d")
-    tools = [it for it in helps if it.is_tool]
-    program, *commands = [it for it in helps if not it.is_tool]
-    pages = {"replaycheck": page("replaycheck", lowered(program.summary), [program, *commands], tools)}
-    pages |= {f"replaycheck-{it.name}": page(f"replaycheck-{it.name}", it.summary, [it], []) for it in tools}
-    return {f"{name}.1": turned(HEAD.format(title=name, date=date, version=source.version) + text, "man") for name, text in pages.items()}
-
-
-def lowered(text):
-    return text[:1].lower() + text[1:]
-
-
-def page(name, summary, told, tools):
-    """A man page's source: what it is, its pages of help, and what else there is."""
-    parts = [f"# NAME\n\n{name} - {summary}\n"]
-    for it in told:
-        title = "DESCRIPTION" if it is told[0] else f"REPLAYCHECK {it.name.upper()}"
-        parts.append(f"# {title}\n\n{filled(it.text.strip())}\n")
-    also = [f"replaycheck-{it.name}" for it in tools] or ["replaycheck"]
-    others = ", ".join(f"**{it}**(1)" for it in also)
-    parts.append(f"# SEE ALSO\n\n{others}, and the manual, */usr/share/doc/replaycheck/manual.html*\n")
-    return "\n".join(parts)
-
-
-def filled(text):
-    """A page of help as Markdown: paragraphs, which a reader fills to the width of a terminal, and all that has a layout of its own as it
-    is."""
-    parts = []
-    for part in text.split("\n\n"):
-        lines = part.split("\n")
-        is_laid_out = any(it.startswith(" ") for it in lines) or part.startswith("usage: ") or any(len(it) < SHORT for it in lines[:-1])
-        parts.append(f"```\n{part}\n```" if is_laid_out else marked(part))
-    return "\n\n".join(parts)
-
-
-def marked(text):
-    """A paragraph that Markdown takes as it is; what stands between backquotes is code in both."""
-    return "`".join(it if index % 2 else MARKS.sub(r"\\\g<0>", it) for index, it in enumerate(text.split("`")))
+    return output("lowdown", "-s", "--out-no-smarty", "-Thtml", *words, given=text.encode()).decode()
 
 
 def manual():
-    """The manual, the glossary and the case studies as HTML, with the picture that the manual shows, by their files' names."""
-    sources = {f"{it}.html": TOP / f"docs/{it}.md" for it in ("manual", "glossary", "case-studies")}
-    sources |= {f"case-studies/{it.stem}.html": it for it in sorted((TOP / "docs/case-studies").glob("*.md"))}
-    made = {name: html(path.read_text(), name) for name, path in sources.items()}
+    """The pages as HTML, with the picture that the manual shows, by their files' names."""
+    texts = sources()
+    made = {of_release(name): html(text, name, texts) for name, text in texts.items()}
     return made | {"station.svg": (TOP / "examples/firmware/station.svg").read_bytes()}
 
 
-def html(text, name):
+def of_release(name):
+    """What a page is called there. The index of a folder is its README in the repository."""
+    return re.sub(r"README$", "index", name.removesuffix(".md")) + ".html"
+
+
+def html(text, name, texts):
     """A page as HTML, whose links lead to pages of the release, or are none."""
+    folder = os.path.dirname(name)
+
+    def link(found):
+        target = os.path.normpath(os.path.join(folder, found[1]))
+        if target not in texts:
+            return found[3]
+        return f'<a href="{os.path.relpath(of_release(target), folder or ".")}{found[2] or ""}">{found[3]}</a>'
+
     title = re.search(r"^# (.+)$", text, re.M)[1]
-    page = turned(text, "html", "-m", f"title={title}")
-    page = page.replace("</head>\n", STYLE, 1)
+    page = turned(text, "-m", f"title={title}")
+    page = page.replace("</head>\n", STYLE, 1).replace("&#47;", "/")
     page = re.sub(r'(<h\d id=")([^"]+)(")', lambda it: it[1] + re.sub(r"[^\w-]", "", it[2].lower()) + it[3], page)
-    page = re.sub(r'src="[^"]*station\.svg"', 'src="station.svg"', page)
-    inner = r"manual|glossary|case-studies|json|modbus|boot"
-    page = re.sub(rf'href="([^"#:]*\b(?:{inner}))\.md', r'href="\1.html', page)
-    return re.sub(r'<a href="(?!#|https?:|[^"]*\.html)[^"]*">(.*?)</a>', r"\1", page)
+    page = re.sub(r'src="[^"]*station\.svg"', f'src="{os.path.relpath("station.svg", folder or ".")}"', page)
+    return LINK.sub(link, page)

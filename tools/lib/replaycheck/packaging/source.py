@@ -17,7 +17,7 @@ PASSED = TOP / "out" / "passed"
 def output(*words, given=b"", **how):
     """What a command prints on standard output, which is given this on standard input."""
     if not shutil.which(words[0]):
-        raise Fault(f"there is no {pathlib.Path(words[0]).name} on the path")
+        raise Fault(f"cannot run {pathlib.Path(words[0]).name}: not on the path")
     done = subprocess.run([str(word) for word in words], input=given, stdout=subprocess.PIPE, stderr=subprocess.PIPE, **how)
     if done.returncode:
         last = done.stderr.decode(errors="replace").strip().splitlines()[-1:]
@@ -38,13 +38,13 @@ class Source:
         self.commit = git("rev-parse", "HEAD").strip()
         epoch = os.environ.get("SOURCE_DATE_EPOCH", "") or git("show", "-s", "--format=%ct", "HEAD").strip()
         if not epoch.isdigit():
-            raise Fault(f"SOURCE_DATE_EPOCH is no number of seconds: {epoch}")
+            raise Fault(f"SOURCE_DATE_EPOCH: not a number of seconds: {epoch}")
         self.time = int(epoch)
         self.program = pathlib.Path(program) if program else passed(self.commit)
         told = output(self.program, "--version").decode()
         found = re.fullmatch(r"replaycheck (\d+\.\d+\.\d+)\n", told)
         if not found:
-            raise Fault(f"{self.program} tells no version")
+            raise Fault(f"{self.program}: prints no version")
         self.version = found[1]
         self.maintainer = maintainer()
         self.files = git("ls-files", "-z").split("\0")[:-1]

@@ -9,14 +9,20 @@ from replaycheck.endings import Fault
 from replaycheck.guest_files import TOP
 from replaycheck.packaging.completions import completions
 from replaycheck.packaging.helps import helps
+from replaycheck.packaging.man import man_pages
 from replaycheck.packaging.notices import notices
-from replaycheck.packaging.pages import manual, man_pages
+from replaycheck.packaging.pages import manual
+from replaycheck.packaging.source import PROGRAM
+from replaycheck.paging import made
+from replaycheck.paging.folder import one_file, write_folder
+from replaycheck.paging.module import module
 
 # The launcher finds what it runs beside itself, as in the repository.
 HOME = "lib/replaycheck"
 EXAMPLES = "share/replaycheck/examples"
 DOC = "share/doc/replaycheck"
-LEFT_OUT = r"README|build-times|prove$|replaycheck/(paging|packaging)/|replaycheck-page$"
+BROWSER = "share/replaycheck"
+LEFT_OUT = r"README|build-times|prove$|replaycheck/(packaging/|paging/(?!made\.py))"
 SHIPPED = re.compile(rf"replaycheck$|tools/(bin|lib)/(?!{LEFT_OUT})|tools/bin/README\.md$")
 EXAMPLE = re.compile(r"examples/(?!README|guests/|sessions/|firmware/(expected/|check\.sh|\.gitignore))")
 
@@ -67,6 +73,7 @@ def fill(tree, source):
     put(tree / HOME / "crates/replaycheck/out/replaycheck", source.program.read_bytes(), runs=True)
     put(tree / HOME / "built-from", f"{source.commit}\n")
     link(tree / "bin/replaycheck", tree / HOME / "replaycheck")
+    put_page(tree, source)
     told = helps(tree / HOME)
     for name, text in completions(told).items():
         put(tree / "share" / name, text)
@@ -75,13 +82,22 @@ def fill(tree, source):
     document(tree, source)
 
 
+def put_page(tree, source):
+    """Puts the page for a browser, built from the text of the very program that the release has."""
+    built = module()
+    if PROGRAM.read_bytes() != source.program.read_bytes():
+        raise Fault(f"{source.program}: not the program of this checkout, {PROGRAM}, from whose text the page is built")
+    write_folder(tree / BROWSER / made.FOLDER, built)
+    put(tree / BROWSER / made.FILE, one_file(built))
+
+
 def document(tree, source):
     """Puts the manual, the list of changes and the notices into the folder of documents."""
     for name, content in manual().items():
         put(tree / DOC / name, content)
     changes = TOP / "CHANGELOG.md"
     if f"## [{source.version}]" not in changes.read_text():
-        raise Fault(f"CHANGELOG.md has nothing of version {source.version}")
+        raise Fault(f"CHANGELOG.md: no section on version {source.version}")
     put(tree / DOC / "CHANGELOG.md.gz", compressed(changes.read_text()))
     date = formatdate(source.time).replace("-0000", "+0000")
     put(tree / DOC / "changelog.gz", compressed(ENTRY.format(version=source.version, maintainer=source.maintainer, date=date)))

@@ -80,7 +80,7 @@ def source_of(text):
 
 def replaced(page, old, new):
     if page.count(old) != 1:
-        raise Fault(f"page/index.html hasn't the line {old} once")
+        raise Fault(f"page/index.html: the line isn't there exactly once: {old}")
     return page.replace(old, new)
 
 
@@ -97,6 +97,6 @@ def one_file(module):
               "worker-src blob:; img-src data:; base-uri 'none'; form-action 'none'")
     page, count = POLICY.subn(lambda it: it[1] + policy + it[2], (SOURCES / "index.html").read_text())
     if count != 1:
-        raise Fault("page/index.html hasn't one policy")
+        raise Fault("page/index.html: not exactly one policy")
     page = replaced(page, STYLE, f"<style>{style}</style>")
     return replaced(page, SCRIPT, f"<script>{script}</script>").encode()

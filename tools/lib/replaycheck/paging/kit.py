@@ -24,7 +24,7 @@ def find():
     """The folder of the toolchain."""
     found = shutil.which("rt")
     if not found:
-        raise Fault("to build the page's module it takes the toolchain of Rattle, whose command rt is not on the path")
+        raise Fault("cannot build the page: it needs the toolchain of Rattle, and its command rt is not on the path")
     kit = pathlib.Path(os.path.realpath(found)).parents[1]
     missing = [it for it in NEEDED if not (kit / it).exists()]
     if missing:

@@ -134,7 +134,7 @@ def take_text(kit, tools, room):
     if CHECKED.is_dir() and is_taken(crates, CHECKED):
         return
     if not built_again(kit, tools, room, crates):
-        raise Fault(f"what was built isn't {PROGRAM.relative_to(TOP)}, byte for byte, so the page would have another program")
+        raise Fault(f"the program that was built again differs from {PROGRAM.relative_to(TOP)}: the page would have another program")
 
 
 def for_pages(text):
@@ -196,12 +196,12 @@ def module(anew=False, is_kept=False):
     if not is_kept:
         build_program()
     elif not PROGRAM.is_file():
-        raise Fault("there is no program yet")
+        raise Fault("no program is built yet")
     kept = KEPT / f"{stamp_of(kit)}.wasm"
     if not anew and kept.is_file():
         return kept.read_bytes()
     if is_kept:
-        raise Fault("no module of this program is kept; `replaycheck page` makes one")
+        raise Fault("no module of this program is kept; `replaycheck page` builds one")
     with tempfile.TemporaryDirectory(prefix="replaycheck-page-") as folder:
         room = pathlib.Path(os.path.realpath(folder))
         tools = kits.Tools(kit, room)

@@ -14,9 +14,9 @@ def order_of(name, modules, seen=(), done=None):
     """The names of a module and of those that it needs, the needed ones first."""
     done = [] if done is None else done
     if name in seen:
-        raise Fault(f"modules of the page need each other in a ring: {' '.join([*seen, name])}")
+        raise Fault(f"the page's modules import each other in a circle: {' '.join([*seen, name])}")
     if name not in modules:
-        raise Fault(f"{seen[-1] if seen else 'the page'} needs {name}, which isn't there")
+        raise Fault(f"{seen[-1] if seen else 'the page'}: imports {name}, which doesn't exist")
     for found in IMPORT.finditer(modules[name]):
         order_of(found[2], modules, (*seen, name), done)
     if name not in done:
@@ -34,7 +34,7 @@ def wrapped(name, text):
     body = IMPORT.sub(lambda it: f"const {{ {it[1].replace(' as ', ': ')} }} = {variable(it[2])};\n", text)
     body = EXPORT.sub("", body)
     if OTHER.search(body):
-        raise Fault(f"{name} has an import or an export in a form that the page of one file can't have")
+        raise Fault(f"{name}: an import or export in a form that the page of one file doesn't support")
     return f"const {variable(name)} = (() => {{\n{body}return {{ {exported} }};\n}})();\n"
 
 
