@@ -171,10 +171,9 @@ abbrev pub codes_of : ExecWords → Codes
 codes_of asked = record { errors = asked.error_exitcode; idle = asked.idle_exitcode }
 
 -- with a scenario: the file of the report is opened, and then the run made
-abbrev pub WithScenario : Order → ExecWords → LeakKinds → Scenario → Pipes → Pipes → ExecEnd → Type 0
-WithScenario order asked count sc old new end =
-    ((end ≡ Early CannotWrite) × IsUntouched old new)
-    ⊎ Executes (waits_for order) asked.quiet (codes_of asked) count sc old new end
+abbrev pub WithScenario : Bool → Bool → Codes → LeakKinds → Scenario → Pipes → Pipes → ExecEnd → Type 0
+WithScenario waits quiet codes count sc old new end =
+    ((end ≡ Early CannotWrite) × IsUntouched old new) ⊎ Executes waits quiet codes count sc old new end
 
 -- what the options choose, or why they choose nothing
 pub record IsChoice (asked : ExecWords) (show : LeakKinds) (choices : Choices) : Type 0 where
@@ -190,7 +189,8 @@ NoChoice order asked end = NoKinds asked.show end ⊎ NoKinds asked.count end �
 abbrev pub WithImage : Giving → Order → ExecWords → LeakKinds → LeakKinds → Image → Pipes → Pipes → ExecEnd → Type 0
 WithImage gives order asked show count image old new end =
     (MakesNone gives order asked show image end × IsUntouched old new)
-    ⊎ ((sc : Scenario) × Makes gives order asked show image sc × WithScenario order asked count sc old new end)
+    ⊎ ((sc : Scenario) × Makes gives order asked show image sc
+    × WithScenario (waits_for order) asked.quiet (codes_of asked) count sc old new end)
 
 -- with options that are none that end it: the program's file is read
 abbrev pub WithKinds : Giving → Order → ExecWords → LeakKinds → LeakKinds → Pipes → Pipes → ExecEnd → Type 0

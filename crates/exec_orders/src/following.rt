@@ -1,6 +1,6 @@
 //! An order for `exec` is followed: options and files are judged, and then the run is made.
-ghost use Rattle.std.specs.Prelude.{◌≡◌};
-ghost use Rattle.exec_orders.specs.Executed.{Executed, pipes};
+ghost use Rattle.std.specs.Prelude.{◌≡◌, [], true, IfErr, IfOk, option_map};
+ghost use Rattle.exec_orders.specs.Executed.{Executed, IsChoice, NoChoice, WithScenario, is_path, is_read, pipes};
 
 use crate::executing::{Choices, execute};
 use crate::log::Log;
@@ -15,12 +15,16 @@ use std::io::{Read, Write};
 use suppressions::LeakKinds;
 
 /// Returns whether a path is one of those that an order reads.
-fn is_read(order: &Order, path: &str) -> bool {
+fn is_read(order: &Order, path: &str) -> bool
+    ensures { result ≡ is_read order.now path.now }
+{
     path == order.file || is_path(path, order.input) || is_path(path, order.suppressions)
 }
 
 /// Returns whether a path is another one, if there is one.
-fn is_path(path: &str, other: Option<&str>) -> bool {
+fn is_path(path: &str, other: Option<&str>) -> bool
+    ensures { result ≡ is_path path.now (option_map (λ other. other.now) other.entry) }
+{
     match other {
         Some(other) => path == other,
         None => false,
@@ -60,28 +64,27 @@ fn choices_of<'a>(
 /// Opens the file of the report, and makes the run of a scenario.
 fn open_and_execute<'a, R: Read, W: Write, L: Log>(
     alloc: Global,
-    order: &Order<'a>,
-    asked: &ExecWords<'a>,
+    path: Option<&str>,
     scenario: &mut Scenario,
+    waits: bool,
     choices: Choices,
     reader: &mut R,
     writer: &mut W,
     log: &mut L,
 ) -> ExecEnd<'a>
     requires marks { scenario.old.marks ≡ [] }
-    requires empty { input_path order.now ≡ None → scenario.old.setup.input ≡ [] }
-    ensures { WithScenario order.now choices scenario.old
+    requires empty { waits ≡ true → scenario.old.setup.input ≡ [] }
+    ensures { WithScenario waits choices.quiet choices.codes choices.count scenario.old
         (pipes (R.remaining reader.old) (W.contents writer.old) (L.contents log.old))
         (pipes (R.remaining reader.new) (W.contents writer.new) (L.contents log.new)) result }
 {
-    if !log.open(asked.report) {
+    if !log.open(path) {
         return ExecEnd::Early(End::CannotWrite);
     }
-    let waits = order.input.is_none();
     execute(alloc, scenario, waits, choices, reader, writer, log)
 }
 
-/// Follows an order for `exec` whose options are judged: its files are read, each judged before the next, and the run is made.
+/// Follows an order for `exec`: its options are judged, then its files, each before the next is read, and the run is made.
 fn follow<'a, F: Files, R: Read, W: Write, L: Log>(
     alloc: Global,
     order: &Order<'a>,
@@ -90,16 +93,24 @@ fn follow<'a, F: Files, R: Read, W: Write, L: Log>(
     reader: &mut R,
     writer: &mut W,
     log: &mut L,
-) -> Result<ExecEnd<'a>, ExecEnd<'a>> {
+) -> Result<ExecEnd<'a>, ExecEnd<'a>>
+    ensures ok { IfOk result (Executed (F.gives files.now) order.now asked.now
+        (pipes (R.remaining reader.old) (W.contents writer.old) (L.contents log.old))
+        (pipes (R.remaining reader.new) (W.contents writer.new) (L.contents log.new))) }
+    ensures err { IfErr result (Executed (F.gives files.now) order.now asked.now
+        (pipes (R.remaining reader.old) (W.contents writer.old) (L.contents log.old))
+        (pipes (R.remaining reader.new) (W.contents writer.new) (L.contents log.new))) }
+{
     let (show, choices) = choices_of(order, asked)?;
     let file = read_front(alloc, files, order.file, MOST_READ)?;
     let image = read(alloc, &file)?;
     let mut scenario = prepare(alloc, image, order, asked, show, files)?;
+    let waits = order.input.is_none();
     Ok(open_and_execute(
         alloc,
-        order,
-        asked,
+        asked.report,
         &mut scenario,
+        waits,
         choices,
         reader,
         writer,

@@ -1,7 +1,8 @@
 //! The scenario that the options and the files make.
-ghost use Rattle.std.specs.Prelude.{◌≡◌, ◌⊎◌, [], IfErr, IfOk, OnOk, Some};
+ghost use Rattle.std.specs.Prelude.{◌≡◌, ◌⊎◌, [], IfErr, IfOk, None, OnOk, Some};
 ghost use Rattle.scenario.specs.Edits.{IsTaken, row};
 ghost use Rattle.suppressions.specs.Words.{leak_kinds};
+ghost use Rattle.command_line.specs.Orders.{input_path};
 ghost use Rattle.ends.specs.declared.ends.End.TheVariants.{NoMemory, Usage};
 ghost use Rattle.ends.specs.declared.exec_ends.ExecEnd.TheVariants.{Early};
 ghost use Rattle.exec_orders.specs.Prepared.{IsEdited, IsNoPatch, IsOptionRefused, IsPatched, IsPatchedBy, Makes, MakesFrom, MakesNone, MakesOr, IsPatchedIn, NoPatch, NoPatchIn, NotFrom, option_edits, patch_in};
@@ -151,6 +152,7 @@ pub(crate) fn prepare<'a, 'b, F: Files>(
     ensures ok { IfOk result (Makes (F.gives files.now) order.now asked.now kinds image.entry) }
     ensures err { IfErr result (MakesNone (F.gives files.now) order.now asked.now kinds image.entry) }
     ensures marks { IfOk result (λ scenario. scenario.marks ≡ []) }
+    ensures empty { input_path order.now ≡ None → IfOk result (λ scenario. scenario.setup.input ≡ []) }
 {
     let suppressions = read_suppressions(alloc, files, order.suppressions)?;
     let input = read_input(alloc, files, order.input)?;
