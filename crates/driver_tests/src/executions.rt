@@ -10,6 +10,7 @@ use std::io;
 use std::io::Write;
 
 /// A file for a report, which can be opened or not.
+#[derive(Drop)]
 struct Paper {
     room: Room,
     opens: bool,
@@ -100,6 +101,7 @@ const ENOUGH: Rooms = Rooms {
 };
 
 /// A label; a program's words, its arguments, standard input and the rooms; the exit status, the output, and the front of the report.
+#[derive(Clone, Copy)]
 struct Case {
     label: &'static str,
     words: &'static [u32],
