@@ -47,7 +47,7 @@ const WRITES: [u32; 10] = [
 ];
 
 /// Writes the first byte of the input, and exits with status 0.
-const COPIES: [u32; 10] = [
+const COPIES: [u32; 11] = [
     0x0000_0513,
     0x0001_0593,
     0x0010_0613,
@@ -58,6 +58,7 @@ const COPIES: [u32; 10] = [
     0x0000_0073,
     0x05D0_0893,
     0x0000_0513,
+    0x0000_0073,
 ];
 
 /// Frees an address that no block has (`free(0x100)` as call 2002), and exits with status 0.
