@@ -56,7 +56,7 @@ refused-next start setup n b is =
     ∙ ap (λ b. refused_writes start setup n + cond b 1 0) (sym is)
 
 -- steps that are no ECALLs, from step n of a run on
-record Silence (start : State) (setup : Setup) (n k : ℕ) : Type 0 where
+pub record Silence (start : State) (setup : Setup) (n k : ℕ) : Type 0 where
   pub same : SameStreams (pre start setup [] n) (pre start setup [] (n + k))
   pub refused : refused_writes start setup (n + k) ≡ refused_writes start setup n
 

@@ -22,13 +22,13 @@ refused_at sc n = refused_writes (first_state sc) sc.setup n
 
 -- ---- an execution
 
-unfoldable pub step_of : Execution → ℕ
+abbrev pub step_of : Execution → ℕ
 step_of e = e.at
 
-unfoldable pub machine_of : Execution → Machine
+abbrev pub machine_of : Execution → Machine
 machine_of e = e.machine
 
-unfoldable pub refused_of : Execution → ℕ
+abbrev pub refused_of : Execution → ℕ
 refused_of e = e.refused
 
 -- it is at a step of the run of a scenario

@@ -1,7 +1,5 @@
 //! An execution, and how it is run.
-ghost use Rattle.std.specs.Prelude.{◌≡◌, ◌+◌, ◌≤◌, ◌<◌, if◌then◌else◌, IfErr, IfOk, IsTrue, false};
-ghost use Rattle.guest_machine.specs.Streams.{Rests};
-ghost use Rattle.executions.specs.Executions.{state_at, step_of, machine_of, refused_of, GoesOn, GoesOnSilently, IsAt, LeavesEnd, StopsAt, Wrote, WroteFront};
+ghost use Rattle.std.specs.Prelude.{◌≡◌, ◌+◌, ◌≤◌, ◌<◌, if◌then◌else◌};
 
 use crate::fault::ExecutionFault;
 use crate::speaking::speak;
@@ -33,6 +31,10 @@ fn counted(count: u32, more: bool) -> u32
 }
 
 impl Execution {
+    ghost use Rattle.std.specs.Prelude.{◌≡◌, ◌+◌, ◌≤◌, ◌<◌, IfErr, IfOk, IsTrue, false};
+    ghost use Rattle.guest_machine.specs.Streams.{Rests};
+    ghost use Rattle.executions.specs.Executions.{state_at, step_of, machine_of, refused_of, GoesOn, GoesOnSilently, IsAt, LeavesEnd, StopsAt, Wrote, WroteFront};
+
     /// Returns the execution of a scenario at step 0.
     pub fn begin(scenario: &Scenario) -> Result<Self, AllocError>
         ensures at { IfOk result (λ e. IsAt e scenario.now) }
@@ -129,6 +131,7 @@ impl Execution {
             at,
             refused,
         } = self;
+        let _last = scenario.step();
         let refused = counted(refused, machine.refuses_write(scenario.setup()));
         let written = machine.output_len();
         let (machine, touched) = machine.step_on(scenario.setup())?;

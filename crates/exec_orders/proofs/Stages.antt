@@ -1,0 +1,93 @@
+-- The stages of `exec`: options, edits and patches.
+use Rattle.std.proofs.Common.{◌≡◌, ◌∙◌, ◌⊎◌, inl, inr, ℕ, Bool, true, false, List, [], ◌∷◌, Option, Some, None, refl, ap, sym}
+use Rattle.std.proofs.Common.{subst, Result, Ok, Err, IfOk, IfErr, OnOk}
+use Rattle.std.proofs.KnownBytes.{Appends-nil, Consumes-nil}
+use denote.Ref.{Bor}
+use Rattle.commands.specs.Commands.{number}
+use Rattle.commands.specs.declared.edit.Edit.{Edit}
+use Rattle.commands.specs.declared.edit.Edit.TheVariants.{Patch}
+use Rattle.ends.specs.declared.exec_ends.ExecEnd.{ExecEnd}
+use Rattle.guest_elf.specs.declared.image.Image.{Image}
+use Rattle.guest_machine.specs.State.{State}
+use Rattle.replay_report.specs.Findings.{HasFindings}
+use Rattle.run_values.specs.declared.mark.Mark.{Mark}
+use Rattle.scenario.specs.Edits.{IsTaken, row}
+use Rattle.scenario.specs.Scenario.{Scenario}
+use Rattle.suppressions.specs.Rules.{Rule}
+use Rattle.exec_orders.specs.Executed.{IsUntouched, pipes}
+use Rattle.exec_orders.specs.Prepared.{IsEdited, IsNoPatch, IsOptionRefused, IsPatched, IsPatchedBy, NoPatch, patch_in}
+use Rattle.exec_orders.specs.Prepared.{patch_of, patch_with}
+
+pub untouched : (left held logged : Option (List ℕ)) → IsUntouched (pipes left held logged) (pipes left held logged)
+untouched left held logged = (Consumes-nil left, Appends-nil held, Appends-nil logged)
+
+-- ---- results
+
+pub if-err : {T E : Type 0} (result : Result T E) (P : E → Type 0) → ((e : E) → P e) → IfErr result P
+if-err (Ok x) P p = tt
+if-err (Err e) P p = p e
+
+pub weaker-err : {T E : Type 0} (result : Result T E) (P Q : E → Type 0) → ((e : E) → P e → Q e) → IfErr result P
+    → IfErr result Q
+weaker-err (Ok x) P Q step h = tt
+weaker-err (Err e) P Q step h = step e h
+
+pub weaker-ok : {T E : Type 0} (result : Result T E) (P Q : T → Type 0) → ((x : T) → P x → Q x) → IfOk result P
+    → IfOk result Q
+weaker-ok (Ok x) P Q step h = step x h
+weaker-ok (Err e) P Q step h = tt
+
+pub weaker-on : {T E : Type 0} (result : Result T E) (P Q : Type 0) → (P → Q) → OnOk result P → OnOk result Q
+weaker-on (Ok x) P Q step h = step h
+weaker-on (Err e) P Q step h = tt
+
+-- ---- edits
+
+abbrev pub Made : Edit → Scenario → Scenario → Type 0
+Made edit old new = IsTaken old edit × (new ≡ (row old edit).after)
+
+pub edited-more : (edit : Edit) (edits : List Edit) (sc next done : Scenario) → Made edit sc next
+    → IsEdited edits next done → IsEdited (edit ∷ edits) sc done
+edited-more edit edits sc next done (taken, is) rest = (taken, subst (λ sc. IsEdited edits sc done) is rest)
+
+pub refused-more : (edit : Edit) (edits : List Edit) (sc next : Scenario) → Made edit sc next
+    → IsOptionRefused edits next → IsOptionRefused (edit ∷ edits) sc
+refused-more edit edits sc next (taken, is) rest = inr (taken, subst (IsOptionRefused edits) is rest)
+
+-- ---- patches
+
+same-some : (x y : Edit) → ◌≡◌ {A = Option Edit} (Some x) (Some y) → x ≡ y
+same-some x y e = cc
+
+none-some : (x : Edit) → ◌≡◌ {A = Option Edit} None (Some x) → ⊥
+none-some x e = cc
+
+with-keeps : (addr word : Option ℕ) (edit : Edit) → patch_with addr word ≡ Some edit → (sc : Scenario)
+    → (row sc edit).after.marks ≡ sc.marks
+with-keeps (Some addr) (Some word) edit is sc =
+    ap (λ e. (row sc e).after.marks) (sym (same-some (Patch addr word) edit is))
+with-keeps (Some addr) None edit is sc = absurd (none-some edit is)
+with-keeps None word edit is sc = absurd (none-some edit is)
+
+patch-keeps : (fields : List (List ℕ)) (edit : Edit) → patch_of fields ≡ Some edit → (sc : Scenario)
+    → (row sc edit).after.marks ≡ sc.marks
+unfolding patch_of
+patch-keeps [] edit is sc = absurd (none-some edit is)
+patch-keeps (addr ∷ []) edit is sc = absurd (none-some edit is)
+patch-keeps (addr ∷ word ∷ []) edit is sc = with-keeps (number addr) (number word) edit is sc
+patch-keeps (addr ∷ word ∷ more ∷ rest) edit is sc = absurd (none-some edit is)
+
+-- a patch leaves the marks
+pub patched-marks : (text : List ℕ) (sc done : Scenario) → IsPatchedBy text sc done → done.marks ≡ sc.marks
+patched-marks text sc done (edit, is, taken, after) =
+    ap (λ sc. sc.marks) after ∙ patch-keeps (Rattle.text_parts.specs.Parts.parts 61 text) edit is sc
+
+-- ---- findings
+
+pub findings-of : (s : State) (image other : Image) (rules list : List Rule) (callers n : ℕ) (kinds shown : List Bool)
+    (found : Bool) → image ≡ other → rules ≡ list → callers ≡ n → kinds ≡ shown
+    → HasFindings s image rules callers kinds found → HasFindings s other list n shown found
+findings-of s image other rules list callers n kinds shown found a b c d h =
+    subst (λ x. HasFindings s x list n shown found) a (subst (λ x. HasFindings s image x n shown found) b
+    (subst (λ x. HasFindings s image rules x shown found) c
+    (subst (λ x. HasFindings s image rules callers x found) d h)))

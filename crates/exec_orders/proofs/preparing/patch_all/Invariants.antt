@@ -1,0 +1,15 @@
+use Rattle.std.proofs.Common.{◌≡◌}
+use Rattle.ends.specs.declared.exec_ends.ExecEnd.{ExecEnd}
+use Rattle.scenario.specs.Scenario.{Scenario}
+use Rattle.text_parts.specs.Parts.{parts}
+use Rattle.exec_orders.specs.Prepared.{IsPatched, NoPatch}
+use Rattle.exec_orders.proofs.preparing.patch_all.Given as goal
+
+abbrev pub invariant-loop-text : goal.invariant-loop-text
+invariant-loop-text l = record {
+  rest : (done : Scenario) → IsPatched l.texts l.scenario done → IsPatched (parts 44 l.list.now) l.fn.scenario done;
+  fails :
+      (end : ExecEnd) → NoPatch l.fn.list l.texts l.scenario end
+      → NoPatch l.fn.list (parts 44 l.list.now) l.fn.scenario end;
+  marks : l.scenario.marks ≡ l.fn.scenario.marks;
+}
