@@ -1,0 +1,5 @@
+pub mod Once
+pub mod Certified
+pub mod Carried
+pub mod Sweeping
+pub mod Laws

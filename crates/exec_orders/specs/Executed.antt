@@ -176,8 +176,8 @@ WithScenario waits quiet codes count sc old new end =
     ((end ≡ Early CannotWrite) × IsUntouched old new) ⊎ Executes waits quiet codes count sc old new end
 
 -- what the options choose, or why they choose nothing
-pub record IsChoice (asked : ExecWords) (show : LeakKinds) (choices : Choices) : Type 0 where
-  pub show : leak_kinds asked.show.now ≡ Some show
+pub record IsChoice (asked : ExecWords) (kinds : LeakKinds) (choices : Choices) : Type 0 where
+  pub show : leak_kinds asked.show.now ≡ Some kinds
   pub count : leak_kinds asked.count.now ≡ Some choices.count
   pub codes : choices.codes ≡ codes_of asked
   pub quiet : choices.quiet ≡ asked.quiet
