@@ -3,7 +3,8 @@
 use Rattle.std.specs.Prelude.{ℕ, ◌≡◌, ◌+◌, ◌<◌, ◌≤◌, ◌⊎◌, List, [], Option, Some, None, length, take}
 use Rattle.std.specs.Io.KnownBytes.{Appends, Consumes}
 use Rattle.command_line.specs.Orders.{input_path, rules_path}
-use Rattle.program_files.specs.Files.{Giving, HasImage, HasInput, HasRules, NoImage, NoInput, NoRules, Streams, Untouched}
+use Rattle.program_files.specs.Files.{Giving, HasImage, HasInput, HasRules, NoImage, NoInput, NoRules, Streams}
+use Rattle.program_files.specs.Files.{Untouched}
 use Rattle.command_line.specs.declared.order.Order.{Order}
 use Rattle.guest_elf.specs.File.{IsImageOf, refusal, early_refusal}
 use Rattle.guest_elf.specs.declared.fault.ElfFault.{ElfFault}

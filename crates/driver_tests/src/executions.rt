@@ -289,9 +289,17 @@ const RUNS: [Case; 8] = [
 #[test]
 fn programs_are_executed(rt: HostRuntime) {
     for case in &STOPS {
-        assert!(rt; matches!(is_executed(rt.alloc(), case), Ok(true)), "{}", case.label);
+        assert!(rt;
+            matches!(is_executed(rt.alloc(), case), Ok(true)),
+            "{}",
+            case.label
+        );
     }
     for case in &RUNS {
-        assert!(rt; matches!(is_executed(rt.alloc(), case), Ok(true)), "{}", case.label);
+        assert!(rt;
+            matches!(is_executed(rt.alloc(), case), Ok(true)),
+            "{}",
+            case.label
+        );
     }
 }

@@ -1,6 +1,8 @@
--- How `exec` ends: its exit statuses leave those of programs to the program that it runs, and are those of a shell and of
+-- How `exec` ends: its exit statuses leave those of programs to the program that it runs, and are those of a shell
+-- and of
 -- env(1) and timeout(1) else.
-use Rattle.std.specs.Prelude.{ℕ, ◌+◌, ◌%◌, ◌==◌, ◌&&◌, Bool, true, false, if◌then◌else◌, List, [], ◌++◌, Option, Some, None}
+use Rattle.std.specs.Prelude.{ℕ, ◌+◌, ◌%◌, ◌==◌, ◌&&◌, Bool, true, false, if◌then◌else◌, List, [], ◌++◌, Option, Some}
+use Rattle.std.specs.Prelude.{None}
 use Rattle.std.specs.Prelude.{codes, decimal, is_some, nat_lt}
 use Rattle.guest_elf.specs.declared.fault.ElfFault.TheVariants.{Memory}
 use Rattle.run_values.specs.declared.status.Status.{Status}
@@ -20,7 +22,8 @@ use Rattle.suppressions.specs.declared.fault.SuppFault.TheVariants as Supp
 
 -- ---- a run
 
--- a program that stops has the status that a shell gives for the signal (signal(7) of Linux): SIGILL 4, SIGTRAP 5, SIGBUS
+-- a program that stops has the status that a shell gives for the signal (signal(7) of Linux): SIGILL 4, SIGTRAP 5,
+-- SIGBUS
 -- 7, SIGSEGV 11
 abbrev pub stop_status : Stop → ℕ
 stop_status Illegal = 128 + 4
@@ -77,13 +80,17 @@ exec_status (ReportInPlace path) = 125
 exec_status (PatchRefused text) = 126
 exec_status (Ran codes outcome) = run_status codes outcome
 
--- what is said on standard error of a run: that it still runs, unless a status was chosen for where it rests; and how many
+-- what is said on standard error of a run: that it still runs, unless a status was chosen for where it rests; and
+-- how many
 -- `write`s found no room
 abbrev pub running_line : ℕ → List ℕ
 running_line step = line_with (codes "replaycheck exec: still running at step ") (decimal step)
 
 abbrev pub lost_line : ℕ → List ℕ
-lost_line lost = line_with (codes "replaycheck exec: 65536 bytes of output are all there is room for; writes refused: ") (decimal lost)
+lost_line lost =
+    line_with
+    (codes "replaycheck exec: 65536 bytes of output are all there is room for; writes refused: ")
+    (decimal lost)
 
 abbrev pub standing_lines : Option ℕ → Outcome → Status → List ℕ
 standing_lines idle outcome Running = if is_some idle && outcome.idles then [] else running_line outcome.step
@@ -97,6 +104,7 @@ abbrev pub exec_lines : ExecEnd → List ℕ
 exec_lines (Early end) = line_of end
 exec_lines (BadPatch text) = line_with (codes "replaycheck exec: not ADDR=WORD: --patch ") text.now
 exec_lines (BadKinds text) = line_with (codes "replaycheck exec: no list of leak kinds: ") text.now
-exec_lines (ReportInPlace path) = line_with (codes "replaycheck exec: the report would replace a file that is read: ") path.now
+exec_lines (ReportInPlace path) =
+    line_with (codes "replaycheck exec: the report would replace a file that is read: ") path.now
 exec_lines (PatchRefused text) = line_with (codes "replaycheck exec: patch refused 4: ") text.now
 exec_lines (Ran codes outcome) = run_lines codes outcome

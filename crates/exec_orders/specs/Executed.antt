@@ -100,7 +100,8 @@ IsFault end = (end ≡ Early CannotWrite) ⊎ (end ≡ Early NoMemory)
 
 -- ---- the input
 
--- it is as it was given, and a run with an empty one that may wait for more never asks for more; or, if the run asks for
+-- it is as it was given, and a run with an empty one that may wait for more never asks for more; or, if the run asks
+-- for
 -- more, it is all of standard input
 abbrev pub HasInputOf : Bool → Option (List ℕ) → Option (List ℕ) → Scenario → Scenario → Type 0
 HasInputOf waits left rest sc done =
@@ -133,12 +134,12 @@ pub record HasRun (waits : Bool) (sc : Scenario) (old new : Option (List ℕ)) (
 
 -- and one with its input to the last step
 pub record HasRunAll (waits : Bool) (sc done : Scenario) (left rest old new : Option (List ℕ)) (e : Execution) : Type 0
-    where
-  pub input : HasInputOf waits left rest sc done
-  pub at : IsAt e done
-  pub last : step_of e ≡ done.step
-  pub output : WritesOutput done old new
-  pub marks : done.marks ≡ []
+  where
+    pub input : HasInputOf waits left rest sc done
+    pub at : IsAt e done
+    pub last : step_of e ≡ done.step
+    pub output : WritesOutput done old new
+    pub marks : done.marks ≡ []
 
 -- ---- all of it
 

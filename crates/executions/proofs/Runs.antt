@@ -4,7 +4,8 @@ use Rattle.std.proofs.Common.{◌++◌, length, append-nil, append_assoc, refl, 
 use Rattle.guest_machine.specs.State.{State}
 use Rattle.guest_machine.specs.Exec.{exec}
 use Rattle.guest_machine.specs.Run.{pre, after_marks}
-use Rattle.guest_machine.specs.Streams.{calls_out, row_at, refused_writes, refuses_write, IsQuietFor, Rests, SameStreams}
+use Rattle.guest_machine.specs.Streams.{calls_out, row_at, refused_writes, refuses_write, IsQuietFor, Rests}
+use Rattle.guest_machine.specs.Streams.{SameStreams}
 use Rattle.guest_machine.specs.Streams.{OnlyCallsSpeak, StaysAtRest}
 use Rattle.guest_machine.specs.declared.setup.Setup.{Setup}
 
@@ -77,16 +78,19 @@ module _ (law : OnlyCallsSpeak) (start : State) (setup : Setup) (n : ℕ) where
             (subst (λ t. SameStreams (pre start setup [] n) t) (sym (one-more start setup (n + k)))
             (same-on _ _ _ before.same step.0));
         refused = ap (refused_writes start setup) (sym next) ∙ one-refused start setup (n + k)
-            ∙ ap (λ b. refused_writes start setup (n + k) + cond b 1 0) step.1 ∙ add-zero (refused_writes start setup (n + k))
+            ∙ ap (λ b. refused_writes start setup (n + k) + cond b 1 0) step.1
+            ∙ add-zero (refused_writes start setup (n + k))
             ∙ before.refused;
       }
 
   -- of a run from there
   pub silence-of : (k : ℕ) → IsQuietFor (pre start setup [] n) setup k → Silence start setup n k
-  silence-of k quiet = silence k (λ i less. ap (λ s. calls_out (row_at s setup)) (sym (joined start setup n i)) ∙ quiet i less)
+  silence-of k quiet = silence k (λ i less. ap (λ s. calls_out (row_at s setup)) (sym (joined start setup n i))
+      ∙ quiet i less)
 
   -- a state at rest stays
-  resting : StaysAtRest → Rests (pre start setup [] n) setup → (k : ℕ) → pre start setup [] (n + k) ≡ pre start setup [] n
+  resting : StaysAtRest → Rests (pre start setup [] n) setup → (k : ℕ) → pre start setup [] (n + k)
+      ≡ pre start setup [] n
   resting rest h zero = ap (pre start setup []) (add-zero n)
   resting rest h (suc k) =
       let next : n + suc k ≡ suc (n + k) = omega arith in
@@ -95,7 +99,8 @@ module _ (law : OnlyCallsSpeak) (start : State) (setup : Setup) (n : ℕ) where
       ∙ (rest setup (pre start setup [] n) h).0
 
   pub rests-on : StaysAtRest → Rests (pre start setup [] n) setup → (k : ℕ)
-      → (pre start setup [] (n + k) ≡ pre start setup [] n) × (refused_writes start setup (n + k) ≡ refused_writes start setup n)
+      → (pre start setup [] (n + k) ≡ pre start setup [] n) × (refused_writes start setup (n + k)
+      ≡ refused_writes start setup n)
   rests-on rest h k = (
     resting rest h k,
     (silence k (λ i less. ap (λ s. calls_out (row_at s setup)) (resting rest h i)

@@ -1,6 +1,7 @@
 -- An execution from one step to another.
 use Rattle.std.proofs.Common.{◌≡◌, ◌⊎◌, inl, inr, ℕ, zero, suc, ◌+◌, ◌-◌, ◌<◌, ◌≤◌, Bool, true, false, cond, List, []}
-use Rattle.std.proofs.Common.{◌∷◌, ◌++◌, length, append-nil, append_assoc, Option, Some, None, take, refl, ap, sym, subst}
+use Rattle.std.proofs.Common.{◌∷◌, ◌++◌, length, append-nil, append_assoc, Option, Some, None, take, refl, ap, sym}
+use Rattle.std.proofs.Common.{subst}
 use Rattle.std.proofs.Common.{◌∙◌, arith, length-append}
 use Rattle.std.proofs.Common.{zero-add}
 use Rattle.std.proofs.Math.Nat.{suc-add}
@@ -13,7 +14,8 @@ use Rattle.guest_machine.specs.State.{State}
 use Rattle.guest_machine.specs.Exec.{exec}
 use Rattle.guest_machine.specs.Run.{pre}
 use Rattle.guest_machine.specs.Shows.{Shows}
-use Rattle.guest_machine.specs.Streams.{refuses_write, refused_writes, row_at, HasMore, IsQuietFor, KeepsFront, OnlyCallsSpeak}
+use Rattle.guest_machine.specs.Streams.{refuses_write, refused_writes, row_at, HasMore, IsQuietFor, KeepsFront}
+use Rattle.guest_machine.specs.Streams.{OnlyCallsSpeak}
 use Rattle.guest_machine.specs.Streams.{Rests, SameStreams, StaysAtRest, WritesWhatItReads, bytes_over, sees_end}
 use Rattle.guest_machine.specs.Exec.{seen_also, touched_of}
 use Rattle.std.proofs.Common.{Result, Ok, Err, IfErr}
@@ -27,7 +29,8 @@ use Rattle.guest_machine.specs.Laws.{EndStays}
 use Rattle.scenario.specs.Edits.{with_input}
 use Rattle.std.proofs.lemmas.Bool.{true≢false}
 use Rattle.executions.specs.declared.execution.Execution.{Execution}
-use Rattle.executions.proofs.Runs.{joined, none-yet, one-more, refused-first, refused-next, rests-on, same-self, silence-of}
+use Rattle.executions.proofs.Runs.{joined, none-yet, one-more, refused-first, refused-next, rests-on, same-self}
+use Rattle.executions.proofs.Runs.{silence-of}
 
 either : (b : Bool) → (b ≡ true) ⊎ (b ≡ false)
 either true = inl refl
@@ -88,11 +91,13 @@ at-rest law rest sc old new was on within kept same h =
 -- ---- what is written
 
 -- nothing, where the output is the same
-pub wrote-none : (sc : Scenario) (from to : ℕ) (held : Option (List ℕ)) → (state_at sc to).output ≡ (state_at sc from).output
+pub wrote-none : (sc : Scenario) (from to : ℕ) (held : Option (List ℕ)) → (state_at sc to).output
+    ≡ (state_at sc from).output
     → Wrote sc from to held held
 wrote-none sc from to held same = ([], same ∙ sym (append-nil (state_at sc from).output), Appends-nil held)
 
-pub wrote-then : (sc : Scenario) (from mid to : ℕ) (a b c : Option (List ℕ)) → Wrote sc from mid a b → Wrote sc mid to b c
+pub wrote-then : (sc : Scenario) (from mid to : ℕ) (a b c : Option (List ℕ)) → Wrote sc from mid a b
+    → Wrote sc mid to b c
     → Wrote sc from to a c
 wrote-then sc from mid to a b c one two = (
   one.0 ++ two.0,
@@ -105,7 +110,8 @@ take-past [] ys n = ap (λ k. take k ys) (zero-add n)
 take-past (x ∷ xs) ys n =
     ap (λ k. take k (x ∷ xs ++ ys)) (suc-add (length xs) n) ∙ ap (λ zs. x ∷ zs) (take-past xs ys n)
 
-pub front-then : (sc : Scenario) (from mid : ℕ) (a b c : Option (List ℕ)) → Wrote sc from mid a b → WroteFront sc mid b c
+pub front-then : (sc : Scenario) (from mid : ℕ) (a b c : Option (List ℕ)) → Wrote sc from mid a b
+    → WroteFront sc mid b c
     → WroteFront sc from a c
 front-then sc from mid a b c one (to, said, sent, within, is, few, writes) = (
   to,
@@ -134,7 +140,8 @@ no-piece : (piece : List ℕ) → length piece ≡ 0 → piece ≡ []
 no-piece [] h = refl
 no-piece (x ∷ xs) h = absurd (omega arith)
 
-kept : (xs ys piece : List ℕ) (Same : Type 0) → (ys ≡ xs) ⊎ ((ys ≡ xs ++ piece) × Same) → length ys ≡ length xs → ys ≡ xs
+kept : (xs ys piece : List ℕ) (Same : Type 0) → (ys ≡ xs) ⊎ ((ys ≡ xs ++ piece) × Same) → length ys ≡ length xs → ys
+    ≡ xs
 kept xs ys piece Same (inl same) h = same
 kept xs ys piece Same (inr said) h =
     let n = length-append xs piece in
@@ -167,33 +174,34 @@ after-one sc n =
 -- ---- more input
 
 module _ (front : KeepsFront) (stays : EndStays) (start : State) (one : Setup) (input : List ℕ) (empty : one.input ≡ [])
-    where
-  more : HasMore one (record one { input = input }) input
-  more = record { redzone = refl; volume = refl; hooks = refl; input = sym (ap (λ xs. xs ++ input) empty) }
+  where
+    more : HasMore one (record one { input = input }) input
+    more = record { redzone = refl; volume = refl; hooks = refl; input = sym (ap (λ xs. xs ++ input) empty) }
 
-  same : (n : ℕ) → (pre start one [] n).end_seen ≡ false → pre start one [] n ≡ pre start (record one { input = input }) [] n
-  same n unseen = front one (record one { input = input }) input start n more unseen
+    same : (n : ℕ) → (pre start one [] n).end_seen ≡ false → pre start one [] n
+        ≡ pre start (record one { input = input }) [] n
+    same n unseen = front one (record one { input = input }) input start n more unseen
 
-  unseen-before : (n : ℕ) → (pre start one [] (suc n)).end_seen ≡ false → (pre start one [] n).end_seen ≡ false
-  unseen-before n unseen = elim (either (pre start one [] n).end_seen) [
-    | inl seen ↦ absurd (true≢false (sym (stays one (pre start one [] n) seen)
-        ∙ sym (ap (λ s. s.end_seen) (one-more start one n)) ∙ unseen))
-    | inr before ↦ before
-  ]
+    unseen-before : (n : ℕ) → (pre start one [] (suc n)).end_seen ≡ false → (pre start one [] n).end_seen ≡ false
+    unseen-before n unseen = elim (either (pre start one [] n).end_seen) [
+      | inl seen ↦ absurd (true≢false (sym (stays one (pre start one [] n) seen)
+          ∙ sym (ap (λ s. s.end_seen) (one-more start one n)) ∙ unseen))
+      | inr before ↦ before
+    ]
 
-  refused-same : (n : ℕ) → (pre start one [] n).end_seen ≡ false
-      → refused_writes start one n ≡ refused_writes start (record one { input = input }) n
-  unfolding refuses_write row_at
-  refused-same zero unseen = refused-first start one ∙ sym (refused-first start (record one { input = input }))
-  refused-same (suc n) unseen =
-      let before = unseen-before n unseen in
-      let refuses = refuses_write (pre start one [] n) one in
-      let next : suc n ≡ n + 1 = omega arith in
-      ap (refused_writes start one) next ∙ refused-next start one n refuses refl
-      ∙ ap (λ m. m + cond refuses 1 0) (refused-same n before)
-      ∙ sym (refused-next start (record one { input = input }) n refuses
-      (ap (λ s. refuses_write s one) (same n before)))
-      ∙ ap (refused_writes start (record one { input = input })) (sym next)
+    refused-same : (n : ℕ) → (pre start one [] n).end_seen ≡ false
+        → refused_writes start one n ≡ refused_writes start (record one { input = input }) n
+    unfolding refuses_write row_at
+    refused-same zero unseen = refused-first start one ∙ sym (refused-first start (record one { input = input }))
+    refused-same (suc n) unseen =
+        let before = unseen-before n unseen in
+        let refuses = refuses_write (pre start one [] n) one in
+        let next : suc n ≡ n + 1 = omega arith in
+        ap (refused_writes start one) next ∙ refused-next start one n refuses refl
+        ∙ ap (λ m. m + cond refuses 1 0) (refused-same n before)
+        ∙ sym (refused-next start (record one { input = input }) n refuses
+        (ap (λ s. refuses_write s one) (same n before)))
+        ∙ ap (refused_writes start (record one { input = input })) (sym next)
 
 pub moves-on : KeepsFront → EndStays → MovesOn
 unfolding first_state
@@ -243,7 +251,8 @@ module _ (law : WritesWhatItReads) (sc : Scenario) (n before after : ℕ) (was :
       ∙ sym (append-nil s.output)
 
 -- it leaves the end unseen, where it doesn't see it
-pub unseen-after : (sc : Scenario) (n : ℕ) → (state_at sc n).end_seen ≡ false → sees_end (state_at sc n) sc.setup ≡ false
+pub unseen-after : (sc : Scenario) (n : ℕ) → (state_at sc n).end_seen ≡ false → sees_end (state_at sc n) sc.setup
+    ≡ false
     → (state_at sc (n + 1)).end_seen ≡ false
 unfolding exec sees_end
 unseen-after sc n unseen sees =

@@ -1,5 +1,6 @@
 -- A state that rests in a jump to itself stays as it is.
-use Rattle.std.proofs.Common.{◌≡◌, ◌⊎◌, inl, inr, ℕ, ◌+◌, ◌%◌, ◌^◌, ◌<◌, ◌&&◌, ◌==◌, nat_eq, nat_lt, Bool, true, false, cond, List, [], ◌∷◌}
+use Rattle.std.proofs.Common.{◌≡◌, ◌⊎◌, inl, inr, ℕ, ◌+◌, ◌%◌, ◌^◌, ◌<◌, ◌&&◌, ◌==◌, nat_eq, nat_lt, Bool, true}
+use Rattle.std.proofs.Common.{false, cond, List, [], ◌∷◌}
 use Rattle.std.proofs.Common.{◌++◌, length, append-nil, Option, Some, None, refl, ap, ap₂, sym, subst, ◌∙◌, arith}
 use Rattle.std.proofs.Common.{add-zero}
 use Rattle.std.proofs.lemmas.Bool.Decides.{nat_tests}
@@ -19,8 +20,10 @@ use Rattle.guest_machine.specs.Registers.{known, register, set_register}
 use Rattle.guest_machine.specs.StackPointer.{framed, stack_moved, stack_ruled}
 use Rattle.shadow_memory.specs.declared.cells.RangeKind.TheVariants.{NoAccess, Undefined}
 use Rattle.run_values.specs.declared.status.Stop.TheVariants.{Misaligned}
-use Rattle.guest_machine.specs.Exec.{Deed, Takes, CallsByName, Halts, Terms, deed_at, deed_by, deed_terms, exec, outcome}
-use Rattle.guest_machine.specs.Exec.{called_here, fetched, fetches, intake_at, intake_of, left_at, deed_asks, is_aligned}
+use Rattle.guest_machine.specs.Exec.{Deed, Takes, CallsByName, Halts, Terms, deed_at, deed_by, deed_terms, exec}
+use Rattle.guest_machine.specs.Exec.{outcome}
+use Rattle.guest_machine.specs.Exec.{called_here, fetched, fetches, intake_at, intake_of, left_at, deed_asks}
+use Rattle.guest_machine.specs.Exec.{is_aligned}
 use Rattle.guest_machine.specs.Exec.{given_at, taken_from, plan, row_asks, row_effect, row_uses, uses_at, effect_at}
 use Rattle.guest_machine.specs.Exec.{is_heap_deed, calls_heap, counted, is_running, rounded, seen_also, terms_of}
 use Rattle.guest_machine.specs.Exec.{written_to}
@@ -74,7 +77,8 @@ stack-stands core = stands _ core (register core 2).value
 
 -- ---- the jump
 
-jumps-here : (core : Core) → core.pc < 2 ^ 32 → core.pc % 4 ≡ 0 → linked_jump core (jal_hint 0) 0 ((core.pc + 0) % 2 ^ 32) ≡ core
+jumps-here : (core : Core) → core.pc < 2 ^ 32 → core.pc % 4 ≡ 0
+    → linked_jump core (jal_hint 0) 0 ((core.pc + 0) % 2 ^ 32) ≡ core
 unfolding linked_jump set_register hinted hint_by
 jumps-here core small multiple =
     let here : (core.pc + 0) % 2 ^ 32 ≡ core.pc = omega (arith, small) in

@@ -17,7 +17,8 @@ use Rattle.error_events.specs.declared.parameter.Parameter.TheVariants.{ReadBuff
 use Rattle.run_values.specs.declared.status.Stop.TheVariants.{Misaligned}
 use Rattle.guest_machine.specs.Errors.{buffer_errors}
 use Rattle.guest_machine.specs.Effects.{Effect, advanced, no_bytes, quiet, stops, stored_core}
-use Rattle.guest_machine.specs.Calls.{answered, argument, answers, appends, bytes_taken, call_at, is_output, moved_len, failure}
+use Rattle.guest_machine.specs.Calls.{answered, argument, answers, appends, bytes_taken, call_at, is_output}
+use Rattle.guest_machine.specs.Calls.{moved_len, failure}
 use Rattle.guest_machine.specs.Calls.{call_errors, call_tested, ebadf, enospc}
 use Rattle.guest_machine.specs.Calls.{read_call, write_call, output_room}
 use Rattle.guest_machine.specs.HeapCalls.{heap_work}
@@ -144,7 +145,8 @@ call-spoken : (core : Core) (call : EnvironmentCall) (terms : Terms) (given : Li
     (call_effect core call terms given (taken_from bytes (call_uses core call terms).reads)).output
 unfolding call_effect call_uses Spoken read_call write_call appends reads-in writes-from
 call-spoken core Read terms given bytes =
-    inl (of-two (argument core 10 == 0) (reads-in core terms.intake.count given) (answers core Read (failure ebadf)) refl
+    inl (of-two (argument core 10 == 0) (reads-in core terms.intake.count given) (answers core Read (failure ebadf))
+    refl
     refl)
 call-spoken core Write terms given bytes =
     write-spoken (is_output (argument core 10)) (nat_le (terms.written + moved_len core) output_room) bytes

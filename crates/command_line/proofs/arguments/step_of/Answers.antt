@@ -5,4 +5,5 @@ use Rattle.command_line.proofs.arguments.step_of.Goals as goal
 
 pub returns : goal.returns
 returns c =
-    is-number (found_of c.args.chosen.now) (codes "step") c.get_one.result c.get_one.ensures.none c.get_one.ensures.value
+    is-number (found_of c.args.chosen.now) (codes "step") c.get_one.result c.get_one.ensures.none
+    c.get_one.ensures.value

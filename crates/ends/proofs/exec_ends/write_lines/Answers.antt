@@ -7,54 +7,70 @@ use Rattle.ends.proofs.exec_ends.write_lines.Goals as goal
 pub returns-in-BadPatch-clause-line : goal.returns-in-BadPatch-clause-line
 returns-in-BadPatch-clause-line g c =
     line-front (g.W.Write.contents c.args.writer.now) (g.W.Write.contents c.send_line.new.writer)
-    (codes "replaycheck exec: not ADDR=WORD: --patch ") c.as_bytes.result.now c.in-BadPatch.text.now
-    (exec_lines c.args.end) c.as_bytes.ensures.value (ap exec_lines (sym c.in-BadPatch.is)) c.send_line.ensures.front
+    (codes "replaycheck exec: not ADDR=WORD: --patch ")
+    c.as_bytes.result.now c.in-BadPatch.text.now (exec_lines c.args.end)
+    c.as_bytes.ensures.value (ap exec_lines (sym c.in-BadPatch.is))
+    c.send_line.ensures.front
 
 pub returns-in-BadPatch-clause-whole : goal.returns-in-BadPatch-clause-whole
 returns-in-BadPatch-clause-whole g c =
     line-whole (IsTrue c.send_line.result) (g.W.Write.contents c.args.writer.now)
-    (g.W.Write.contents c.send_line.new.writer) (codes "replaycheck exec: not ADDR=WORD: --patch ")
-    c.as_bytes.result.now c.in-BadPatch.text.now (exec_lines c.args.end) c.as_bytes.ensures.value
-    (ap exec_lines (sym c.in-BadPatch.is)) c.send_line.ensures.whole
+    (g.W.Write.contents c.send_line.new.writer)
+    (codes "replaycheck exec: not ADDR=WORD: --patch ")
+    c.as_bytes.result.now c.in-BadPatch.text.now (exec_lines c.args.end)
+    c.as_bytes.ensures.value (ap exec_lines (sym c.in-BadPatch.is))
+    c.send_line.ensures.whole
 
 pub returns-in-BadKinds-clause-line : goal.returns-in-BadKinds-clause-line
 returns-in-BadKinds-clause-line g c =
     line-front (g.W.Write.contents c.args.writer.now) (g.W.Write.contents c.send_line-in-BadKinds.new.writer)
-    (codes "replaycheck exec: no list of leak kinds: ") c.as_bytes-in-BadKinds.result.now c.in-BadKinds.text.now
-    (exec_lines c.args.end) c.as_bytes-in-BadKinds.ensures.value (ap exec_lines (sym c.in-BadKinds.is)) c.send_line-in-BadKinds.ensures.front
+    (codes "replaycheck exec: no list of leak kinds: ")
+    c.as_bytes-in-BadKinds.result.now c.in-BadKinds.text.now (exec_lines c.args.end)
+    c.as_bytes-in-BadKinds.ensures.value (ap exec_lines (sym c.in-BadKinds.is))
+    c.send_line-in-BadKinds.ensures.front
 
 pub returns-in-BadKinds-clause-whole : goal.returns-in-BadKinds-clause-whole
 returns-in-BadKinds-clause-whole g c =
     line-whole (IsTrue c.send_line-in-BadKinds.result) (g.W.Write.contents c.args.writer.now)
-    (g.W.Write.contents c.send_line-in-BadKinds.new.writer) (codes "replaycheck exec: no list of leak kinds: ")
-    c.as_bytes-in-BadKinds.result.now c.in-BadKinds.text.now (exec_lines c.args.end) c.as_bytes-in-BadKinds.ensures.value
-    (ap exec_lines (sym c.in-BadKinds.is)) c.send_line-in-BadKinds.ensures.whole
+    (g.W.Write.contents c.send_line-in-BadKinds.new.writer)
+    (codes "replaycheck exec: no list of leak kinds: ")
+    c.as_bytes-in-BadKinds.result.now c.in-BadKinds.text.now (exec_lines c.args.end)
+    c.as_bytes-in-BadKinds.ensures.value (ap exec_lines (sym c.in-BadKinds.is))
+    c.send_line-in-BadKinds.ensures.whole
 
 pub returns-in-ReportInPlace-clause-line : goal.returns-in-ReportInPlace-clause-line
 returns-in-ReportInPlace-clause-line g c =
     line-front (g.W.Write.contents c.args.writer.now) (g.W.Write.contents c.send_line-in-ReportInPlace.new.writer)
-    (codes "replaycheck exec: the report would replace a file that is read: ") c.as_bytes-in-ReportInPlace.result.now c.in-ReportInPlace.path.now
-    (exec_lines c.args.end) c.as_bytes-in-ReportInPlace.ensures.value (ap exec_lines (sym c.in-ReportInPlace.is)) c.send_line-in-ReportInPlace.ensures.front
+    (codes "replaycheck exec: the report would replace a file that is read: ")
+    c.as_bytes-in-ReportInPlace.result.now c.in-ReportInPlace.path.now (exec_lines c.args.end)
+    c.as_bytes-in-ReportInPlace.ensures.value (ap exec_lines (sym c.in-ReportInPlace.is))
+    c.send_line-in-ReportInPlace.ensures.front
 
 pub returns-in-ReportInPlace-clause-whole : goal.returns-in-ReportInPlace-clause-whole
 returns-in-ReportInPlace-clause-whole g c =
     line-whole (IsTrue c.send_line-in-ReportInPlace.result) (g.W.Write.contents c.args.writer.now)
-    (g.W.Write.contents c.send_line-in-ReportInPlace.new.writer) (codes "replaycheck exec: the report would replace a file that is read: ")
-    c.as_bytes-in-ReportInPlace.result.now c.in-ReportInPlace.path.now (exec_lines c.args.end) c.as_bytes-in-ReportInPlace.ensures.value
-    (ap exec_lines (sym c.in-ReportInPlace.is)) c.send_line-in-ReportInPlace.ensures.whole
+    (g.W.Write.contents c.send_line-in-ReportInPlace.new.writer)
+    (codes "replaycheck exec: the report would replace a file that is read: ")
+    c.as_bytes-in-ReportInPlace.result.now c.in-ReportInPlace.path.now (exec_lines c.args.end)
+    c.as_bytes-in-ReportInPlace.ensures.value (ap exec_lines (sym c.in-ReportInPlace.is))
+    c.send_line-in-ReportInPlace.ensures.whole
 
 pub returns-in-PatchRefused-clause-line : goal.returns-in-PatchRefused-clause-line
 returns-in-PatchRefused-clause-line g c =
     line-front (g.W.Write.contents c.args.writer.now) (g.W.Write.contents c.send_line-in-PatchRefused.new.writer)
-    (codes "replaycheck exec: patch refused 4: ") c.as_bytes-in-PatchRefused.result.now c.in-PatchRefused.text.now
-    (exec_lines c.args.end) c.as_bytes-in-PatchRefused.ensures.value (ap exec_lines (sym c.in-PatchRefused.is)) c.send_line-in-PatchRefused.ensures.front
+    (codes "replaycheck exec: patch refused 4: ")
+    c.as_bytes-in-PatchRefused.result.now c.in-PatchRefused.text.now (exec_lines c.args.end)
+    c.as_bytes-in-PatchRefused.ensures.value (ap exec_lines (sym c.in-PatchRefused.is))
+    c.send_line-in-PatchRefused.ensures.front
 
 pub returns-in-PatchRefused-clause-whole : goal.returns-in-PatchRefused-clause-whole
 returns-in-PatchRefused-clause-whole g c =
     line-whole (IsTrue c.send_line-in-PatchRefused.result) (g.W.Write.contents c.args.writer.now)
-    (g.W.Write.contents c.send_line-in-PatchRefused.new.writer) (codes "replaycheck exec: patch refused 4: ")
-    c.as_bytes-in-PatchRefused.result.now c.in-PatchRefused.text.now (exec_lines c.args.end) c.as_bytes-in-PatchRefused.ensures.value
-    (ap exec_lines (sym c.in-PatchRefused.is)) c.send_line-in-PatchRefused.ensures.whole
+    (g.W.Write.contents c.send_line-in-PatchRefused.new.writer)
+    (codes "replaycheck exec: patch refused 4: ")
+    c.as_bytes-in-PatchRefused.result.now c.in-PatchRefused.text.now (exec_lines c.args.end)
+    c.as_bytes-in-PatchRefused.ensures.value (ap exec_lines (sym c.in-PatchRefused.is))
+    c.send_line-in-PatchRefused.ensures.whole
 
 pub returns-in-Ran-clause-whole : goal.returns-in-Ran-clause-whole
 returns-in-Ran-clause-whole g c whole =

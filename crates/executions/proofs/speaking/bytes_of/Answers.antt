@@ -12,7 +12,8 @@ loop-i-preserved c =
       bytes =
           c.in_ok-push.ensures.items
           ∙ ap₂ (λ (xs : List ℕ) b. xs ++ b ∷ []) c.loop-i.invariant.bytes
-          (c.byte.ensures.byte ∙ sym (in-window (bytes_in c.args.memory.now) c.args.range.start c.args.range.len c.loop-i.i
+          (c.byte.ensures.byte
+          ∙ sym (in-window (bytes_in c.args.memory.now) c.args.range.start c.args.range.len c.loop-i.i
           (omega (arith, c.loop-i-test.true, c.loop-i.auto.i-end))))
           ∙ sym (map-range_with_len_more f 0 c.loop-i.i c.loop-i.i (omega arith));
     }

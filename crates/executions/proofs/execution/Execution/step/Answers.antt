@@ -9,11 +9,18 @@ use Rattle.guest_machine.specs.declared.setup.Setup.{Setup}
 use Rattle.shadow_memory.specs.Memories.{bytes_in}
 use Rattle.executions.specs.Executions.{state_at, step_of, WroteFront}
 use Rattle.executions.proofs.Steps.{front-none, if-err, said-nothing, said-piece, stepped}
-use Rattle.executions.proofs.execution.Execution.step.Goals.{then-output_len-written+in_ok-speak, else-output_len-written}
+use Rattle.executions.proofs.execution.Execution.step.Goals.{then-output_len-written+in_ok-speak}
+use Rattle.executions.proofs.execution.Execution.step.Goals.{else-output_len-written}
 use Rattle.executions.proofs.execution.Execution.step.Goals as goal
 
 pub counted-refused-requires : goal.counted-refused-requires
-counted-refused-requires g c = omega (arith, c.args.self.few, c.requires.before, c.step-last.ensures, c.step-last.type_inv)
+counted-refused-requires g c = omega (
+  arith,
+  c.args.self.few,
+  c.requires.before,
+  c.step-last.ensures,
+  c.step-last.type_inv,
+)
 
 pub returns-in_err-machine-clause-err : goal.returns-in_err-machine-clause-err
 returns-in_err-machine-clause-err g c =
@@ -72,19 +79,19 @@ returns-clause-ok g c =
     let is = c.output_len.ensures (exec (state_at sc n) sc.setup) shown in
     elim c.if-output_len-written.branch [
       | then-output_len-written+in_ok-speak w ↦ (
-          bytes_over (bytes_in w.memory.result.now) c.in_ok-machine.touched.reads,
-          said-piece c.writes_what_it_reads.ensures sc n c.output_len-written.result c.output_len.result was is
-              w.if-output_len-written.true c.in_ok-machine.touched.reads (ap (λ t. t.reads) touched)
-              (bytes_in w.memory.result.now) (w.memory.ensures.bytes (exec (state_at sc n) sc.setup) shown),
-          subst (λ (writer : _). Appends (g.W.Write.contents c.args.writer.now) (g.W.Write.contents writer)
-              (bytes_over (bytes_in w.memory.result.now) c.in_ok-machine.touched.reads)) (sym w.writer-is)
-              w.in_ok-speak.ensures.ok,
-        )
+        bytes_over (bytes_in w.memory.result.now) c.in_ok-machine.touched.reads,
+        said-piece c.writes_what_it_reads.ensures sc n c.output_len-written.result c.output_len.result was is
+            w.if-output_len-written.true c.in_ok-machine.touched.reads (ap (λ t. t.reads) touched)
+            (bytes_in w.memory.result.now) (w.memory.ensures.bytes (exec (state_at sc n) sc.setup) shown),
+        subst (λ (writer : _). Appends (g.W.Write.contents c.args.writer.now) (g.W.Write.contents writer)
+            (bytes_over (bytes_in w.memory.result.now) c.in_ok-machine.touched.reads)) (sym w.writer-is)
+            w.in_ok-speak.ensures.ok,
+      )
       | else-output_len-written w ↦ (
-          [],
-          said-nothing c.writes_what_it_reads.ensures sc n c.output_len-written.result c.output_len.result was is
-              w.if-output_len-written.false,
-          subst (λ (writer : _). Appends (g.W.Write.contents c.args.writer.now) (g.W.Write.contents writer) [])
-              (sym w.writer-is) (Appends-nil (g.W.Write.contents c.args.writer.now)),
-        )
+        [],
+        said-nothing c.writes_what_it_reads.ensures sc n c.output_len-written.result c.output_len.result was is
+            w.if-output_len-written.false,
+        subst (λ (writer : _). Appends (g.W.Write.contents c.args.writer.now) (g.W.Write.contents writer) [])
+            (sym w.writer-is) (Appends-nil (g.W.Write.contents c.args.writer.now)),
+      )
     ]

@@ -4,7 +4,8 @@ use Rattle.guest_machine.specs.Streams.{sees_end}
 use Rattle.guest_machine.specs.declared.setup.Setup.{Setup}
 use Rattle.executions.specs.Executions.{state_at, step_of}
 use Rattle.executions.proofs.Steps.{front-none, front-silently, if-err, unseen-after}
-use Rattle.executions.proofs.execution.Execution.turn.Goals.{else-waits-via-then-waits+else-sees_end, else-waits-via-else-waits}
+use Rattle.executions.proofs.execution.Execution.turn.Goals.{else-waits-via-then-waits+else-sees_end}
+use Rattle.executions.proofs.execution.Execution.turn.Goals.{else-waits-via-else-waits}
 use Rattle.executions.proofs.execution.Execution.turn.Goals as goal
 
 pub returns-in_err-quiet-clause-err : goal.returns-in_err-quiet-clause-err
