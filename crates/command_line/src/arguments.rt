@@ -2,9 +2,8 @@
 ghost use Rattle.std.specs.Prelude.{◌≡◌, IfErr, IfOk, IfSome, IsSomeAnd, false, map, string_bytes, true};
 ghost use Rattle.clap.specs.Words.{FailsBy, app_of, fault_of, found_of, kind_of, rows_of, rule_of, subcommand_rows_of, takes};
 ghost use Rattle.clap.specs.declared.builder.command.Command.TheViews.{out-Command};
-ghost use Rattle.command_line.specs.Orders.{IsOrderFor, IsOrderOf, IsStepOf, IsSweepOf, IsTaskOf, certify_command, command_line, default_option, file_argument, input_command, option, output_flag, program_command, run_command, step_option, sweep_command, sweep_of_bytes, with_certify, with_look, with_run, with_session, with_sweep};
+ghost use Rattle.command_line.specs.Orders.{IsOrderFor, IsOrderOf, IsStepOf, IsSweepOf, IsTaskOf, certify_command, command_line, default_option, file_argument, input_command, option, output_flag, program_command, run_command, step_option, sweep_command, sweep_of_bytes, with_look, with_run, with_session, with_sweep};
 
-use crate::exec::{exec_command, exec_of};
 use crate::help::{
     ABOUT, AFTER_CERTIFY, AFTER_LOOK, AFTER_RUN, AFTER_SESSION, AFTER_SWEEP, CERTIFY, LOOK, RUN,
     SESSION, SWEEP,
@@ -28,7 +27,7 @@ fn file_argument<'a>(alloc: Global) -> Arg<'a>
 }
 
 /// An option with a value, under its long name.
-pub(crate) fn option<'a>(alloc: Global, name: &'a str, value: &'a str, help: &'a str) -> Arg<'a>
+fn option<'a>(alloc: Global, name: &'a str, value: &'a str, help: &'a str) -> Arg<'a>
     ensures rule { rule_of result ≡ option name.entry.now }
     ensures local { result.global ≡ false }
 {
@@ -55,7 +54,7 @@ fn input_command<'a>(
 }
 
 /// A command on a program, with an input and suppressions.
-pub(crate) fn program_command<'a>(
+fn program_command<'a>(
     alloc: Global,
     name: &'a str,
     about: &'a str,
@@ -117,7 +116,7 @@ fn with_look<'a>(alloc: Global) -> Result<Command<'a>, AllocError>
 }
 
 /// An option with a value, and a default for it.
-pub(crate) fn default_option<'a>(
+fn default_option<'a>(
     alloc: Global,
     name: &'a str,
     value: &'a str,
@@ -184,20 +183,12 @@ fn certify_command<'a>(alloc: Global) -> Result<Command<'a>, AllocError>
     input_command(alloc, "certify", CERTIFY, AFTER_CERTIFY)?.arg(step_argument(alloc))
 }
 
-/// The command line with `run`, `session`, `look`, `sweep` and `certify`.
-fn with_certify<'a>(alloc: Global) -> Result<Command<'a>, AllocError>
-    ensures { IfOk result (λ command. app_of command ≡ with_certify) }
-{
-    let certify = certify_command(alloc)?;
-    with_sweep(alloc)?.subcommand(certify)
-}
-
 /// The whole command line.
 fn make_command<'a>(alloc: Global) -> Result<Command<'a>, AllocError>
     ensures { IfOk result (λ command. app_of command ≡ command_line) }
 {
-    let exec = exec_command(alloc)?;
-    with_certify(alloc)?.subcommand(exec)
+    let certify = certify_command(alloc)?;
+    with_sweep(alloc)?.subcommand(certify)
 }
 
 /// Reads the arguments of a command line, the program's name first. Help and the version are errors whose text goes to standard output.
@@ -219,7 +210,7 @@ pub fn read_order<'a>(alloc: Global, words: &'a [String]) -> Result<Order<'a>, E
 }
 
 /// The step of what was found for the arguments of `run`.
-pub(crate) fn step_of(chosen: &ArgMatches<'_>) -> Option<u32>
+fn step_of(chosen: &ArgMatches<'_>) -> Option<u32>
     ensures { IfSome result (IsStepOf (rows_of (found_of chosen.now))) }
 {
     chosen.get_one::<u32>("step")
@@ -252,8 +243,6 @@ fn task_of<'a>(name: &str, chosen: &ArgMatches<'a>) -> Option<Task<'a>>
         Some(Task::Look)
     } else if name == "certify" {
         Some(Task::Certify(step_of(chosen)?))
-    } else if name == "exec" {
-        Some(Task::Exec(exec_of(chosen)?))
     } else {
         Some(Task::Session)
     }

@@ -24,10 +24,6 @@ pub(crate) const SWEEP: &str =
 pub(crate) const CERTIFY: &str =
     "Says whether what undefined or inaccessible memory holds can change the run";
 
-/// What `exec` does.
-pub(crate) const EXEC: &str =
-    "Runs a program as a test: its output and its exit status, and a report of its errors";
-
 /// A text with the end of the help of each command: statuses, with these for success and these last, and refusals.
 macro_rules! with_statuses {
     ($text:literal, $done:literal, $last:literal) => {
@@ -192,23 +188,3 @@ Example:
     "  5  the run isn't clean
 "
 );
-
-/// What ends the help of `exec`.
-pub(crate) const AFTER_EXEC: &str = "\
-The program's output goes to standard output as it is written, the report at the last step to
-standard error. Without --input the program reads standard input, which is only read when the
-program asks for more than it has.
-
-Example, as the command that runs a test:
-  replaycheck exec --quiet --error-exitcode 9 test.elf
-
-Exit status:
-  N    the program's, when it exits
-  N    of --error-exitcode, when it exits and has errors or leaks that count
-  132, 133, 135, 139
-       it stopped: illegal instruction, EBREAK, misaligned address, jump to no memory
-  124  it still runs at the last step; N of --idle-exitcode if it rests in a jump to itself
-  123  it would be 0, but a write found no room: a program has 65536 bytes of output
-  125  a fault of the command line, out of memory, or the output or report can't be written
-  126  the program, the suppressions, the input or a patch is refused
-  127  a file can't be read";

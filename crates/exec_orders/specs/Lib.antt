@@ -1,2 +1,0 @@
-pub mod Prepared
-pub mod Executed
