@@ -6,8 +6,8 @@
 #[cfg(test)]
 mod endings;
 #[cfg(test)]
-mod executions;
-#[cfg(test)]
 mod orders;
+#[cfg(test)]
+mod programs;
 #[cfg(test)]
 mod shelf;
