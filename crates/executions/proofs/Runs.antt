@@ -1,6 +1,6 @@
 -- Runs without marks: parts of them one after another, and what is the same in all of a part.
-use Rattle.std.proofs.Common.{◌≡◌, ◌⊎◌, inl, inr, ℕ, zero, suc, ◌+◌, ◌-◌, ◌<◌, ◌≤◌, Bool, true, false, cond, List, []}
-use Rattle.std.proofs.Common.{◌++◌, length, append-nil, append_assoc, refl, ap, sym, subst, ◌∙◌, arith, add-zero}
+use Rattle.std.proofs.Common.{◌≡◌, ℕ, zero, suc, ◌+◌, ◌<◌, Bool, false, cond, []}
+use Rattle.std.proofs.Common.{refl, ap, sym, subst, ◌∙◌, arith, add-zero}
 use Rattle.guest_machine.specs.State.{State}
 use Rattle.guest_machine.specs.Exec.{exec}
 use Rattle.guest_machine.specs.Run.{pre, after_marks}

@@ -1,6 +1,6 @@
 -- An execution from one step to another.
 use Rattle.std.proofs.Common.{◌≡◌, ◌⊎◌, inl, inr, ℕ, zero, suc, ◌+◌, ◌-◌, ◌<◌, ◌≤◌, Bool, true, false, cond, List, []}
-use Rattle.std.proofs.Common.{◌∷◌, ◌++◌, length, append-nil, append_assoc, Option, Some, None, take, refl, ap, sym}
+use Rattle.std.proofs.Common.{◌∷◌, ◌++◌, length, append-nil, append_assoc, Option, take, refl, ap, sym}
 use Rattle.std.proofs.Common.{subst}
 use Rattle.std.proofs.Common.{◌∙◌, arith, length-append}
 use Rattle.std.proofs.Common.{zero-add}
@@ -23,8 +23,8 @@ use Rattle.guest_machine.specs.declared.machine.Machine.{Machine}
 use Rattle.guest_machine.specs.declared.setup.Setup.{Setup}
 use Rattle.run_values.specs.declared.span.Span.{Span}
 use Rattle.scenario.specs.Scenario.{Scenario, first_state}
-use Rattle.executions.specs.Executions.{state_at, refused_at, step_of, machine_of, refused_of, GoesOn, GoesOnSilently}
-use Rattle.executions.specs.Executions.{IsAt, IsSaid, LeavesEnd, MovesOn, StopsAt, Wrote, WroteFront}
+use Rattle.executions.specs.Executions.{state_at, refused_at, step_of, machine_of, refused_of, GoesOnSilently}
+use Rattle.executions.specs.Executions.{IsAt, IsSaid, MovesOn, Wrote, WroteFront}
 use Rattle.guest_machine.specs.Laws.{EndStays}
 use Rattle.scenario.specs.Edits.{with_input}
 use Rattle.std.proofs.lemmas.Bool.{true≢false}

@@ -7,7 +7,7 @@ use Rattle.guest_machine.specs.Shows.{Shows}
 use Rattle.guest_machine.specs.Streams.{bytes_over, refuses_write}
 use Rattle.guest_machine.specs.declared.setup.Setup.{Setup}
 use Rattle.shadow_memory.specs.Memories.{bytes_in}
-use Rattle.executions.specs.Executions.{state_at, step_of, WroteFront}
+use Rattle.executions.specs.Executions.{state_at, step_of}
 use Rattle.executions.proofs.Steps.{front-none, if-err, said-nothing, said-piece, stepped}
 use Rattle.executions.proofs.execution.Execution.step.Goals.{then-output_len-written+in_ok-speak}
 use Rattle.executions.proofs.execution.Execution.step.Goals.{else-output_len-written}

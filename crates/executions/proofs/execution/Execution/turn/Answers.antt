@@ -1,4 +1,4 @@
-use Rattle.std.proofs.Common.{◌≡◌, ◌∙◌, true, ap, arith, sym, subst, false}
+use Rattle.std.proofs.Common.{◌≡◌, ◌∙◌, ap, arith, sym, subst, false}
 use Rattle.std.proofs.lemmas.Bool.{true≢false}
 use Rattle.guest_machine.specs.Streams.{sees_end}
 use Rattle.guest_machine.specs.declared.setup.Setup.{Setup}
