@@ -95,3 +95,24 @@ pub input-kept : (waits : Bool) (sc : Scenario) (left : Option (List ℕ)) → s
     → (waits ≡ true → (state_at sc sc.step).end_seen ≡ false) → Consumes left left [] → HasInputOf waits left left sc sc
 input-kept waits sc left none unseen kept =
     inl (refl, kept, λ w. ap (λ s. s.end_seen) (chosen-is sc none) ∙ unseen w)
+
+-- a front of the output, up to a step
+pub cut-at : OutputGrows → (sc : Scenario) (n : ℕ) → n ≤ sc.step → (old new : Option (List ℕ)) → sc.marks ≡ []
+    → Appends old new (state_at sc n).output → CutsOutput sc old new
+cut-at grows sc n within old new none wrote =
+    let out = (state_at sc n).output in
+    cut-of grows sc old new none (
+      n,
+      out,
+      length out,
+      within,
+      ap (λ xs. xs ++ out) (sym (first-output sc)),
+      omega arith,
+      subst (Appends old new) (sym (take_all (length out) out (omega arith))) wrote,
+    )
+
+-- one that stops before its last step waits
+pub it-waits : (waits : Bool) (sc : Scenario) (n : ℕ) → StopsAt sc waits n → (n ≡ sc.step → ⊥)
+    → (waits ≡ true) × (n ≤ sc.step)
+it-waits waits sc n (inl last) apart = absurd (apart last)
+it-waits waits sc n (inr (w, before, sees)) apart = (w, omega (arith, before))

@@ -2,7 +2,13 @@
 use Rattle.std.proofs.Common.{◌≡◌, ◌∙◌, ◌⊎◌, inl, inr, ℕ, Bool, true, false, List, [], ◌∷◌, Option, Some, None, refl}
 use Rattle.std.proofs.Common.{ap, sym}
 use Rattle.std.proofs.Common.{subst, Result, Ok, Err, IfOk, IfErr, OnOk}
-use Rattle.std.proofs.KnownBytes.{Appends-nil, Consumes-nil}
+use Rattle.std.proofs.Common.{take}
+use Rattle.std.proofs.KnownBytes.{Appends-nil, Appends-trans, Consumes-nil}
+use Rattle.std.specs.Io.KnownBytes.{Appends}
+use Rattle.ends.specs.declared.ends.End.TheVariants.{CannotWrite, NoMemory}
+use Rattle.ends.specs.declared.exec_ends.Codes.{Codes}
+use Rattle.ends.specs.declared.exec_ends.ExecEnd.TheVariants.{Early, Ran}
+use Rattle.suppressions.specs.declared.leak_kinds.LeakKinds.{LeakKinds}
 use denote.Ref.{Bor}
 use Rattle.commands.specs.Commands.{number}
 use Rattle.commands.specs.declared.edit.Edit.{Edit}
@@ -15,9 +21,10 @@ use Rattle.run_values.specs.declared.mark.Mark.{Mark}
 use Rattle.scenario.specs.Edits.{IsTaken, row}
 use Rattle.scenario.specs.Scenario.{Scenario}
 use Rattle.suppressions.specs.Rules.{Rule}
-use Rattle.exec_orders.specs.Executed.{IsUntouched, pipes}
+use Rattle.exec_orders.specs.Executed.{Executes, Finishes, IsUntouched, pipes}
 use Rattle.exec_orders.specs.Prepared.{IsEdited, IsNoPatch, IsOptionRefused, IsPatched, IsPatchedBy, NoPatch, patch_in}
 use Rattle.exec_orders.specs.Prepared.{patch_of, patch_with}
+use Rattle.text_parts.specs.Parts.{parts}
 
 pub untouched : (left held logged : Option (List ℕ)) → IsUntouched (pipes left held logged) (pipes left held logged)
 untouched left held logged = (Consumes-nil left, Appends-nil held, Appends-nil logged)
@@ -37,6 +44,11 @@ pub weaker-ok : {T E : Type 0} (result : Result T E) (P Q : T → Type 0) → ((
     → IfOk result Q
 weaker-ok (Ok x) P Q step h = step x h
 weaker-ok (Err e) P Q step h = tt
+
+pub all-ok : {T E : Type 0} (result : Result T E) (P Q R S : T → Type 0) → ((x : T) → P x → Q x → R x → S x)
+    → IfOk result P → IfOk result Q → IfOk result R → IfOk result S
+all-ok (Ok x) P Q R S step p q r = step x p q r
+all-ok (Err e) P Q R S step p q r = tt
 
 pub weaker-on : {T E : Type 0} (result : Result T E) (P Q : Type 0) → (P → Q) → OnOk result P → OnOk result Q
 weaker-on (Ok x) P Q step h = step h
@@ -81,7 +93,7 @@ patch-keeps (addr ∷ word ∷ more ∷ rest) edit is sc = absurd (none-some edi
 -- a patch leaves the marks
 pub patched-marks : (text : List ℕ) (sc done : Scenario) → IsPatchedBy text sc done → done.marks ≡ sc.marks
 patched-marks text sc done (edit, is, taken, after) =
-    ap (λ sc. sc.marks) after ∙ patch-keeps (Rattle.text_parts.specs.Parts.parts 61 text) edit is sc
+    ap (λ sc. sc.marks) after ∙ patch-keeps (parts 61 text) edit is sc
 
 -- ---- findings
 
@@ -92,3 +104,24 @@ findings-of s image other rules list callers n kinds shown found a b c d h =
     subst (λ x. HasFindings s x list n shown found) a (subst (λ x. HasFindings s image x n shown found) b
     (subst (λ x. HasFindings s image rules x shown found) c
     (subst (λ x. HasFindings s image rules callers x found) d h)))
+
+-- ---- the file of a report
+
+-- opening it writes nothing, so what is written after it is what is written
+pub finishes-opened : (quiet : Bool) (codes : Codes) (count : LeakKinds) (sc : Scenario) (a b c : Option (List ℕ))
+    (end : ExecEnd) → Appends a b [] → Finishes quiet codes count sc b c end → Finishes quiet codes count sc a c end
+finishes-opened quiet codes count sc a b c (Ran chosen outcome) open-it (same, is, text, told, wrote) =
+    (same, is, text, told, Appends-trans a b c [] text open-it wrote)
+finishes-opened quiet codes count sc a b c (Early CannotWrite) open-it (text, sent, told, few, wrote) =
+    (text, sent, told, few, Appends-trans a b c [] (take sent text) open-it wrote)
+finishes-opened quiet codes count sc a b c (Early NoMemory) open-it wrote = Appends-trans a b c [] [] open-it wrote
+finishes-opened quiet codes count sc a b c end open-it h = absurd h
+
+pub executes-opened : (waits quiet : Bool) (codes : Codes) (count : LeakKinds) (sc : Scenario)
+    (left held logged rest new opened last : Option (List ℕ)) (end : ExecEnd) → Appends logged opened []
+    → Executes waits quiet codes count sc (pipes left held opened) (pipes rest new last) end
+    → Executes waits quiet codes count sc (pipes left held logged) (pipes rest new last) end
+executes-opened waits quiet codes count sc left held logged rest new opened last end open-it (inl (done, input, output, h)) =
+    inl (done, input, output, finishes-opened quiet codes count done logged opened last end open-it h)
+executes-opened waits quiet codes count sc left held logged rest new opened last end open-it (inr (cuts, none)) =
+    inr (cuts, Appends-trans logged opened last [] [] open-it none)

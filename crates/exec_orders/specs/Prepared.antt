@@ -1,5 +1,5 @@
 -- What `exec` runs: the scenario that its options and files make, each judged before the next.
-use Rattle.std.specs.Prelude.{◌≡◌, ℕ, ◌⊎◌, Bool, true, false, List, [], ◌∷◌, Option, Some, None}
+use Rattle.std.specs.Prelude.{◌≡◌, ℕ, ◌⊎◌, Bool, true, false, List, [], ◌∷◌, Option, Some, None, Unit}
 use denote.Ref.{Bor}
 use Rattle.command_line.specs.Orders.{input_path, rules_path}
 use Rattle.command_line.specs.declared.order.Order.{Order}
@@ -57,12 +57,13 @@ abbrev pub IsPatchedBy : List ℕ → Scenario → Scenario → Type 0
 IsPatchedBy text sc done =
     (edit : Edit) × (patch_in text ≡ Some edit) × IsTaken sc edit × (done ≡ (row sc edit).after)
 
--- it isn't one of the list, or it is refused, or memory runs out
-abbrev pub IsNoPatch : Bor (List ℕ) → List ℕ → Scenario → ExecEnd → Type 0
-IsNoPatch list text sc end =
-    ((patch_in text ≡ None) × (end ≡ BadPatch list))
-    ⊎ ((edit : Edit) × (patch_in text ≡ Some edit)
-    × (((IsTaken sc edit → ⊥) × (end ≡ PatchRefused list)) ⊎ (end ≡ Early NoMemory)))
+-- it isn't one, or it is refused, which the end says of its list; or memory runs out
+abbrev pub IsNoPatch : List ℕ → List ℕ → Scenario → ExecEnd → Type 0
+IsNoPatch list text sc (BadPatch named) = (named.now ≡ list) × (patch_in text ≡ None)
+IsNoPatch list text sc (PatchRefused named) =
+    (named.now ≡ list) × (edit : Edit) × (patch_in text ≡ Some edit) × (IsTaken sc edit → ⊥)
+IsNoPatch list text sc (Early NoMemory) = Unit {0}
+IsNoPatch list text sc end = ⊥
 
 -- the same of all patches, in their order
 abbrev pub IsPatched : List (List ℕ) → Scenario → Scenario → Type 0
@@ -70,7 +71,7 @@ IsPatched [] sc done = done ≡ sc
 IsPatched (text ∷ texts) sc done = (next : Scenario) × IsPatchedBy text sc next × IsPatched texts next done
 
 -- the first of them that isn't made ends the program
-abbrev pub NoPatch : Bor (List ℕ) → List (List ℕ) → Scenario → ExecEnd → Type 0
+abbrev pub NoPatch : List ℕ → List (List ℕ) → Scenario → ExecEnd → Type 0
 NoPatch list [] sc end = ⊥
 NoPatch list (text ∷ texts) sc end =
     IsNoPatch list text sc end ⊎ ((next : Scenario) × IsPatchedBy text sc next × NoPatch list texts next end)
@@ -82,7 +83,7 @@ IsPatchedIn (Some list) sc done = IsPatched (parts 44 list.now) sc done
 
 abbrev pub NoPatchIn : Option (Bor (List ℕ)) → Scenario → ExecEnd → Type 0
 NoPatchIn None sc end = ⊥
-NoPatchIn (Some list) sc end = NoPatch list (parts 44 list.now) sc end
+NoPatchIn (Some list) sc end = NoPatch list.now (parts 44 list.now) sc end
 
 -- an edit is made, or it is refused
 abbrev pub MakesOr : Bool → Edit → Scenario → Scenario → Type 0

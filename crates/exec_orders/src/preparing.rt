@@ -88,7 +88,7 @@ fn choose_all<'a>(
 /// Makes one patch of a list.
 fn patch<'a>(scenario: &mut Scenario, list: &'a str, text: &[u8]) -> Result<(), ExecEnd<'a>>
     ensures ok { OnOk result (IsPatchedBy text.now scenario.old scenario.new) }
-    ensures err { IfErr result (IsNoPatch list.entry text.now scenario.old) }
+    ensures err { IfErr result (IsNoPatch list.now text.now scenario.old) }
 {
     let Some(chosen) = patch_in(text) else {
         return Err(ExecEnd::BadPatch(list));
@@ -103,7 +103,7 @@ fn patch<'a>(scenario: &mut Scenario, list: &'a str, text: &[u8]) -> Result<(), 
 /// Makes the patches of a list, in their order.
 fn patch_all<'a>(scenario: &mut Scenario, list: &'a str) -> Result<(), ExecEnd<'a>>
     ensures ok { OnOk result (IsPatched (parts 44 list.now) scenario.old scenario.new) }
-    ensures err { IfErr result (NoPatch list.entry (parts 44 list.now) scenario.old) }
+    ensures err { IfErr result (NoPatch list.now (parts 44 list.now) scenario.old) }
     ensures marks { OnOk result (scenario.new.marks ≡ scenario.old.marks) }
 {
     let mut texts = Parts::new(list.as_bytes(), b',');

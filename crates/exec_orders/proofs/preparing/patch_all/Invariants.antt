@@ -7,9 +7,8 @@ use Rattle.exec_orders.proofs.preparing.patch_all.Given as goal
 
 abbrev pub invariant-loop-text : goal.invariant-loop-text
 invariant-loop-text l = record {
-  rest : (done : Scenario) → IsPatched l.texts l.scenario done → IsPatched (parts 44 l.list.now) l.fn.scenario done;
+  rest : (done : Scenario) → IsPatched l.texts l.scenario done → IsPatched (parts 44 l.list) l.fn.scenario done;
   fails :
-      (end : ExecEnd) → NoPatch l.fn.list l.texts l.scenario end
-      → NoPatch l.fn.list (parts 44 l.list.now) l.fn.scenario end;
+      (end : ExecEnd) → NoPatch l.list l.texts l.scenario end → NoPatch l.list (parts 44 l.list) l.fn.scenario end;
   marks : l.scenario.marks ≡ l.fn.scenario.marks;
 }
