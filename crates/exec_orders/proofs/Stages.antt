@@ -16,13 +16,14 @@ use Rattle.commands.specs.declared.edit.Edit.TheVariants.{Patch}
 use Rattle.ends.specs.declared.exec_ends.ExecEnd.{ExecEnd}
 use Rattle.guest_elf.specs.declared.image.Image.{Image}
 use Rattle.guest_machine.specs.State.{State}
+use Rattle.program_files.specs.Files.{Giving, HasInput}
 use Rattle.replay_report.specs.Findings.{HasFindings}
 use Rattle.run_values.specs.declared.mark.Mark.{Mark}
 use Rattle.scenario.specs.Edits.{IsTaken, row}
 use Rattle.scenario.specs.Scenario.{Scenario}
 use Rattle.suppressions.specs.Rules.{Rule}
 use Rattle.exec_orders.specs.Executed.{Executes, Finishes, IsUntouched, pipes}
-use Rattle.exec_orders.specs.Prepared.{IsEdited, IsNoPatch, IsOptionRefused, IsPatched, IsPatchedBy, NoPatch, patch_in}
+use Rattle.exec_orders.specs.Prepared.{KeepsRun, IsEdited, IsNoPatch, IsOptionRefused, IsPatched, IsPatchedBy, NoPatch, patch_in}
 use Rattle.exec_orders.specs.Prepared.{patch_of, patch_with}
 use Rattle.text_parts.specs.Parts.{parts}
 
@@ -76,24 +77,29 @@ none-some : (x : Edit) → ◌≡◌ {A = Option Edit} None (Some x) → ⊥
 none-some x e = cc
 
 with-keeps : (addr word : Option ℕ) (edit : Edit) → patch_with addr word ≡ Some edit → (sc : Scenario)
-    → (row sc edit).after.marks ≡ sc.marks
+    → KeepsRun sc (row sc edit).after
 with-keeps (Some addr) (Some word) edit is sc =
-    ap (λ e. (row sc e).after.marks) (sym (same-some (Patch addr word) edit is))
+    let same = sym (same-some (Patch addr word) edit is) in
+    (ap (λ e. (row sc e).after.marks) same, ap (λ e. (row sc e).after.setup.input) same)
 with-keeps (Some addr) None edit is sc = absurd (none-some edit is)
 with-keeps None word edit is sc = absurd (none-some edit is)
 
 patch-keeps : (fields : List (List ℕ)) (edit : Edit) → patch_of fields ≡ Some edit → (sc : Scenario)
-    → (row sc edit).after.marks ≡ sc.marks
+    → KeepsRun sc (row sc edit).after
 unfolding patch_of
 patch-keeps [] edit is sc = absurd (none-some edit is)
 patch-keeps (addr ∷ []) edit is sc = absurd (none-some edit is)
 patch-keeps (addr ∷ word ∷ []) edit is sc = with-keeps (number addr) (number word) edit is sc
 patch-keeps (addr ∷ word ∷ more ∷ rest) edit is sc = absurd (none-some edit is)
 
--- a patch leaves the marks
-pub patched-marks : (text : List ℕ) (sc done : Scenario) → IsPatchedBy text sc done → done.marks ≡ sc.marks
-patched-marks text sc done (edit, is, taken, after) =
-    ap (λ sc. sc.marks) after ∙ patch-keeps (parts 61 text) edit is sc
+-- a patch leaves marks and input
+pub patched-keeps : (text : List ℕ) (sc done : Scenario) → IsPatchedBy text sc done → KeepsRun sc done
+patched-keeps text sc done (edit, is, taken, after) =
+    let kept = patch-keeps (parts 61 text) edit is sc in
+    (ap (λ sc. sc.marks) after ∙ kept.0, ap (λ sc. sc.setup.input) after ∙ kept.1)
+
+pub keeps-on : (a b c : Scenario) → KeepsRun a b → KeepsRun b c → KeepsRun a c
+keeps-on a b c one two = (two.0 ∙ one.0, two.1 ∙ one.1)
 
 -- ---- findings
 
@@ -110,8 +116,8 @@ findings-of s image other rules list callers n kinds shown found a b c d h =
 -- opening it writes nothing, so what is written after it is what is written
 pub finishes-opened : (quiet : Bool) (codes : Codes) (count : LeakKinds) (sc : Scenario) (a b c : Option (List ℕ))
     (end : ExecEnd) → Appends a b [] → Finishes quiet codes count sc b c end → Finishes quiet codes count sc a c end
-finishes-opened quiet codes count sc a b c (Ran chosen outcome) open-it (same, is, text, told, wrote) =
-    (same, is, text, told, Appends-trans a b c [] text open-it wrote)
+finishes-opened quiet codes count sc a b c (Ran chosen outcome) open-it (same, is, (text, told, wrote)) =
+    (same, is, (text, told, Appends-trans a b c [] text open-it wrote))
 finishes-opened quiet codes count sc a b c (Early CannotWrite) open-it (text, sent, told, few, wrote) =
     (text, sent, told, few, Appends-trans a b c [] (take sent text) open-it wrote)
 finishes-opened quiet codes count sc a b c (Early NoMemory) open-it wrote = Appends-trans a b c [] [] open-it wrote
@@ -125,3 +131,13 @@ executes-opened waits quiet codes count sc left held logged rest new opened last
     inl (done, input, output, finishes-opened quiet codes count done logged opened last end open-it h)
 executes-opened waits quiet codes count sc left held logged rest new opened last end open-it (inr (cuts, none)) =
     inr (cuts, Appends-trans logged opened last [] [] open-it none)
+
+-- ---- the input
+
+pub no-input : (gives : Giving) (named : Option (List ℕ)) (input : List ℕ) → named ≡ None → HasInput gives named input
+    → input ≡ []
+no-input gives None input none has = has
+no-input gives (Some path) input none has = absurd (some-none path none)
+  where
+    some-none : (path : List ℕ) → ◌≡◌ {A = Option (List ℕ)} (Some path) None → ⊥
+    some-none path e = cc

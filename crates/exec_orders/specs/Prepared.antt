@@ -1,5 +1,5 @@
 -- What `exec` runs: the scenario that its options and files make, each judged before the next.
-use Rattle.std.specs.Prelude.{◌≡◌, ℕ, ◌⊎◌, Bool, true, false, List, [], ◌∷◌, Option, Some, None, Unit}
+use Rattle.std.specs.Prelude.{◌≡◌, ℕ, ◌⊎◌, Bool, true, false, List, [], ◌∷◌, Option, Some, None}
 use denote.Ref.{Bor}
 use Rattle.command_line.specs.Orders.{input_path, rules_path}
 use Rattle.command_line.specs.declared.order.Order.{Order}
@@ -84,6 +84,10 @@ IsPatchedIn (Some list) sc done = IsPatched (parts 44 list.now) sc done
 abbrev pub NoPatchIn : Option (Bor (List ℕ)) → Scenario → ExecEnd → Type 0
 NoPatchIn None sc end = ⊥
 NoPatchIn (Some list) sc end = NoPatch list.now (parts 44 list.now) sc end
+
+-- marks and input stay
+abbrev pub KeepsRun : Scenario → Scenario → Type 0
+KeepsRun old new = (new.marks ≡ old.marks) × (new.setup.input ≡ old.setup.input)
 
 -- an edit is made, or it is refused
 abbrev pub MakesOr : Bool → Edit → Scenario → Scenario → Type 0

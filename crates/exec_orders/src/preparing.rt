@@ -5,7 +5,7 @@ ghost use Rattle.suppressions.specs.Words.{leak_kinds};
 ghost use Rattle.command_line.specs.Orders.{input_path};
 ghost use Rattle.ends.specs.declared.ends.End.TheVariants.{NoMemory, Usage};
 ghost use Rattle.ends.specs.declared.exec_ends.ExecEnd.TheVariants.{Early};
-ghost use Rattle.exec_orders.specs.Prepared.{IsEdited, IsNoPatch, IsOptionRefused, IsPatched, IsPatchedBy, Makes, MakesFrom, MakesNone, MakesOr, IsPatchedIn, NoPatch, NoPatchIn, NotFrom, option_edits, patch_in};
+ghost use Rattle.exec_orders.specs.Prepared.{KeepsRun, IsEdited, IsNoPatch, IsOptionRefused, IsPatched, IsPatchedBy, Makes, MakesFrom, MakesNone, MakesOr, IsPatchedIn, NoPatch, NoPatchIn, NotFrom, option_edits, patch_in};
 ghost use Rattle.text_parts.specs.Parts.{parts};
 ghost use Rattle.exec_orders.specs.Executed.{NoKinds};
 
@@ -77,7 +77,7 @@ fn choose_all<'a>(
 ) -> Result<(), ExecEnd<'a>>
     ensures ok { OnOk result (IsEdited (option_edits asked.now kinds) scenario.old scenario.new) }
     ensures err { IfErr result (λ end. (end ≡ Early NoMemory) ⊎ (IsOptionRefused (option_edits asked.now kinds) scenario.old × (end ≡ Early Usage))) }
-    ensures marks { OnOk result (scenario.new.marks ≡ scenario.old.marks) }
+    ensures kept { OnOk result (KeepsRun scenario.old scenario.new) }
 {
     choose(scenario, Edit::Callers(asked.callers))?;
     choose(scenario, Edit::Redzone(asked.redzone))?;
@@ -104,7 +104,7 @@ fn patch<'a>(scenario: &mut Scenario, list: &'a str, text: &[u8]) -> Result<(), 
 fn patch_all<'a>(scenario: &mut Scenario, list: &'a str) -> Result<(), ExecEnd<'a>>
     ensures ok { OnOk result (IsPatched (parts 44 list.now) scenario.old scenario.new) }
     ensures err { IfErr result (NoPatch list.now (parts 44 list.now) scenario.old) }
-    ensures marks { OnOk result (scenario.new.marks ≡ scenario.old.marks) }
+    ensures kept { OnOk result (KeepsRun scenario.old scenario.new) }
 {
     let mut texts = Parts::new(list.as_bytes(), b',');
     while let Some(text) = texts.next() {
@@ -117,7 +117,7 @@ fn patch_all<'a>(scenario: &mut Scenario, list: &'a str) -> Result<(), ExecEnd<'
 fn patch_in_list<'a>(scenario: &mut Scenario, list: Option<&'a str>) -> Result<(), ExecEnd<'a>>
     ensures ok { OnOk result (IsPatchedIn list.entry scenario.old scenario.new) }
     ensures err { IfErr result (NoPatchIn list.entry scenario.old) }
-    ensures marks { OnOk result (scenario.new.marks ≡ scenario.old.marks) }
+    ensures kept { OnOk result (KeepsRun scenario.old scenario.new) }
 {
     match list {
         Some(list) => patch_all(scenario, list),
@@ -133,7 +133,7 @@ fn edit_all<'a>(
 ) -> Result<(), ExecEnd<'a>>
     ensures ok { OnOk result (MakesFrom asked.now kinds scenario.old scenario.new) }
     ensures err { IfErr result (λ end. (end ≡ Early NoMemory) ⊎ NotFrom asked.now kinds scenario.old end) }
-    ensures marks { OnOk result (scenario.new.marks ≡ scenario.old.marks) }
+    ensures kept { OnOk result (KeepsRun scenario.old scenario.new) }
 {
     scenario.choose(asked.step);
     choose_all(scenario, asked, kinds)?;
