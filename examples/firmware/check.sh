@@ -87,12 +87,12 @@ from_picolibc() {
 
 verdicts_of_picolibc() { verdicts "$room"/{average,labels,library}.elf | sed -E 's/ 0x0001[0-9a-f]{4}: / /g'; }
 
-# made NAME WORD..: builds a wrong program. symptom TEXT COMMAND..: whether a command says what the manual's last section explains.
+# made NAME WORD..: builds a wrong program. symptom TEXT COMMAND..: whether a command says what the manual's chapter on it explains.
 made() {
   riscv64-unknown-elf-gcc --specs=picolibc.specs "${@:2}" -o "$room/$1" 2>&1 || true
 }
 symptom() {
-  sed '1,/^## [0-9]*\. When it/d' ../../docs/manual.md | grep -q -F -e "\`$1" || { echo "the manual hasn't $1"; return 1; }
+  grep -q -F -e "\`$1" ../../docs/manual/when-it-doesnt-work.md || { echo "the manual hasn't $1"; return 1; }
   local told
   told=$("${@:2}" 2>&1)
   [[ $told == *"$1"* ]] || { echo "$told"; return 1; }

@@ -1,8 +1,11 @@
 """Man pages and the manual as HTML: Markdown, which lowdown turns into both."""
 import datetime
+import os
+import pathlib
 import re
 
 from replaycheck.guest_files import TOP
+from replaycheck.packaging.chapters import INDEX, chapters
 from replaycheck.packaging.source import output
 
 HEAD = """\
@@ -57,7 +60,7 @@ def page(name, summary, told, tools):
         parts.append(f"# {title}\n\n{filled(it.text.strip())}\n")
     also = [f"replaycheck-{it.name}" for it in tools] or ["replaycheck"]
     others = ", ".join(f"**{it}**(1)" for it in also)
-    parts.append(f"# SEE ALSO\n\n{others}, and the manual, */usr/share/doc/replaycheck/manual.html*\n")
+    parts.append(f"# SEE ALSO\n\n{others}, and the manual, */usr/share/doc/replaycheck/manual/index.html*\n")
     return "\n".join(parts)
 
 
@@ -79,19 +82,25 @@ def marked(text):
 
 def manual():
     """The manual, the glossary and the case studies as HTML, with the picture that the manual shows, by their files' names."""
-    sources = {f"{it}.html": TOP / f"docs/{it}.md" for it in ("manual", "glossary", "case-studies")}
-    sources |= {f"case-studies/{it.stem}.html": it for it in sorted((TOP / "docs/case-studies").glob("*.md"))}
-    made = {name: html(path.read_text(), name) for name, path in sources.items()}
-    return made | {"station.svg": (TOP / "examples/firmware/station.svg").read_bytes()}
+    sources = {TOP / f"docs/{it}.md": f"{it}.html" for it in ("manual", "glossary", "case-studies")}
+    sources |= {INDEX: "manual/index.html"} | {it: f"manual/{it.stem}.html" for it in chapters()}
+    sources |= {it: f"case-studies/{it.stem}.html" for it in sorted((TOP / "docs/case-studies").glob("*.md"))}
+    sources |= {TOP / "examples/firmware/station.svg": "station.svg"}
+    return {name: html(path, sources) if path.suffix == ".md" else path.read_bytes() for path, name in sources.items()}
 
 
-def html(text, name):
+def html(path, sources):
     """A page as HTML, whose links lead to pages of the release, or are none."""
+    text = path.read_text()
     title = re.search(r"^# (.+)$", text, re.M)[1]
     page = turned(text, "html", "-m", f"title={title}")
     page = page.replace("</head>\n", STYLE, 1)
     page = re.sub(r'(<h\d id=")([^"]+)(")', lambda it: it[1] + re.sub(r"[^\w-]", "", it[2].lower()) + it[3], page)
-    page = re.sub(r'src="[^"]*station\.svg"', 'src="station.svg"', page)
-    inner = r"manual|glossary|case-studies|json|modbus|boot"
-    page = re.sub(rf'href="([^"#:]*\b(?:{inner}))\.md', r'href="\1.html', page)
-    return re.sub(r'<a href="(?!#|https?:|[^"]*\.html)[^"]*">(.*?)</a>', r"\1", page)
+    page = re.sub(r'((?:src|href)=")([^"#:]+)', lambda it: it[1] + released(it[2], path, sources), page)
+    return re.sub(r'<a href="(?!#|https?:|[^"]*\.html)[^"]*">(.*?)</a>', r"\1", page, flags=re.S)
+
+
+def released(target, path, sources):
+    """What a link of a page leads to, from that page in the release; as it is where the release hasn't it."""
+    name = sources.get(pathlib.Path(os.path.normpath(path.parent / target)))
+    return os.path.relpath(name, os.path.dirname(sources[path]) or ".") if name else target
