@@ -44,7 +44,7 @@ def suppressions_of(choices):
 
 def needs_whole_report(choices):
     """Whether the log has something to say of a run with no fault, too."""
-    return not choices.quiet or choices.require_heap or choices.log_format not in ("valgrind", "report")
+    return not choices.quiet or choices.verbose or choices.require_heap or choices.log_format not in ("valgrind", "report")
 
 
 def words_for(choices, supp, report):
