@@ -21,3 +21,7 @@ $(BUILD)/%.done: $(BUILD)/%
 
 .PHONY: check programs
 .PRECIOUS: $(BUILD)/%
+
+# What a program in Rust is linked with.
+cargo/start.o: $(SOURCES)
+	cd cargo && $(CC) $(CFLAGS) -c $(addprefix ../kit/,start.S system.c heap_by_name.c)

@@ -10,6 +10,12 @@ def is_mangled(name):
     return name.startswith(("_Z", "_R"))
 
 
+def without_hash(name):
+    """A name of Rust without the hash at its end, which tells the compiler's copies apart."""
+    end = name[-16:]
+    return name[:-19] if name[-19:-16] == "::h" and all(it in "0123456789abcdef" for it in end) else name
+
+
 def tool():
     """The c++filt that is first on the path, or None."""
     folders = os.environ.get("PATH", os.defpath).split(os.pathsep)
@@ -26,7 +32,7 @@ def demangled(names):
     os.lseek(given, 0, os.SEEK_SET)
     started([program], (given, told, said)).wait()
     lines = os.pread(told, os.fstat(told).st_size, 0).decode("utf-8", "surrogateescape").split("\n")[:-1]
-    return dict(zip(names, lines)) if len(lines) == len(names) else {}
+    return dict(zip(names, map(without_hash, lines))) if len(lines) == len(names) else {}
 
 
 def demangle(shown):
