@@ -18,7 +18,7 @@ EXAMPLES = "share/replaycheck/examples"
 DOC = "share/doc/replaycheck"
 LEFT_OUT = r"README|build-times|prove$|replaycheck/(paging|packaging)/|replaycheck-page$"
 SHIPPED = re.compile(rf"replaycheck$|tools/(bin|lib)/(?!{LEFT_OUT})|tools/bin/README\.md$")
-EXAMPLE = re.compile(r"examples/(?!README|guests/|sessions/|firmware/(expected/|check\.sh|\.gitignore))")
+EXAMPLE = re.compile(r"examples/(?!README|guests/|sessions/|runners/expected/|firmware/(expected/|check\.sh|\.gitignore))")
 
 # The package's own list of changes, in Debian's form.
 ENTRY = """\
@@ -63,10 +63,11 @@ def fill(tree, source):
         if folder:
             to = tree / folder / name
             to.parent.mkdir(parents=True, exist_ok=True)
-            shutil.copy(TOP / name, to)
+            shutil.copy(TOP / name, to, follow_symlinks=False)
     put(tree / HOME / "crates/replaycheck/out/replaycheck", source.program.read_bytes(), runs=True)
     put(tree / HOME / "built-from", f"{source.commit}\n")
-    link(tree / "bin/replaycheck", tree / HOME / "replaycheck")
+    for name in ("replaycheck", "replaycheck-exec"):  # the launcher is `replaycheck exec` by the second
+        link(tree / "bin" / name, tree / HOME / "replaycheck")
     told = helps(tree / HOME)
     for name, text in completions(told).items():
         put(tree / "share" / name, text)
