@@ -43,10 +43,6 @@ class Choices:
         self.file, self.arguments = "", []
 
     @property
-    def step(self):
-        return int(self.passed.get("step", "1000000000"))
-
-    @property
     def counted(self):
         """The kinds of leak that count as errors."""
         kinds = self.passed.get("count", "definite,possible").split(",")
@@ -226,10 +222,14 @@ def choices_of(words):
 
 
 def judge(choices):
-    """Rejects options that contradict each other."""
+    """Rejects options that contradict each other. A report in a file is a log in the form of a report."""
     logs = [name for name, value in (("--report", choices.report), ("--log-file", choices.log_file), ("--log-fd", choices.log_fd))
             if value is not None]
     if len(logs) > 1:
         raise Usage(f"{logs[0]} and {logs[1]} at once")
     if choices.full_paths and choices.strip_prefix is not None:
         raise Usage("--full-paths and --strip-prefix at once")
+    if choices.report is not None:
+        if choices.log_format not in ("valgrind", "report"):
+            raise Usage(f"--report and --log-format {choices.log_format} at once")
+        choices.log_format, choices.log_file = "report", choices.report.replace("%", "%%")

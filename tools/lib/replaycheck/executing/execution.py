@@ -65,9 +65,8 @@ def made_run(choices):
     """Runs the program, whose output goes where this process has it. Returns its status, and the text of its report."""
     supp, lent = suppressions_of(choices)
     room = os.memfd_create("report")
-    report = choices.report if choices.report is not None else f"/dev/fd/{room}"
     try:
-        words = words_for(choices, supp, report)
+        words = words_for(choices, supp, f"/dev/fd/{room}")
     except OSError as fault:
         raise Unreadable(f"cannot read {choices.file}: {fault.strerror}") from None
     status = started(words, (0, 1, 2), [*lent, room]).wait()
