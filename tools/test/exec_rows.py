@@ -72,6 +72,8 @@ OPTIONS = [
     Row("--log-format json, with nothing wrong", ["-q", "--log-format=json", "says.elf"], 0, said=['"ended": true', '"errors": []']),
     Row("no such format", ["--log-format=html", "says.elf"], 125, "", ["--log-format: 'html' is none of valgrind, report,"]),
     Row("--report and --log-file", ["--report=a", "--log-file=b", "says.elf"], 125, "", ["--report and --log-file at once\n"]),
+    Row("--report of the program", ["--report=./says.elf", "says.elf"], 125, "", ["would replace a file that is read: ./says.elf\n"]),
+    Row("--report of the input", ["--report", "hi.txt", "--input=./hi.txt", "reads.elf"], 125, "", ["a file that is read: hi.txt\n"]),
     Row("--report and a format", ["--report=a", "--log-format=gcc", "says.elf"], 125, "", ["--report and --log-format gcc at once\n"]),
     Row("--report and --require-heap", ["-q", "--report=a", "--require-heap", "stripped.elf"], 126, said=["errors of the heap can't"]),
     Row("--log-fd", [*QUIET, "--log-fd=1", "writes-badly.elf"], 9, said=[]),
