@@ -15,6 +15,7 @@ SOURCES = {
     "reads": f"li a7, 63; li a0, 0; li a1, {DATA}; li a2, 16; ecall; mv a2, a0; li a7, 64; li a0, 1; ecall; {END}",
     "says-and-reads": f"{SAY} li a7, 63; li a0, 0; li a1, {DATA}; li a2, 16; ecall; mv a2, a0; li a7, 64; li a0, 1; ecall; {END}",
     "writes-badly": f"{SAY} sw zero, 0(zero); {END}",
+    "mangled": f"{SAY} sw zero, 0(zero); {END}",
     "leaks": f"{SAY} li a7, 2001; li a0, 8; ecall; {END}",
     "illegal": f"{SAY} .word 0",
     "break": f"{SAY} ebreak",
@@ -27,8 +28,9 @@ SOURCES = {
     "counts": f"li a1, {ROOM[1]}; lw a0, 0(a1); li a7, 93; ecall",
     "first": f"li a1, {ROOM[1]}; lw a1, 8(a1); li a2, 5; li a0, 1; li a7, 64; ecall; {END}",
 }
-# Those that take arguments, and those in which errors of the heap go unseen.
+# Those that take arguments, and what the function is called in which a program begins.
 WITH_ROOM = ("counts", "first")
+NAMES = {"mangled": "_ZN5gauge4markEv"}
 
 
 def put_guests(folder: pathlib.Path) -> None:
@@ -36,7 +38,7 @@ def put_guests(folder: pathlib.Path) -> None:
     for name, source in SOURCES.items():
         words = assemble(source)
         words += [0x13] * ((DATA - ENTRY) // 4 - len(words))
-        symbols = [("start", ENTRY, 4), *([ROOM] if name in WITH_ROOM else [])]
+        symbols = [(NAMES.get(name, "start"), ENTRY, 0x100 if name in NAMES else 4), *([ROOM] if name in WITH_ROOM else [])]
         (folder / f"{name}.elf").write_bytes(elf(words, memory=0x2000, symbols=symbols, data=b"hi\n"))
     words = assemble(SOURCES["says"])
     words += [0x13] * ((DATA - ENTRY) // 4 - len(words))
