@@ -91,6 +91,10 @@ OPTIONS = [
     Row("options of the environment come first", ["--error-exitcode=7", "writes-badly.elf"], 7, said=["Invalid write"],
         more={"REPLAYCHECK_OPTS": "-q --error-exitcode=9"}),
     Row("quoted options of the environment", ["says-and-reads.elf"], 0, "hi\nhi\n", more={"REPLAYCHECK_OPTS": "-q --input 'hi.txt'"}),
+    Row("a file among the options of the environment", ["says.elf"], 125, "", ["REPLAYCHECK_OPTS: no option: hi.txt\n"],
+        more={"REPLAYCHECK_OPTS": "-q hi.txt"}),
+    Row("an option of the environment without its value", ["--tool=memcheck", "says.elf"], 125, "", ["--step: its value is missing\n"],
+        more={"REPLAYCHECK_OPTS": "-q --step"}),
     Row("badly quoted options of the environment", ["says.elf"], 125, "", ["REPLAYCHECK_OPTS: No closing quotation\n"],
         more={"REPLAYCHECK_OPTS": "'-q"}),
 ]

@@ -200,18 +200,22 @@ def more_options():
         return []
     import shlex
     try:
-        return shlex.split(text)
+        options, rest = split(shlex.split(text))
     except ValueError as fault:
         raise Usage(f"REPLAYCHECK_OPTS: {fault}") from None
+    if rest:
+        raise Usage(f"REPLAYCHECK_OPTS: no option: {rest[0]}")
+    return options
 
 
 def choices_of(words):
     """What the words of a command line ask for. Those of another `replaycheck exec` come first, then the environment's."""
-    given, rest = split(more_options() + words)
+    given, rest = split(words)
     inner, rest = stepped_over(rest)
-    choices, options = Choices(), inner + given
-    while options:
-        take(choices, options)
+    choices = Choices()
+    for options in (inner, more_options(), given):
+        while options:
+            take(choices, options)
     if choices.asks_for_help:
         return choices
     if not rest:
