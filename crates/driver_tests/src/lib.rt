@@ -6,8 +6,10 @@
 #[cfg(test)]
 mod endings;
 #[cfg(test)]
-mod executions;
+mod exec_cases;
 #[cfg(test)]
 mod orders;
+#[cfg(test)]
+mod programs;
 #[cfg(test)]
 mod shelf;

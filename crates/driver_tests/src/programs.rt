@@ -1,0 +1,231 @@
+//! Runs whose output is written as it is made, and how such a run ends.
+use ends::{Codes, End, ExecEnd, Outcome, tell_exec};
+use executions::{Execution, ExecutionFault};
+use fake_streams::Room;
+use guest_elf::read;
+use guest_programs::program;
+use run_values::{Status, Stop};
+use scenario::Scenario;
+use std::alloc::{AllocError, Global};
+
+/// Writes `ok!` and a newline, and exits with status 7.
+const WRITES: [u32; 10] = [
+    0x0000_0597,
+    0x0245_8593,
+    0x0010_0513,
+    0x0040_0613,
+    0x0400_0893,
+    0x0000_0073,
+    0x05D0_0893,
+    0x0070_0513,
+    0x0000_0073,
+    0x0A21_6B6F,
+];
+
+/// Writes the first byte of the input, and exits with status 0. It reads in step 4.
+const COPIES: [u32; 11] = [
+    0x0000_0513,
+    0x0001_0593,
+    0x0010_0613,
+    0x03F0_0893,
+    0x0000_0073,
+    0x0010_0513,
+    0x0400_0893,
+    0x0000_0073,
+    0x05D0_0893,
+    0x0000_0513,
+    0x0000_0073,
+];
+
+/// A label; a program's words, the bytes of output that are taken, and the input that it is given where it waits; the step at which it first
+/// stops, and the output.
+struct Run {
+    label: &'static str,
+    words: &'static [u32],
+    room: usize,
+    input: &'static [u8],
+    stops: u32,
+    output: &'static [u8],
+}
+
+const RUNS: [Run; 4] = [
+    Run {
+        label: "output",
+        words: &WRITES,
+        room: 1 << 20,
+        input: b"",
+        stops: 1000,
+        output: b"ok!\n",
+    },
+    Run {
+        label: "input that is waited for",
+        words: &COPIES,
+        room: 1 << 20,
+        input: b"xyz",
+        stops: 4,
+        output: b"x",
+    },
+    Run {
+        label: "no input",
+        words: &COPIES,
+        room: 1 << 20,
+        input: b"",
+        stops: 4,
+        output: b"\0",
+    },
+    Run {
+        label: "a jump to itself",
+        words: &[0x0000_006F],
+        room: 0,
+        input: b"",
+        stops: 1000,
+        output: b"",
+    },
+];
+
+/// Runs a scenario to its last step, with an input for which it waits. Returns the step at which it first stops.
+fn run_through(
+    alloc: Global,
+    scenario: &mut Scenario<'_>,
+    input: Vec<u8>,
+    writer: &mut Room,
+) -> Result<u32, ExecutionFault> {
+    let execution = Execution::begin(scenario)?;
+    let execution = execution.run(alloc, scenario, true, writer)?;
+    let stops = execution.at();
+    scenario.give(input);
+    let execution = execution.run(alloc, scenario, false, writer)?;
+    if execution.at() == 1000 && execution.refused() == 0 {
+        Ok(stops)
+    } else {
+        Ok(u32::MAX)
+    }
+}
+
+/// Whether a run of a file comes out as its row says.
+fn comes_out(alloc: Global, file: &[u8], run: &Run) -> Result<bool, AllocError> {
+    let mut input = Vec::new(alloc);
+    input.extend_from_slice(run.input)?;
+    let mut writer = Room::new(alloc, run.room);
+    let Ok(image) = read(alloc, file) else {
+        return Ok(false);
+    };
+    let mut scenario = Scenario::begin(alloc, image, Vec::new(alloc), Vec::new(alloc))?;
+    scenario.choose(1000);
+    let came = run_through(alloc, &mut scenario, input, &mut writer);
+    Ok(matches!(came, Ok(stops) if stops == run.stops) && writer.taken.as_slice() == run.output)
+}
+
+/// Whether a run comes out as its row says.
+fn is_run(alloc: Global, run: &Run) -> Result<bool, AllocError> {
+    let file = program(alloc, run.words)?;
+    comes_out(alloc, &file, run)
+}
+
+#[test]
+fn programs_are_executed(rt: HostRuntime) {
+    for run in &RUNS {
+        assert!(rt;
+            matches!(is_run(rt.alloc(), run), Ok(true)),
+            "{}",
+            run.label
+        );
+    }
+}
+
+/// A run that has exited with 0 at step 9, without errors.
+const PLAIN: Outcome = Outcome {
+    step: 9,
+    status: Status::Exited(0),
+    idles: false,
+    has_errors: false,
+    lost: 0,
+};
+
+/// The exit statuses that a user chose.
+const CHOSEN: Codes = Codes {
+    errors: Some(99),
+    idle: Some(3),
+};
+
+/// An end, its exit status, and what is said of it.
+const ENDS: [(ExecEnd<'static>, u8, &'static [u8]); 9] = [
+    (ExecEnd::Ran(CHOSEN, PLAIN), 0, b""),
+    (
+        ExecEnd::Ran(
+            CHOSEN,
+            Outcome {
+                has_errors: true,
+                ..PLAIN
+            },
+        ),
+        99,
+        b"",
+    ),
+    (
+        ExecEnd::Ran(
+            CHOSEN,
+            Outcome {
+                status: Status::Running,
+                ..PLAIN
+            },
+        ),
+        124,
+        b"replaycheck exec: still running at step 9\n",
+    ),
+    (
+        ExecEnd::Ran(
+            CHOSEN,
+            Outcome {
+                status: Status::Running,
+                idles: true,
+                ..PLAIN
+            },
+        ),
+        3,
+        b"",
+    ),
+    (
+        ExecEnd::Ran(
+            CHOSEN,
+            Outcome {
+                status: Status::Stopped(Stop::Jump),
+                ..PLAIN
+            },
+        ),
+        139,
+        b"",
+    ),
+    (
+        ExecEnd::Ran(CHOSEN, Outcome { lost: 2, ..PLAIN }),
+        123,
+        b"replaycheck exec: 65536 bytes of output are all there is room for; writes refused: 2\n",
+    ),
+    (
+        ExecEnd::Early(End::CannotRead("a")),
+        127,
+        b"replaycheck: cannot read a\n",
+    ),
+    (
+        ExecEnd::PatchRefused("0=0"),
+        126,
+        b"replaycheck exec: patch refused 4: 0=0\n",
+    ),
+    (
+        ExecEnd::BadPatch("x"),
+        125,
+        b"replaycheck exec: not ADDR=WORD: --patch x\n",
+    ),
+];
+
+#[test]
+fn ends_of_executions_are_told(rt: HostRuntime) {
+    for (i, (end, status, line)) in ENDS.iter().enumerate() {
+        let mut writer = Room::new(rt.alloc(), 1000);
+        let told = tell_exec(*end, &mut writer);
+        assert!(rt;
+            told == *status && writer.taken.as_slice() == *line,
+            "end {i}"
+        );
+    }
+}
