@@ -47,6 +47,12 @@ def needs_whole_report(choices):
     return not choices.quiet or choices.verbose or choices.require_heap or choices.log_format not in ("valgrind", "report")
 
 
+def all_patches(choices):
+    """The patches of the options, which may be lists, and those that hand over arguments: `ADDR=WORD` each."""
+    given = [patch for text in choices.patches for patch in text.split(",")]
+    return given + patches_for(choices.file, choices.arguments)
+
+
 def words_for(choices, supp, report):
     """The arguments of the program."""
     words = [program(), "exec", "--report", report]
@@ -54,8 +60,8 @@ def words_for(choices, supp, report):
         words += [f"--{name}", text]
     for name, path in (("--input", choices.input), ("--supp", supp)):
         words += [name, path_of(path)] if path is not None else []
-    for patch in [*choices.patches, *patches_for(choices.file, choices.arguments)]:
-        words += ["--patch", patch]
+    patches = all_patches(choices)
+    words += ["--patch", ",".join(patches)] if patches else []
     words += ["--error-exitcode", str(choices.error_exitcode)] if choices.error_exitcode else []
     words += ["--quiet"] if not needs_whole_report(choices) else []
     return [*words, path_of(choices.file)]
@@ -104,8 +110,7 @@ def certificate(choices, report):
     if choices.input is None and report.length:
         return "certify: not asked: the run read standard input; --input names a file that can be read twice"
     lines = [f"option {name} {choices.passed[name]}" for name in ("redzone", "queue") if name in choices.passed]
-    for patch in [*choices.patches, *patches_for(choices.file, choices.arguments)]:
-        lines.append("patch {} {}".format(*patch.split("=")))
+    lines += ["patch {} {}".format(*patch.split("=")) for patch in all_patches(choices)]
     lines += [f"goto {min(report.step, LAST_STEP)}", "look certify"]
     given = ["--input", path_of(choices.input)] if choices.input is not None else []
     _, told, _ = outcome([program(), "look", *given, path_of(choices.file)], "".join(f"{it}\n" for it in lines).encode())
