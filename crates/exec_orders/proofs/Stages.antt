@@ -2,7 +2,7 @@
 use Rattle.std.proofs.Common.{◌≡◌, ◌∙◌, ◌⊎◌, inl, inr, ℕ, Bool, true, false, List, [], ◌∷◌, Option, Some, None, refl}
 use Rattle.std.proofs.Common.{ap, sym}
 use Rattle.std.proofs.Common.{subst, Result, Ok, Err, IfOk, IfErr, OnOk}
-use Rattle.std.proofs.Common.{is_none, option_map, take}
+use Rattle.std.proofs.Common.{is_none, is_some, not, option_map, take}
 use Rattle.std.proofs.KnownBytes.{Appends-nil, Appends-trans, Consumes-nil}
 use Rattle.std.specs.Io.KnownBytes.{Appends}
 use Rattle.ends.specs.declared.ends.End.TheVariants.{CannotWrite, NoMemory}
@@ -189,6 +189,9 @@ with-scenario order asked kinds choices waits sc old new end choice is h =
     (subst (λ (codes : Codes). WithScenario waits choices.quiet codes choices.count sc old new end) choice.codes h))
 
 -- whether an input is named
-pub waits-same : (named : Option (Bor (List ℕ))) → is_none named ≡ is_none (option_map (λ path. path.now) named)
-waits-same None = refl
-waits-same (Some path) = refl
+pub waits-same : (waits : Bool) (named : Option (Bor (List ℕ))) → is_some named ≡ not waits
+    → waits ≡ is_none (option_map (λ path. path.now) named)
+waits-same true None eq = refl
+waits-same true (Some path) eq = cc
+waits-same false None eq = cc
+waits-same false (Some path) eq = refl

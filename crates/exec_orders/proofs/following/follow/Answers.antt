@@ -48,5 +48,5 @@ returns-clause-ok g c =
       c.in_ok-scenario.ensures.ok,
       with-scenario c.args.order.now c.args.asked.now c.in_ok-show.show c.in_ok-show.choices c.is_none-waits.result
           c.in_ok-scenario.scenario _ _ c.open_and_execute.result c.in_ok-show.ensures.ok
-          (c.is_none-waits.ensures ∙ waits-same c.args.order.now.input) c.open_and_execute.ensures,
+          (waits-same c.is_none-waits.result c.args.order.now.input c.is_none-waits.ensures) c.open_and_execute.ensures,
     ))

@@ -11,9 +11,9 @@ returns-in_err-choose_all-clause-err c =
     (elim c.in_err-choose_all.ensures.err [
       | inl memory ↦ inl memory
       | inr refused ↦ inr (inl (
-          subst (IsOptionRefused (option_edits c.args.asked.now c.args.kinds)) c.choose.ensures refused.0,
-          refused.1,
-        ))
+        subst (IsOptionRefused (option_edits c.args.asked.now c.args.kinds)) c.choose.ensures refused.0,
+        refused.1,
+      ))
     ])
 
 pub returns-clause-ok : goal.returns-clause-ok
