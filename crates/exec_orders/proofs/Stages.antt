@@ -2,7 +2,7 @@
 use Rattle.std.proofs.Common.{◌≡◌, ◌∙◌, ◌⊎◌, inl, inr, ℕ, Bool, true, false, List, [], ◌∷◌, Option, Some, None, refl}
 use Rattle.std.proofs.Common.{ap, sym}
 use Rattle.std.proofs.Common.{subst, Result, Ok, Err, IfOk, IfErr, OnOk}
-use Rattle.std.proofs.Common.{take}
+use Rattle.std.proofs.Common.{is_none, is_some, not, option_map, take}
 use Rattle.std.proofs.KnownBytes.{Appends-nil, Appends-trans, Consumes-nil}
 use Rattle.std.specs.Io.KnownBytes.{Appends}
 use Rattle.ends.specs.declared.ends.End.TheVariants.{CannotWrite, NoMemory}
@@ -16,13 +16,21 @@ use Rattle.commands.specs.declared.edit.Edit.TheVariants.{Patch}
 use Rattle.ends.specs.declared.exec_ends.ExecEnd.{ExecEnd}
 use Rattle.guest_elf.specs.declared.image.Image.{Image}
 use Rattle.guest_machine.specs.State.{State}
-use Rattle.program_files.specs.Files.{Giving, HasInput}
+use Rattle.program_files.specs.Files.{Giving, HasInput, IsFront, NoImage, most_judged}
 use Rattle.replay_report.specs.Findings.{HasFindings}
 use Rattle.run_values.specs.declared.mark.Mark.{Mark}
 use Rattle.scenario.specs.Edits.{IsTaken, row}
 use Rattle.scenario.specs.Scenario.{Scenario}
 use Rattle.suppressions.specs.Rules.{Rule}
-use Rattle.exec_orders.specs.Executed.{Executes, Finishes, IsUntouched, pipes}
+use Rattle.exec_orders.specs.Executed.{Executed, Executes, Finishes, IsChoice, IsUntouched, Pipes, WithImage}
+use Rattle.exec_orders.specs.Executed.{WithScenario, codes_of, pipes, waits_for}
+use Rattle.exec_orders.specs.declared.executing.Choices.{Choices}
+use Rattle.command_line.specs.declared.order.Order.{Order}
+use Rattle.command_line.specs.declared.order.ExecWords.{ExecWords}
+use Rattle.ends.specs.declared.ends.End.TheVariants.{Image as Refused}
+use Rattle.guest_elf.specs.File.{IsImageOf, refusal, early_refusal}
+use Rattle.guest_elf.specs.declared.fault.ElfFault.{ElfFault}
+use Rattle.guest_elf.specs.declared.fault.ElfFault.TheVariants.{Memory}
 use Rattle.exec_orders.specs.Prepared.{KeepsRun, IsEdited, IsNoPatch, IsOptionRefused, IsPatched, IsPatchedBy, NoPatch, patch_in}
 use Rattle.exec_orders.specs.Prepared.{patch_of, patch_with}
 use Rattle.text_parts.specs.Parts.{parts}
@@ -141,3 +149,49 @@ no-input gives (Some path) input none has = absurd (some-none path none)
   where
     some-none : (path : List ℕ) → ◌≡◌ {A = Option (List ℕ)} (Some path) None → ⊥
     some-none path e = cc
+
+-- ---- the program
+
+pub no-image : {T : Type 0} (gives : Giving) (path front bytes : List ℕ) (fault : ElfFault)
+    → IsFront gives path most_judged front → bytes ≡ front → ((fault ≡ Memory) ⊎ (refusal bytes ≡ Some fault))
+    → ((early : ElfFault) → early_refusal bytes ≡ Some early → ◌≡◌ {A = Result T ElfFault} (Err fault) (Err early))
+    → NoImage gives path (Refused fault)
+no-image gives path front bytes fault read same refused least = (
+  front,
+  read,
+  (
+    subst (λ (xs : List ℕ). (fault ≡ Memory) ⊎ (refusal xs ≡ Some fault)) same refused,
+    λ early e. let told = least early (subst (λ (xs : List ℕ). early_refusal xs ≡ Some early) (sym same) e) in cc,
+  ),
+)
+
+-- with its options judged, and its program read
+pub with-image : (gives : Giving) (order : Order) (asked : ExecWords) (show : LeakKinds) (choices : Choices)
+    (front bytes : List ℕ) (image : Image) (old new : Pipes) (end : ExecEnd) → IsChoice asked show choices
+    → IsFront gives order.file.now most_judged front → bytes ≡ front → IsImageOf bytes image
+    → WithImage gives order asked show choices.count image old new end → Executed gives order asked old new end
+with-image gives order asked show choices front bytes image old new end choice read same is h = inr (
+  show,
+  choices.count,
+  choice.show,
+  choice.count,
+  inr (image, (front, read, subst (λ (xs : List ℕ). IsImageOf xs image) same is), h),
+)
+
+-- and its scenario made
+pub with-scenario : (order : Order) (asked : ExecWords) (kinds : LeakKinds) (choices : Choices) (waits : Bool)
+    (sc : Scenario) (old new : Pipes) (end : ExecEnd) → IsChoice asked kinds choices → waits ≡ waits_for order
+    → WithScenario waits choices.quiet choices.codes choices.count sc old new end
+    → WithScenario (waits_for order) asked.quiet (codes_of asked) choices.count sc old new end
+with-scenario order asked kinds choices waits sc old new end choice is h =
+    subst (λ (b : Bool). WithScenario b asked.quiet (codes_of asked) choices.count sc old new end) is
+    (subst (λ (b : Bool). WithScenario waits b (codes_of asked) choices.count sc old new end) choice.quiet
+    (subst (λ (codes : Codes). WithScenario waits choices.quiet codes choices.count sc old new end) choice.codes h))
+
+-- whether an input is named
+pub waits-same : (waits : Bool) (named : Option (Bor (List ℕ))) → is_some named ≡ not waits
+    → waits ≡ is_none (option_map (λ path. path.now) named)
+waits-same true None eq = refl
+waits-same true (Some path) eq = cc
+waits-same false None eq = cc
+waits-same false (Some path) eq = refl

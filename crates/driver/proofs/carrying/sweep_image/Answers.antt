@@ -3,7 +3,7 @@ use Rattle.std.proofs.KnownBytes.{Appends-nil}
 use Rattle.std.proofs.Math.Path.{transport}
 use Rattle.command_line.specs.Orders.{rules_path}
 use Rattle.suppressions.specs.Texts.{faults, rules, IsLeast}
-use Rattle.driver.specs.Carried.{longest_text}
+use Rattle.program_files.specs.Files.{longest_text}
 use Rattle.ends.specs.Ends.{end_of}
 use Rattle.sweep_tables.specs.Swept.{Sweeps}
 use Rattle.ends.proofs.EndSteps.{passed-on}

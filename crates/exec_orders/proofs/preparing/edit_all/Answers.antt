@@ -11,9 +11,9 @@ returns-in_err-choose_all-clause-err c =
     (elim c.in_err-choose_all.ensures.err [
       | inl memory ↦ inl memory
       | inr refused ↦ inr (inl (
-          subst (IsOptionRefused (option_edits c.args.asked.now c.args.kinds)) c.choose.ensures refused.0,
-          refused.1,
-        ))
+        subst (IsOptionRefused (option_edits c.args.asked.now c.args.kinds)) c.choose.ensures refused.0,
+        refused.1,
+      ))
     ])
 
 pub returns-clause-ok : goal.returns-clause-ok
@@ -36,7 +36,7 @@ returns-clause-err c =
 
 pub returns-clause-kept : goal.returns-clause-kept
 returns-clause-kept c =
-    weaker-on c.patch_in_list.result _ _ (λ kept. keeps-on c.args.scenario.now c.choose_all.new.scenario _
+    weaker-on c.patch_in_list.result _ _ (λ kept. keeps-on c.args.scenario.now c.choose_all.new.scenario c.patch_in_list.new.scenario
     (keeps-on c.args.scenario.now c.choose.new.self c.choose_all.new.scenario
     (ap (λ (sc : Scenario). sc.marks) c.choose.ensures, ap (λ (sc : Scenario). sc.setup.input) c.choose.ensures)
     c.in_ok-choose_all.ensures.kept) kept) c.patch_in_list.ensures.kept

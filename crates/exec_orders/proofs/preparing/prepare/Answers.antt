@@ -27,14 +27,14 @@ returns-in_err-edit_all-clause-err g c =
     c.from_residual-in_err-edit_all.ensures.1 (elim c.in_err-edit_all.ensures.err [
       | inl memory ↦ inl memory
       | inr none ↦ inr (inr (
-          c.in_ok-suppressions.suppressions.items,
-          c.in_ok-suppressions.ensures.ok,
-          inr (
-            c.in_ok-input.input.items,
-            c.in_ok-input.ensures.ok,
-            subst (λ (sc : Scenario). NotFrom c.args.asked.now c.args.kinds sc c.in_err-edit_all.field-0.0) c.in-Ok.ensures none,
-          ),
-        ))
+        c.in_ok-suppressions.suppressions.items,
+        c.in_ok-suppressions.ensures.ok,
+        inr (
+          c.in_ok-input.input.items,
+          c.in_ok-input.ensures.ok,
+          subst (λ (sc : Scenario). NotFrom c.args.asked.now c.args.kinds sc c.in_err-edit_all.field-0.0) c.in-Ok.ensures none,
+        ),
+      ))
     ])
 
 pub returns-clause-ok : goal.returns-clause-ok
