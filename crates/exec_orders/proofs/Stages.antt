@@ -31,7 +31,8 @@ use Rattle.ends.specs.declared.ends.End.TheVariants.{Image as Refused}
 use Rattle.guest_elf.specs.File.{IsImageOf, refusal, early_refusal}
 use Rattle.guest_elf.specs.declared.fault.ElfFault.{ElfFault}
 use Rattle.guest_elf.specs.declared.fault.ElfFault.TheVariants.{Memory}
-use Rattle.exec_orders.specs.Prepared.{KeepsRun, IsEdited, IsNoPatch, IsOptionRefused, IsPatched, IsPatchedBy, NoPatch, patch_in}
+use Rattle.exec_orders.specs.Prepared.{KeepsRun, IsEdited, IsNoPatch, IsOptionRefused, IsPatched, IsPatchedBy}
+use Rattle.exec_orders.specs.Prepared.{NoPatch, patch_in}
 use Rattle.exec_orders.specs.Prepared.{patch_of, patch_with}
 use Rattle.text_parts.specs.Parts.{parts}
 
@@ -135,7 +136,12 @@ pub executes-opened : (waits quiet : Bool) (codes : Codes) (count : LeakKinds) (
     (left held logged rest new opened last : Option (List ℕ)) (end : ExecEnd) → Appends logged opened []
     → Executes waits quiet codes count sc (pipes left held opened) (pipes rest new last) end
     → Executes waits quiet codes count sc (pipes left held logged) (pipes rest new last) end
-executes-opened waits quiet codes count sc left held logged rest new opened last end open-it (inl (done, input, output, h)) =
+executes-opened waits quiet codes count sc left held logged rest new opened last end open-it (inl (
+  done,
+  input,
+  output,
+  h,
+)) =
     inl (done, input, output, finishes-opened quiet codes count done logged opened last end open-it h)
 executes-opened waits quiet codes count sc left held logged rest new opened last end open-it (inr (cuts, none)) =
     inr (cuts, Appends-trans logged opened last [] [] open-it none)

@@ -18,7 +18,8 @@ returns-then-send g c =
       (
         c.in-Ok.text.items,
         c.in-Ok.ensures shown,
-        subst (λ (text : List ℕ). Appends (g.L.Write.contents c.args.log.now) (g.L.Write.contents c.send.new.writer) text)
+        subst (λ (text : List ℕ). Appends (g.L.Write.contents c.args.log.now) (g.L.Write.contents c.send.new.writer)
+            text)
             c.deref.ensures.value (c.send.ensures.whole c.if-send.true),
       ),
     )

@@ -19,7 +19,8 @@ returns c =
       status = c.status.ensures (chosen_state sc) shown;
       idles = c.is_idle.ensures (chosen_state sc) shown ∙ ap (is_idle (chosen_state sc)) c.setup.ensures;
       has_errors =
-          findings-of (chosen_state sc) sc.image sc.image sc.rules sc.rules sc.options.callers sc.options.callers _ _ _ refl
+          findings-of (chosen_state sc) sc.image sc.image sc.rules sc.rules sc.options.callers sc.options.callers _ _
+          _ refl
           refl refl c.shown.ensures (c.in_ok-has_errors.ensures shown);
       lost = c.refused.ensures ∙ c.requires.at.refused ∙ ap (refused_at sc) c.requires.last;
     }

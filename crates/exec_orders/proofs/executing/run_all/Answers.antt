@@ -27,7 +27,8 @@ returns-then-at-step-clause-ok g c =
       at = run.at;
       last = last;
       output =
-          subst (λ (s : State). Appends (g.W.Write.contents c.args.writer.now) (g.W.Write.contents c.run_first.new.writer)
+          subst (λ (s : State). Appends (g.W.Write.contents c.args.writer.now) (g.W.Write.contents
+          c.run_first.new.writer)
           s.output) (ap (state_at sc) last ∙ sym (chosen-is sc c.requires.marks)) run.output;
       marks = c.requires.marks;
     }

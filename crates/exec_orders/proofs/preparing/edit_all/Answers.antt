@@ -36,7 +36,8 @@ returns-clause-err c =
 
 pub returns-clause-kept : goal.returns-clause-kept
 returns-clause-kept c =
-    weaker-on c.patch_in_list.result _ _ (λ kept. keeps-on c.args.scenario.now c.choose_all.new.scenario c.patch_in_list.new.scenario
+    weaker-on c.patch_in_list.result _ _ (λ kept. keeps-on c.args.scenario.now c.choose_all.new.scenario
+    c.patch_in_list.new.scenario
     (keeps-on c.args.scenario.now c.choose.new.self c.choose_all.new.scenario
     (ap (λ (sc : Scenario). sc.marks) c.choose.ensures, ap (λ (sc : Scenario). sc.setup.input) c.choose.ensures)
     c.in_ok-choose_all.ensures.kept) kept) c.patch_in_list.ensures.kept

@@ -17,7 +17,11 @@ loop-text-preserved c =
           (subst (λ (texts : List (List ℕ)). IsPatched texts before done) (sym all) (after, made, patched));
       fails =
           λ end none. c.loop-text.invariant.fails end
-          (subst (λ (texts : List (List ℕ)). NoPatch c.args.list.now texts before end) (sym all) (inr (after, made, none)));
+          (subst (λ (texts : List (List ℕ)). NoPatch c.args.list.now texts before end) (sym all) (inr (
+            after,
+            made,
+            none,
+          )));
       kept =
           keeps-on c.args.scenario.now before after c.loop-text.invariant.kept
           (patched-keeps c.in-Some.text.now before after made);

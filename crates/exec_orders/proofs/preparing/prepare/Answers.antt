@@ -32,7 +32,8 @@ returns-in_err-edit_all-clause-err g c =
         inr (
           c.in_ok-input.input.items,
           c.in_ok-input.ensures.ok,
-          subst (λ (sc : Scenario). NotFrom c.args.asked.now c.args.kinds sc c.in_err-edit_all.field-0.0) c.in-Ok.ensures none,
+          subst (λ (sc : Scenario). NotFrom c.args.asked.now c.args.kinds sc c.in_err-edit_all.field-0.0)
+              c.in-Ok.ensures none,
         ),
       ))
     ])
