@@ -3,7 +3,8 @@ RUNNER ?= qemu-riscv32
 BUILD ?= build
 CC = riscv64-unknown-elf-gcc
 CFLAGS = -march=rv32im -mabi=ilp32 --specs=picolibc.specs -DPICOLIBC_INTEGER_PRINTF_SCANF -DARGUMENTS -Og -g -I.
-SOURCES = gauge.c $(addprefix kit/,start.S system.c console.c heap_by_name.c)
+KIT = ../firmware
+SOURCES = gauge.c $(addprefix $(KIT)/,start.S system.c console.c heap_by_name.c)
 TESTS = crc fails filter illegal leak null overflow skip undefined
 
 check: $(TESTS:%=$(BUILD)/%.done)
@@ -12,7 +13,7 @@ programs: $(patsubst tests/%.c,$(BUILD)/%,$(wildcard tests/*.c))
 
 $(BUILD)/%: tests/%.c $(SOURCES)
 	@mkdir -p $(BUILD)
-	$(CC) $(CFLAGS) -nostartfiles -T kit/firmware.ld $^ -o $@
+	$(CC) $(CFLAGS) -nostartfiles -T $(KIT)/firmware.ld $^ -o $@
 
 # A status other than 0 fails the test, and its log is shown.
 $(BUILD)/%.done: $(BUILD)/%
@@ -24,4 +25,4 @@ $(BUILD)/%.done: $(BUILD)/%
 
 # What a program in Rust is linked with.
 cargo/start.o: $(SOURCES)
-	cd cargo && $(CC) $(CFLAGS) -c $(addprefix ../kit/,start.S system.c heap_by_name.c)
+	cd cargo && $(CC) $(CFLAGS) -c $(addprefix ../$(KIT)/,start.S system.c heap_by_name.c)
