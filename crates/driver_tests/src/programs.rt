@@ -5,7 +5,7 @@ use fake_streams::Room;
 use guest_elf::read;
 use guest_programs::program;
 use run_values::{Status, Stop};
-use scenario::Scenario;
+use scenario::{LONGEST_INPUT, Scenario};
 use std::alloc::{AllocError, Global};
 
 /// Writes `ok!` and a newline, and exits with status 7.
@@ -83,20 +83,23 @@ const RUNS: [Run; 4] = [
     },
 ];
 
-/// Runs a scenario to its last step, with an input for which it waits. Returns the step at which it first stops.
+/// Runs a scenario until it waits for input, and then another run of it, with an input, to its last step. Returns the step at which the
+/// first waits.
 fn run_through(
     alloc: Global,
     scenario: &mut Scenario<'_>,
     input: Vec<u8>,
     writer: &mut Room,
 ) -> Result<u32, ExecutionFault> {
-    let execution = Execution::begin(scenario)?;
-    let execution = execution.run(alloc, scenario, true, writer)?;
-    let stops = execution.at();
+    let mut first = Room::new(alloc, 1 << 20);
+    let waiting = Execution::begin(scenario)?.run(alloc, scenario, true, &mut first)?;
+    if input.len() > LONGEST_INPUT {
+        return Ok(u32::MAX);
+    }
     scenario.give(input);
-    let execution = execution.run(alloc, scenario, false, writer)?;
-    if execution.at() == 1000 && execution.refused() == 0 {
-        Ok(stops)
+    let last = Execution::begin(scenario)?.run(alloc, scenario, false, writer)?;
+    if last.at() == 1000 && last.refused() == 0 {
+        Ok(waiting.at())
     } else {
         Ok(u32::MAX)
     }
