@@ -12,14 +12,14 @@ use Rattle.commands.specs.declared.fault.Fault.{Fault}
 use Rattle.commands.specs.declared.fault.Fault.TheVariants.{BadCommand, BadRange, StepLimit}
 use Rattle.look_lines.specs.declared.look.Look.{Look}
 use Rattle.look_lines.specs.declared.look.Search.{Search}
-use Rattle.look_lines.specs.declared.look.Look.TheVariants.{Registers, Memory, Next, Last, Certify}
+use Rattle.look_lines.specs.declared.look.Look.TheVariants.{Registers, Memory, Output, Input, Next, Last, Certify}
 
--- the greatest number of bytes that a look at memory may show, and that a search for a change of what is known of them
--- may watch
+-- the greatest number of bytes that a look at memory or at the output may show, and that a search for a change of what
+-- is known of them may watch
 abbrev pub longest_view : ℕ
 longest_view = 4096
 
--- `ADDR LEN`
+-- `ADDR LEN`, or `FROM LEN`
 abbrev pub span_with : Option ℕ → Option ℕ → Option Span
 span_with (Some addr) (Some len) = Some (record { start = addr; len = len })
 span_with (Some addr) None = None
@@ -41,20 +41,15 @@ sought_with (Some watch) (Some range) = Some (record { watch = watch; range = ra
 sought_with (Some watch) None = None
 sought_with None range = None
 
--- `registers`
-unfoldable pub registers_of : List (List ℕ) → Option Look
-registers_of [] = Some Registers
-registers_of (field ∷ more) = None
+-- a look that has no fields: `registers`, `input`, `certify`
+unfoldable pub bare : Look → List (List ℕ) → Option Look
+bare look [] = Some look
+bare look (field ∷ more) = None
 
--- `certify`
-unfoldable pub certify_of : List (List ℕ) → Option Look
-certify_of [] = Some Certify
-certify_of (field ∷ more) = None
-
--- `memory ADDR LEN`
-unfoldable pub memory_of : List (List ℕ) → Option Look
-memory_of (addr ∷ len ∷ []) = option_map (λ range. Memory range) (span_with (number addr) (number len))
-memory_of _ = None
+-- the range of `memory ADDR LEN`, and of `output FROM LEN`
+unfoldable pub range_of : List (List ℕ) → Option Span
+range_of (start ∷ len ∷ []) = span_with (number start) (number len)
+range_of _ = None
 
 -- `KIND ADDR LEN STEP`
 abbrev pub search_with : Option Sought → Option ℕ → Option Search
@@ -70,11 +65,13 @@ search_of _ = None
 -- the look of the word after `look`, and the fields after that
 unfoldable pub look_of : List ℕ → List (List ℕ) → Option Look
 look_of word more =
-    if bytes_eq word (codes "registers") then registers_of more
-    else if bytes_eq word (codes "memory") then memory_of more
+    if bytes_eq word (codes "registers") then bare Registers more
+    else if bytes_eq word (codes "memory") then option_map (λ range. Memory range) (range_of more)
+    else if bytes_eq word (codes "output") then option_map (λ range. Output range) (range_of more)
+    else if bytes_eq word (codes "input") then bare Input more
     else if bytes_eq word (codes "next") then option_map (λ search. Next search) (search_of more)
     else if bytes_eq word (codes "last") then option_map (λ search. Last search) (search_of more)
-    else if bytes_eq word (codes "certify") then certify_of more
+    else if bytes_eq word (codes "certify") then bare Certify more
     else None
 
 -- the look of a line's fields, of which the first is `look`
@@ -110,6 +107,8 @@ search_refusal search =
 abbrev pub look_refusal : Look → Option Fault
 look_refusal Registers = None
 look_refusal (Memory range) = if is_view range then None else Some BadRange
+look_refusal (Output range) = if is_view range then None else Some BadRange
+look_refusal Input = None
 look_refusal (Next search) = search_refusal search
 look_refusal (Last search) = search_refusal search
 look_refusal Certify = None

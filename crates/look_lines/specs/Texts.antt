@@ -1,5 +1,7 @@
 -- The reply to a look, for a state.
 use Rattle.std.specs.Prelude.{ℕ, zero, suc, ◌+◌, if◌then◌else◌, List, [], ◌++◌, Option, Some, None, codes, decimal}
+use Rattle.std.specs.List.{flat_map}
+use Rattle.checkpoints.specs.Outputs.{part}
 use Rattle.definedness.specs.declared.Bits.{Bits}
 use Rattle.guest_machine.specs.Registers.{register}
 use Rattle.guest_machine.specs.State.{Core, State}
@@ -42,6 +44,21 @@ unfoldable pub memory_text : State → Span → List ℕ
 memory_text s range =
     codes "bytes " ++ bytes_text s.bytes range.start range.len ++ codes "\nundef "
     ++ undefs_text s.core.shadow range.start range.len ++ newline
+
+-- bytes, each in hexadecimal
+unfoldable pub bytes_line : List ℕ → List ℕ
+bytes_line bytes = codes "bytes " ++ flat_map byte_text bytes ++ newline
+
+-- the bytes of the output in a range of positions: those that there are
+abbrev pub output_text : State → Span → List ℕ
+output_text s range = bytes_line (part range s.output)
+
+-- the number of bytes of the input that were read, the number of its bytes, and whether a read has asked for more than
+-- were left
+unfoldable pub input_text : State → ℕ → List ℕ
+input_text s len =
+    codes "input " ++ decimal s.position ++ codes " " ++ decimal len ++ codes " "
+    ++ (if s.end_seen then codes "yes" else codes "no") ++ newline
 
 -- a step that was found, if one was
 unfoldable pub step_text : Option ℕ → List ℕ

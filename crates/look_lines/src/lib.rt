@@ -3,8 +3,9 @@
 //! | Item | What it is |
 //! |---|---|
 //! | [`asked`] | reads a line as a [`Look`], or returns why it is rejected |
-//! | [`Look`], [`Search`] | what is asked: registers, memory, the next or the last step that does something, whether the run is clean |
-//! | [`push_registers`], [`push_memory`], [`push_step`] | append the reply: on a machine, or on a step that was found |
+//! | [`Look`], [`Search`] | what is asked: registers, memory, the output, the input, the next or the last step that does something, whether the run is clean |
+//! | [`push_registers`], [`push_memory`], [`push_input`] | append the reply on a machine |
+//! | [`push_output`], [`push_step`] | append the reply on bytes of the output, or on a step that was found |
 //!
 //! This crate is separate from `looks`, which lists the lines and serves them over a session. In `specs/`: `Looks`, the lines; `Texts`, the
 //! replies to them.
@@ -18,4 +19,4 @@ mod texts;
 
 pub use look::{Look, Search};
 pub use parsing::asked;
-pub use texts::{push_memory, push_registers, push_step};
+pub use texts::{push_input, push_memory, push_output, push_registers, push_step};

@@ -18,6 +18,10 @@ pub enum Look {
     Registers,
     /// The bytes of a range, with their undefined bits.
     Memory(Span),
+    /// The bytes of the output in a range of positions.
+    Output(Span),
+    /// How far the input was read, of how many bytes, and whether its end was seen.
+    Input,
     /// The first step, from the chosen one on, that does what is sought.
     Next(Search),
     /// The last step, before the chosen one, that does what is sought.

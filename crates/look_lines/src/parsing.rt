@@ -1,7 +1,7 @@
 //! A line read as a look.
 ghost use Rattle.std.specs.Prelude.{◌≡◌, IfOk, None};
 ghost use Rattle.commands.specs.Commands.{number as number_of};
-ghost use Rattle.look_lines.specs.Looks.{watch_of, asked, certify_of, is_range, is_view, look_among, look_of, look_refusal, may_watch, memory_of, registers_of, search_of, search_refusal, span_with};
+ghost use Rattle.look_lines.specs.Looks.{asked, bare, is_range, is_view, look_among, look_of, look_refusal, may_watch, range_of, search_of, search_refusal, span_with, watch_of};
 
 use crate::look::{Look, Search};
 use checkpoints::{Sought, Watch};
@@ -24,16 +24,21 @@ const REGISTERS: &[u8] = b"registers";
 
 const MEMORY: &[u8] = b"memory";
 
+const OUTPUT: &[u8] = b"output";
+
+const INPUT: &[u8] = b"input";
+
 const NEXT: &[u8] = b"next";
 
 const LAST: &[u8] = b"last";
 
 const CERTIFY: &[u8] = b"certify";
 
-/// The greatest number of bytes that a look at memory may show, and that a search for a change of what is known of them may watch.
+/// The greatest number of bytes that a look at memory or at the output may show, and that a search for a change of what is known of them
+/// may watch.
 const LONGEST_VIEW: u32 = 4096;
 
-/// The range of a first address and a number of bytes.
+/// The range of a first address, or position, and a number of bytes.
 fn span_of(addr: &[u8], len: &[u8]) -> Option<Span>
     ensures { result ≡ span_with (number_of addr.now) (number_of len.now) }
 {
@@ -62,39 +67,28 @@ fn watch_of(word: &[u8]) -> Option<Watch>
     }
 }
 
-/// `registers`.
-#[tactic(auto, unfolding(crate::specs::Looks::registers_of))]
-fn registers_of(mut fields: Parts<'_>) -> Option<Look>
-    ensures { result ≡ registers_of fields.entry }
+/// A look that has no fields.
+#[tactic(auto, unfolding(crate::specs::Looks::bare))]
+fn bare(look: Look, mut fields: Parts<'_>) -> Option<Look>
+    ensures { result ≡ bare look fields.entry }
 {
     match fields.next() {
-        None => Some(Look::Registers),
+        None => Some(look),
         Some(_) => None,
     }
 }
 
-/// `certify`.
-#[tactic(auto, unfolding(crate::specs::Looks::certify_of))]
-fn certify_of(mut fields: Parts<'_>) -> Option<Look>
-    ensures { result ≡ certify_of fields.entry }
+/// The range of `memory ADDR LEN`, and of `output FROM LEN`.
+#[tactic(auto, unfolding(crate::specs::Looks::range_of))]
+fn range_of(mut fields: Parts<'_>) -> Option<Span>
+    ensures { result ≡ range_of fields.entry }
 {
-    match fields.next() {
-        None => Some(Look::Certify),
-        Some(_) => None,
-    }
-}
-
-/// `memory ADDR LEN`.
-#[tactic(auto, unfolding(crate::specs::Looks::memory_of))]
-fn memory_of(mut fields: Parts<'_>) -> Option<Look>
-    ensures { result ≡ memory_of fields.entry }
-{
-    let addr = fields.next()?;
+    let start = fields.next()?;
     let len = fields.next()?;
     if fields.next().is_some() {
         return None;
     }
-    Some(Look::Memory(span_of(addr, len)?))
+    span_of(start, len)
 }
 
 /// `KIND ADDR LEN STEP`.
@@ -124,15 +118,19 @@ fn look_of(word: &[u8], fields: Parts<'_>) -> Option<Look>
     ensures { result ≡ look_of word.now fields.entry }
 {
     if word == REGISTERS {
-        registers_of(fields)
+        bare(Look::Registers, fields)
     } else if word == MEMORY {
-        memory_of(fields)
+        Some(Look::Memory(range_of(fields)?))
+    } else if word == OUTPUT {
+        Some(Look::Output(range_of(fields)?))
+    } else if word == INPUT {
+        bare(Look::Input, fields)
     } else if word == NEXT {
         Some(Look::Next(search_of(fields)?))
     } else if word == LAST {
         Some(Look::Last(search_of(fields)?))
     } else if word == CERTIFY {
-        certify_of(fields)
+        bare(Look::Certify, fields)
     } else {
         None
     }
@@ -189,8 +187,8 @@ fn look_refusal(look: Look) -> Option<Fault>
     ensures { result ≡ look_refusal look }
 {
     match look {
-        Look::Registers | Look::Certify => None,
-        Look::Memory(range) => {
+        Look::Registers | Look::Input | Look::Certify => None,
+        Look::Memory(range) | Look::Output(range) => {
             if is_view(range) {
                 None
             } else {

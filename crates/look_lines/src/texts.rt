@@ -1,10 +1,12 @@
 //! The replies to looks, as text.
-ghost use Rattle.std.specs.Prelude.{◌≡◌, ◌+◌, ◌++◌, ◌≤◌, ◌^◌, OnOk};
+ghost use Rattle.std.specs.Prelude.{◌≡◌, ◌+◌, ◌++◌, ◌≤◌, ◌^◌, if◌then◌else◌, codes, OnOk};
+ghost use Rattle.std.specs.List.{flat_map};
 ghost use Rattle.guest_machine.specs.State.{State};
 ghost use Rattle.guest_machine.specs.Shows.{Shows};
 ghost use Rattle.shadow_memory.specs.Cells.{shadow_in};
 ghost use Rattle.shadow_memory.specs.Memories.{bytes_in, shadows_in};
-ghost use Rattle.look_lines.specs.Texts.{bytes_text, memory_text, register_line, registers_text, step_text, undef_text, undefs_text};
+ghost use Rattle.report_lines.specs.Text.{byte_text};
+ghost use Rattle.look_lines.specs.Texts.{bytes_line, bytes_text, input_text, memory_text, register_line, registers_text, step_text, undef_text, undefs_text};
 
 use definedness::Bits;
 use guest_machine::{Machine, Register};
@@ -85,6 +87,47 @@ pub fn push_memory(out: &mut Vec<u8>, machine: &Machine, range: Span) -> Result<
     push_bytes(out, machine.memory(), range)?;
     push_text(out, b"\nundef ")?;
     push_undefs(out, machine.memory(), range)?;
+    push_text(out, b"\n")
+}
+
+/// Appends bytes in hexadecimal.
+fn push_hex(out: &mut Vec<u8>, bytes: &[u8]) -> Result<(), AllocError>
+    ensures { OnOk result (out.new.items ≡ out.old.items ++ flat_map byte_text bytes.now) }
+{
+    for byte in bytes {
+        push_byte(out, *byte)?;
+    }
+    Ok(())
+}
+
+/// Appends the line of some bytes of the output.
+#[tactic(auto, unfolding(crate::specs::Texts::bytes_line), using(std::proofs::Common::append_assoc))]
+pub fn push_output(out: &mut Vec<u8>, bytes: &[u8]) -> Result<(), AllocError>
+    ensures { OnOk result (out.new.items ≡ out.old.items ++ bytes_line bytes.now) }
+{
+    push_text(out, b"bytes ")?;
+    push_hex(out, bytes)?;
+    push_text(out, b"\n")
+}
+
+/// Returns `yes` or `no`.
+fn yes_or_no(is_so: bool) -> &'static [u8]
+    ensures { result.now ≡ (if is_so then codes "yes" else codes "no") }
+{
+    if is_so { b"yes" } else { b"no" }
+}
+
+/// Appends how far a machine has read an input of a number of bytes, and whether it has seen the end.
+#[tactic(auto, unfolding(crate::specs::Texts::input_text), using(std::proofs::Common::append_assoc))]
+pub fn push_input(out: &mut Vec<u8>, machine: &Machine, len: u64) -> Result<(), AllocError>
+    ensures { OnOk result ((s : State) → Shows machine.now s → out.new.items ≡ out.old.items ++ input_text s len) }
+{
+    push_text(out, b"input ")?;
+    push_number(out, machine.position())?;
+    push_text(out, b" ")?;
+    push_number(out, len)?;
+    push_text(out, b" ")?;
+    push_text(out, yes_or_no(machine.end_seen()))?;
     push_text(out, b"\n")
 }
 

@@ -15,9 +15,9 @@ use Rattle.scenario.specs.Scenario.{Scenario, chosen_state}
 use Rattle.commands.specs.declared.fault.Fault.{Fault}
 use Rattle.commands.specs.declared.fault.Fault.TheVariants.{Memory}
 use Rattle.look_lines.specs.Looks.{asked}
-use Rattle.look_lines.specs.Texts.{memory_text, registers_text, step_text}
+use Rattle.look_lines.specs.Texts.{input_text, memory_text, output_text, registers_text, step_text}
 use Rattle.look_lines.specs.declared.look.Look.{Look}
-use Rattle.look_lines.specs.declared.look.Look.TheVariants.{Registers, Memory, Next, Last, Certify}
+use Rattle.look_lines.specs.declared.look.Look.TheVariants.{Registers, Memory, Output, Input, Next, Last, Certify}
 use Rattle.looks.specs.declared.viewer.Viewer.{Viewer}
 
 -- does a line look? One that is too long doesn't, and none does once the limit of lines is reached
@@ -29,6 +29,8 @@ looks turn line = starts_with nat_eq line (codes "look ") && not (is_over turn) 
 abbrev pub Tells : Scenario → Look → List ℕ → Type 0
 Tells sc Registers text = text ≡ registers_text (chosen_state sc)
 Tells sc (Memory range) text = text ≡ memory_text (chosen_state sc) range
+Tells sc (Output range) text = text ≡ output_text (chosen_state sc) range
+Tells sc Input text = text ≡ input_text (chosen_state sc) (length sc.setup.input)
 Tells sc (Next search) text =
     (found : Option ℕ) × IsNext (Finds sc search.sought) sc.step search.bound found × (text ≡ step_text found)
 Tells sc (Last search) text =

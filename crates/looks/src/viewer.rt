@@ -7,7 +7,7 @@ ghost use Rattle.look_lines.specs.Looks.{look_refusal};
 ghost use Rattle.looks.specs.Views.{LookMoves, looks, Tells};
 
 use line_server::{LONGEST_LINE, Listener};
-use look_lines::{Look, asked, push_memory, push_registers, push_step};
+use look_lines::{Look, asked, push_input, push_memory, push_output, push_registers, push_step};
 use replay_session::{Fault, Session, Texts};
 use std::alloc::AllocError;
 
@@ -36,6 +36,15 @@ fn show(session: &mut Session<'_>, look: Look, text: &mut Vec<u8>) -> Result<(),
         Look::Memory(range) => {
             let machine = session.machine()?;
             push_memory(text, &machine, range)
+        }
+        Look::Output(range) => {
+            let bytes = session.output(range)?;
+            push_output(text, &bytes)
+        }
+        Look::Input => {
+            let len = session.input_len();
+            let machine = session.machine()?;
+            push_input(text, &machine, len)
         }
         Look::Next(search) => {
             let found = session.next(search.sought, search.bound)?;

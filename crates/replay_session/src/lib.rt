@@ -12,6 +12,10 @@
 //! | [`Session::command`] | answers one line: a [`Reply`], or a [`Fault`] with its number; appends the bytes of a report |
 //! | [`Session::is_over`] | returns whether the limit of lines is reached |
 //! | [`Session::allocator`] | returns the allocator of its memory |
+//! | [`Session::machine`] | returns the machine at the chosen step |
+//! | [`Session::next`], [`Session::last`] | return the first step from the chosen one on, and the last before it, that does what is sought |
+//! | [`Session::output`] | returns the bytes of the output at the chosen step that are in a range of positions |
+//! | [`Session::input_len`] | returns the number of bytes of the input |
 //! | [`Session::certify`] | appends the line of the verdict on the run up to the chosen step |
 //! | [`Session::trail`] | returns the held machines, on whose meter each step counts that a report executes |
 //! | [`serve`] | reads lines from any reader and writes the replies to any writer, or stops with a [`ServeFault`] |

@@ -11,7 +11,7 @@ use checkpoints::{Sought, Trail};
 use clean_reports::{certify, push_verdict};
 use commands::{BeginFault, Command, Edit, Fault, parse};
 use guest_elf::Image;
-use guest_machine::{Machine, Meter};
+use guest_machine::{Machine, Meter, Span};
 use line_server::LONGEST_LINE;
 use scenario::laws::edits_follow;
 use scenario::{LONGEST_INPUT, MOST_STEPS, Scenario};
@@ -34,6 +34,7 @@ pub struct Session<'a> {
 
 impl<'a> Session<'a> {
     ghost use Rattle.std.specs.Prelude.{◌≡◌, ◌<◌, ◌↔◌, false, true, IfOk, IfErr, IfNone, OnOk, OnErr, length};
+    ghost use Rattle.checkpoints.specs.Outputs.{part};
     ghost use Rattle.checkpoints.specs.Searches.{IsLast, IsNext};
     ghost use Rattle.checkpoints.specs.Trails.{is_short};
     ghost use Rattle.checkpoints.specs.Work.{reached};
@@ -235,6 +236,32 @@ impl<'a> Session<'a> {
             self.scenario.marks(),
             &mut Meter::new(),
         )
+    }
+
+    /// Returns the bytes of the output at the chosen step that are in a range of positions: those that there are. The trail is moved as by
+    /// a report.
+    #[tactic(auto, unfolding(crate::specs::Session::turn_of, crate::specs::Session::trail_of))]
+    pub fn output(&mut self, range: Span) -> Result<Vec<u8>, AllocError>
+        ensures turn { turn_of self.new ≡ turn_of self.old }
+        ensures part { IfOk result (λ bytes. bytes.items ≡ part range (chosen_state (scenario_of self.old)).output) }
+        ensures work { OnOk result (MovesWork (scenario_of self.old) Command.Report (work_on (trail_of self.old)) (work_on (trail_of self.new))) }
+        ensures short { is_short (trail_of self.new) ≡ is_short (trail_of self.old) }
+    {
+        self.trail.output(
+            self.alloc,
+            range,
+            self.scenario.step(),
+            self.scenario.setup(),
+            self.scenario.marks(),
+        )
+    }
+
+    /// Returns the number of bytes of the input.
+    #[tactic(auto, unfolding(crate::specs::Session::turn_of))]
+    pub fn input_len(&self) -> u64
+        ensures { result ≡ length (scenario_of self.now).setup.input }
+    {
+        self.scenario.setup().input.len() as u64
     }
 
     /// Appends the line of the verdict on the run up to the chosen step. The trail then holds machines as after a report. The steps that
