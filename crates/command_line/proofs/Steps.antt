@@ -1,6 +1,6 @@
 -- The step that a command line gives, and the error that is passed on.
 use Rattle.std.proofs.Common.{◌≡◌, ◌∙◌, ℕ, List, Option, Some, None, Result, Ok, Err, IfErr, IfSome, IsErrAnd}
-use Rattle.std.proofs.Common.{IsSomeAnd, codes, refl, subst, sym}
+use Rattle.std.proofs.Common.{IsSomeAnd, refl, subst, sym}
 use Rattle.std.specs.Str.Parse.{digits_value, without_leading_plus, ParsesUnsigned, ExplainsUnsignedError}
 use Rattle.std.specs.Str.Parse.{HasUnsignedDigitsIfOk}
 use Rattle.std.specs.declared.num.ParseIntError.{ParseIntError}
@@ -8,7 +8,7 @@ use Rattle.clap.proofs.WalkLemmas.{one_text-rows}
 use Rattle.clap.specs.Words.{FailsBy, HasKind, Kinds, ReadsOne, Row, Text, one_of, one_text, rows_of}
 use Rattle.clap.specs.declared.error.Error.{Error}
 use Rattle.clap.specs.declared.parser.matches.Found.{Found}
-use Rattle.command_line.specs.Orders.{IsOrderOf, IsStepOf}
+use Rattle.command_line.specs.Orders.{IsNumberOf, IsOrderOf}
 use Rattle.command_line.specs.declared.order.Order.{Order}
 
 -- what `u32::from_str` says
@@ -23,12 +23,12 @@ read found None none reads = tt
 read None (Some n) none reads = let missing : Some n ≡ None = none refl in cc
 read (Some t) (Some n) none reads = (reads t refl).0.1
 
-pub is-step : (f : Found) (result : Option ℕ) → (one_text f (codes "step") ≡ None → result ≡ None)
-    → ((t : List ℕ) → one_text f (codes "step") ≡ Some t → ReadsOne from_text t result)
-    → IfSome result (IsStepOf (rows_of f))
-is-step f result none reads =
-    read (one_of (codes "step") (rows_of f)) result (λ e. none (one_text-rows f (codes "step") ∙ e))
-    (λ t e. reads t (one_text-rows f (codes "step") ∙ e))
+pub is-number : (f : Found) (name : Text) (result : Option ℕ) → (one_text f name ≡ None → result ≡ None)
+    → ((t : List ℕ) → one_text f name ≡ Some t → ReadsOne from_text t result)
+    → IfSome result (IsNumberOf name (rows_of f))
+is-number f name result none reads =
+    read (one_of name (rows_of f)) result (λ e. none (one_text-rows f name ∙ e))
+    (λ t e. reads t (one_text-rows f name ∙ e))
 
 -- what holds of the error that was passed on
 pub same-error : {T E : Type 0} (result : Result T E) (error : E) (P : E → Type 0) → IsErrAnd result (λ e. e ≡ error)

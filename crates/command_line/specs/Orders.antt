@@ -1,7 +1,8 @@
 -- The command line, in `clap`'s own terms (`clap`'s specs: what a line of arguments gives for each argument), and the
 -- order that it gives.
 use denote.Ref.{Bor}
-use Rattle.std.specs.Prelude.{◌≡◌, ℕ, pos, List, [], ◌∷◌, Bool, true, false, Option, Some, codes, option_map, IsSomeAnd}
+use Rattle.std.specs.Prelude.{◌≡◌, ℕ, pos, List, [], ◌∷◌, Bool, true, false, Option, Some, None, codes}
+use Rattle.std.specs.Prelude.{option_map, IsSomeAnd}
 use Rattle.std.specs.Str.{bytes_eq}
 use Rattle.std.specs.Str.Parse.{digits_value, without_leading_plus}
 use Rattle.clap.specs.Words.{App, Row, Rule, Text, first_of, new_app, new_rule, one_of, subcommand_of, with_rule}
@@ -13,6 +14,8 @@ use Rattle.command_line.specs.declared.order.Order.{Order}
 use Rattle.command_line.specs.declared.order.SweepWords.{SweepWords}
 use Rattle.command_line.specs.declared.order.Task.{Task}
 use Rattle.command_line.specs.declared.order.Task.TheVariants.{Report, Session, Look, Sweep, Certify}
+use Rattle.command_line.specs.declared.order.Task.TheVariants.{Exec}
+use Rattle.command_line.specs.declared.order.ExecWords.{ExecWords}
 
 -- the greatest step of a report (this project's limit)
 abbrev pub greatest_step : ℕ
@@ -95,13 +98,61 @@ with_sweep = with_subcommand with_look sweep_command.top
 abbrev pub certify_command : App
 certify_command = with_rule (input_command (codes "certify")) step_option
 
--- the command line: `run`, `session`, `look`, `sweep` and `certify`
-abbrev pub command_line : App
-command_line = with_subcommand with_sweep certify_command.top
+-- with `certify`
+abbrev pub with_certify : App
+with_certify = with_subcommand with_sweep certify_command.top
 
--- a number is the one that was given for `--step`, in decimal digits
+-- `--step` of `exec`, up to the greatest number of 32 bits
+abbrev pub greatest_run : ℕ
+greatest_run = 4294967295
+
+-- an option with a number between two others, and one that has a value where it isn't given
+abbrev pub number_option : Text → ℕ → ℕ → Rule
+number_option name least most = record (option name) { parser = Some (Signed (pos least) (pos most)) }
+
+abbrev pub default_number : Text → ℕ → ℕ → Text → Rule
+default_number name least most default = record (number_option name least most) { defaults = default ∷ [] }
+
+-- a flag that also has a short name, q
+abbrev pub quiet_flag : Rule
+quiet_flag =
+    record (new_rule (codes "quiet")) { long = Some (codes "quiet"); short = Some 113; action = Some SetTrue }
+
+-- `exec`, by its options for the run, for the report, and for the exit status
+abbrev pub exec_runs : App
+exec_runs =
+    with_rule (with_rule (with_rule (with_rule (program_command (codes "exec"))
+    (default_number (codes "step") 0 greatest_run (codes "1000000000"))) (option (codes "patch")))
+    (default_number (codes "redzone") 0 4096 (codes "16")))
+    (default_number (codes "queue") 0 1000000000 (codes "20000000"))
+
+abbrev pub exec_reports : App
+exec_reports =
+    with_rule (with_rule (with_rule (with_rule exec_runs (option (codes "report")))
+    (default_number (codes "callers") 1 24 (codes "12")))
+    (default_option (codes "show") (codes "definite,possible"))) quiet_flag
+
+abbrev pub exec_command : App
+exec_command =
+    with_rule (with_rule (with_rule exec_reports (number_option (codes "error-exitcode") 1 255))
+    (default_option (codes "count") (codes "definite,possible"))) (number_option (codes "idle-exitcode") 0 255)
+
+-- the command line: `run`, `session`, `look`, `sweep`, `certify` and `exec`
+abbrev pub command_line : App
+command_line = with_subcommand with_certify exec_command.top
+
+-- a number is the one that an option was given, in decimal digits
+abbrev pub IsNumberOf : Text → List Row → ℕ → Type 0
+IsNumberOf name rows n = IsSomeAnd (one_of name rows) (λ text. n ≡ digits_value 10 (without_leading_plus text))
+
+-- and if it was given one
+abbrev pub IsNumberIn : Text → List Row → Option ℕ → Type 0
+IsNumberIn name rows None = first_of name rows ≡ None
+IsNumberIn name rows (Some n) = IsNumberOf name rows n
+
+-- that of `--step`
 abbrev pub IsStepOf : List Row → ℕ → Type 0
-IsStepOf rows n = IsSomeAnd (one_of (codes "step") rows) (λ text. n ≡ digits_value 10 (without_leading_plus text))
+IsStepOf rows n = IsNumberOf (codes "step") rows n
 
 -- a flag was given, or it wasn't
 pub record IsFlagOf (name : Text) (rows : List Row) (flag : Bool) : Type 0 where
@@ -122,15 +173,31 @@ pub record IsSweepOf (rows : List Row) (asked : SweepWords) : Type 0 where
   pub part : Some asked.part.now ≡ first_of (codes "part") rows
   pub with_output : IsFlagOf (codes "with-output") rows asked.with_output
 
+-- the arguments of what was found for those of `exec`
+pub record IsExecOf (rows : List Row) (asked : ExecWords) : Type 0 where
+  pub step : IsStepOf rows asked.step
+  pub patches : text_of asked.patches ≡ first_of (codes "patch") rows
+  pub report : text_of asked.report ≡ first_of (codes "report") rows
+  pub error_exitcode : IsNumberIn (codes "error-exitcode") rows asked.error_exitcode
+  pub idle_exitcode : IsNumberIn (codes "idle-exitcode") rows asked.idle_exitcode
+  pub callers : IsNumberOf (codes "callers") rows asked.callers
+  pub redzone : IsNumberOf (codes "redzone") rows asked.redzone
+  pub queue : IsNumberOf (codes "queue") rows asked.queue
+  pub show : Some asked.show.now ≡ first_of (codes "show") rows
+  pub count : Some asked.count.now ≡ first_of (codes "count") rows
+  pub quiet : IsFlagOf (codes "quiet") rows asked.quiet
+
 -- the command of a name, of what was found for its arguments
 abbrev pub IsTaskOf : Text → List Row → Task → Type 0
 IsTaskOf name rows (Report n) = (bytes_eq name (codes "run") ≡ true) × IsStepOf rows n
 IsTaskOf name rows (Sweep words) = (bytes_eq name (codes "sweep") ≡ true) × IsSweepOf rows words
 IsTaskOf name rows (Certify n) = (bytes_eq name (codes "certify") ≡ true) × IsStepOf rows n
 IsTaskOf name rows Look = bytes_eq name (codes "look") ≡ true
+IsTaskOf name rows (Exec asked) = (bytes_eq name (codes "exec") ≡ true) × IsExecOf rows asked
 IsTaskOf name rows Session =
     (bytes_eq name (codes "run") ≡ false) × (bytes_eq name (codes "sweep") ≡ false)
     × (bytes_eq name (codes "look") ≡ false) × (bytes_eq name (codes "certify") ≡ false)
+    × (bytes_eq name (codes "exec") ≡ false)
 
 -- the order of what was found for a command's arguments
 pub record IsOrderOf (name : Text) (rows : List Row) (order : Order) : Type 0 where

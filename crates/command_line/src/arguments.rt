@@ -2,8 +2,9 @@
 ghost use Rattle.std.specs.Prelude.{◌≡◌, IfErr, IfOk, IfSome, IsSomeAnd, false, map, string_bytes, true};
 ghost use Rattle.clap.specs.Words.{FailsBy, app_of, fault_of, found_of, kind_of, rows_of, rule_of, subcommand_rows_of, takes};
 ghost use Rattle.clap.specs.declared.builder.command.Command.TheViews.{out-Command};
-ghost use Rattle.command_line.specs.Orders.{IsOrderFor, IsOrderOf, IsStepOf, IsSweepOf, IsTaskOf, certify_command, command_line, default_option, file_argument, input_command, option, output_flag, program_command, run_command, step_option, sweep_command, sweep_of_bytes, with_look, with_run, with_session, with_sweep};
+ghost use Rattle.command_line.specs.Orders.{IsOrderFor, IsOrderOf, IsStepOf, IsSweepOf, IsTaskOf, certify_command, command_line, default_option, file_argument, input_command, option, output_flag, program_command, run_command, step_option, sweep_command, sweep_of_bytes, with_certify, with_look, with_run, with_session, with_sweep};
 
+use crate::exec::{exec_command, exec_of};
 use crate::help::{
     ABOUT, AFTER_CERTIFY, AFTER_LOOK, AFTER_RUN, AFTER_SESSION, AFTER_SWEEP, CERTIFY, LOOK, RUN,
     SESSION, SWEEP,
@@ -27,7 +28,7 @@ fn file_argument<'a>(alloc: Global) -> Arg<'a>
 }
 
 /// An option with a value, under its long name.
-fn option<'a>(alloc: Global, name: &'a str, value: &'a str, help: &'a str) -> Arg<'a>
+pub(crate) fn option<'a>(alloc: Global, name: &'a str, value: &'a str, help: &'a str) -> Arg<'a>
     ensures rule { rule_of result ≡ option name.entry.now }
     ensures local { result.global ≡ false }
 {
@@ -37,33 +38,37 @@ fn option<'a>(alloc: Global, name: &'a str, value: &'a str, help: &'a str) -> Ar
         .help(help)
 }
 
-/// A command on a program, with an input.
+/// What the help says of an input, unless a command has another one without it.
+const INPUT: &str = "A file with the bytes that the program can read; none without it";
+
+/// A command on a program, with an input, of which its help says this.
 fn input_command<'a>(
     alloc: Global,
     name: &'a str,
     about: &'a str,
     after: &'a str,
+    input: &'a str,
 ) -> Result<Command<'a>, AllocError>
     ensures shape { IfOk result (λ command. app_of command ≡ input_command name.entry.now) }
     ensures globals { IfOk result (λ command. (out-Command command).has_globals ≡ false) }
 {
     let command = Command::new(alloc, name).about(about).after_help(after);
     let command = command.arg(file_argument(alloc))?;
-    let bytes = "A file with the bytes that the program can read; none without it";
-    command.arg(option(alloc, "input", "F", bytes))
+    command.arg(option(alloc, "input", "F", input))
 }
 
-/// A command on a program, with an input and suppressions.
-fn program_command<'a>(
+/// A command on a program, with an input, of which its help says this, and suppressions.
+pub(crate) fn program_command<'a>(
     alloc: Global,
     name: &'a str,
     about: &'a str,
     after: &'a str,
+    input: &'a str,
 ) -> Result<Command<'a>, AllocError>
     ensures shape { IfOk result (λ command. app_of command ≡ program_command name.entry.now) }
     ensures globals { IfOk result (λ command. (out-Command command).has_globals ≡ false) }
 {
-    let command = input_command(alloc, name, about, after)?;
+    let command = input_command(alloc, name, about, after, input)?;
     let rules = "A file of suppressions, in Valgrind's form";
     command.arg(option(alloc, "supp", "F", rules))
 }
@@ -84,7 +89,7 @@ fn run_command<'a>(alloc: Global) -> Result<Command<'a>, AllocError>
     ensures shape { IfOk result (λ command. app_of command ≡ run_command) }
     ensures globals { IfOk result (λ command. (out-Command command).has_globals ≡ false) }
 {
-    program_command(alloc, "run", RUN, AFTER_RUN)?.arg(step_argument(alloc))
+    program_command(alloc, "run", RUN, AFTER_RUN, INPUT)?.arg(step_argument(alloc))
 }
 
 /// The command line with only `run`.
@@ -103,7 +108,7 @@ fn with_run<'a>(alloc: Global) -> Result<Command<'a>, AllocError>
 fn with_session<'a>(alloc: Global) -> Result<Command<'a>, AllocError>
     ensures { IfOk result (λ command. app_of command ≡ with_session) }
 {
-    let session = program_command(alloc, "session", SESSION, AFTER_SESSION)?;
+    let session = program_command(alloc, "session", SESSION, AFTER_SESSION, INPUT)?;
     with_run(alloc)?.subcommand(session)
 }
 
@@ -111,12 +116,12 @@ fn with_session<'a>(alloc: Global) -> Result<Command<'a>, AllocError>
 fn with_look<'a>(alloc: Global) -> Result<Command<'a>, AllocError>
     ensures { IfOk result (λ command. app_of command ≡ with_look) }
 {
-    let look = program_command(alloc, "look", LOOK, AFTER_LOOK)?;
+    let look = program_command(alloc, "look", LOOK, AFTER_LOOK, INPUT)?;
     with_session(alloc)?.subcommand(look)
 }
 
 /// An option with a value, and a default for it.
-fn default_option<'a>(
+pub(crate) fn default_option<'a>(
     alloc: Global,
     name: &'a str,
     value: &'a str,
@@ -145,7 +150,7 @@ fn sweep_of_bytes<'a>(alloc: Global) -> Result<Command<'a>, AllocError>
     ensures shape { IfOk result (λ command. app_of command ≡ sweep_of_bytes) }
     ensures globals { IfOk result (λ command. (out-Command command).has_globals ≡ false) }
 {
-    let command = program_command(alloc, "sweep", SWEEP, AFTER_SWEEP)?;
+    let command = program_command(alloc, "sweep", SWEEP, AFTER_SWEEP, INPUT)?;
     let command = command.arg(step_argument(alloc))?;
     let bytes = "Bytes A to B of the input; A.. up to its last one; A alone";
     let command = command.arg(option(alloc, "bytes", "A..B", bytes))?;
@@ -180,15 +185,23 @@ fn certify_command<'a>(alloc: Global) -> Result<Command<'a>, AllocError>
     ensures shape { IfOk result (λ command. app_of command ≡ certify_command) }
     ensures globals { IfOk result (λ command. (out-Command command).has_globals ≡ false) }
 {
-    input_command(alloc, "certify", CERTIFY, AFTER_CERTIFY)?.arg(step_argument(alloc))
+    input_command(alloc, "certify", CERTIFY, AFTER_CERTIFY, INPUT)?.arg(step_argument(alloc))
+}
+
+/// The command line with `run`, `session`, `look`, `sweep` and `certify`.
+fn with_certify<'a>(alloc: Global) -> Result<Command<'a>, AllocError>
+    ensures { IfOk result (λ command. app_of command ≡ with_certify) }
+{
+    let certify = certify_command(alloc)?;
+    with_sweep(alloc)?.subcommand(certify)
 }
 
 /// The whole command line.
 fn make_command<'a>(alloc: Global) -> Result<Command<'a>, AllocError>
     ensures { IfOk result (λ command. app_of command ≡ command_line) }
 {
-    let certify = certify_command(alloc)?;
-    with_sweep(alloc)?.subcommand(certify)
+    let exec = exec_command(alloc)?;
+    with_certify(alloc)?.subcommand(exec)
 }
 
 /// Reads the arguments of a command line, the program's name first. Help and the version are errors whose text goes to standard output.
@@ -210,7 +223,7 @@ pub fn read_order<'a>(alloc: Global, words: &'a [String]) -> Result<Order<'a>, E
 }
 
 /// The step of what was found for the arguments of `run`.
-fn step_of(chosen: &ArgMatches<'_>) -> Option<u32>
+pub(crate) fn step_of(chosen: &ArgMatches<'_>) -> Option<u32>
     ensures { IfSome result (IsStepOf (rows_of (found_of chosen.now))) }
 {
     chosen.get_one::<u32>("step")
@@ -243,6 +256,8 @@ fn task_of<'a>(name: &str, chosen: &ArgMatches<'a>) -> Option<Task<'a>>
         Some(Task::Look)
     } else if name == "certify" {
         Some(Task::Certify(step_of(chosen)?))
+    } else if name == "exec" {
+        Some(Task::Exec(exec_of(chosen)?))
     } else {
         Some(Task::Session)
     }

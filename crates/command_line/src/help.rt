@@ -24,6 +24,10 @@ pub(crate) const SWEEP: &str =
 pub(crate) const CERTIFY: &str =
     "Says whether what undefined or inaccessible memory holds can change the run";
 
+/// What `exec` does.
+pub(crate) const EXEC: &str =
+    "Runs a program as a test: its output and its exit status, and a report of its errors";
+
 /// A text with the end of the help of each command: statuses, with these for success and these last, and refusals.
 macro_rules! with_statuses {
     ($text:literal, $done:literal, $last:literal) => {
@@ -120,6 +124,10 @@ and don't count. Each is answered for the chosen step of the run with all edits:
   look registers                the state as in a report, and of x1 to x31 value and undefined bits
   look memory ADDR LEN          LEN bytes, up to 4096, and in a second line their undefined bits;
                                 __ below a byte that may not be accessed
+  look output FROM LEN          of the program's output up to LEN bytes, up to 4096, from position
+                                FROM on: those that there are
+  look input                    the number of bytes of the input that were read, its length, and
+                                `yes` if a read has asked for more than were left, else `no`
   look certify                  the line of `replaycheck certify`; here the marks count, too
   look next KIND ADDR LEN END   the first step, from the chosen one on and below END, that does it
   look last KIND ADDR LEN FROM  the last step, before the chosen one and not before FROM, that does
@@ -131,7 +139,8 @@ whether they may be accessed. A mark is no step.
 The answer is `step N`, or `none`. Refusals, besides out of memory (1):
   2   no look, or a field that is missing, too many, empty or of the wrong form
   5   END or FROM above 4194304
-  6   a range of 0 bytes, one that ends above 2^32, or above 4096 bytes for memory or `shadow`
+  6   a range of 0 bytes, one that ends above 2^32, or above 4096 bytes for memory, output or
+      `shadow`
 
 Example, the last write of a word before the first 5000 steps are over:
   printf 'goto 5000\\nlook last write 0x20010 4 0\\n' | replaycheck look program.elf
@@ -188,3 +197,23 @@ Example:
     "  5  the run isn't clean
 "
 );
+
+/// What ends the help of `exec`.
+pub(crate) const AFTER_EXEC: &str = "\
+The program's output goes to standard output as it is written, the report at the last step to
+standard error. Without --input the program reads standard input, which is only read when the
+program asks for more than it has.
+
+Example, as the command that runs a test:
+  replaycheck exec --quiet --error-exitcode 9 test.elf
+
+Exit status:
+  N    the program's, when it exits
+  N    of --error-exitcode, when it exits and has errors or leaks that count
+  132, 133, 135, 139
+       it stopped: illegal instruction, EBREAK, misaligned address, jump to no memory
+  124  it still runs at the last step; N of --idle-exitcode if it rests in a jump to itself
+  123  it would be 0, but a write found no room: a program has 65536 bytes of output
+  125  a fault of the command line, out of memory, or the output or report can't be written
+  126  the program, the suppressions, the input or a patch is refused
+  127  a file can't be read";

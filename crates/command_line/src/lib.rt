@@ -2,7 +2,7 @@
 //!
 //! | Call | What it returns |
 //! |---|---|
-//! | [`read_order`] | the [`Order`] of the arguments, with its [`Task`] and, for a sweep, the [`SweepWords`] as they were given; or the error of `clap`, whose kind says whether help, the version or a fault is shown |
+//! | [`read_order`] | the [`Order`] of the arguments, with its [`Task`] and, for a sweep, the [`SweepWords`] as they were given, for `exec` the [`ExecWords`]; or the error of `clap`, whose kind says whether help, the version or a fault is shown |
 //! | [`MOST_STEPS`] | the greatest step of a report |
 //!
 //! # What a caller can rely on
@@ -13,8 +13,9 @@
 #![tactic(auto)]
 
 mod arguments;
+mod exec;
 mod help;
 mod order;
 
 pub use arguments::{MOST_STEPS, read_order};
-pub use order::{Order, SweepWords, Task};
+pub use order::{ExecWords, Order, SweepWords, Task};

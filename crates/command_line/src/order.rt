@@ -26,6 +26,8 @@ pub enum Task<'a> {
     Sweep(SweepWords<'a>),
     /// Whether the run is clean up to a step.
     Certify(u32),
+    /// The run itself, with its output and its exit status.
+    Exec(ExecWords<'a>),
 }
 
 /// The arguments that say which edits are tried, as they were given.
@@ -45,4 +47,31 @@ pub struct SweepWords<'a> {
     pub part: &'a str,
     /// Whether an outcome has the number of bytes written.
     pub with_output: bool,
+}
+
+/// The arguments that say how a program is executed and what is said of it.
+#[derive(Clone, Copy)]
+pub struct ExecWords<'a> {
+    /// The last step.
+    pub step: u32,
+    /// The words that are written into the program before the run: `ADDR=WORD`, with commas between them.
+    pub patches: Option<&'a str>,
+    /// The file of the report, or none for standard error.
+    pub report: Option<&'a str>,
+    /// The exit status of a program that exits and has errors or leaks that count.
+    pub error_exitcode: Option<u32>,
+    /// The exit status of one that rests in a jump to itself.
+    pub idle_exitcode: Option<u32>,
+    /// The number of addresses of a trace.
+    pub callers: u32,
+    /// The number of inaccessible bytes beside each block of the heap.
+    pub redzone: u32,
+    /// The number of bytes of freed blocks that aren't used again yet.
+    pub queue: u32,
+    /// Which kinds of leak are listed.
+    pub show: &'a str,
+    /// Which kinds of leak count as errors.
+    pub count: &'a str,
+    /// Whether a report without errors, listed leaks and stops is left out.
+    pub quiet: bool,
 }

@@ -8,7 +8,7 @@ use Rattle.command_line.specs.Orders.{input_path, rules_path}
 use Rattle.command_line.specs.declared.order.Order.{Order}
 use Rattle.command_line.specs.declared.order.SweepWords.{SweepWords}
 use Rattle.command_line.specs.declared.order.Task.{Task}
-use Rattle.command_line.specs.declared.order.Task.TheVariants.{Report, Session, Look, Sweep, Certify}
+use Rattle.command_line.specs.declared.order.Task.TheVariants.{Report, Session, Look, Sweep, Certify, Exec}
 use Rattle.guest_elf.specs.File.{IsImageOf}
 use Rattle.guest_elf.specs.declared.image.Image.{Image as ProgramImage}
 use Rattle.scenario.specs.Limits.{longest_input, most_steps}
@@ -17,7 +17,7 @@ use Rattle.suppressions.specs.declared.fault.SuppFault.TheVariants as Supp
 use Rattle.driver.specs.declared.carrying.Action.TheVariants as Action
 use Rattle.driver.specs.Carried.{Carried}
 use Rattle.program_files.specs.Files.{Giving, HasSweepInput, HasText, IsFront, NoImage, NoRulesIn, NoSweepInput, NoText}
-use Rattle.program_files.specs.Files.{Streams, most_judged}
+use Rattle.program_files.specs.Files.{Streams, Untouched, most_judged}
 use Rattle.sweep_plans.specs.Planned.{IsNoRequest, IsRequestOf}
 use Rattle.sweep_tables.specs.Swept.{Sweeps}
 use Rattle.ends.specs.declared.ends.End.{End}
@@ -71,10 +71,11 @@ CarriedSweep gives order words old held end =
     ((end ≡ Usage) × (most_steps < words.step) × Appends old.held held [])
     ⊎ ((words.step ≤ most_steps) × SweepsNear gives order words old held end)
 
--- an order was carried out
+-- an order was carried out; one for `exec` isn't one of these commands, and nothing is done
 abbrev pub CarriedOut : Giving → Order → Task → Streams → Streams → End → Type 0
 CarriedOut gives order (Report step) old new end = Carried gives order (Action.Report step) old new end
 CarriedOut gives order Session old new end = Carried gives order Action.Session old new end
 CarriedOut gives order Look old new end = Carried gives order Action.Look old new end
 CarriedOut gives order (Sweep words) old new end = CarriedSweep gives order words old new.held end
 CarriedOut gives order (Certify step) old new end = Carried gives order (Action.Certify step) old new end
+CarriedOut gives order (Exec asked) old new end = (end ≡ Usage) × Untouched old new

@@ -201,5 +201,6 @@ pub fn run_order<'a, F: Files, R: Read, W: Write>(
         Task::Certify(step) => {
             ended(follow_order(alloc, order, Action::Certify(step), files, reader, writer))
         }
+        Task::Exec(_) => End::Usage,
     }
 }

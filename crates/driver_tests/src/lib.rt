@@ -6,6 +6,8 @@
 #[cfg(test)]
 mod endings;
 #[cfg(test)]
+mod exec_cases;
+#[cfg(test)]
 mod orders;
 #[cfg(test)]
 mod programs;

@@ -1,9 +1,9 @@
--- How `exec` ends: its exit statuses leave those of programs to the program that it runs, and are those of a shell
--- and of
--- env(1) and timeout(1) else.
+-- How `exec` ends. Its exit status is that of the program that it runs; in other cases one that a shell, env(1) or
+-- timeout(1) has.
 use Rattle.std.specs.Prelude.{ℕ, ◌+◌, ◌%◌, ◌==◌, ◌&&◌, Bool, true, false, if◌then◌else◌, List, [], ◌++◌, Option, Some}
 use Rattle.std.specs.Prelude.{None}
-use Rattle.std.specs.Prelude.{codes, decimal, is_some, nat_lt}
+use Rattle.std.specs.Prelude.{codes, decimal, nat_lt}
+use denote.Ref.{Bor}
 use Rattle.guest_elf.specs.declared.fault.ElfFault.TheVariants.{Memory}
 use Rattle.run_values.specs.declared.status.Status.{Status}
 use Rattle.run_values.specs.declared.status.Status.TheVariants.{Running, Exited, Stopped}
@@ -15,7 +15,7 @@ use Rattle.ends.specs.declared.ends.End.TheVariants.{Done, CannotRead, CannotRea
 use Rattle.ends.specs.declared.ends.End.TheVariants.{SuppressionsTooLong, InputTooLarge}
 use Rattle.ends.specs.declared.exec_ends.ExecEnd.{ExecEnd}
 use Rattle.ends.specs.declared.exec_ends.ExecEnd.TheVariants.{Early, BadPatch, PatchRefused, BadKinds, ReportInPlace}
-use Rattle.ends.specs.declared.exec_ends.ExecEnd.TheVariants.{Ran}
+use Rattle.ends.specs.declared.exec_ends.ExecEnd.TheVariants.{NoReport, Ran}
 use Rattle.ends.specs.declared.exec_ends.Outcome.{Outcome}
 use Rattle.ends.specs.declared.exec_ends.Codes.{Codes}
 use Rattle.suppressions.specs.declared.fault.SuppFault.TheVariants as Supp
@@ -23,8 +23,7 @@ use Rattle.suppressions.specs.declared.fault.SuppFault.TheVariants as Supp
 -- ---- a run
 
 -- a program that stops has the status that a shell gives for the signal (signal(7) of Linux): SIGILL 4, SIGTRAP 5,
--- SIGBUS
--- 7, SIGSEGV 11
+-- SIGBUS 7, SIGSEGV 11
 abbrev pub stop_status : Stop → ℕ
 stop_status Illegal = 128 + 4
 stop_status Break = 128 + 5
@@ -77,14 +76,20 @@ exec_status (Early end) = early_status end
 exec_status (BadPatch text) = 125
 exec_status (BadKinds text) = 125
 exec_status (ReportInPlace path) = 125
+exec_status (NoReport place) = 125
 exec_status (PatchRefused text) = 126
 exec_status (Ran codes outcome) = run_status codes outcome
 
--- what is said on standard error of a run: that it still runs, unless a status was chosen for where it rests; and
--- how many
--- `write`s found no room
+-- what is said on standard error of a run: that it still runs or rests, unless a status was chosen for where it rests;
+-- and the number of `write`s that found no room
 abbrev pub running_line : ℕ → List ℕ
 running_line step = line_with (codes "replaycheck exec: still running at step ") (decimal step)
+
+abbrev pub resting_line : ℕ → List ℕ
+resting_line step =
+    line_with
+    (codes "replaycheck exec: in a jump to itself (--idle-exitcode=0 lets that pass) at step ")
+    (decimal step)
 
 abbrev pub lost_line : ℕ → List ℕ
 lost_line lost =
@@ -92,13 +97,23 @@ lost_line lost =
     (codes "replaycheck exec: 65536 bytes of output are all there is room for; writes refused: ")
     (decimal lost)
 
+abbrev pub going_lines : Option ℕ → Bool → ℕ → List ℕ
+going_lines (Some chosen) true step = []
+going_lines None true step = resting_line step
+going_lines _ false step = running_line step
+
 abbrev pub standing_lines : Option ℕ → Outcome → Status → List ℕ
-standing_lines idle outcome Running = if is_some idle && outcome.idles then [] else running_line outcome.step
+standing_lines idle outcome Running = going_lines idle outcome.idles outcome.step
 standing_lines idle outcome _ = []
 
 abbrev pub run_lines : Codes → Outcome → List ℕ
 run_lines codes outcome =
     standing_lines codes.idle outcome outcome.status ++ (if nat_lt 0 outcome.lost then lost_line outcome.lost else [])
+
+-- the name of the place of a report: the path of a file, or standard error
+abbrev pub place_name : Option (Bor (List ℕ)) → List ℕ
+place_name (Some path) = path.now
+place_name None = codes "standard error"
 
 abbrev pub exec_lines : ExecEnd → List ℕ
 exec_lines (Early end) = line_of end
@@ -106,5 +121,6 @@ exec_lines (BadPatch text) = line_with (codes "replaycheck exec: not ADDR=WORD: 
 exec_lines (BadKinds text) = line_with (codes "replaycheck exec: no list of leak kinds: ") text.now
 exec_lines (ReportInPlace path) =
     line_with (codes "replaycheck exec: the report would replace a file that is read: ") path.now
+exec_lines (NoReport place) = line_with (codes "replaycheck exec: cannot write the report: ") (place_name place)
 exec_lines (PatchRefused text) = line_with (codes "replaycheck exec: patch refused 4: ") text.now
 exec_lines (Ran codes outcome) = run_lines codes outcome

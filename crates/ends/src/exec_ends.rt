@@ -2,7 +2,7 @@
 ghost use Rattle.std.specs.Prelude.{◌≡◌, [], IsTrue, decimal, if◌then◌else◌, nat_lt};
 ghost use Rattle.std.specs.Io.KnownBytes.{Appends};
 ghost use Rattle.ends.specs.Ends.{AppendsFront, line_with};
-ghost use Rattle.ends.specs.ExecEnds.{early_status, exec_lines, exec_status, lost_line, run_lines, run_status, running_line, standing_lines, standing_status, stop_status};
+ghost use Rattle.ends.specs.ExecEnds.{early_status, exec_lines, exec_status, going_lines, lost_line, place_name, run_lines, run_status, standing_lines, standing_status, stop_status};
 ghost use Rattle.ends.specs.declared.ends.End.TheVariants.{Image};
 ghost use Rattle.ends.specs.declared.exec_ends.ExecEnd.TheVariants.{Early};
 
@@ -60,6 +60,8 @@ pub enum ExecEnd<'a> {
     BadKinds(&'a str),
     /// The report would replace a file that is read.
     ReportInPlace(&'a str),
+    /// The report couldn't be written to a file, or to standard error if none is named.
+    NoReport(Option<&'a str>),
     /// A patch's address is that of no loaded word.
     PatchRefused(&'a str),
     /// The run was made, and its report written.
@@ -149,22 +151,31 @@ fn write_number<W: Write>(writer: &mut W, word: &str, number: u32) -> bool
     send_line(writer, word, number.as_bytes())
 }
 
-/// Writes that a run goes on, unless a status was chosen for where it rests. Returns whether all of it was taken.
+/// Writes that a run goes on or rests, unless a status was chosen for where it rests. Returns whether all of it was taken.
+fn write_going<W: Write>(idle: Option<u32>, idles: bool, step: u32, writer: &mut W) -> bool
+    ensures line { AppendsFront (W.contents writer.old) (W.contents writer.new) (going_lines idle idles step) }
+    ensures whole { IsTrue result → Appends (W.contents writer.old) (W.contents writer.new) (going_lines idle idles step) }
+{
+    if !idles {
+        return write_number(writer, "replaycheck exec: still running at step ", step);
+    }
+    match idle {
+        Some(_) => true,
+        None => {
+            let word =
+                "replaycheck exec: in a jump to itself (--idle-exitcode=0 lets that pass) at step ";
+            write_number(writer, word, step)
+        }
+    }
+}
+
+/// Writes what is said of a run that hasn't ended. Returns whether all of it was taken.
 fn write_standing<W: Write>(codes: Codes, outcome: Outcome, writer: &mut W) -> bool
     ensures line { AppendsFront (W.contents writer.old) (W.contents writer.new) (standing_lines codes.idle outcome outcome.status) }
     ensures whole { IsTrue result → Appends (W.contents writer.old) (W.contents writer.new) (standing_lines codes.idle outcome outcome.status) }
 {
     match outcome.status {
-        Status::Running => {
-            if codes.idle.is_some() && outcome.idles {
-                return true;
-            }
-            write_number(
-                writer,
-                "replaycheck exec: still running at step ",
-                outcome.step,
-            )
-        }
+        Status::Running => write_going(codes.idle, outcome.idles, outcome.step, writer),
         Status::Exited(_) | Status::Stopped(_) => true,
     }
 }
@@ -193,6 +204,16 @@ fn write_run<W: Write>(codes: Codes, outcome: Outcome, writer: &mut W) -> bool
     write_lost(outcome.lost, writer)
 }
 
+/// Returns the name of the place of a report.
+fn place_name<'a>(place: Option<&'a str>) -> &'a str
+    ensures { result.now ≡ place_name place.entry }
+{
+    match place {
+        Some(path) => path,
+        None => "standard error",
+    }
+}
+
 /// Writes what is said of an end. Returns whether all of it was taken.
 fn write_lines<W: Write>(end: ExecEnd, writer: &mut W) -> bool
     ensures line { AppendsFront (W.contents writer.old) (W.contents writer.new) (exec_lines end.entry) }
@@ -212,6 +233,11 @@ fn write_lines<W: Write>(end: ExecEnd, writer: &mut W) -> bool
             let word = "replaycheck exec: the report would replace a file that is read: ";
             send_line(writer, word, path.as_bytes())
         }
+        ExecEnd::NoReport(place) => {
+            let word = "replaycheck exec: cannot write the report: ";
+            let name = place_name(place);
+            send_line(writer, word, name.as_bytes())
+        }
         ExecEnd::PatchRefused(text) => {
             let word = "replaycheck exec: patch refused 4: ";
             send_line(writer, word, text.as_bytes())
@@ -228,7 +254,10 @@ pub fn tell_exec<W: Write>(end: ExecEnd, writer: &mut W) -> u8
     let _is_whole = write_lines(end, writer);
     match end {
         ExecEnd::Early(end) => early_status(end),
-        ExecEnd::BadPatch(_) | ExecEnd::BadKinds(_) | ExecEnd::ReportInPlace(_) => FAILED,
+        ExecEnd::BadPatch(_)
+        | ExecEnd::BadKinds(_)
+        | ExecEnd::ReportInPlace(_)
+        | ExecEnd::NoReport(_) => FAILED,
         ExecEnd::PatchRefused(_) => REFUSED,
         ExecEnd::Ran(codes, outcome) => run_status(codes, outcome),
     }

@@ -8,8 +8,12 @@ ghost use Rattle.clap.specs.Words.{kind_of};
 ghost use Rattle.replaycheck.specs.Shown.{end_of_showing};
 
 use clap::error::ErrorKind;
-use command_line::read_order;
+use command_line::{Order, Task, read_order};
 use driver::{End, run_order, tell};
+use ends::{ExecEnd, tell_exec};
+use exec_orders::{Log, exec_order};
+use std::fs::File;
+use std::io::Write;
 use std::process::ExitCode;
 use std::rt::Env;
 use std::{env, io};
@@ -58,17 +62,85 @@ fn show<'a, R: Print + Eprint>(rt: &R, error: &clap::Error) -> End<'a>
     }
 }
 
-/// Carries out the command line, and returns how it ended.
+/// Where a report goes: standard error, or a file in its place.
+#[derive(Drop)]
+struct ReportFile<'a> {
+    rt: &'a HostRuntime,
+    file: Option<File>,
+}
+
+impl<'a> Write for ReportFile<'a> {
+    fn write(&mut self, bytes: &[u8]) -> io::Result<usize> {
+        match &mut self.file {
+            Some(file) => file.write(bytes),
+            None => self.rt.stderr().write(bytes),
+        }
+    }
+
+    fn flush(&mut self) -> io::Result<()> {
+        match &mut self.file {
+            Some(file) => file.flush(),
+            None => self.rt.stderr().flush(),
+        }
+    }
+}
+
+impl<'a> Log for ReportFile<'a> {
+    fn open(&mut self, path: Option<&str>) -> bool {
+        let Some(path) = path else {
+            return true;
+        };
+        match File::create(self.rt, path) {
+            Ok(file) => {
+                self.file = Some(file);
+                true
+            }
+            Err(_) => false,
+        }
+    }
+}
+
+/// Follows an order, and returns the exit status.
+fn follow(rt: &HostRuntime, order: &Order) -> u8 {
+    match &order.task {
+        Task::Exec(asked) => {
+            let mut log = ReportFile { rt, file: None };
+            let (reader, writer) = (&mut rt.stdin(), &mut rt.stdout());
+            let end = exec_order(rt.alloc(), order, asked, rt, reader, writer, &mut log);
+            tell_exec(end, &mut rt.stderr())
+        }
+        _ => {
+            let end = run_order(rt.alloc(), order, rt, &mut rt.stdin(), &mut rt.stdout());
+            tell(&end, &mut rt.stderr())
+        }
+    }
+}
+
+/// Returns whether a command line names `exec`, whose exit statuses are others.
+fn names_exec(words: &[String]) -> bool {
+    match words.get(1) {
+        Some(word) => word.as_str() == "exec",
+        None => false,
+    }
+}
+
+/// Carries out the command line, and returns the exit status.
 fn finish(rt: &HostRuntime) -> u8 {
     let words = match words_of(rt) {
         Ok(words) => words,
         Err(error) => return tell(&end_without_words(&error), &mut rt.stderr()),
     };
-    let end = match read_order(rt.alloc(), &words) {
-        Ok(order) => run_order(rt.alloc(), &order, rt, &mut rt.stdin(), &mut rt.stdout()),
-        Err(error) => show(rt, &error),
-    };
-    tell(&end, &mut rt.stderr())
+    match read_order(rt.alloc(), &words) {
+        Ok(order) => follow(rt, &order),
+        Err(error) => {
+            let end = show(rt, &error);
+            if names_exec(&words) {
+                tell_exec(ExecEnd::Early(end), &mut rt.stderr())
+            } else {
+                tell(&end, &mut rt.stderr())
+            }
+        }
+    }
 }
 
 fn main(rt: HostRuntime) -> ExitCode {

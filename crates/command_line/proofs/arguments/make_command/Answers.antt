@@ -5,6 +5,6 @@ use Rattle.command_line.proofs.arguments.make_command.Goals as goal
 
 pub returns : goal.returns
 returns c =
-    IfOk-weaker c.subcommand.result _ _ (λ command added. added.shape c.in_ok-certify.ensures.globals
-    ∙ ap₂ with_subcommand c.in_ok-with_sweep.ensures (ap (λ (app : App). app.top) c.in_ok-certify.ensures.shape))
+    IfOk-weaker c.subcommand.result _ _ (λ command added. added.shape c.in_ok-exec.ensures.globals
+    ∙ ap₂ with_subcommand c.in_ok-with_certify.ensures (ap (λ (app : App). app.top) c.in_ok-exec.ensures.shape))
     c.subcommand.ensures

@@ -1,6 +1,9 @@
+use Rattle.std.proofs.Common.{codes}
 use Rattle.clap.specs.Words.{found_of}
-use Rattle.command_line.proofs.Steps.{is-step}
+use Rattle.command_line.proofs.Steps.{is-number}
 use Rattle.command_line.proofs.arguments.step_of.Goals as goal
 
 pub returns : goal.returns
-returns c = is-step (found_of c.args.chosen.now) c.get_one.result c.get_one.ensures.none c.get_one.ensures.value
+returns c =
+    is-number (found_of c.args.chosen.now) (codes "step") c.get_one.result c.get_one.ensures.none
+    c.get_one.ensures.value

@@ -1,6 +1,10 @@
-use Rattle.std.proofs.Common.{IsTrue, ap, codes, subst, sym}
+use Rattle.std.proofs.Common.{◌≡◌, ◌∙◌, ℕ, IsTrue, List, Option, ap, codes, subst, sym}
+use denote.Ref.{Bor}
 use Rattle.std.specs.Io.KnownBytes.{Appends}
-use Rattle.ends.specs.ExecEnds.{exec_lines}
+use Rattle.ends.specs.Ends.{line_with}
+use Rattle.ends.specs.ExecEnds.{exec_lines, place_name}
+use Rattle.ends.specs.declared.exec_ends.ExecEnd.{ExecEnd}
+use Rattle.ends.specs.declared.exec_ends.ExecEnd.TheVariants.{NoReport}
 use Rattle.ends.proofs.Pieces.{line-front, line-whole}
 use Rattle.ends.proofs.exec_ends.write_lines.Goals as goal
 
@@ -54,6 +58,32 @@ returns-in-ReportInPlace-clause-whole g c =
     c.as_bytes-in-ReportInPlace.result.now c.in-ReportInPlace.path.now (exec_lines c.args.end)
     c.as_bytes-in-ReportInPlace.ensures.value (ap exec_lines (sym c.in-ReportInPlace.is))
     c.send_line-in-ReportInPlace.ensures.whole
+
+report-line : (name : List ℕ) (place : Option (Bor (List ℕ))) (end : ExecEnd) → name ≡ place_name place
+    → NoReport place ≡ end → line_with (codes "replaycheck exec: cannot write the report: ") name ≡ exec_lines end
+report-line name place end named is =
+    ap (line_with (codes "replaycheck exec: cannot write the report: ")) named ∙ ap exec_lines is
+
+pub returns-in-NoReport-clause-line : goal.returns-in-NoReport-clause-line
+returns-in-NoReport-clause-line g c =
+    line-front (g.W.Write.contents c.args.writer.now) (g.W.Write.contents c.send_line-in-NoReport.new.writer)
+    (codes "replaycheck exec: cannot write the report: ")
+    c.as_bytes-in-NoReport.result.now c.place_name-name.result.now (exec_lines c.args.end)
+    c.as_bytes-in-NoReport.ensures.value
+    (report-line c.place_name-name.result.now c.in-NoReport.place c.args.end c.place_name-name.ensures
+    (sym c.in-NoReport.is))
+    c.send_line-in-NoReport.ensures.front
+
+pub returns-in-NoReport-clause-whole : goal.returns-in-NoReport-clause-whole
+returns-in-NoReport-clause-whole g c =
+    line-whole (IsTrue c.send_line-in-NoReport.result) (g.W.Write.contents c.args.writer.now)
+    (g.W.Write.contents c.send_line-in-NoReport.new.writer)
+    (codes "replaycheck exec: cannot write the report: ")
+    c.as_bytes-in-NoReport.result.now c.place_name-name.result.now (exec_lines c.args.end)
+    c.as_bytes-in-NoReport.ensures.value
+    (report-line c.place_name-name.result.now c.in-NoReport.place c.args.end c.place_name-name.ensures
+    (sym c.in-NoReport.is))
+    c.send_line-in-NoReport.ensures.whole
 
 pub returns-in-PatchRefused-clause-line : goal.returns-in-PatchRefused-clause-line
 returns-in-PatchRefused-clause-line g c =

@@ -1,0 +1,305 @@
+//! What `exec` writes, and how it ends.
+use crate::shelf::Shelf;
+use command_line::{ExecWords, Order, Task};
+use ends::tell_exec;
+use exec_orders::{Log, exec_order};
+use fake_streams::{Room, Script};
+use guest_programs::program;
+use std::alloc::{AllocError, Global};
+use std::io;
+use std::io::Write;
+
+/// A file for a report, which can be opened or not.
+#[derive(Drop)]
+struct Paper {
+    room: Room,
+    opens: bool,
+}
+
+impl Write for Paper {
+    fn write(&mut self, bytes: &[u8]) -> io::Result<usize> {
+        self.room.write(bytes)
+    }
+
+    fn flush(&mut self) -> io::Result<()> {
+        self.room.flush()
+    }
+}
+
+impl Log for Paper {
+    fn open(&mut self, _path: Option<&str>) -> bool {
+        self.opens
+    }
+}
+
+/// Writes `ok!` and a newline, and exits with status 7.
+const WRITES: [u32; 10] = [
+    0x0000_0597,
+    0x0245_8593,
+    0x0010_0513,
+    0x0040_0613,
+    0x0400_0893,
+    0x0000_0073,
+    0x05D0_0893,
+    0x0070_0513,
+    0x0000_0073,
+    0x0A21_6B6F,
+];
+
+/// Writes the first byte of the input, and exits with status 0.
+const COPIES: [u32; 11] = [
+    0x0000_0513,
+    0x0001_0593,
+    0x0010_0613,
+    0x03F0_0893,
+    0x0000_0073,
+    0x0010_0513,
+    0x0400_0893,
+    0x0000_0073,
+    0x05D0_0893,
+    0x0000_0513,
+    0x0000_0073,
+];
+
+/// Frees an address that no block has (`free(0x100)` as call 2002), and exits with status 0.
+const FREES: [u32; 7] = [
+    0x1000_0513,
+    0x7D20_0893,
+    0x0000_0073,
+    0x05D0_0893,
+    0x0000_0513,
+    0x0000_0073,
+    0x0000_0013,
+];
+
+/// The arguments of `exec` that ask for nothing but a quiet report at step 1000.
+const PLAIN: ExecWords<'static> = ExecWords {
+    step: 1000,
+    patches: None,
+    report: None,
+    error_exitcode: None,
+    idle_exitcode: None,
+    callers: 12,
+    redzone: 16,
+    queue: 20_000_000,
+    show: "definite,possible",
+    count: "definite,possible",
+    quiet: true,
+};
+
+/// What there is room for: the bytes of output and of a report that are taken, and whether the report's file can be opened.
+#[derive(Clone, Copy)]
+struct Rooms {
+    output: usize,
+    report: usize,
+    opens: bool,
+}
+
+const ENOUGH: Rooms = Rooms {
+    output: 1 << 20,
+    report: 1 << 20,
+    opens: true,
+};
+
+/// A label; a program's words, its arguments, standard input and the rooms; the exit status, the output, and the front of the report.
+#[derive(Clone, Copy)]
+struct Case {
+    label: &'static str,
+    words: &'static [u32],
+    asked: ExecWords<'static>,
+    input: &'static [u8],
+    rooms: Rooms,
+    status: u8,
+    output: &'static [u8],
+    report: &'static [u8],
+}
+
+/// A case of a program that is run with no input, with the usual arguments and enough room, and ends with 0 and nothing written.
+const QUIET: Case = Case {
+    label: "",
+    words: &WRITES,
+    asked: PLAIN,
+    input: b"",
+    rooms: ENOUGH,
+    status: 0,
+    output: b"",
+    report: b"",
+};
+
+/// Whether a case of a file comes out so.
+fn comes_out(alloc: Global, file: &[u8], case: &Case) -> bool {
+    let order = Order {
+        file: "program",
+        input: None,
+        suppressions: None,
+        task: Task::Exec(case.asked),
+    };
+    let shelf = Shelf {
+        program: file,
+        rules: b"",
+    };
+    let mut reader = Script::new(case.input);
+    let mut writer = Room::new(alloc, case.rooms.output);
+    let mut log = Paper {
+        room: Room::new(alloc, case.rooms.report),
+        opens: case.rooms.opens,
+    };
+    let end = exec_order(
+        alloc,
+        &order,
+        &case.asked,
+        &shelf,
+        &mut reader,
+        &mut writer,
+        &mut log,
+    );
+    let status = tell_exec(end, &mut Room::new(alloc, 1 << 20));
+    status == case.status
+        && writer.taken.as_slice() == case.output
+        && log.room.taken.starts_with(case.report)
+        && log.room.taken.is_empty() == case.report.is_empty()
+}
+
+/// Whether a case comes out so.
+fn is_executed(alloc: Global, case: &Case) -> Result<bool, AllocError> {
+    let file = program(alloc, case.words)?;
+    Ok(comes_out(alloc, &file, case))
+}
+
+const STOPS: [Case; 6] = [
+    Case {
+        label: "illegal instruction",
+        words: &[0],
+        status: 132,
+        report: b"step 1000\nstate stopped illegal",
+        ..QUIET
+    },
+    Case {
+        label: "EBREAK",
+        words: &[0x0010_0073],
+        status: 133,
+        report: b"step 1000\nstate stopped break",
+        ..QUIET
+    },
+    Case {
+        label: "a jump to an address that is no multiple of 4",
+        words: &[0x0020_0067],
+        status: 135,
+        report: b"step 1000\nstate stopped misaligned",
+        ..QUIET
+    },
+    Case {
+        label: "a jump to no memory",
+        words: &[0x0000_0067],
+        status: 139,
+        report: b"step 1000\nstate stopped jump",
+        ..QUIET
+    },
+    Case {
+        label: "a jump to itself",
+        words: &[0x0000_006F],
+        status: 124,
+        ..QUIET
+    },
+    Case {
+        label: "a jump to itself that counts as an end",
+        words: &[0x0000_006F],
+        asked: ExecWords {
+            idle_exitcode: Some(3),
+            step: u32::MAX,
+            ..PLAIN
+        },
+        status: 3,
+        ..QUIET
+    },
+];
+
+const RUNS: [Case; 8] = [
+    Case {
+        label: "output and status",
+        status: 7,
+        output: b"ok!\n",
+        ..QUIET
+    },
+    Case {
+        label: "a patch of the status",
+        asked: ExecWords {
+            patches: Some("0x1001C=0x00900513"),
+            ..PLAIN
+        },
+        status: 9,
+        output: b"ok!\n",
+        ..QUIET
+    },
+    Case {
+        label: "no loaded word",
+        asked: ExecWords {
+            patches: Some("4=0"),
+            ..PLAIN
+        },
+        status: 126,
+        ..QUIET
+    },
+    Case {
+        label: "standard input is read",
+        words: &COPIES,
+        input: b"xyz",
+        output: b"x",
+        status: 0,
+        ..QUIET
+    },
+    Case {
+        label: "a bad free",
+        words: &FREES,
+        report: b"step 1000\nstate exited 0\n",
+        ..QUIET
+    },
+    Case {
+        label: "a bad free that fails",
+        words: &FREES,
+        asked: ExecWords {
+            error_exitcode: Some(99),
+            ..PLAIN
+        },
+        status: 99,
+        report: b"step 1000\nstate exited 0\n",
+        ..QUIET
+    },
+    Case {
+        label: "output that can't be written",
+        rooms: Rooms {
+            output: 2,
+            ..ENOUGH
+        },
+        status: 125,
+        output: b"ok",
+        ..QUIET
+    },
+    Case {
+        label: "a report that can't be opened",
+        rooms: Rooms {
+            opens: false,
+            ..ENOUGH
+        },
+        status: 125,
+        ..QUIET
+    },
+];
+
+#[test]
+fn programs_are_executed(rt: HostRuntime) {
+    for case in &STOPS {
+        assert!(rt;
+            matches!(is_executed(rt.alloc(), case), Ok(true)),
+            "{}",
+            case.label
+        );
+    }
+    for case in &RUNS {
+        assert!(rt;
+            matches!(is_executed(rt.alloc(), case), Ok(true)),
+            "{}",
+            case.label
+        );
+    }
+}

@@ -1,0 +1,206 @@
+-- The stages of `exec`: options, edits and patches.
+use Rattle.std.proofs.Common.{◌≡◌, ◌∙◌, ◌⊎◌, inl, inr, ℕ, Bool, true, false, List, [], ◌∷◌, Option, Some, None, refl}
+use Rattle.std.proofs.Common.{ap, sym}
+use Rattle.std.proofs.Common.{subst, Result, Ok, Err, IfOk, IfErr, OnOk}
+use Rattle.std.proofs.Common.{is_none, is_some, not, option_map, take}
+use Rattle.std.proofs.KnownBytes.{Appends-nil, Appends-trans, Consumes-nil}
+use Rattle.std.specs.Io.KnownBytes.{Appends}
+use Rattle.ends.specs.declared.ends.End.TheVariants.{NoMemory}
+use Rattle.ends.specs.declared.exec_ends.Codes.{Codes}
+use Rattle.ends.specs.declared.exec_ends.ExecEnd.TheVariants.{Early, NoReport, Ran}
+use Rattle.suppressions.specs.declared.leak_kinds.LeakKinds.{LeakKinds}
+use denote.Ref.{Bor}
+use Rattle.commands.specs.Commands.{number}
+use Rattle.commands.specs.declared.edit.Edit.{Edit}
+use Rattle.commands.specs.declared.edit.Edit.TheVariants.{Patch}
+use Rattle.ends.specs.declared.exec_ends.ExecEnd.{ExecEnd}
+use Rattle.guest_elf.specs.declared.image.Image.{Image}
+use Rattle.guest_machine.specs.State.{State}
+use Rattle.program_files.specs.Files.{Giving, HasInput, IsFront, NoImage, most_judged}
+use Rattle.replay_report.specs.Findings.{HasFindings}
+use Rattle.run_values.specs.declared.mark.Mark.{Mark}
+use Rattle.scenario.specs.Edits.{IsTaken, row}
+use Rattle.scenario.specs.Scenario.{Scenario}
+use Rattle.suppressions.specs.Rules.{Rule}
+use Rattle.exec_orders.specs.Executed.{Executed, Executes, Finishes, IsChoice, IsUntouched, Pipes, Place, WithImage}
+use Rattle.exec_orders.specs.Executed.{WithScenario, codes_of, pipes, waits_for}
+use Rattle.exec_orders.specs.declared.executing.Choices.{Choices}
+use Rattle.command_line.specs.declared.order.Order.{Order}
+use Rattle.command_line.specs.declared.order.ExecWords.{ExecWords}
+use Rattle.ends.specs.declared.ends.End.TheVariants.{Image as Refused}
+use Rattle.guest_elf.specs.File.{IsImageOf, refusal, early_refusal}
+use Rattle.guest_elf.specs.declared.fault.ElfFault.{ElfFault}
+use Rattle.guest_elf.specs.declared.fault.ElfFault.TheVariants.{Memory}
+use Rattle.exec_orders.specs.Prepared.{KeepsRun, IsEdited, IsNoPatch, IsOptionRefused, IsPatched, IsPatchedBy}
+use Rattle.exec_orders.specs.Prepared.{NoPatch, patch_in}
+use Rattle.exec_orders.specs.Prepared.{patch_of, patch_with}
+use Rattle.text_parts.specs.Parts.{parts}
+
+pub untouched : (left held logged : Option (List ℕ)) → IsUntouched (pipes left held logged) (pipes left held logged)
+untouched left held logged = (Consumes-nil left, Appends-nil held, Appends-nil logged)
+
+-- ---- results
+
+pub if-err : {T E : Type 0} (result : Result T E) (P : E → Type 0) → ((e : E) → P e) → IfErr result P
+if-err (Ok x) P p = tt
+if-err (Err e) P p = p e
+
+pub weaker-err : {T E : Type 0} (result : Result T E) (P Q : E → Type 0) → ((e : E) → P e → Q e) → IfErr result P
+    → IfErr result Q
+weaker-err (Ok x) P Q step h = tt
+weaker-err (Err e) P Q step h = step e h
+
+pub weaker-ok : {T E : Type 0} (result : Result T E) (P Q : T → Type 0) → ((x : T) → P x → Q x) → IfOk result P
+    → IfOk result Q
+weaker-ok (Ok x) P Q step h = step x h
+weaker-ok (Err e) P Q step h = tt
+
+pub all-ok : {T E : Type 0} (result : Result T E) (P Q R S : T → Type 0) → ((x : T) → P x → Q x → R x → S x)
+    → IfOk result P → IfOk result Q → IfOk result R → IfOk result S
+all-ok (Ok x) P Q R S step p q r = step x p q r
+all-ok (Err e) P Q R S step p q r = tt
+
+pub weaker-on : {T E : Type 0} (result : Result T E) (P Q : Type 0) → (P → Q) → OnOk result P → OnOk result Q
+weaker-on (Ok x) P Q step h = step h
+weaker-on (Err e) P Q step h = tt
+
+-- ---- edits
+
+abbrev pub Made : Edit → Scenario → Scenario → Type 0
+Made edit old new = IsTaken old edit × (new ≡ (row old edit).after)
+
+pub edited-more : (edit : Edit) (edits : List Edit) (sc next done : Scenario) → Made edit sc next
+    → IsEdited edits next done → IsEdited (edit ∷ edits) sc done
+edited-more edit edits sc next done (taken, is) rest = (taken, subst (λ sc. IsEdited edits sc done) is rest)
+
+pub refused-more : (edit : Edit) (edits : List Edit) (sc next : Scenario) → Made edit sc next
+    → IsOptionRefused edits next → IsOptionRefused (edit ∷ edits) sc
+refused-more edit edits sc next (taken, is) rest = inr (taken, subst (IsOptionRefused edits) is rest)
+
+-- ---- patches
+
+same-some : (x y : Edit) → ◌≡◌ {A = Option Edit} (Some x) (Some y) → x ≡ y
+same-some x y e = cc
+
+none-some : (x : Edit) → ◌≡◌ {A = Option Edit} None (Some x) → ⊥
+none-some x e = cc
+
+with-keeps : (addr word : Option ℕ) (edit : Edit) → patch_with addr word ≡ Some edit → (sc : Scenario)
+    → KeepsRun sc (row sc edit).after
+with-keeps (Some addr) (Some word) edit is sc =
+    let same = sym (same-some (Patch addr word) edit is) in
+    (ap (λ e. (row sc e).after.marks) same, ap (λ e. (row sc e).after.setup.input) same)
+with-keeps (Some addr) None edit is sc = absurd (none-some edit is)
+with-keeps None word edit is sc = absurd (none-some edit is)
+
+patch-keeps : (fields : List (List ℕ)) (edit : Edit) → patch_of fields ≡ Some edit → (sc : Scenario)
+    → KeepsRun sc (row sc edit).after
+unfolding patch_of
+patch-keeps [] edit is sc = absurd (none-some edit is)
+patch-keeps (addr ∷ []) edit is sc = absurd (none-some edit is)
+patch-keeps (addr ∷ word ∷ []) edit is sc = with-keeps (number addr) (number word) edit is sc
+patch-keeps (addr ∷ word ∷ more ∷ rest) edit is sc = absurd (none-some edit is)
+
+-- a patch leaves marks and input
+pub patched-keeps : (text : List ℕ) (sc done : Scenario) → IsPatchedBy text sc done → KeepsRun sc done
+patched-keeps text sc done (edit, is, taken, after) =
+    let kept = patch-keeps (parts 61 text) edit is sc in
+    (ap (λ sc. sc.marks) after ∙ kept.0, ap (λ sc. sc.setup.input) after ∙ kept.1)
+
+pub keeps-on : (a b c : Scenario) → KeepsRun a b → KeepsRun b c → KeepsRun a c
+keeps-on a b c one two = (two.0 ∙ one.0, two.1 ∙ one.1)
+
+-- ---- findings
+
+pub findings-of : (s : State) (image other : Image) (rules list : List Rule) (callers n : ℕ) (kinds shown : List Bool)
+    (found : Bool) → image ≡ other → rules ≡ list → callers ≡ n → kinds ≡ shown
+    → HasFindings s image rules callers kinds found → HasFindings s other list n shown found
+findings-of s image other rules list callers n kinds shown found a b c d h =
+    subst (λ x. HasFindings s x list n shown found) a (subst (λ x. HasFindings s image x n shown found) b
+    (subst (λ x. HasFindings s image rules x shown found) c
+    (subst (λ x. HasFindings s image rules callers x found) d h)))
+
+-- ---- the file of a report
+
+-- opening it writes nothing, so what is written after it is what is written
+pub finishes-opened : (quiet : Bool) (codes : Codes) (count : LeakKinds) (place : Place) (sc : Scenario)
+    (a b c : Option (List ℕ)) (end : ExecEnd) → Appends a b [] → Finishes quiet codes count place sc b c end
+    → Finishes quiet codes count place sc a c end
+finishes-opened quiet codes count place sc a b c (Ran chosen outcome) open-it (same, is, (text, told, wrote)) =
+    (same, is, (text, told, Appends-trans a b c [] text open-it wrote))
+finishes-opened quiet codes count place sc a b c (NoReport failed) open-it (same, (text, sent, told, few, wrote)) =
+    (same, (text, sent, told, few, Appends-trans a b c [] (take sent text) open-it wrote))
+finishes-opened quiet codes count place sc a b c (Early NoMemory) open-it wrote =
+    Appends-trans a b c [] [] open-it wrote
+finishes-opened quiet codes count place sc a b c end open-it h = absurd h
+
+pub executes-opened : (waits quiet : Bool) (codes : Codes) (count : LeakKinds) (place : Place) (sc : Scenario)
+    (left held logged rest new opened last : Option (List ℕ)) (end : ExecEnd) → Appends logged opened []
+    → Executes waits quiet codes count place sc (pipes left held opened) (pipes rest new last) end
+    → Executes waits quiet codes count place sc (pipes left held logged) (pipes rest new last) end
+executes-opened waits quiet codes count place sc left held logged rest new opened last end open-it (inl (
+  done,
+  input,
+  output,
+  h,
+)) =
+    inl (done, input, output, finishes-opened quiet codes count place done logged opened last end open-it h)
+executes-opened waits quiet codes count place sc left held logged rest new opened last end open-it (inr (cuts, none)) =
+    inr (cuts, Appends-trans logged opened last [] [] open-it none)
+
+-- ---- the input
+
+pub no-input : (gives : Giving) (named : Option (List ℕ)) (input : List ℕ) → named ≡ None → HasInput gives named input
+    → input ≡ []
+no-input gives None input none has = has
+no-input gives (Some path) input none has = absurd (some-none path none)
+  where
+    some-none : (path : List ℕ) → ◌≡◌ {A = Option (List ℕ)} (Some path) None → ⊥
+    some-none path e = cc
+
+-- ---- the program
+
+pub no-image : {T : Type 0} (gives : Giving) (path front bytes : List ℕ) (fault : ElfFault)
+    → IsFront gives path most_judged front → bytes ≡ front → ((fault ≡ Memory) ⊎ (refusal bytes ≡ Some fault))
+    → ((early : ElfFault) → early_refusal bytes ≡ Some early → ◌≡◌ {A = Result T ElfFault} (Err fault) (Err early))
+    → NoImage gives path (Refused fault)
+no-image gives path front bytes fault read same refused least = (
+  front,
+  read,
+  (
+    subst (λ (xs : List ℕ). (fault ≡ Memory) ⊎ (refusal xs ≡ Some fault)) same refused,
+    λ early e. let told = least early (subst (λ (xs : List ℕ). early_refusal xs ≡ Some early) (sym same) e) in cc,
+  ),
+)
+
+-- with its options judged, and its program read
+pub with-image : (gives : Giving) (order : Order) (asked : ExecWords) (show : LeakKinds) (choices : Choices)
+    (front bytes : List ℕ) (image : Image) (old new : Pipes) (end : ExecEnd) → IsChoice asked show choices
+    → IsFront gives order.file.now most_judged front → bytes ≡ front → IsImageOf bytes image
+    → WithImage gives order asked show choices.count image old new end → Executed gives order asked old new end
+with-image gives order asked show choices front bytes image old new end choice read same is h = inr (
+  show,
+  choices.count,
+  choice.show,
+  choice.count,
+  inr (image, (front, read, subst (λ (xs : List ℕ). IsImageOf xs image) same is), h),
+)
+
+-- and its scenario made
+pub with-scenario : (order : Order) (asked : ExecWords) (kinds : LeakKinds) (choices : Choices) (waits : Bool)
+    (sc : Scenario) (old new : Pipes) (end : ExecEnd) → IsChoice asked kinds choices → waits ≡ waits_for order
+    → WithScenario waits choices.quiet choices.codes choices.count asked.report sc old new end
+    → WithScenario (waits_for order) asked.quiet (codes_of asked) choices.count asked.report sc old new end
+with-scenario order asked kinds choices waits sc old new end choice is h =
+    subst (λ (b : Bool). WithScenario b asked.quiet (codes_of asked) choices.count asked.report sc old new end) is
+    (subst (λ (b : Bool). WithScenario waits b (codes_of asked) choices.count asked.report sc old new end) choice.quiet
+    (subst (λ (codes : Codes). WithScenario waits choices.quiet codes choices.count asked.report sc old new end)
+    choice.codes h))
+
+-- whether an input is named
+pub waits-same : (waits : Bool) (named : Option (Bor (List ℕ))) → is_some named ≡ not waits
+    → waits ≡ is_none (option_map (λ path. path.now) named)
+waits-same true None eq = refl
+waits-same true (Some path) eq = cc
+waits-same false None eq = cc
+waits-same false (Some path) eq = refl

@@ -1,0 +1,26 @@
+use Rattle.std.proofs.Common.{◌∙◌, ap, refl, subst, sym}
+use Rattle.guest_machine.specs.Shows.{Shows}
+use Rattle.guest_machine.specs.Streams.{is_idle}
+use Rattle.guest_machine.specs.declared.machine.Machine.{Machine}
+use Rattle.scenario.specs.Scenario.{chosen_state}
+use Rattle.executions.specs.Executions.{machine_of, refused_at, state_at}
+use Rattle.exec_orders.proofs.Runs.{chosen-is}
+use Rattle.exec_orders.proofs.Stages.{findings-of}
+use Rattle.exec_orders.proofs.executing.outcome_of.Goals as goal
+
+pub returns : goal.returns
+returns c =
+    let sc = c.args.scenario.now in
+    let last = ap (state_at sc) c.requires.last ∙ sym (chosen-is sc c.requires.marks) in
+    let shown = subst (λ (m : Machine). Shows m (chosen_state sc)) (sym c.machine-machine.ensures)
+    (subst (Shows (machine_of c.args.execution.now)) last c.requires.at.shows) in
+    record {
+      step = c.step.ensures;
+      status = c.status.ensures (chosen_state sc) shown;
+      idles = c.is_idle.ensures (chosen_state sc) shown ∙ ap (is_idle (chosen_state sc)) c.setup.ensures;
+      has_errors =
+          findings-of (chosen_state sc) sc.image sc.image sc.rules sc.rules sc.options.callers sc.options.callers _ _
+          _ refl
+          refl refl c.shown.ensures (c.in_ok-has_errors.ensures shown);
+      lost = c.refused.ensures ∙ c.requires.at.refused ∙ ap (refused_at sc) c.requires.last;
+    }

@@ -1,0 +1,104 @@
+use Rattle.std.proofs.Common.{◌≡◌, ◌∙◌, [], true, ap, subst, sym, inl, inr, refl}
+use Rattle.std.proofs.KnownBytes.{Consumes-nil}
+use Rattle.std.specs.Io.KnownBytes.{Appends}
+use Rattle.ends.proofs.EndSteps.{same-error}
+use Rattle.ends.specs.declared.exec_ends.ExecEnd.TheVariants.{Early}
+use Rattle.guest_machine.specs.State.{State}
+use Rattle.scenario.specs.Edits.{with_input}
+use Rattle.scenario.specs.Scenario.{Scenario}
+use Rattle.executions.specs.Executions.{state_at, step_of, Wrote, WroteFront}
+use Rattle.executions.proofs.Steps.{front-then, wrote-then}
+use Rattle.exec_orders.specs.Executed.{CutsOutput}
+use Rattle.exec_orders.proofs.Runs.{chosen-is, cut-at, cut-of, input-kept, it-waits, wrote-all, wrote-of}
+use Rattle.exec_orders.proofs.Stages.{all-ok, weaker-err}
+use Rattle.exec_orders.proofs.executing.run_all.Goals as goal
+
+pub returns-then-at-step-clause-ok : goal.returns-then-at-step-clause-ok
+returns-then-at-step-clause-ok g c =
+    let sc = c.args.scenario.now in
+    let run = c.in_ok-execution.ensures.ok in
+    let last : step_of c.in_ok-execution.execution ≡ sc.step =
+    sym c.at.ensures ∙ c.if-at-step.true ∙ c.step.ensures in
+    record {
+      input =
+          input-kept c.args.waits sc (g.R.Read.remaining c.args.reader.now) c.requires.marks
+          (λ waits. ap (λ n. (state_at sc n).end_seen) (sym last) ∙ run.unseen waits)
+          (Consumes-nil (g.R.Read.remaining c.args.reader.now));
+      at = run.at;
+      last = last;
+      output =
+          subst (λ (s : State). Appends (g.W.Write.contents c.args.writer.now) (g.W.Write.contents
+          c.run_first.new.writer)
+          s.output) (ap (state_at sc) last ∙ sym (chosen-is sc c.requires.marks)) run.output;
+      marks = c.requires.marks;
+    }
+
+pub returns-in_err-input-clause-err : goal.returns-in_err-input-clause-err
+returns-in_err-input-clause-err g c =
+    let sc = c.args.scenario.now in
+    let run = c.in_ok-execution.ensures.ok in
+    let n = step_of c.in_ok-execution.execution in
+    let waits = it-waits c.args.waits sc n run.stops
+    (λ last. c.if-at-step.false (c.at.ensures ∙ last ∙ sym c.step.ensures)) in
+    same-error c.from_residual-in_err-input.result (Early c.in_err-input.field-0.0) _
+    c.from_residual-in_err-input.ensures.1 (inr (inr (
+      waits.0,
+      c.in_err-input.field-0.0,
+      refl,
+      c.in_err-input.ensures.err,
+      cut-at c.output_grows.ensures sc n waits.1 (g.W.Write.contents c.args.writer.now)
+          (g.W.Write.contents c.run_first.new.writer) c.requires.marks run.output,
+    )))
+
+pub returns-clause-ok : goal.returns-clause-ok
+returns-clause-ok g c =
+    let sc = c.args.scenario.now in
+    let done = c.give.new.self in
+    let old = g.W.Write.contents c.args.writer.now in
+    let mid = g.W.Write.contents c.run_first.new.writer in
+    let new = g.W.Write.contents c.run_rest.new.writer in
+    let run = c.in_ok-execution.ensures.ok in
+    let n = step_of c.in_ok-execution.execution in
+    let waits = it-waits c.args.waits sc n run.stops
+    (λ last. c.if-at-step.false (c.at.ensures ∙ last ∙ sym c.step.ensures)) in
+    let moved = c.moves_on.ensures c.in_ok-execution.execution sc c.in_ok-input.input.items run.at
+    (c.requires.empty waits.0) (run.unseen waits.0) in
+    let marks : done.marks ≡ [] = ap (λ (s : Scenario). s.marks) c.give.ensures ∙ c.requires.marks in
+    let front : Wrote done 0 n old mid = wrote-of done n old mid
+    (subst (λ (s : State). Appends old mid s.output)
+    (moved.1 ∙ ap (λ (s : Scenario). state_at s n) (sym c.give.ensures)) run.output) in
+    all-ok c.run_rest.result _ _ _ _ (λ e at last wrote. record {
+      input = inr (waits.0, c.in_ok-input.input.items, c.in_ok-input.ensures.ok, c.give.ensures);
+      at = at;
+      last = last;
+      output =
+          subst (λ (s : State). Appends old new s.output) (ap (state_at done) last ∙ sym (chosen-is done marks))
+          (wrote-all done (step_of e) old new (wrote-then done 0 n (step_of e) old mid new front wrote));
+      marks = marks;
+    }) c.run_rest.ensures.at c.run_rest.ensures.last c.run_rest.ensures.ok
+
+pub returns-clause-err : goal.returns-clause-err
+returns-clause-err g c =
+    let sc = c.args.scenario.now in
+    let done = c.give.new.self in
+    let old = g.W.Write.contents c.args.writer.now in
+    let mid = g.W.Write.contents c.run_first.new.writer in
+    let new = g.W.Write.contents c.run_rest.new.writer in
+    let run = c.in_ok-execution.ensures.ok in
+    let n = step_of c.in_ok-execution.execution in
+    let waits = it-waits c.args.waits sc n run.stops
+    (λ last. c.if-at-step.false (c.at.ensures ∙ last ∙ sym c.step.ensures)) in
+    let moved = c.moves_on.ensures c.in_ok-execution.execution sc c.in_ok-input.input.items run.at
+    (c.requires.empty waits.0) (run.unseen waits.0) in
+    let marks : done.marks ≡ [] = ap (λ (s : Scenario). s.marks) c.give.ensures ∙ c.requires.marks in
+    let front : Wrote done 0 n old mid = wrote-of done n old mid
+    (subst (λ (s : State). Appends old mid s.output)
+    (moved.1 ∙ ap (λ (s : Scenario). state_at s n) (sym c.give.ensures)) run.output) in
+    weaker-err c.run_rest.result _ _ (λ end h. inr (inl (
+      waits.0,
+      c.in_ok-input.input.items,
+      c.in_ok-input.ensures.ok,
+      h.0,
+      subst (λ (s : Scenario). CutsOutput s old new) c.give.ensures
+          (cut-of c.output_grows.ensures done old new marks (front-then done 0 n old mid new front h.1)),
+    ))) c.run_rest.ensures.err

@@ -1,0 +1,24 @@
+//! `exec`: a program is run as a test, with its output, its exit status, and a report of its errors, over any files, reader and writers.
+//!
+//! | Call | What it does |
+//! |---|---|
+//! | [`exec_order`] | follows an order for `exec`, and returns how the program ends: an [`ExecEnd`](ends::ExecEnd) |
+//! | [`Log`] | where the report goes: a file that is opened before the run, or standard error |
+//!
+//! # What a caller relies on
+//!
+//! [`exec_order`] judges the options, then the program's file, the suppressions, the input and the patches, before anything is written.
+//! Then one run is made from step zero. Its output is written as the program writes it, and then its report; the end says how the run
+//! stands at its last step (`Executed`). Standard input is read only if the program asks for more than an empty input has, and the run
+//! goes on from there.
+//!
+//! The definitions stand in `specs/`: `Prepared`, what is run, and `Executed`, what becomes of it.
+#![tactic(auto)]
+
+mod executing;
+mod following;
+mod log;
+mod preparing;
+
+pub use following::exec_order;
+pub use log::Log;

@@ -1,0 +1,187 @@
+"""`replaycheck exec` with options that the program itself doesn't have: a run by the program, and a log of its report."""
+import os
+import sys
+
+from replaycheck.children import outcome, started
+from replaycheck.endings import Fault, Interrupted, end, write
+from replaycheck.executing.arguments import patches_for
+from replaycheck.executing.choices import FAILED, Choices, choices_of
+from replaycheck.executing.logs import NAME, Log, Unwritten, log_text, note
+from replaycheck.options import LAST_STEP
+from replaycheck.programs import path_of, program
+from replaycheck.reports import Lines, NoReport, read_report
+
+UNREADABLE, REFUSED = 127, 126
+READ_AT_ONCE = 65536
+
+
+class Unreadable(Fault):
+    """A file that can't be read."""
+
+    status = UNREADABLE
+
+
+def joined(paths):
+    """A descriptor of a file that has all suppressions of several files."""
+    room = os.memfd_create("suppressions")
+    for path in paths:
+        try:
+            with open(path, "rb") as file:
+                os.write(room, file.read() + b"\n")
+        except OSError as fault:
+            raise Unreadable(f"cannot read {path}: {fault.strerror}") from None
+    return room
+
+
+def suppressions_of(choices):
+    """The path of all suppressions, or None, and the descriptors that it needs."""
+    paths = choices.suppressions
+    if len(paths) < 2:
+        return (paths[0] if paths else None), []
+    room = joined(paths)
+    return f"/dev/fd/{room}", [room]
+
+
+def needs_whole_report(choices):
+    """Whether the log has something to say of a run with no fault, too."""
+    return not choices.quiet or choices.verbose or choices.require_heap or choices.log_format not in ("valgrind", "report")
+
+
+def all_patches(choices):
+    """The patches of the options, which may be lists, and those that hand over arguments: `ADDR=WORD` each."""
+    given = [patch for text in choices.patches for patch in text.split(",")]
+    return given + patches_for(choices.file, choices.arguments)
+
+
+def words_for(choices, supp, report):
+    """The arguments of the program."""
+    words = [program(), "exec", "--report", report]
+    for name, text in choices.passed.items():
+        words += [f"--{name}", text]
+    for name, path in (("--input", choices.input), ("--supp", supp)):
+        words += [name, path_of(path)] if path is not None else []
+    patches = all_patches(choices)
+    words += ["--patch", ",".join(patches)] if patches else []
+    words += ["--error-exitcode", str(choices.error_exitcode)] if choices.error_exitcode else []
+    words += ["--quiet"] if not needs_whole_report(choices) else []
+    return [*words, path_of(choices.file)]
+
+
+def made_run(choices):
+    """Runs the program, whose output goes where this process has it. Returns its status, and the text of its report."""
+    supp, lent = suppressions_of(choices)
+    room = os.memfd_create("report")
+    try:
+        words = words_for(choices, supp, f"/dev/fd/{room}")
+    except OSError as fault:
+        raise Unreadable(f"cannot read {choices.file}: {fault.strerror}") from None
+    status = started(words, (0, 1, 2), [*lent, room]).wait()
+    if status < 0:
+        raise Interrupted(-status)
+    return status, os.pread(room, os.fstat(room).st_size, 0).decode("utf-8", "surrogateescape")
+
+
+def parsed(told):
+    """The report that a text is."""
+    try:
+        return read_report(Lines(told.split("\n")[:-1]))
+    except NoReport as fault:
+        raise Fault(f"{program()}: {fault}") from None
+
+
+def is_told(choices, report):
+    """Whether a log is written of a report: always, but of a quiet run only where it has an error, a listed leak or a stop."""
+    if not choices.quiet or choices.log_format not in ("valgrind", "report"):
+        return True
+    return bool(report.errors or report.leaks or report.state.name == "stopped")
+
+
+def heap_of(choices, report):
+    """The heap of a program, where it matters."""
+    if not choices.require_heap and not choices.verbose:
+        return None
+    from replaycheck.file_heaps import heap_of_run
+    has_blocks = any(it.blocks for it in report.sums.values())
+    return heap_of_run(choices.file, choices.input, min(report.step, LAST_STEP), has_blocks)
+
+
+def certificate(choices, report):
+    """What `certify` says of the run, by a look with the same options of the heap and the same patches."""
+    if choices.input is None and report.length:
+        return "certify: not asked: the run read standard input; --input names a file that can be read twice"
+    lines = [f"option {name} {choices.passed[name]}" for name in ("redzone", "queue") if name in choices.passed]
+    lines += ["patch {} {}".format(*patch.split("=")) for patch in all_patches(choices)]
+    lines += [f"goto {min(report.step, LAST_STEP)}", "look certify"]
+    given = ["--input", path_of(choices.input)] if choices.input is not None else []
+    _, told, _ = outcome([program(), "look", *given, path_of(choices.file)], "".join(f"{it}\n" for it in lines).encode())
+    return "certify: " + told.decode("utf-8", "surrogateescape").rstrip("\n").rpartition("\n")[2]
+
+
+def say_more(choices, report, heap):
+    """What -v adds."""
+    if choices.unused:
+        note(f"options that change nothing: {' '.join(choices.unused)}")
+    if heap and heap.is_unseen and not choices.require_heap:
+        note(heap.notice(choices.file))
+    note(certificate(choices, report))
+
+
+def executed(choices):
+    """Runs a program and writes the log. Returns the status."""
+    log = Log(choices)
+    status, told = made_run(choices)
+    if not told:
+        return status
+    report = parsed(told)
+    heap = heap_of(choices, report)
+    if is_told(choices, report):
+        log.write(log_text(choices, told, report, os.getpid(), heap))
+    if choices.verbose:
+        say_more(choices, report, heap)
+    if choices.require_heap and heap and heap.is_unseen:
+        note(heap.notice(choices.file))
+        return choices.error_exitcode or REFUSED
+    return status
+
+
+def guarded(action):
+    """Does something whose faults have the statuses of `exec`."""
+    try:
+        return action()
+    except Fault as fault:
+        fault.status = FAILED if fault.status == 2 else fault.status
+        raise
+    except OSError as fault:
+        named = f"{os.fspath(fault.filename)}: " if fault.filename else ""
+        raise Unwritten(f"{named}{fault.strerror or fault}") from None
+
+
+def begin(page):
+    choices = choices_of(sys.argv[1:])
+    if choices.asks_for_help:
+        write(page.strip() + "\n")
+        return 0
+    return executed(choices)
+
+
+def run(page):
+    end(NAME, lambda: guarded(lambda: begin(page)))
+
+
+def rest_of(number):
+    """What is left to be read from a descriptor."""
+    parts = []
+    while part := os.read(number, READ_AT_ONCE):
+        parts.append(part)
+    return b"".join(parts)
+
+
+def log_of_quiet_run(process, first, file):
+    """Writes the log of a run that the launcher has made, whose report is on standard input after its first byte."""
+    def main():
+        choices = Choices()
+        choices.file, choices.quiet = file, True
+        told = first + rest_of(0).decode("utf-8", "surrogateescape")
+        Log(choices).write(log_text(choices, told, parsed(told), process))
+        return 0
+    end(NAME, lambda: guarded(main))

@@ -1,0 +1,45 @@
+"""Small programs for `test-exec`, each of which ends in its own way."""
+import pathlib
+
+from replaycheck.assembly import assemble
+from replaycheck.guest_files import ENTRY, elf
+
+# Code comes first, and from here on there is data.
+DATA = ENTRY + 0x400
+SAY = f"li a7, 64; li a0, 1; li a1, {DATA}; li a2, 3; ecall;"
+END = "li a0, 0; li a7, 93; ecall"
+ROOM = ("__replaycheck_arguments", DATA + 16, 64)
+SOURCES = {
+    "says": f"{SAY} {END}",
+    "fails": f"{SAY} li a0, 3; li a7, 93; ecall",
+    "reads": f"li a7, 63; li a0, 0; li a1, {DATA}; li a2, 16; ecall; mv a2, a0; li a7, 64; li a0, 1; ecall; {END}",
+    "says-and-reads": f"{SAY} li a7, 63; li a0, 0; li a1, {DATA}; li a2, 16; ecall; mv a2, a0; li a7, 64; li a0, 1; ecall; {END}",
+    "writes-badly": f"{SAY} sw zero, 0(zero); {END}",
+    "mangled": f"{SAY} sw zero, 0(zero); {END}",
+    "leaks": f"{SAY} li a7, 2001; li a0, 8; ecall; {END}",
+    "illegal": f"{SAY} .word 0",
+    "break": f"{SAY} ebreak",
+    "misaligned": f"{SAY} li t0, {ENTRY + 2}; jalr ra, 0(t0)",
+    "null": f"{SAY} jalr ra, 0(zero)",
+    "hangs": f"{SAY} again: nop; j again",
+    "idles": f"{SAY} again: j again",
+    "loud": f"li s0, 17; again: li a7, 64; li a0, 1; li a1, {DATA}; li a2, 2048; li a3, 2048; add a2, a2, a3; ecall; addi s0, s0, -1; "
+            f"bne s0, zero, again; {END}",
+    "counts": f"li a1, {ROOM[1]}; lw a0, 0(a1); li a7, 93; ecall",
+    "first": f"li a1, {ROOM[1]}; lw a1, 8(a1); li a2, 5; li a0, 1; li a7, 64; ecall; {END}",
+}
+# Those that take arguments, and what the function is called in which a program begins.
+WITH_ROOM = ("counts", "first")
+NAMES = {"mangled": "_ZN5gauge4markEv"}
+
+
+def put_guests(folder: pathlib.Path) -> None:
+    """Writes all of them into a folder."""
+    for name, source in SOURCES.items():
+        words = assemble(source)
+        words += [0x13] * ((DATA - ENTRY) // 4 - len(words))
+        symbols = [(NAMES.get(name, "start"), ENTRY, 0x100 if name in NAMES else 4), *([ROOM] if name in WITH_ROOM else [])]
+        (folder / f"{name}.elf").write_bytes(elf(words, memory=0x2000, symbols=symbols, data=b"hi\n"))
+    words = assemble(SOURCES["says"])
+    words += [0x13] * ((DATA - ENTRY) // 4 - len(words))
+    (folder / "stripped.elf").write_bytes(elf(words, data=b"hi\n"))

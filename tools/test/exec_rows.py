@@ -1,0 +1,126 @@
+"""The rows of `test-exec`: a label, the arguments of `replaycheck exec`, and what comes of them."""
+from typing import NamedTuple
+
+QUIET = ["-q", "--error-exitcode=9"]
+MANY = 4294967295
+CTEST = ["--log-file=ctest.log", "-q", "--tool=memcheck", "--leak-check=yes", "--show-reachable=yes", "--num-callers=50"]
+
+
+class Row(NamedTuple):
+    """What is typed, the status, standard output, and texts that standard error has in turn; with none of them it is empty."""
+
+    label: str
+    words: list[str]
+    status: int
+    out: str = "hi\n"
+    said: list[str] = []
+    given: bytes = b""
+    more: dict[str, str] = {}
+
+
+def statuses(first: list[str], kind: str) -> list[Row]:
+    """Statuses, by the quiet path without Python and by the one with it."""
+    return [
+        Row(f"{kind}: exits with 0", [*first, "says.elf"], 0),
+        Row(f"{kind}: exits with 3", [*first, "fails.elf"], 3),
+        Row(f"{kind}: an error", [*first, "writes-badly.elf"], 9, said=["== Invalid write of size 4\n", "==    at 0x10018: ???"]),
+        Row(f"{kind}: a leak", [*first, "leaks.elf"], 9, said=["== 8 bytes in 1 blocks are definitely lost in loss record 1 of 1\n"]),
+        Row(f"{kind}: an illegal instruction", [*first, "illegal.elf"], 132, said=["of signal 4 (SIGILL)"]),
+        Row(f"{kind}: EBREAK", [*first, "break.elf"], 133, said=["of signal 5 (SIGTRAP)"]),
+        Row(f"{kind}: a misaligned jump", [*first, "misaligned.elf"], 135, said=["of signal 7 (SIGBUS)"]),
+        Row(f"{kind}: a null call", [*first, "null.elf"], 139, said=["Jump to the invalid address", "of signal 11 (SIGSEGV)"]),
+        Row(f"{kind}: it hangs", [*first, "--step=5000", "hangs.elf"], 124, said=["still running at step 5000\n"]),
+        Row(f"{kind}: it idles", [*first, "--step=5000", "idles.elf"], 124,
+            said=["replaycheck exec: in a jump to itself (--idle-exitcode=0 lets that pass) at step 5000\n"]),
+        Row(f"{kind}: it may idle", [*first, "--idle-exitcode=0", "idles.elf"], 0),
+        Row(f"{kind}: input", [*first, "reads.elf"], 0, "abc", given=b"abc"),
+        Row(f"{kind}: input by --input", [*first, "--input", "hi.txt", "says-and-reads.elf"], 0, "hi\nhi\n"),
+        Row(f"{kind}: too much output", [*first, "loud.elf"], 123, ("hi\n" + "\0" * 4093) * 16, ["writes refused: 1\n"]),
+        Row(f"{kind}: no such file", [*first, "none.elf"], 127, "", ["cannot read none.elf\n"]),
+        Row(f"{kind}: no program", [*first, "hi.txt"], 126, "", ["image refused 20\n"]),
+        Row(f"{kind}: suppressions", [*first, "--supp", "known.supp", "writes-badly.elf"], 0),
+        Row(f"{kind}: bad suppressions", [*first, "--supp", "hi.txt", "says.elf"], 126, "", ["suppressions refused 13 at line 1\n"]),
+        Row(f"{kind}: a patch", [*first, "--patch", "0x00010400=0x0a6f6821", "says.elf"], 0, "!ho"),
+        Row(f"{kind}: a bad patch", [*first, "--patch=0x1=2", "says.elf"], 126, "", ["patch refused 4: 0x1=2\n"]),
+    ]
+
+
+OPTIONS = [
+    Row("without -q: a whole log", ["says.elf"], 0, said=["== replaycheck, Memcheck for RV32IM", "== Command: says.elf", "HEAP SUMMARY",
+                                                        "no leaks are possible", "ERROR SUMMARY: 0 errors"]),
+    Row("ctest's MemCheck step", [*CTEST, "qemu-riscv32", "says.elf"], 0),
+    Row("options that ask for what is done anyway", [*QUIET, "--leak-check=full", "--track-origins=yes", "--vgdb=no", "--error-limit=no",
+                                                     "--undef-value-errors=yes", "--trace-children=yes", "says.elf"], 0),
+    Row("their values as arguments", [*QUIET, "--tool", "memcheck", "--leak-check", "full", "says.elf"], 0),
+    Row("-v lists them", ["-q", "-v", "--vgdb=no", "says.elf"], 0,
+        said=["options that change nothing: --vgdb=no\n", "certify: clean to step"]),
+    Row("-v says what certify says", ["-q", "-v", "reads.elf"], 0, "abc", ["certify: not asked: the run read standard input"], b"abc"),
+    Row("--leak-check=no", [*QUIET, "--leak-check=no", "leaks.elf"], 0),
+    Row("--errors-for-leak-kinds=none", [*QUIET, "--errors-for-leak-kinds=none", "leaks.elf"], 0, said=["definitely lost in loss record"]),
+    Row("--show-leak-kinds=none", [*QUIET, "--show-leak-kinds=none", "leaks.elf"], 9),
+    Row("--suppressions, twice", [*QUIET, "--suppressions=known.supp", "--suppressions=more.supp", "writes-badly.elf"], 0),
+    Row("--error-exitcode=0", ["-q", "--error-exitcode=0", "writes-badly.elf"], 0, said=["Invalid write"]),
+    Row("the last option holds", [*QUIET, "--error-exitcode=7", "writes-badly.elf"], 7, said=["Invalid write"]),
+    Row("another tool", ["--tool=massif", "says.elf"], 125, "", ["--tool=massif: --tool is no option here: this is Memcheck"]),
+    Row("--xml=yes", ["--xml=yes", "says.elf"], 125, "", ["--xml=yes: --xml is no option here: --format valgrind-xml"]),
+    Row("an option of nobody", ["--nope", "says.elf"], 125, "",
+        ["replaycheck exec: --nope is no option here; `replaycheck exec --help`"]),
+    Row("no number", ["-v", "--step=x", "says.elf"], 125, "", ["replaycheck exec: --step: 'x' is not a number from 0 to 4294967295\n"]),
+    Row("no value", ["--log-file"], 125, "", ["replaycheck exec: --log-file: its value is missing\n"]),
+    Row("no file", ["-q"], 125, "", ["replaycheck exec: no program's file"]),
+    Row("--log-format report", ["-q", "--log-format=report", "writes-badly.elf"], 0,
+        said=["step 1000000000\nstate exited 0\n", "error 1: "]),
+    Row("--log-format gcc", ["--log-format", "gcc", "writes-badly.elf"], 0, said=["writes-badly.elf: warning: Invalid write of size 4"]),
+    Row("--log-format json, with nothing wrong", ["-q", "--log-format=json", "says.elf"], 0, said=['"ended": true', '"errors": []']),
+    Row("no such format", ["--log-format=html", "says.elf"], 125, "", ["--log-format: 'html' is none of valgrind, report,"]),
+    Row("--report and --log-file", ["--report=a", "--log-file=b", "says.elf"], 125, "", ["--report and --log-file at once\n"]),
+    Row("--report of the program", ["--report=./says.elf", "says.elf"], 125, "", ["would replace a file that is read: ./says.elf\n"]),
+    Row("--report of the input", ["--report", "hi.txt", "--input=./hi.txt", "reads.elf"], 125, "", ["a file that is read: hi.txt\n"]),
+    Row("--report of a missing folder", ["--report", "no/report", "says.elf"], 125, "",
+        ["replaycheck exec: cannot write the report: no/report\n"]),
+    Row("a full report", ["--report=/dev/full", "says.elf"], 125, said=["replaycheck exec: cannot write the report: /dev/full\n"]),
+    Row("--report and a format", ["--report=a", "--log-format=gcc", "says.elf"], 125, "", ["--report and --log-format gcc at once\n"]),
+    Row("--report and --require-heap", ["-q", "--report=a", "--require-heap", "stripped.elf"], 126, said=["errors of the heap can't"]),
+    Row("--log-fd", [*QUIET, "--log-fd=1", "writes-badly.elf"], 9, said=[]),
+    Row("a closed --log-fd", ["--log-fd=77", "says.elf"], 125, "", ["--log-fd: cannot write to descriptor 77: Bad file descriptor\n"]),
+    Row("--log-file of a missing folder", ["--log-file=no/log", "says.elf"], 125, "",
+        ["cannot write no/log: No such file or directory\n"]),
+    Row("--log-file with %z", ["--log-file=log.%z", "says.elf"], 125, "", ["--log-file: not %p, %q{NAME} or %%: %z\n"]),
+    Row("--log-file with no such variable", ["--log-file=%q{NO_SUCH}", "says.elf"], 125, "",
+        ["no variable in the environment: NO_SUCH\n"]),
+    Row("--log-file of the program", ["--log-file=./says.elf", "says.elf"], 125, "", ["would replace a file that is read: ./says.elf\n"]),
+    Row("--require-heap, a stripped file", [*QUIET, "--require-heap", "stripped.elf"], 9, said=["errors of the heap can't be found"]),
+    Row("--require-heap, without --error-exitcode", ["-q", "--require-heap", "stripped.elf"], 126, said=["errors of the heap can't be"]),
+    Row("--require-heap, a known heap", [*QUIET, "--require-heap", "leaks.elf"], 9, said=["definitely lost"]),
+    Row("options of the environment", ["says.elf"], 0, more={"REPLAYCHECK_OPTS": "-q"}),
+    Row("options of the environment come first", ["--error-exitcode=7", "writes-badly.elf"], 7, said=["Invalid write"],
+        more={"REPLAYCHECK_OPTS": "-q --error-exitcode=9"}),
+    Row("quoted options of the environment", ["says-and-reads.elf"], 0, "hi\nhi\n", more={"REPLAYCHECK_OPTS": "-q --input 'hi.txt'"}),
+    Row("a file among the options of the environment", ["says.elf"], 125, "", ["REPLAYCHECK_OPTS: no option: hi.txt\n"],
+        more={"REPLAYCHECK_OPTS": "-q hi.txt"}),
+    Row("an option of the environment without its value", ["--tool=memcheck", "says.elf"], 125, "", ["--step: its value is missing\n"],
+        more={"REPLAYCHECK_OPTS": "-q --step"}),
+    Row("badly quoted options of the environment", ["says.elf"], 125, "", ["REPLAYCHECK_OPTS: No closing quotation\n"],
+        more={"REPLAYCHECK_OPTS": "'-q"}),
+]
+BEFORE = [
+    Row("an emulator before the file", [*QUIET, "/usr/bin/qemu-riscv32", "writes-badly.elf"], 9, said=["Invalid write"]),
+    Row("an emulator's options", [*QUIET, "qemu-riscv32", "-cpu", "rv32", "says.elf"], 125, "",
+        ["options of an emulator aren't stepped over: qemu-riscv32 -cpu\n"]),
+    Row("another exec before the file", ["-q", "replaycheck", "exec", "--error-exitcode=9", "writes-badly.elf"], 9, said=["Invalid write"]),
+    Row("the outer one's options hold",
+        [*QUIET, "./replaycheck-exec", "-q", "--error-exitcode", "7", "qemu-riscv32", "writes-badly.elf"], 9, said=["Invalid write"]),
+    Row("a file after --", [*QUIET, "--", "says.elf"], 0),
+    Row("arguments", [*QUIET, "counts.elf", "a", "b"], 3, ""),
+    Row("arguments that look like options", [*QUIET, "counts.elf", "--input", "-q", "--"], 4, ""),
+    Row("an argument's text", [*QUIET, "first.elf", "fives"], 0, "fives"),
+    Row("an argument that is empty", [*QUIET, "counts.elf", ""], 2, ""),
+    Row("arguments without a room", [*QUIET, "says.elf", "a"], 126, "",
+        ["replaycheck exec: arguments refused: says.elf: it has no room __replaycheck_arguments, which start.S has with -DARGUMENTS\n"]),
+    Row("too long arguments", [*QUIET, "counts.elf", "a" * 64], 126, "",
+        ["arguments refused: counts.elf: they need 92 bytes, and __replaycheck_arguments has 64\n"]),
+    Row("arguments for no program", [*QUIET, "hi.txt", "a"], 126, "", ["arguments refused: hi.txt: it has no room"]),
+    Row("arguments for no file", [*QUIET, "none.elf", "a"], 127, "",
+        ["replaycheck exec: cannot read none.elf: No such file or directory\n"]),
+]
+ROWS = [*statuses(QUIET, "quiet"), *statuses([*QUIET, "--tool=memcheck"], "by Python"), *OPTIONS, *BEFORE]
