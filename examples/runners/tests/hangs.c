@@ -1,0 +1,8 @@
+/* Waits for what never comes. */
+int main(void)
+{
+    volatile int ready = 0;
+    while (!ready)
+        ;
+    return 0;
+}

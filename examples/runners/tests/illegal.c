@@ -1,0 +1,6 @@
+/* An instruction that RV32IM doesn't have. */
+int main(void)
+{
+    __asm__ volatile("wfi");
+    return 0;
+}

@@ -1,0 +1,12 @@
+set(CMAKE_SYSTEM_NAME Generic)
+set(CMAKE_SYSTEM_PROCESSOR riscv32)
+set(CMAKE_TRY_COMPILE_TARGET_TYPE STATIC_LIBRARY)
+set(CMAKE_C_COMPILER riscv64-unknown-elf-gcc)
+set(CMAKE_ASM_COMPILER riscv64-unknown-elf-gcc)
+set(target "-march=rv32im -mabi=ilp32 --specs=picolibc.specs")
+set(CMAKE_C_FLAGS_INIT "${target} -DPICOLIBC_INTEGER_PRINTF_SCANF -Og -g")
+set(CMAKE_ASM_FLAGS_INIT "${target} -DARGUMENTS -g")
+# What stands before each test: a program, and its options after semicolons.
+set(RUNNER qemu-riscv32 CACHE STRING "what runs a test")
+list(APPEND CMAKE_TRY_COMPILE_PLATFORM_VARIABLES RUNNER)
+set(CMAKE_CROSSCOMPILING_EMULATOR ${RUNNER})
