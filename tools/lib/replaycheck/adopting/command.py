@@ -9,8 +9,11 @@ from replaycheck.options import BadValue, Once, Reader
 
 from . import report
 from .curing import cured
+from .devices import answerable, can_lead
+from .elf import ROOM
 from .findings import Findings
 from .heaps import BadHeap, heap_of
+from .outside import left
 
 LONGEST_FILE = 1 << 26
 
@@ -28,6 +31,7 @@ def options_of(page):
     reader.add_argument("-o", "--output", action=Once)
     reader.repeated("--heap", type=heap)
     reader.repeated("--keep")
+    reader.repeated("--devices")
     options = reader.read()
     names = [name for name, _, _ in options.heap] + options.keep
     twice = next((name for i, name in enumerate(names) if name in names[:i]), None)
@@ -78,10 +82,36 @@ def healed(findings, heaps, kept):
     """The file with what can be cured, as bytes, and the changes. It is looked at as the file was: nothing is left to
     cure."""
     content, changes = cured(findings)
+    if len(content) > ROOM:
+        raise Fault(f"the cured file would have more than {ROOM} bytes: leave its debug information out: "
+                    "riscv64-unknown-elf-objcopy --strip-debug")
     again = Findings(content, heaps, kept)
     if again.hopeless() or again.cures():
         raise Fault("the file's code overlaps its own tables: it is damaged, or not from a linker")
     return content, changes
+
+
+def answer_for_devices(findings, inputs, kept):
+    """Has the loads and stores of known devices answered for: those whose address is in the code, and those that runs on
+    some inputs reach."""
+    from .trying import tried  # here, as looks at runs import much
+
+    def content_for(sites):
+        findings.answer_for(sites)
+        why = findings.driving and findings.no_answer()
+        if why:
+            raise Fault(f"{why.what}: {why.cure}")
+        return cured(findings)[0]
+
+    def can_be(site):
+        return can_lead(findings.elf, site, kept)
+
+    for given in inputs:
+        os.stat(given)
+    begun = filter(can_be, answerable(findings.devices))
+    sites, findings.runs = tried(findings.elf, inputs, begun, can_be, content_for)
+    content_for(sites)
+    findings.devices = left(findings.devices, set(sites))
 
 
 def adopt(options):
@@ -96,6 +126,8 @@ def adopt(options):
         missing = [name for name in given if name not in findings.plan.found]
         if missing:
             raise Fault(f"{options.file} has no function {missing[0]}")
+    if options.devices and not findings.hopeless():
+        answer_for_devices(findings, options.devices, options.keep)
     out, changes = options.output, []
     if out is not None and not findings.hopeless():
         if same_file(options.file, out):
@@ -105,4 +137,4 @@ def adopt(options):
     written = out if out is not None and not findings.hopeless() else None
     for line in [*report.lines(findings, written, changes), report.verdict(findings, options.file, out)]:
         say(line + "\n")
-    return int(bool(findings.obstacles or findings.cures() and not written))
+    return int(bool(findings.obstacles or findings.devices or findings.cures() and not written))

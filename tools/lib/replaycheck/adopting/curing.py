@@ -2,11 +2,14 @@
 import collections
 import struct
 
+from replaycheck.stand_ins import FORMS
+
 from . import elf as form
 from . import instructions as isa
 
 Change = collections.namedtuple("Change", "offset size what")
-WEAK_FUNCTION = 0x22
+WEAK, NO_SECTION = 0x20, 0xFFF1
+READ_WRITE_RUN, WORD = 7, 4
 
 
 class Cured:
@@ -30,18 +33,21 @@ class Cured:
         self.put(self.elf.place(address), struct.pack("<I", word), f"0x{address:08x}: {what}")
 
     def name_addresses(self, named):
-        """Adds symbols: each a name, an address, a size and a section. The tables move to the end, as they are
+        """Adds symbols: each a name, an address, a size, a kind and a section. The tables move to the end, as they are
         longer."""
         index = self.elf.symbol_table
         table = self.elf.sections[index]
         strings, symbols = bytearray(self.elf.strings), bytearray(self.data[table.offset:table.offset + table.size])
         places = {}
-        for name, address, size, section in named:
+        for name, address, size, kind, section in named:
             if name not in places:
                 places[name] = len(strings)
                 strings += name.encode() + b"\0"
-            symbols += struct.pack("<IIIBBH", places[name], address, size, WEAK_FUNCTION, 0, section)
-        added = ", ".join(f"{name} at 0x{address:08x}" for name, address, _, _ in named)
+            symbols += struct.pack("<IIIBBH", places[name], address, size, WEAK | kind, 0, section)
+        suffixes = tuple(it.suffix for it in FORMS.values())
+        added = ", ".join(f"{name} at 0x{address:08x}" for name, address, *_ in named if not name.endswith(suffixes))
+        stubs = sum(name.endswith(suffixes) for name, *_ in named)
+        added += f" and {stubs} of stubs" if stubs else ""
         self.move_section(table.link, self.add(strings, "the names of symbols, moved here"), len(strings),
                           "names of symbols")
         self.move_section(index, self.add(symbols, f"the symbols, moved here, with {added}"), len(symbols), "symbols")
@@ -51,13 +57,12 @@ class Cured:
         self.put(header + 16, struct.pack("<II", offset, size), f"where the {what} stand, and their size")
 
     def load_too(self, segments):
-        """Adds segments, each of a segment's bytes at its physical address."""
+        """Adds segments: of each where its bytes stand in the file, its address, its size, its rights and its alignment."""
         at, count = form.word_at(self.data, form.PROGRAM_TABLE), len(self.elf.segments)
         table = bytes(self.data[at:at + count * form.PROGRAM_HEADER])
-        for it in segments:
-            table += struct.pack("<8I", form.LOAD, it.offset, it.paddr, it.paddr, it.filesz, it.filesz, it.flags,
-                                 it.align)
-        added = ", ".join(f"one for 0x{it.paddr:08x}" for it in segments)
+        for offset, address, size, rights, align in segments:
+            table += struct.pack("<8I", form.LOAD, offset, address, address, size, size, rights, align)
+        added = ", ".join(f"one for 0x{address:08x}" for _, address, *_ in segments)
         place = self.add(table, f"the program headers, moved here, with {added}")
         self.put(form.PROGRAM_TABLE, struct.pack("<I", place), "where the program headers stand")
         self.put(form.PROGRAM_COUNT, struct.pack("<H", count + len(segments)), "how many program headers there are")
@@ -73,10 +78,23 @@ def cured(findings):
         result.put_word(it.address, it.new, f"{it.text} for {isa.control(it.word)}")
     for found in findings.stack:
         result.put_word(found.address, isa.NOP, f"nop for 0x{found.word:08x}, which sets sp")
-    if findings.copied:
-        result.load_too(findings.copied)
-    named = [(it.function, it.named, it.size - (it.named - it.symbol.value), it.symbol.section)
+    segments = [(it.offset, it.paddr, it.filesz, it.flags, it.align) for it in findings.copied]
+    named = [(it.function, it.named, it.size - (it.named - it.symbol.value), form.FUNCTION, it.symbol.section)
              for it in findings.plan.taken.values() if it.named is not None]
+    for added in findings.added():
+        segments += led(result, added)
+        named += [(*it, NO_SECTION) for it in added.symbols()] if result.elf.symbol_table is not None else []
+    if segments:
+        result.load_too(segments)
     if named:
         result.name_addresses(named)
     return bytes(result.data), result.changes
+
+
+def led(result, added):
+    """Leads instructions to their stubs, and adds these. Returns the segments to be loaded."""
+    for address, content, stubs in added.pieces():
+        for site, stub in stubs.items():
+            result.put_word(site, isa.jump(stub - site), f"j 0x{stub:08x} for {added.told(site)}")
+        offset = result.add(content, f"{added.WHAT}, for 0x{address:08x}")
+        yield offset, address, len(content), READ_WRITE_RUN, WORD

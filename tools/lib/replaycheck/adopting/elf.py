@@ -8,10 +8,12 @@ import struct
 EXECUTABLE, RISC_V, LOAD, INTERPRETER, SYMBOLS = 2, 243, 1, 3, 2
 HEADER, PROGRAM_HEADER, SECTION_HEADER, SYMBOL = 52, 32, 40, 16
 ENTRY, PROGRAM_TABLE, SECTION_TABLE, FLAGS, PROGRAM_COUNT = 24, 28, 32, 36, 44
-IS_COMPRESSED, HAS_CODE, NO_TYPE, FUNCTION = 1, 4, 0, 2
+IS_COMPRESSED, HAS_CODE, NO_TYPE, OBJECT, FUNCTION = 1, 4, 0, 1, 2
 ROOM = 16777216
 REGIONS = [("heap", 0x40000000, 0x60000000), ("stack", 0x7F000000, 0x80000000)]
 LONGEST_NAME = 1000
+# Of how many addresses a line has all.
+SHOWN = 4
 
 Segment = collections.namedtuple("Segment", "kind offset vaddr paddr filesz memsz flags align")
 Section = collections.namedtuple("Section", "name kind flags addr offset size link info align entsize")
@@ -125,6 +127,11 @@ class Elf:
         """An address in words, with its function if it has one."""
         name = self.function_at(address)
         return f"0x{address:08x}" + (f" in {name}" if name else "")
+
+    def where_all(self, addresses):
+        """The first of some addresses, with their functions."""
+        more = f" and {len(addresses) - SHOWN} more" if len(addresses) > SHOWN else ""
+        return ", ".join(map(self.where, addresses[:SHOWN])) + more
 
     def extent(self, symbol):
         """How many bytes of the file a function has, up to the next one at most; where its size isn't known, up to a

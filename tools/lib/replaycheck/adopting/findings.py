@@ -3,15 +3,17 @@ cures."""
 import collections
 
 from .code import Code, joined, replaced, stack_words, without
+from .devices import Driving
 from .elf import IS_COMPRESSED, REGIONS, ROOM, Elf, refusals
 from .heaps import Plan
+from .outside import reached
+from .semihosting import Hosting, sites
 
 # What only a rebuild cures: what it is, the cure, and whether nothing of the file runs before.
 Obstacle = collections.namedtuple("Obstacle", "what cure stops_all")
 # The refusals of files that no linker has written so.
 DAMAGED = (20, 23, 26, 28, 31)
 TARGET = "-march=rv32im -mabi=ilp32"
-SHOWN = 4
 
 
 class Findings:
@@ -22,7 +24,8 @@ class Findings:
         self.obstacles = [Obstacle(f"{it.what} (image refused {it.number})", it.cure, True) for it in refused]
         self.damaged = next((it for it in refused if it.number in DAMAGED), None)
         self.elf = Elf(data) if all(it.readable for it in refused) else None
-        self.plan, self.control, self.stack, self.copied = None, [], [], []
+        self.plan, self.control, self.stack, self.copied, self.devices = None, [], [], [], []
+        self.hosting, self.driving, self.runs = None, None, 0
         if self.elf is None:
             return
         if self.elf.flags & IS_COMPRESSED:
@@ -59,11 +62,44 @@ class Findings:
             f"{it.filesz} bytes for 0x{it.vaddr:08x} that the linker script puts to 0x{it.paddr:08x}, where they can't "
             f"be loaded: {why}", "give them another place by AT> or ORIGIN in the linker script", False)
             for it, why in unplaced]
+        self.devices = reached(self.elf, code, self.copied)
+        self.look_for_calls_of_a_host(kept)
+
+    def look_for_calls_of_a_host(self, kept):
+        """Looks for calls of a host, and for a place of what answers them."""
+        found = sites(self.elf, kept)
+        if found:
+            self.hosting = Hosting(self.elf, found, [(it.first, it.last + 1) for it in self.devices if it.places])
+            why = self.hosting.refused(self.loaded(), len(self.elf.segments) + len(self.copied))
+            if why:
+                self.obstacles.append(Obstacle(f"calls of a host by semihosting, at {self.elf.where_all(found)}: {why[0]}",
+                                               why[1], True))
+
+    def answer_for(self, sites):
+        """Has some loads and stores of devices answered for."""
+        others = [(it.first, it.last + 1) for it in self.devices if it.places]
+        others += self.hosting.ranges() if self.hosting else []
+        self.driving = Driving(self.elf, sites, others) if sites else None
+
+    def no_answer(self):
+        """The obstacle if loads and stores of devices can't be answered for, or None."""
+        before = self.loaded() + (self.hosting.total() if self.hosting else 0)
+        segments = len(self.elf.segments) + len(self.copied) + (len(self.hosting.groups) if self.hosting else 0)
+        why = self.driving.refused(before, segments)
+        return why and Obstacle(f"loads and stores of devices, at {self.elf.where_all(self.driving.sites)}: {why[0]}", why[1], True)
+
+    def loaded(self):
+        """How many bytes are loaded, with those at physical addresses."""
+        return sum(it.memsz for it in self.elf.loads) + sum(it.filesz for it in self.copied)
+
+    def added(self):
+        """What is added to the file."""
+        return [it for it in (self.hosting, self.driving) if it]
 
     def cures(self):
         """How many things can be cured in the file."""
         taken = self.plan.taken if self.plan else ()
-        return len(taken) + len(self.control) + len(self.stack) + len(self.copied)
+        return sum(len(it.sites) for it in self.added()) + len(taken) + len(self.control) + len(self.stack) + len(self.copied)
 
 
 def compressed(elf):
@@ -76,9 +112,7 @@ def compressed(elf):
 
 
 def places(elf, found):
-    """The first addresses of words, with their functions."""
-    more = f" and {len(found) - SHOWN} more" if len(found) > SHOWN else ""
-    return ", ".join(elf.where(it.address) for it in found[:SHOWN]) + more
+    return elf.where_all([it.address for it in found])
 
 
 def of_code(elf, code):

@@ -4,7 +4,7 @@ import functools
 NAMES = ["zero", "ra", "sp", "gp", "tp", "t0", "t1", "t2", "s0", "s1", *(f"a{i}" for i in range(8)),
          *(f"s{i}" for i in range(2, 12)), *(f"t{i}" for i in range(3, 7))]
 NOP, UNIMP, ECALL, EBREAK = 0x00000013, 0xC0001073, 0x00000073, 0x00100073
-ZERO, SP, T1, A0, A1 = 0, 2, 6, 10, 11
+ZERO, RA, SP, T1, A0, A1, A2 = 0, 1, 2, 6, 10, 11, 12
 JUMP_REACH = 1 << 20
 # The opcodes.
 LOAD, FENCE, IMMEDIATE, AUIPC, STORE, REGISTERS, LUI, BRANCH, JALR, JAL, SYSTEM = (
@@ -54,6 +54,10 @@ def signed(number, bits):
 def immediate(word):
     """That of addi, jalr and loads."""
     return signed(word >> 20, 12)
+
+
+def store_offset(word):
+    return signed(word >> 25 << 5 | rd(word), 12)
 
 
 def upper(word):
@@ -144,12 +148,39 @@ def load_immediate(to, number):
     return number << 20 | to << 7 | IMMEDIATE
 
 
-def jump_register(source):
-    return source << 15 | JALR
+def jump_register(source, link=ZERO, number=0):
+    return (number & 0xFFF) << 20 | source << 15 | link << 7 | JALR
+
+
+def add_immediate(to, source, number):
+    return (number & 0xFFF) << 20 | source << 15 | to << 7 | IMMEDIATE
+
+
+def load_upper(to, number):
+    return number & 0xFFFFF000 | to << 7 | LUI
+
+
+def call(address):
+    """A call of any address, by ra."""
+    low = signed(address & 0xFFF, 12)
+    return [load_upper(RA, address - low), jump_register(RA, RA, low)]
+
+
+def load_word(to, base, number):
+    return (number & 0xFFF) << 20 | base << 15 | 2 << 12 | to << 7 | LOAD
+
+
+def store_word(source, base, number):
+    return (number >> 5 & 0x7F) << 25 | source << 20 | base << 15 | 2 << 12 | (number & 31) << 7 | STORE
 
 
 def move(to, source):
     return source << 15 | to << 7 | IMMEDIATE
+
+
+def branch_if_zero(register, away):
+    high = (away >> 12 & 1) << 31 | (away >> 5 & 0x3F) << 25
+    return high | register << 15 | (away >> 1 & 15) << 8 | (away >> 11 & 1) << 7 | BRANCH
 
 
 def jump(away):

@@ -6,7 +6,20 @@ HEAP = "functions of a heap by other names, whose blocks are unknown: free of on
 CONTROL = "instructions for control registers, waits and the like, at which the run would stop"
 STACK = ("a stack of the start file's own: what nothing has set isn't found on it, and where no segment is, each push "
          "is an error")
+HOSTED = "calls of a host by semihosting, at which the run would stop: answered by calls 63, 64 and 93"
+DRIVEN = "loads and stores of devices, where no memory is: answered by calls 63, 64 and 93"
 COPIED = "initialised data that a start file copies from where nothing is loaded: variables would be 0"
+
+DEVICES = "where no memory is, as for a device: each access is an error, and a wait for a device has no end"
+HOST = "a word by which a host is asked (HTIF); no host answers"
+
+
+def device_line(elf, it):
+    """One page that is reached where no memory is, or a word by which a host is asked."""
+    if not it.places:
+        return f"{it.name} at 0x{it.first:08x}: {HOST}"
+    span = f"0x{it.first:08x}" + (f" to 0x{it.last:08x}" if it.last > it.first else "") + (f", {it.name}" if it.name else "")
+    return f"{span}: from {elf.where_all(it.places)}"
 
 
 def taken_line(it):
@@ -21,6 +34,22 @@ def control_line(elf, it):
     return f"{elf.where(it.address)}: {text} becomes {it.text}{note}"
 
 
+def hosted_line(elf, address):
+    return f"{elf.where(address)}: ebreak becomes a jump to what answers"
+
+
+def driven_line(findings, address):
+    return f"{findings.elf.where(address)}: 0x{findings.driving.word(address):08x} becomes a jump to what answers"
+
+
+def driven_lines(findings):
+    """Which loads and stores of devices are answered for, and how they were found."""
+    if findings.driving:
+        yield from (driven_line(findings, it) for it in findings.driving.sites)
+        runs = "1 run" if findings.runs == 1 else f"{findings.runs} runs"
+        yield f"found by addresses in the code and by {runs}; what neither shows isn't answered"
+
+
 def copied_line(segment):
     return f"{segment.filesz} bytes for 0x{segment.vaddr:08x}: loaded at 0x{segment.paddr:08x}, too"
 
@@ -32,6 +61,8 @@ def cure_lines(findings):
         (HEAP, [taken_line(it) for it in plan.taken.values()]),
         (CONTROL, [control_line(elf, it) for it in findings.control]),
         (STACK, [f"{elf.where(it.address)}: 0x{it.word:08x}, which sets sp, becomes nop" for it in findings.stack]),
+        (HOSTED, [hosted_line(elf, it) for it in findings.hosting.sites] if findings.hosting else []),
+        (DRIVEN, list(driven_lines(findings))),
         (COPIED, [copied_line(it) for it in findings.copied]),
     ]
     for heading, lines in groups:
@@ -60,6 +91,9 @@ def lines(findings, written, changes):
     if findings.plan and findings.plan.left:
         yield "can't be taken over:"
         yield from (f"  {name} at 0x{address:08x}: {why}" for name, address, why in findings.plan.left)
+    if findings.devices:
+        yield f"{DEVICES}:"
+        yield from (f"  {device_line(findings.elf, it)}" for it in findings.devices)
     if findings.obstacles:
         yield "needs a rebuild:"
     for it in findings.obstacles:
@@ -74,8 +108,10 @@ def verdict(findings, name, out):
     """How far it will run."""
     if findings.hopeless():
         return f"{name} won't run" + (f", and {out} wasn't written" if out else "")
+    devices = "waits for no device" if findings.devices else ""
     if findings.obstacles:
-        return f"{out or name} will run as far as it meets nothing that needs a rebuild"
-    if out:
-        return f"{out} will run"
-    return f"{name} will run once it is cured" if findings.cures() else f"{name} will run as it is"
+        return f"{out or name} will run as far as it meets nothing that needs a rebuild" + (devices and f" and {devices}")
+    if out or not findings.cures():
+        certain = f"{out} will run" if out else f"{name} will run as it is"
+        return f"{out or name} will run as far as it {devices}" if devices else certain
+    return f"{name} will run once it is cured" + (devices and f", as far as it {devices}")
