@@ -1,9 +1,12 @@
 """What a report finds fault with, as other programs' formats have it: errors, listed leaks, and a stop."""
 from __future__ import annotations
 
-from replaycheck.places import Place
+from replaycheck.allocators import is_of_allocator, is_of_library
+from replaycheck.demangling import Demangler
+from replaycheck.endings import Fault
+from replaycheck.places import NoPlaces, Place, Places
 from replaycheck.records import Record
-from replaycheck.reports import LEAK_KINDS, Frame, Report
+from replaycheck.reports import LEAK_KINDS, Address, Frame, Report
 
 RUNNING = "Running"
 STOPS = {
@@ -12,7 +15,6 @@ STOPS = {
     "illegal": "stopped: no instruction of RV32IM",
     "misaligned": "stopped: a jump to an address that is no multiple of 4",
 }
-HEAP = ("malloc", "free", "calloc", "realloc")
 RULES = {
     "Addr1": "Invalid read or write of one byte",
     "Addr2": "Invalid read or write of two bytes",
@@ -30,14 +32,24 @@ RULES = {
 
 class Call:
     """A frame with its source line. An inlined call is one of its own, at the address of its caller's. Each is made
-    once."""
+    once. `function` is its name as it is shown, and `symbol` that of the symbol table."""
 
-    def __init__(self, address: str, function: str, place: Place | None):
-        self.address, self.function, self.place = address, function, place
+    def __init__(self, address: Address, symbol: str, function: str, place: Place | None):
+        self.address, self.symbol, self.function, self.place = address, symbol, function, place
+        self.is_of_allocator, self.is_of_library = is_of_allocator(symbol), is_of_library(symbol)
         self.text = f"{function} ({place or address})"
 
     def __str__(self):
         return self.text
+
+
+def outside(calls: list[Call]):
+    """The calls of a trace that are neither an allocator's nor a library's. If a trace begins in an allocator, what that has called isn't
+    outside either: `operator new` may have functions of its own, which call `malloc`."""
+    begin = 0
+    if any(it.is_of_allocator for it in calls if it.address == calls[0].address):
+        begin = max(at for at, it in enumerate(calls, 1) if it.is_of_allocator)
+    return [it for it in calls[begin:] if not it.is_of_allocator and not it.is_of_library]
 
 
 class Finding(Record):
@@ -53,9 +65,10 @@ class Finding(Record):
     note_trace: list[Call] | None = None
 
     def lead(self):
-        """The innermost call that has a source line and isn't the heap's own, or else the innermost one."""
+        """The innermost call that has a source line and isn't an allocator's or a library's own, or else the innermost one."""
         placed = [call for call in self.trace if call.place]
-        return next((call for call in placed if call.function not in HEAP), (placed or self.trace)[0])
+        own = [call for call in outside(self.trace) if call.place]
+        return (own or placed or self.trace)[0]
 
     def title(self):
         name = self.lead().function
@@ -69,15 +82,25 @@ class Shown:
     def __init__(self, report: Report, file: str, given: str | None, leaks_that_count, heap=None, needs_heap=False):
         self.report, self.file, self.given = report, file, given
         self.leaks_that_count, self.heap, self.needs_heap = leaks_that_count, heap, needs_heap
-        self.made, self.places, self.verdict = {}, None, ""
+        self.made, self.places, self.names, self.verdict = {}, None, None, ""
 
-    def show(self, places):
-        """Finds the places of all addresses."""
+    def show(self, paths, is_demangled):
+        """Finds the places of all addresses, and the names that all functions have in the source. Returns what can't be found, in lines: a
+        report can do without it."""
         traces = [it for error in self.report.errors for it in (error.trace, error.note.trace if error.note else [])]
-        traces += [leak.trace for leak in self.report.leaks]
-        more = [self.report.state.address] if self.report.state.address else []
-        places.learn([frame.address for trace in traces for frame in trace] + more)
-        self.places = places
+        frames = [frame for trace in [*traces, *(leak.trace for leak in self.report.leaks)] for frame in trace]
+        addresses = [frame.address for frame in frames] + ([] if self.report.state.address is None else [self.report.state.address])
+        missing, self.names = [], Demangler(is_demangled)
+        try:
+            self.places = Places(self.file, paths)
+            self.places.learn(addresses)
+        except Fault as fault:
+            missing.append(f"no source lines: {fault}")
+            self.places = NoPlaces()
+            self.places.learn(addresses)
+        own = [self.places.name(frame.address, frame.name) for frame in frames]
+        self.names.learn(own + [it.function for told in self.places.known.values() for it in told])
+        return missing + ([f"no names as in the source: {self.names.fault}"] if self.names.fault else [])
 
     @property
     def heap_notice(self):
@@ -95,9 +118,9 @@ class Shown:
 
     def calls_at(self, address, name):
         if (address, name) not in self.made:
-            places = self.places.known[address] or [None]
-            inlined = [Call(address, place.function, place) for place in places[:-1]]
-            self.made[address, name] = [*inlined, Call(address, name, places[-1])]
+            places = self.places.at(address) or [None]
+            symbols = [*(place.function for place in places[:-1]), self.places.name(address, name)]
+            self.made[address, name] = [Call(address, it, self.names.name(it), place) for it, place in zip(symbols, places)]
         return self.made[address, name]
 
     def findings(self):

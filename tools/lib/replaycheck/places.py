@@ -5,7 +5,9 @@ import os
 
 from replaycheck.children import piped
 from replaycheck.endings import Fault
+from replaycheck.programs import tool
 from replaycheck.records import Record
+from replaycheck.stand_ins import StandIns
 
 PROGRAMS = ("riscv64-unknown-elf-addr2line", "riscv64-linux-gnu-addr2line", "addr2line")
 NEEDS = "source lines need addr2line, of Debian's binutils-riscv64-unknown-elf, or the one that ADDR2LINE names"
@@ -52,13 +54,6 @@ def names_of_here():
     return [it.rstrip("/") + "/" for it in dict.fromkeys(names)]
 
 
-def addr2line():
-    """The addr2line that is named, or else the first that is on the path."""
-    folders = os.environ.get("PATH", os.defpath).split(os.pathsep)
-    there = (it for it in PROGRAMS if any(os.access(os.path.join(folder, it), os.X_OK) for folder in folders))
-    return os.environ.get("ADDR2LINE") or next(there, PROGRAMS[0])
-
-
 class NoPlaces:
     """Stands for the places of a program where there is no addr2line: no address has one."""
 
@@ -70,15 +65,19 @@ class NoPlaces:
     def at(self, address):
         return ()
 
+    def name(self, address, name):
+        return name
+
 
 class Places:
-    """The places of a program's addresses, each of which is asked for once."""
+    """The places of a program's addresses, each of which is asked for once. A stub that `adopt` has added has the place of
+    the instruction for which it stands."""
 
     def __init__(self, file, paths):
-        self.paths, self.known = paths, {}
+        self.paths, self.known, self.stand_ins = paths, {}, StandIns(file)
         if not os.path.isfile(file):
             raise Fault(f"{file}: no such file")
-        self.child = piped([addr2line(), "-a", "-f", "-i", "-e", file], needs=NEEDS)
+        self.child = piped([tool("ADDR2LINE", PROGRAMS), "-a", "-f", "-i", "-e", file], needs=NEEDS)
 
     def read(self):
         line = self.child.stdout.readline().decode("utf-8", "surrogateescape")
@@ -97,12 +96,20 @@ class Places:
         for begin in range(0, len(new), AT_ONCE):
             part = new[begin:begin + AT_ONCE]
             try:
-                self.child.stdin.write("".join(f"{it}\n{NOWHERE}\n" for it in part).encode())
+                self.child.stdin.write("".join(f"{self.asked(it)}\n{NOWHERE}\n" for it in part).encode())
                 self.child.stdin.flush()
             except BrokenPipeError:
                 self.ended()
             for address in part:
                 self.known[address] = self.answer()
+
+    def asked(self, address):
+        """The address that addr2line is asked for: a stub's is that of its site."""
+        site = self.stand_ins.site(int(str(address), 16))
+        return address if site is None else f"0x{site:08x}"
+
+    def name(self, address, name):
+        return self.stand_ins.name(int(str(address), 16), name)
 
     def answer(self):
         """The places that addr2line tells for one address."""
@@ -120,5 +127,6 @@ class Places:
     def at(self, address):
         """The places of an address: that of its instruction, and where that is part of an inlined call, those of the
         callers."""
-        self.learn([address])
+        if address not in self.known:
+            self.learn([address])
         return self.known[address]

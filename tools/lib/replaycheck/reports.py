@@ -64,8 +64,21 @@ def kind_of(text):
     return KINDS.get(text)
 
 
+class Address(int):
+    """An address: a number that prints as a report prints it, `0x` and eight digits."""
+
+    __slots__ = ()
+
+    def __str__(self):
+        return f"0x{self:08x}"
+
+    __repr__ = __str__
+
+
 class Frame(Record):
-    address: str
+    """A line of a trace: the address of an instruction, and the name of its function, `???` where it has none."""
+
+    address: Address
     name: str
 
     def __init__(self, address, name):
@@ -75,7 +88,7 @@ class Frame(Record):
 class Note(Record):
     """Where a bad address lies. Near a block: how far from it, on which side, its size, and its trace."""
 
-    address: str
+    address: Address
     place: str
     offset: int | None = None
     side: str | None = None
@@ -85,6 +98,8 @@ class Note(Record):
 
 
 class Error(Record):
+    """An error of a report: the number of times that it happened, its text, its trace, and a note on a bad address."""
+
     count: int
     text: str
     trace: list[Frame]
@@ -102,6 +117,8 @@ class Error(Record):
 
 
 class Leak(Record):
+    """A leak of a report, such as `definitely lost`: its bytes, its blocks, and the trace of their allocation."""
+
     size: int
     blocks: int
     kind: str
@@ -112,7 +129,7 @@ class State(Record):
     """`running` at an address, `exited` with a status, or `stopped` for a reason at an address."""
 
     name: str
-    address: str | None = None
+    address: Address | None = None
     status: int | None = None
     why: str | None = None
 
@@ -121,11 +138,16 @@ class State(Record):
 
 
 class Sum(Record):
+    """Bytes and blocks, of all leaks of a kind."""
+
     size: int
     blocks: int
 
 
 class Report(Record):
+    """A report: the step, how the program ends or where it runs, how much of its input it has read, the bytes that it has written, errors,
+    leaks that are listed, the sums of all, and the numbers of the last line. `text` is the report as it came, where that is kept."""
+
     step: int
     state: State
     position: int
@@ -138,6 +160,7 @@ class Report(Record):
     contexts: int
     suppressed: int
     suppressed_contexts: int
+    text: str = ""
 
     def __str__(self):
         return "".join(line + "\n" for line in lines_of(self))
@@ -180,6 +203,7 @@ class Lines:
 
     def __init__(self, lines):
         self.lines, self.number = iter(lines), 0
+        self.addresses = {}
         self.next = None
         self.go_on()
 
@@ -192,6 +216,12 @@ class Lines:
         if found:
             self.go_on()
         return found
+
+    def address(self, text):
+        """The address that a field is: one number for each text, as traces have the same ones again and again."""
+        if text not in self.addresses:
+            self.addresses[text] = Address(text, 16)
+        return self.addresses[text]
 
     def must(self, shape, what):
         """The same of a line that a report must have here."""
@@ -208,7 +238,7 @@ def read_trace(lines):
         found = lines.must(OfFrame, "a frame")
         if found[1] != ("by" if trace else "at"):
             raise NoReport(f"no report: line {lines.number - 1} is out of turn: {found[0]!r}")
-        trace.append(Frame(found[2], found[3]))
+        trace.append(Frame(lines.address(found[2]), found[3]))
     return trace or lines.fault("a frame")
 
 
@@ -218,8 +248,8 @@ def read_note(lines):
         return None
     block = BLOCK.fullmatch(found[2])
     if block:
-        return Note(found[1], found[2], int(block[1]), block[2], int(block[3]), block[4], read_trace(lines))
-    return Note(found[1], found[2]) if found[2] in PLACES else lines.fault("behind a note on an address")
+        return Note(lines.address(found[1]), found[2], int(block[1]), block[2], int(block[3]), block[4], read_trace(lines))
+    return Note(lines.address(found[1]), found[2]) if found[2] in PLACES else lines.fault("behind a note on an address")
 
 
 def read_errors(lines):
@@ -257,12 +287,12 @@ def read_sums(lines):
 def read_state(lines):
     found = lines.take(RUNNING)
     if found:
-        return State("running", address=found[1])
+        return State("running", address=lines.address(found[1]))
     found = lines.take(EXITED)
     if found:
         return State("exited", status=int(found[1]))
     found = lines.must(STOPPED, "`state ..`")
-    return State("stopped", why=found[1], address=found[2])
+    return State("stopped", why=found[1], address=lines.address(found[2]))
 
 
 def read_report(lines):
