@@ -15,9 +15,9 @@ FROM_HERE = ("sarif", "github")  # whose readers look for source files below the
 # The session's options, by the names that Valgrind has for them.
 PASSED_ON = {"--num-callers": ("callers", number(1, 24)), "--freelist-vol": ("queue", number(0, 1000000000)),
              "--redzone-size": ("redzone", number(0, 4096))}
-FLAGS = ("--full-paths", "--require-heap")
+FLAGS = ("--full-paths", "--require-heap", "--no-demangle")
 OWN = {*PASSED_ON, *FLAGS, "--error-exitcode", "--errors-for-leak-kinds", "--show-leak-kinds", "--suppressions", "--format",
-       "--strip-prefix", "--output"}
+       "--demangle", "--strip-prefix", "--output"}
 
 
 def leak_kinds(text):
@@ -45,6 +45,7 @@ def reader_of_options(page):
     reader.option("--format", choices=["text", *FORMATS], default="text")
     for name in FLAGS:
         reader.option(name, is_flag=True)
+    reader.option("--demangle", choices=["yes", "no"])
     reader.option("--strip-prefix")
     return reader
 
@@ -63,6 +64,9 @@ def options_of(page, words):
         reader.error("--full-paths and --strip-prefix at once")
     if options.format == "text" and (options.full_paths or options.strip_prefix is not None):
         reader.error("--full-paths and --strip-prefix go with a --format that isn't text, or `replaycheck lines`")
+    if options.demangle == "yes" and (options.no_demangle or options.format == "text"):
+        reader.error("--no-demangle and --demangle=yes at once" if options.no_demangle else
+                     "--demangle=yes goes with a --format that isn't text; or use `replaycheck lines`")
     return options
 
 
@@ -130,13 +134,12 @@ def tell(text):
 
 
 def with_places(shown, options):
-    """A report with source lines; without them, and with a line on standard error, where addr2line can't find them."""
-    from replaycheck.places import NoPlaces, Paths, Places
-    try:
-        shown.show(Places(options.file, Paths(options.full_paths, options.strip_prefix, options.format in FROM_HERE)))
-    except Fault as fault:
-        tell(f"no source lines: {fault}")
-        shown.show(NoPlaces())
+    """A report with source lines and names as in the source; without them, and with a line on standard error, where addr2line or c++filt
+    can't find them."""
+    from replaycheck.places import Paths
+    paths = Paths(options.full_paths, options.strip_prefix, options.format in FROM_HERE)
+    for missing in shown.show(paths, not options.no_demangle and options.demangle != "no"):
+        tell(missing)
     return shown
 
 

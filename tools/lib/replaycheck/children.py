@@ -22,11 +22,58 @@ class Child:
         if self.status is None:
             os.kill(self.pid, signal.SIGTERM)
 
-    def wait(self):
+    def wait(self, options=0):
+        """Returns the status with which it has ended, and None where it isn't to be waited for and runs. A child of another process, and
+        one whose status another part of this process has taken, has ended with 0. A signal may end the wait: then it is still to be
+        waited for."""
         if self.status is None:
-            self.status = os.waitstatus_to_exitcode(os.waitpid(self.pid, 0)[1])
+            try:
+                if not options:
+                    self.outlast()
+                if os.waitid(os.P_PID, self.pid, os.WEXITED | os.WNOWAIT | options):
+                    undisturbed(self.reap)
+            except ChildProcessError:
+                self.status = 0
         return self.status
 
+    def outlast(self):
+        """Waits until it has ended, a second at a time: a signal that comes just before a call is seen only when the call returns."""
+        import select
+        try:
+            end = os.pidfd_open(self.pid)
+        except OSError:
+            return
+        try:
+            waits = select.poll()
+            waits.register(end, select.POLLIN)
+            while not waits.poll(1000):
+                pass
+        finally:
+            os.close(end)
+
+    def reap(self):
+        self.status = os.waitstatus_to_exitcode(os.waitpid(self.pid, 0)[1])
+
+    def kill(self):
+        """Ends it at once, unless it has ended."""
+        if self.wait(os.WNOHANG) is None:
+            os.kill(self.pid, signal.SIGKILL)
+
+    def close_input(self):
+        """Closes its standard input. What it hasn't read is dropped."""
+        try:
+            self.stdin.close()
+        except OSError:
+            pass
+
+    def leave(self):
+        """Waits for its end and keeps nothing of it: no pipe, and no place among the children of this process."""
+        self.close_input()
+        self.stdout.close()
+        self.wait()
+        self.stderr.close()
+        if self in children:
+            children.remove(self)
 
     def said(self):
         """What it has said on standard error."""
@@ -49,12 +96,18 @@ def started(words, pipes, lends=(), needs=""):
 
 def piped(words, lends=(), needs=""):
     """A child whose standard input is written and whose standard output is read."""
-    (in_read, in_write), (out_read, out_write), said = os.pipe(), os.pipe(), os.memfd_create("said")
+    numbers = []
     try:
+        for make in (os.pipe, os.pipe, lambda: (os.memfd_create("said"),)):
+            numbers += make()
+        in_read, in_write, out_read, out_write, said = numbers
         child = started(words, (in_read, out_write, said), lends, needs)
-    finally:
-        for number in (in_read, out_write):
+    except BaseException:
+        for number in numbers:
             os.close(number)
+        raise
+    os.close(in_read)
+    os.close(out_write)
     child.stdin, child.stdout, child.stderr = open(in_write, "wb"), open(out_read, "rb"), open(said, "rb")
     return child
 
@@ -68,8 +121,6 @@ def outcome(words, given=b"", lends=()):
     except BrokenPipeError:
         pass  # it reads no more
     told = child.stdout.read()
-    child.stdout.close()
     status, said = child.wait(), child.said()
-    child.stderr.close()
-    children.remove(child)
+    child.leave()
     return status, told, said

@@ -62,8 +62,9 @@ def undisturbed(action):
         action()
     finally:
         Starting.is_on = False
-        if Starting.come is not None:
-            raise Interrupted(Starting.come)
+        come, Starting.come = Starting.come, None
+        if come is not None:
+            raise Interrupted(come)
 
 
 def start(words, needs="", **pipes):

@@ -6,11 +6,11 @@ import os
 import struct
 
 from replaycheck.adopting.heap_names import KNOWN, LEFT
+from replaycheck.allocators import HEAP, RUSTS
 from replaycheck.children import outcome
 from replaycheck.programs import path_of, program
 
-NAMES = ("malloc", "free", "calloc", "realloc")
-OTHERS = {it.partition("=")[0] for it in KNOWN} - {*NAMES} | {*LEFT}
+OTHERS = {it.partition("=")[0] for it in KNOWN} - {*HEAP} | {*LEFT}
 NO_TYPE, FUNCTION, SYMBOLS, LOAD = 0, 2, 2, 1
 LONGEST_FILE = 1 << 26
 ECALL = 0x00000073
@@ -38,7 +38,8 @@ class Heap:
         if self.known == NO_SYMBOLS:
             return f"{what}: the file has no symbols, and a heap is known by the names of its functions: strip it with --strip-debug only"
         names = ", ".join(self.functions[:4]) + (", .." if len(self.functions) > 4 else "")
-        return f"{what}: it has no function malloc, free, calloc or realloc, but {names}: `replaycheck adopt` maps such names"
+        how = "adopt --heap` maps them" if any("__rust_" in it for it in self.functions) else "adopt` maps such names"
+        return f"{what}: it has no function malloc, free, calloc or realloc, but {names}: `replaycheck {how}"
 
 
 def fields(data, layout, at):
@@ -78,6 +79,14 @@ class Names:
                 return True
         return False
 
+    def ending(self, end):
+        """The symbols whose names end with a text."""
+        text, at = end.encode() + b"\0", -1
+        while (at := self.texts.find(text, at + 1)) >= 0:
+            first = self.texts.rfind(b"\0", 0, at) + 1
+            if first in self.places:
+                yield self.texts[first:at + len(end)].decode("utf-8", "surrogateescape")
+
 
 def has_word(data, segment, words):
     """Whether an aligned word of a segment is one of these."""
@@ -98,10 +107,17 @@ def calls_by_number(data):
     return any(has_word(data, it, [ECALL]) for it in loaded) and any(has_word(data, it, CHOICES) for it in loaded)
 
 
+def rusts_in(functions):
+    """The functions by which code of Rust takes blocks and gives them back. Newer compilers put a crate and its hash before a name."""
+    for name in RUSTS:
+        if name.startswith("__rust_"):
+            yield from [name] if functions.has(name) else functions.ending(f"7___rustc{len(name)}_{name}")
+
+
 def heap_in(data):
     """The heap of a file that the program has accepted, by its symbols and its code."""
     functions, labels = symbols(data)
-    named = [name for name in NAMES if functions and functions.has(name)]
+    named = [name for name in HEAP if functions and functions.has(name)]
     if named:
         return Heap(BY_NAME, named)
     if calls_by_number(data):
@@ -109,7 +125,8 @@ def heap_in(data):
     if not functions and not labels:
         return Heap(NO_SYMBOLS)
     others = [name for name in OTHERS if functions and functions.has(name)]
-    others += [f"{name} (a label, with no type of a function)" for name in NAMES if labels and labels.has(name)]
+    others += rusts_in(functions) if functions else []
+    others += [f"{name} (a label, with no type of a function)" for name in HEAP if labels and labels.has(name)]
     return Heap(OTHER_NAMES, others) if others else Heap(NONE)
 
 

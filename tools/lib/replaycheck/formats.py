@@ -5,7 +5,7 @@ from _json import encode_basestring_ascii as quoted  # the module json, and what
 from replaycheck.endings import Fault
 from replaycheck.findings import RULES, RUNNING
 from replaycheck.records import kept
-from replaycheck.reports import Frame
+from replaycheck.reports import Address, Frame
 from replaycheck.verdicts import LEAK_KINDS, SUMS
 
 JSON_VERSION = 1
@@ -55,9 +55,13 @@ def dumped(value, depth, indent=""):
     return flat(value)
 
 
+def address_text(address):
+    return None if address is None else str(address)
+
+
 def call_object(call):
     place = call.place and {"file": printable(call.place.file), "line": call.place.line}
-    return {"address": call.address, "function": printable(call.function), "place": place}
+    return {"address": str(call.address), "function": printable(call.function), "place": place}
 
 
 def note_object(note, trace):
@@ -65,7 +69,7 @@ def note_object(note, trace):
         return None
     block = note.block and {"offset": note.offset, "side": note.side, "size": note.size, "state": note.block,
                             "trace": trace}
-    return {"address": note.address, "text": note.place, "block": block}
+    return {"address": str(note.address), "text": note.place, "block": block}
 
 
 def verdict_object(line, trace):
@@ -77,7 +81,8 @@ def verdict_object(line, trace):
     if front != "not clean" or not is_use:
         return None
     text, _, calls = rest.rpartition(" at ")
-    frames = [Frame(*call.split(": ", 1)) for call in calls.split(", by ")]
+    parts = (call.split(": ", 1) for call in calls.split(", by "))
+    frames = [Frame(Address(address, 16), name) for address, name in parts]
     return {"clean": False, "first_use": {"step": int(first.rpartition(" ")[2]), "text": text, "trace": trace(frames)}}
 
 
@@ -90,7 +95,7 @@ def json_text(shown):
     whole = {
         "format": "replaycheck report", "version": JSON_VERSION,
         "program": printable(shown.file), "input": shown.given and printable(shown.given), "step": report.step,
-        "state": {"name": report.state.name, "why": report.state.why, "address": report.state.address,
+        "state": {"name": report.state.name, "why": report.state.why, "address": address_text(report.state.address),
                   "status": report.state.status},
         "ended": report.state.name != "running",
         "read": report.position, "length": report.length, "written": report.written,
@@ -152,8 +157,9 @@ def sarif_result(shown, finding, rules, print_of):
 
 
 def fingerprint(finding):
-    """What tells a finding from others of its program, whatever moves in the source: its rule, and the functions of its trace."""
-    words = [finding.rule, finding.text, *(call.function for call in finding.trace)]
+    """What tells a finding from others of its program, whatever moves in the source: its rule, and the functions of its trace, by names
+    that don't depend on c++filt."""
+    words = [finding.rule, finding.text, *(call.symbol for call in finding.trace)]
     return sha256()("\n".join(words).encode("utf-8", "surrogateescape")).hexdigest()[:32]
 
 
@@ -218,7 +224,7 @@ def xml(text):
 
 @kept
 def xml_frame(program, call):
-    parts = [f"    <frame>\n      <ip>{int(call.address, 16):#x}</ip>\n      <obj>{xml(program)}</obj>\n"]
+    parts = [f"    <frame>\n      <ip>{int(call.address):#x}</ip>\n      <obj>{xml(program)}</obj>\n"]
     if call.function != "???":
         parts.append(f"      <fn>{xml(call.function)}</fn>\n")
     if call.place:

@@ -9,19 +9,43 @@ BUILT_FROM = f"{TOP}/built-from"
 PROGRAM = f"{TOP}/crates/replaycheck/out/replaycheck"
 
 
+class Built:
+    """Whether this process has seen to it that this repository's program is built."""
+
+    is_current = False
+
+
 def program():
     """The path of the program that REPLAYCHECK names, or else of this repository's, which is built first where it has
-    to be."""
+    to be. Each process looks at that once."""
     named = os.environ.get("REPLAYCHECK")
     if named:
         return named
-    if not os.path.exists(BUILT_FROM):
+    if not Built.is_current and not os.path.exists(BUILT_FROM):
         from replaycheck.children import started
         if started([f"{TOP}/tools/lib/build"], (0, 1, 2), ()).wait():
             raise Fault("the program isn't built")
+    Built.is_current = True
     return PROGRAM
 
 
+def built_program():
+    """The path of the program that REPLAYCHECK names, or else of the one that was built last: none is built here."""
+    named = os.environ.get("REPLAYCHECK")
+    if not named and not os.path.exists(PROGRAM):
+        raise Fault(f"{PROGRAM}: it isn't built: `{TOP}/replaycheck --version` proves and builds it, and REPLAYCHECK names another one")
+    return named or PROGRAM
+
+
+def tool(variable, names):
+    """The program of others that a variable of the environment names, or else the first of some names that is on the path; the first of
+    all if none is."""
+    folders = os.environ.get("PATH", os.defpath).split(os.pathsep)
+    there = (it for it in names if any(os.access(os.path.join(folder, it), os.X_OK) for folder in folders))
+    return os.environ.get(variable) or next(there, names[0])
+
+
 def path_of(path):
-    """A path that the program doesn't take for an option."""
+    """A path as a text that the program doesn't take for an option."""
+    path = os.fsdecode(path)
     return "./" + path if path.startswith("-") else path

@@ -70,13 +70,14 @@ def why_unreadable(path):
 
 
 class Ended(Fault):
-    """The program has ended before it replied. `said` is what it said of that, and `status` the one with which a
-    tool ends."""
+    """The program has ended before it replied. `code` is its status, or a signal's number below 0; `lines` are what it
+    said, and `said` the same in words. `status` is the one with which a tool ends."""
 
     def __init__(self, code, said, keeps_status=False):
         how = f"signal {-code}" if code < 0 else f"status {code}"
         super().__init__(f"the program ended before it replied, with {how}")
-        self.said = "".join(with_words(line) + "\n" for line in said.decode("utf-8", "surrogateescape").splitlines())
+        self.code, self.lines = code, said.decode("utf-8", "surrogateescape").splitlines()
+        self.said = "".join(with_words(line) + "\n" for line in self.lines)
         self.status = code if keeps_status and code > 0 else 2
 
 
@@ -85,4 +86,4 @@ class Refused(Fault):
 
     def __init__(self, line, reply):
         super().__init__(f"{line}: {with_words(reply)}")
-        self.number = int(reply.split(" ")[1])
+        self.line, self.number = line, int(reply.split(" ")[1])

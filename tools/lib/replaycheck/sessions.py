@@ -1,24 +1,29 @@
 """A session with the program: a line at a time, with its reply."""
 from replaycheck.children import piped
-from replaycheck.endings import children
 from replaycheck.programs import path_of, program
 from replaycheck.refusals import Ended, Refused
 
+# How many lines are sent before their replies are read: those fit into a pipe, so that neither side waits for the other one.
+AT_ONCE = 1000
+# How many lines the reply to a look has, by the look's first word; to any other one it has one.
+LONG_LOOKS = {"registers": 32, "memory": 2}
+
 
 class Session:
-    """A session on a program's file with its input and its suppressions, or what another command that answers lines does there."""
+    """A session on a program's file with its input and its suppressions, or what another command that answers lines does there. Paths are
+    texts or have the method `__fspath__`. `path` is that of the program, if it isn't the usual one."""
 
-    def __init__(self, file, given=None, supp=None, keeps_status=False, lends=(), command="session"):
-        words = [program(), command]
+    def __init__(self, file, given=None, supp=None, keeps_status=False, lends=(), command="session", path=None):
+        words = [path or program(), command]
         words += ["--input", path_of(given)] if given is not None else []
         words += ["--supp", path_of(supp)] if supp is not None else []
         self.keeps_status = keeps_status
         self.child = piped([*words, path_of(file)], lends)
 
     def ask(self, line):
-        """The reply to a line: one line, or those of a report."""
+        """Returns the lines of the reply to a line: one, or those of a report or of a look."""
         self.send([line])
-        return self.reply()
+        return self.reply(line)
 
     def send(self, lines):
         try:
@@ -27,9 +32,15 @@ class Session:
         except BrokenPipeError:
             raise self.ended() from None
 
-    def reply(self):
+    def reply(self, line="report"):
+        """Returns the lines of the next reply, which is that to a line. A look's number of lines follows from the look, as its reply may
+        begin as a report does."""
         reply = [self.read()]
-        if reply[0].startswith("step "):
+        if line.startswith("look "):
+            word = (line.split() + [""])[1]
+            more = 0 if reply[0].startswith("refused ") else LONG_LOOKS.get(word, 1) - 1
+            reply += [self.read() for _ in range(more)]
+        elif reply[0].startswith("step "):
             while not reply[-1].startswith("ERROR SUMMARY: "):
                 reply.append(self.read())
         return reply
@@ -42,12 +53,14 @@ class Session:
         return reply
 
     def accept_all(self, lines):
-        """Sends lines at once, none of which may be refused and each of which is answered by one line."""
-        self.send(lines)
-        for line in lines:
-            reply = self.read()
-            if reply.startswith("refused "):
-                raise Refused(line, reply)
+        """Sends lines, none of which may be refused and each of which is answered by one line."""
+        for begin in range(0, len(lines), AT_ONCE):
+            part = lines[begin:begin + AT_ONCE]
+            self.send(part)
+            for line in part:
+                reply = self.read()
+                if reply.startswith("refused "):
+                    raise Refused(line, reply)
 
     def report_at(self, step):
         """The lines of the report at a step."""
@@ -68,20 +81,16 @@ class Session:
         return line[:-1].decode("utf-8", "surrogateescape")
 
     def end(self):
-        """Ends the session, as nothing more is asked."""
-        self.child.stdin.close()
-        self.child.wait()
-        self.child.stdout.close()
-        self.child.stderr.close()
-        children.remove(self.child)
+        """Ends the session, as nothing more is asked, whatever the program is at."""
+        self.child.kill()
+        self.child.leave()
 
     def ended(self):
-        try:
-            self.child.stdin.close()
-        except OSError:
-            pass
-        status = self.child.wait()
-        return Ended(status, self.child.said(), self.keeps_status)
+        """Returns what is said of a program that has ended before it replied, and leaves nothing of it."""
+        self.child.close_input()
+        status, said = self.child.wait(), self.child.said()
+        self.child.leave()
+        return Ended(status, said, self.keeps_status)
 
 
 def script_of(lines):

@@ -37,7 +37,6 @@ HERE = {
     "--show-mismatched-frees": "",
     "--main-stacksize": "the stack is the region below 0x7ffffff0",
     "--max-stackframe": "",
-    "--demangle": "names are those of the symbol table; c++filt reads a report",
     "--trace-children": "a program has no children",
     "--track-fds": "",
     "--vgdb": "`replaycheck gdb` lets gdb go through the run, forwards and backwards",

@@ -1,11 +1,11 @@
 """The command line of `replaycheck gdb`."""
 from replaycheck.endings import write
+from replaycheck.looking import Run
 from replaycheck.options import Reader, number
 
 from .connections import Pipes, Port
 from .monitor import Monitor
 from .packets import Packets
-from .run import Run
 from .stops import Goer
 from .stub import Stub
 

@@ -8,13 +8,13 @@ from replaycheck import options
 from replaycheck.adopting.elf import Elf
 from replaycheck.endings import Fault, start
 from replaycheck.guest_files import TOP
+from replaycheck.looking import DEFINED, NO_ACCESS
 from replaycheck.options import LAST_STEP
 from replaycheck.origins.image import HEAP, LONGEST_FILE, STACK, STACK_TOP
 from replaycheck.reports import SUMS
 from replaycheck.sessions import path_of
 
 from .registers import NAMES
-from .run import DEFINED, NO_ACCESS
 
 HELP = """step                              which step this is, and where the program is
 goto N | end                      goes to a step, or to the end of the program

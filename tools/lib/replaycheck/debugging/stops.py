@@ -1,9 +1,8 @@
 """Where a run that goes on, or back, stops: at breakpoints, watched accesses, errors, and the ends of the run."""
 from dataclasses import dataclass
 
+from replaycheck.looking import REACHES, TOP
 from replaycheck.options import LAST_STEP
-
-from .run import REACHES, TOP
 
 SOFTWARE, HARDWARE, WRITE, READ, ACCESS = range(5)  # the sorts of points, by their numbers in packets
 KINDS = {SOFTWARE: ("run",), HARDWARE: ("run",), WRITE: ("write",), READ: ("read",), ACCESS: ("write", "read")}

@@ -2,13 +2,13 @@
 import sys
 
 from replaycheck.endings import Fault
+from replaycheck.looking import TOP
 from replaycheck.sessions import Refused
 
 from .connections import Closed
 from .packets import MOST, Misread, numbers
 from .registers import PC, description, in_hexadecimal, value_of
 from .stops import ACCESS, END, Point
-from .run import TOP
 
 REFUSED = "no value changes in the midst of a run: edit it, by monitor input, patch, mark or option"
 SUPPORTED = (f"PacketSize={MOST:x};qXfer:features:read+;ReverseStep+;ReverseContinue+;swbreak+;hwbreak+;"

@@ -44,6 +44,14 @@ ERROR SUMMARY: 0 errors from 0 contexts (suppressed: 0 from 0)
 """),
         Example("A line for CI, here for a program with an error:",
                 "replaycheck run ../use-after-free.elf \\\n--error-exitcode=9 >report.txt", status=9)),
+    "exec": (
+        Example("A test without an error. Its output and its status pass through:",
+                "replaycheck exec -q --error-exitcode=9 \\\n--input station.input station.elf", "harbour 00231\n"),
+        Example("A test with an error, which goes to a log:",
+                "printf '\\004' >freed.input\nreplaycheck exec -q --error-exitcode=9 --input freed.input \\\n--log-file=log.txt kinds.elf",
+                status=9),
+        Example("The error in the log:", "grep -A 1 Invalid log.txt | sed 's/^==[0-9]*== *//'",
+                "Invalid write of size 4\nat 0x102AC: provoke (kinds.c:44)\n", needs=ADDR2LINE)),
     "session": (
         Example("What another second byte of the input would have changed:",
                 f"printf 'goto 2000\\ninput 1 8\\nreport\\n' |\n{SESSION} |\ngrep -v ': 0 bytes'", """\
@@ -155,7 +163,8 @@ PAGES = (("/usr/share/replaycheck/replaycheck.html", "the page for a browser, in
 FILES = {"": (("/usr/share/doc/replaycheck/manual/index.html", "the manual, with what each error means and how to compile a program"),
               ("/usr/share/replaycheck/examples", "programs with their sources and inputs, to copy"), *PAGES), "page": PAGES}
 SEE_ALSO = {
-    "run": ("session", "certify", "lines", "suppress"), "session": ("talk", "look", "compare"), "look": ("session", "when", "gdb"),
+    "run": ("session", "certify", "lines", "suppress"), "exec": ("run", "certify", "suppress"),
+    "session": ("talk", "look", "compare"), "look": ("session", "when", "gdb"),
     "sweep": ("explore",), "certify": ("run", "origin"), "adopt": ("run", "word"), "compare": ("session", "lines"),
     "explore": ("sweep", "certify"), "gdb": ("look", "session"), "lines": ("run", "talk"), "origin": ("certify", "when", "look"),
     "page": ("session", "explore"), "suppress": ("run",), "talk": ("session", "lines"), "when": ("session", "look"),

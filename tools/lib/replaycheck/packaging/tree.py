@@ -22,9 +22,11 @@ HOME = "lib/replaycheck"
 EXAMPLES = "share/replaycheck/examples"
 DOC = "share/doc/replaycheck"
 BROWSER = "share/replaycheck"
+LIBRARY = f"{HOME}/tools/lib/replaycheck"
+PYTHON = "lib/python3/dist-packages/replaycheck"  # where Debian's Python looks for modules
 LEFT_OUT = r"README|build-times|prove$|replaycheck/(packaging/|paging/(?!made\.py))"
 SHIPPED = re.compile(rf"replaycheck$|tools/(bin|lib)/(?!{LEFT_OUT})|tools/bin/README\.md$")
-EXAMPLE = re.compile(r"examples/(?!README|guests/|sessions/|firmware/(expected/|check\.sh|\.gitignore))")
+EXAMPLE = re.compile(r"examples/(?!README|guests/|sessions/|runners/expected/|firmware/(expected/|check\.sh|\.gitignore))")
 
 # The package's own list of changes, in Debian's form.
 ENTRY = """\
@@ -69,10 +71,12 @@ def fill(tree, source):
         if folder:
             to = tree / folder / name
             to.parent.mkdir(parents=True, exist_ok=True)
-            shutil.copy(TOP / name, to)
+            shutil.copy(TOP / name, to, follow_symlinks=False)
     put(tree / HOME / "crates/replaycheck/out/replaycheck", source.program.read_bytes(), runs=True)
     put(tree / HOME / "built-from", f"{source.commit}\n")
-    link(tree / "bin/replaycheck", tree / HOME / "replaycheck")
+    for name in ("replaycheck", "replaycheck-exec"):  # the launcher is `replaycheck exec` by the second
+        link(tree / "bin" / name, tree / HOME / "replaycheck")
+    link(tree / PYTHON, tree / LIBRARY)
     put_page(tree, source)
     told = helps(tree / HOME)
     for name, text in completions(told).items():

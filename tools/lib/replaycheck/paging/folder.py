@@ -5,7 +5,7 @@ import hashlib
 import json
 import re
 
-from replaycheck import file_heaps
+from replaycheck import allocators, file_heaps
 from replaycheck.endings import Fault
 from replaycheck.exploring import outcomes, picture
 from replaycheck.guest_files import TOP
@@ -33,7 +33,7 @@ def facts(module):
         ("ERROR_KINDS", [(pattern.pattern, name) for pattern, name in TEXTS]),
         ("BADNESS", outcomes.BADNESS), ("FRAMES_TOLD", outcomes.FRAMES_TOLD), ("RUNNING", outcomes.RUNNING),
         ("NEW", picture.NEW), ("OTHER_NEW", picture.OTHER_NEW), ("NOT_NEW", picture.NOT_NEW), ("OTHER", picture.OTHER),
-        ("UNEDITED", picture.UNEDITED), ("HEAP_NAMES", file_heaps.NAMES), ("OTHER_HEAPS", sorted(file_heaps.OTHERS)),
+        ("UNEDITED", picture.UNEDITED), ("HEAP_NAMES", allocators.HEAP), ("OTHER_HEAPS", sorted(file_heaps.OTHERS)),
         ("HEAP_CHOICES", file_heaps.CHOICES), ("FIRST_BLOCK", file_heaps.FIRST_BLOCK), ("MODULE_SUM", hashlib.sha256(module).hexdigest())))
 
 

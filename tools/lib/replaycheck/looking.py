@@ -41,9 +41,9 @@ class Run:
     """The lines of `replaycheck look` on a program, and the step that is looked at."""
 
     def __init__(self, file, given, supp):
-        self.files, self.edits = (file, given, supp), []
+        self.files, self.edits, self.session = (file, given, supp), [], None
         self.step = self.chosen = 0
-        self.open()
+        self.ready()
         self.forget()
 
     def forget(self):
@@ -58,11 +58,22 @@ class Run:
         self.session, self.lines = Session(*self.files, command="look"), len(lines)
         self.session.accept_all(lines)
 
-    def ask(self, line):
-        """The reply to a line of a session. Another one takes the place of a session that has had its lines."""
-        if self.lines >= MOST_LINES:
-            self.session.end()
+    def drop(self):
+        """Ends the session, if there is one. Another one begins with the next question."""
+        session, self.session = self.session, None
+        if session is not None:
+            session.end()
+
+    def ready(self):
+        """Sees to it that there is a session. Another one takes the place of one that has had its lines."""
+        if self.session is not None and self.lines >= MOST_LINES:
+            self.drop()
+        if self.session is None:
             self.open()
+
+    def ask(self, line):
+        """The reply to a line of a session."""
+        self.ready()
         self.lines += 1
         return self.session.ask(line)
 
@@ -73,13 +84,13 @@ class Run:
             raise Refused(line, rows[0])
         return rows
 
-    def look(self, line, count):
-        """The reply to a look, which has so many lines. A session doesn't count it."""
-        self.session.send([f"look {line}"])
-        rows = [self.session.read()]
+    def look(self, line):
+        """The reply to a look. A session doesn't count it."""
+        self.ready()
+        rows = self.session.ask(f"look {line}")
         if rows[0].startswith("refused "):
             raise Refused(line, rows[0])
-        return rows + [self.session.read() for _ in range(count - 1)]
+        return rows
 
     def at(self, step):
         if step != self.chosen:
@@ -100,7 +111,7 @@ class Run:
     def registers(self):
         if self.step != self.seen_at:
             self.at(self.step)
-            state, *rows = self.look("registers", 32)
+            state, *rows = self.look("registers")
             words = state.split()[1:]
             pairs = [(0, 0)] + [tuple(int(it, 16) for it in row.split()[1:]) for row in rows]
             pc = self.last_pc() if words[0] == "exited" else int(words.pop(), 16)
@@ -111,7 +122,7 @@ class Run:
     def last_pc(self):
         """pc of a program that has exited: its call of the environment."""
         self.at(max(0, self.end() - 1))
-        state = self.look("registers", 32)[0]
+        state = self.look("registers")[0]
         return int(state.split()[2], 16)
 
     def memory(self, address, length):
@@ -122,7 +133,7 @@ class Run:
 
     def view(self, address, length):
         self.at(self.step)
-        data, undefined = (row.split()[1] for row in self.look(f"memory 0x{address:x} {length}", 2))
+        data, undefined = (row.split()[1] for row in self.look(f"memory 0x{address:x} {length}"))
         return Bytes(bytes.fromhex(data), undefined)
 
     # ---- which step does something
@@ -133,7 +144,7 @@ class Run:
         if span[1] <= 0 or (bound <= start if way == "next" else bound >= start):
             return None
         self.at(start)
-        word, *step = self.look(f"{way} {kind} 0x{span[0]:x} {span[1]} {bound}", 1)[0].split()
+        word, *step = self.look(f"{way} {kind} 0x{span[0]:x} {span[1]} {bound}")[0].split()
         return int(step[0]) if word == "step" else None
 
     def end(self):
