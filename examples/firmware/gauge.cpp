@@ -1,45 +1,6 @@
-/* Levels of a gauge, in C++: a constructor that runs before main, blocks by new and delete, and functions in a namespace. The first
-   byte of the input is the number of levels, which follow. It has one bug, which shows with each input. */
-#include <stddef.h>
-#include <stdlib.h>
+/* A gauge, in C++: constructors, of which one runs before main, a virtual call, and blocks by new and delete. The first byte of the input
+   is the number of levels, which follow. It has two bugs, which show with each input. */
 #include <unistd.h>
-
-#ifdef OWN_HEAP
-
-/* A heap of its own, which replaycheck doesn't know: it takes from an array, and gives nothing back. */
-static char room[4096];
-static size_t used;
-
-__attribute__((noipa)) static void *block_of(size_t size)
-{
-    void *block = room + used;
-    used += (size + 15) / 16 * 16;
-    return block;
-}
-
-__attribute__((noipa)) static void give_back(void *) {}
-
-#else
-
-/* What a C++ library has: here there is none. Without exceptions, an empty heap ends the program. */
-static void *block_of(size_t size)
-{
-    void *block = malloc(size);
-    if (!block)
-        abort();
-    return block;
-}
-
-static void give_back(void *block) { free(block); }
-
-#endif
-
-void *operator new(size_t size) { return block_of(size); }
-void *operator new[](size_t size) { return block_of(size); }
-void operator delete(void *block) noexcept { give_back(block); }
-void operator delete[](void *block) noexcept { give_back(block); }
-void operator delete(void *block, size_t) noexcept { give_back(block); }
-void operator delete[](void *block, size_t) noexcept { give_back(block); }
 
 namespace gauge {
 
@@ -56,15 +17,24 @@ public:
     {
         read(STDIN_FILENO, values, count);
     }
-    ~Levels() { delete[] values; }
-    int highest() const;
+    virtual ~Levels() { delete[] values; }
+    virtual int result() const { return count; }
 
-private:
+protected:
     unsigned count;
     unsigned char *values;
 };
 
-__attribute__((noinline)) int Levels::highest() const
+class Highest : public Levels {
+public:
+    explicit Highest(unsigned count) : Levels(count), unit(new char[2]{'c', 'm'}) {}
+    int result() const override;
+
+private:
+    char *unit;                                 /* bug: no destructor deletes it */
+};
+
+int Highest::result() const
 {
     int found = 0;
     for (unsigned at = 0; at <= count; at++)    /* bug: `<` was meant */
@@ -79,8 +49,8 @@ int main()
 {
     unsigned char count = 0;
     read(STDIN_FILENO, &count, 1);
-    gauge::Levels *levels = new gauge::Levels(count);
-    int highest = levels->highest();
+    gauge::Levels *levels = new gauge::Highest(count);
+    int result = levels->result();
     delete levels;
-    return highest;
+    return result;
 }

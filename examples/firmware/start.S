@@ -43,6 +43,33 @@ unset_registers:
         addi    sp, sp, 16
         lw      a0, 0(sp)                       # argc, 0 in replaycheck
         addi    a1, sp, 4                       # argv
-        call    main
+        call    program
         call    _exit
         .size   _start, . - _start
+
+# A machine gives no arguments. With -DARGUMENTS main gets those that `replaycheck exec FILE ARG ..` has put into this room: argc, argv[],
+# 0 and the texts. Without any the room has a name of the program only. Arguments on the stack, as qemu-riscv32 gives them, stay.
+#ifdef ARGUMENTS
+        .set    program, with_arguments
+        .type   with_arguments, @function
+with_arguments:
+        bnez    a0, has_arguments
+        la      a1, __replaycheck_arguments
+        lw      a0, 0(a1)
+        addi    a1, a1, 4
+has_arguments:
+        tail    main
+        .size   with_arguments, . - with_arguments
+
+        .data
+        .balign 4
+        .globl  __replaycheck_arguments
+        .type   __replaycheck_arguments, @object
+        .size   __replaycheck_arguments, 1024
+__replaycheck_arguments:
+        .word   1, .Lname, 0
+.Lname: .asciz  "program"
+        .zero   1024 - 12 - 8
+#else
+        .set    program, main
+#endif
