@@ -1,7 +1,7 @@
 """Reports for tests of the parser: random ones, one with each shape of line, and texts that are no reports."""
 import random
 
-from replaycheck.reports import SUMS, Error, Frame, Leak, Note, Report, State, Sum
+from replaycheck.reports import SUMS, Address, Error, Frame, Leak, Note, Report, State, Sum
 
 NAMES = ["main", "???", "_start", "a.b$c", "operator?", "f(int,char*)", "x" * 300, "!", "~"]
 TEXTS = ["Invalid read of size 1", "Invalid read of size 2", "Invalid read of size 4", "Invalid write of size 1",
@@ -16,7 +16,7 @@ ELSEWHERE = ["in the stack region", "not stack'd, malloc'd or (recently) free'd"
 
 
 def address(chance):
-    return f"0x{chance.getrandbits(32):08x}"
+    return Address(chance.getrandbits(32))
 
 
 def trace(chance):
@@ -60,8 +60,8 @@ def random_reports(count):
 def each_shape():
     """A report of each state, in which each text has each sort of note, and each kind of leak stands."""
     chance = random.Random(0)
-    for made in (State("running", address="0x00010000"), State("exited", status=255),
-                 *(State("stopped", why=why, address="0x00000000")
+    for made in (State("running", address=Address(0x10000)), State("exited", status=255),
+                 *(State("stopped", why=why, address=Address(0))
                    for why in ("jump", "break", "illegal", "misaligned"))):
         report = random_report(chance, 0, 0)
         report.state = made

@@ -8,6 +8,7 @@ ADDR2LINE = ["riscv64-unknown-elf-addr2line"]
 BINUTILS = ["riscv64-unknown-elf-as", "riscv64-unknown-elf-objdump"]
 PACKET = ["packet.elf", "--input", "packet.input"]
 KINDS = ["kinds.elf", "--input", "kinds.input"]
+SUPPRESSED = ["run", "undefined-branches.elf", "--supp=undefined-branches.supp"]
 # Tools that wait for a child, and the variables that name the child.
 SLOW = [
     ("talk", ["talk", "three-words.elf", "asks"], ["REPLAYCHECK"]),
@@ -327,6 +328,9 @@ def heap_rows():
     yield Row("run: a stripped file, and a heap is needed", [*stripped, "--error-exitcode=9", "--require-heap"], 9, None, unseen)
     yield Row("run: a heap is needed, and no other status is asked for", [*stripped, "--require-heap"], 1, None, unseen)
     yield Row("run: a heap of other names", ["run", "other.elf", "--error-exitcode=9"], 0, None, other)
+    for name, symbol in (("rust.elf", "__rust_alloc"), ("new-rust.elf", "_RNvCseulmdZsCeCG_7___rustc12___rust_alloc")):
+        yield Row(f"run: Rust's own heap, {name}", ["run", name, "--error-exitcode=9", "--require-heap"], 9, None,
+                  f"*replaycheck run: {name}: errors of the heap can't be found: *but {symbol}: `replaycheck adopt --heap` maps them*")
     yield Row("run: a label of the heap's name", ["run", "label.elf", "--error-exitcode=9"], 0, None,
               "*replaycheck run: label.elf: errors of the heap can't be found: *but malloc (a label, *")
     for label, words in (("a heap by name", ["station.elf", "--input=station.input"]),
@@ -344,6 +348,8 @@ def heap_rows():
     yield Row("run: a clean run, as json", ["run", *PACKET, "--format=json"], 0, '*"certify": {\n  "clean": true,\n*')
     yield Row("run: the first use of a run, as json", ["run", "use-after-free.elf", "--format=json"], 0,
               '*"clean": false,\n  "first_use": {"step": 14, "text": "Invalid read of size 4", "trace": [{"address": "0x00010050"*')
+    yield Row("run: a first use that is suppressed, as json", [*SUPPRESSED, "--format=json"], 0,
+              '*"clean": false,\n  "first_use": {"step": *"summary": {\n  "errors": 0,*')
     yield Row("run: the heap of a file, as json", ["run", "station.elf", "--input=station.input", "--format=json"], 0,
               '*"known": "by name",\n  "functions": ["calloc", "free", "malloc", "realloc"]*', needs=ADDR2LINE)
     yield Row("run: a stripped file, as sarif", [*stripped, "--format=sarif"], 0,
