@@ -85,6 +85,10 @@ def access_rows(rows):
     for value, base in [("a0", "a1"), ("a1", "a0"), ("a2", "a0"), ("ra", "a5"), ("t0", "a2"), ("a4", "ra"), ("zero", "a0")]:
         body = f"lui {base}, 0x10000; li {value}, 65; sb {value}, 0({base}); li a0, 9"
         answered(rows, f"sb {value}, 0({base})", ending(body), b"", b"\0" if value == "zero" else b"A", 9, NONE)
+
+
+def register_rows(rows):
+    """What an access leaves as it was, and where the same one reaches something else."""
     numbers = {name: at + 3 for at, name in enumerate(["ra", "a1", "a2", "a3", "a7", "t0", "t1", "t2", "t6", "s0"])}
     body = "; ".join(f"li {name}, {number}" for name, number in numbers.items())
     body += "; lui a5, 0x10000; lbu a4, 5(a5); sb a4, 1(a5); li a0, 0; " + "; ".join(f"add a0, a0, {it}" for it in numbers)
@@ -213,8 +217,9 @@ def second_rows(rows):
         by_qemu(rows, "a benchmark by tohost", bench, SPIKE, *BY_BENCH)
 
 
-def device_rows(rows):
-    for part in (named_rows, access_rows, told_rows, compiled_rows, second_rows):
+def device_rows(rows, has_all):
+    """With all of them, also each access by itself, and a second program for each device."""
+    for part in (named_rows, register_rows, told_rows, compiled_rows, *([access_rows, second_rows] if has_all else [])):
         part(rows)
 
 

@@ -1,5 +1,6 @@
 //! What `exec` writes, and how it ends.
 use crate::shelf::Shelf;
+use crate::words::{COPIES, WRITES};
 use command_line::{ExecWords, Order, Task};
 use ends::tell_exec;
 use exec_orders::{Log, exec_order};
@@ -31,35 +32,6 @@ impl Log for Paper {
         self.opens
     }
 }
-
-/// Writes `ok!` and a newline, and exits with status 7.
-const WRITES: [u32; 10] = [
-    0x0000_0597,
-    0x0245_8593,
-    0x0010_0513,
-    0x0040_0613,
-    0x0400_0893,
-    0x0000_0073,
-    0x05D0_0893,
-    0x0070_0513,
-    0x0000_0073,
-    0x0A21_6B6F,
-];
-
-/// Writes the first byte of the input, and exits with status 0.
-const COPIES: [u32; 11] = [
-    0x0000_0513,
-    0x0001_0593,
-    0x0010_0613,
-    0x03F0_0893,
-    0x0000_0073,
-    0x0010_0513,
-    0x0400_0893,
-    0x0000_0073,
-    0x05D0_0893,
-    0x0000_0513,
-    0x0000_0073,
-];
 
 /// Frees an address that no block has (`free(0x100)` as call 2002), and exits with status 0.
 const FREES: [u32; 7] = [
@@ -166,55 +138,7 @@ fn is_executed(alloc: Global, case: &Case) -> Result<bool, AllocError> {
     Ok(comes_out(alloc, &file, case))
 }
 
-const STOPS: [Case; 6] = [
-    Case {
-        label: "illegal instruction",
-        words: &[0],
-        status: 132,
-        report: b"step 1000\nstate stopped illegal",
-        ..QUIET
-    },
-    Case {
-        label: "EBREAK",
-        words: &[0x0010_0073],
-        status: 133,
-        report: b"step 1000\nstate stopped break",
-        ..QUIET
-    },
-    Case {
-        label: "a jump to an address that is no multiple of 4",
-        words: &[0x0020_0067],
-        status: 135,
-        report: b"step 1000\nstate stopped misaligned",
-        ..QUIET
-    },
-    Case {
-        label: "a jump to no memory",
-        words: &[0x0000_0067],
-        status: 139,
-        report: b"step 1000\nstate stopped jump",
-        ..QUIET
-    },
-    Case {
-        label: "a jump to itself",
-        words: &[0x0000_006F],
-        status: 124,
-        ..QUIET
-    },
-    Case {
-        label: "a jump to itself that counts as an end",
-        words: &[0x0000_006F],
-        asked: ExecWords {
-            idle_exitcode: Some(3),
-            step: u32::MAX,
-            ..PLAIN
-        },
-        status: 3,
-        ..QUIET
-    },
-];
-
-const RUNS: [Case; 8] = [
+const RUNS: [Case; 7] = [
     Case {
         label: "output and status",
         status: 7,
@@ -232,12 +156,10 @@ const RUNS: [Case; 8] = [
         ..QUIET
     },
     Case {
-        label: "no loaded word",
-        asked: ExecWords {
-            patches: Some("4=0"),
-            ..PLAIN
-        },
-        status: 126,
+        label: "an illegal instruction",
+        words: &[0],
+        status: 132,
+        report: b"step 1000\nstate stopped illegal",
         ..QUIET
     },
     Case {
@@ -246,12 +168,6 @@ const RUNS: [Case; 8] = [
         input: b"xyz",
         output: b"x",
         status: 0,
-        ..QUIET
-    },
-    Case {
-        label: "a bad free",
-        words: &FREES,
-        report: b"step 1000\nstate exited 0\n",
         ..QUIET
     },
     Case {
@@ -288,13 +204,6 @@ const RUNS: [Case; 8] = [
 
 #[test]
 fn programs_are_executed(rt: HostRuntime) {
-    for case in &STOPS {
-        assert!(rt;
-            matches!(is_executed(rt.alloc(), case), Ok(true)),
-            "{}",
-            case.label
-        );
-    }
     for case in &RUNS {
         assert!(rt;
             matches!(is_executed(rt.alloc(), case), Ok(true)),

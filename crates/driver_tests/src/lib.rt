@@ -13,3 +13,5 @@ mod orders;
 mod programs;
 #[cfg(test)]
 mod shelf;
+#[cfg(test)]
+mod words;

@@ -1,4 +1,5 @@
 //! Runs whose output is written as it is made, and how such a run ends.
+use crate::words::{COPIES, WRITES};
 use ends::{Codes, End, ExecEnd, Outcome, tell_exec};
 use executions::{Execution, ExecutionFault};
 use fake_streams::Room;
@@ -7,35 +8,6 @@ use guest_programs::program;
 use run_values::{Status, Stop};
 use scenario::{LONGEST_INPUT, Scenario};
 use std::alloc::{AllocError, Global};
-
-/// Writes `ok!` and a newline, and exits with status 7.
-const WRITES: [u32; 10] = [
-    0x0000_0597,
-    0x0245_8593,
-    0x0010_0513,
-    0x0040_0613,
-    0x0400_0893,
-    0x0000_0073,
-    0x05D0_0893,
-    0x0070_0513,
-    0x0000_0073,
-    0x0A21_6B6F,
-];
-
-/// Writes the first byte of the input, and exits with status 0. It reads in step 4.
-const COPIES: [u32; 11] = [
-    0x0000_0513,
-    0x0001_0593,
-    0x0010_0613,
-    0x03F0_0893,
-    0x0000_0073,
-    0x0010_0513,
-    0x0400_0893,
-    0x0000_0073,
-    0x05D0_0893,
-    0x0000_0513,
-    0x0000_0073,
-];
 
 /// A label; a program's words, the bytes of output that are taken, and the input that it is given where it waits; the step at which it first
 /// stops, and the output.

@@ -18,7 +18,9 @@ use Rattle.run_values.specs.declared.mark.Mark.{Mark}
 use Rattle.scenario.specs.Edits.{with_input}
 use Rattle.scenario.specs.Scenario.{Scenario, chosen_state, first_state, with_words}
 use Rattle.scenario.specs.declared.word.Word.{Word}
-use Rattle.exec_orders.specs.Executed.{CutsOutput, HasInputOf, HasRun, IsFault, WritesOutput, end_of_fault}
+use Rattle.exec_orders.specs.Executed.{Cuts, CutsOutput, HasInputOf, HasRun, HasRunAll, IsFault, WritesOutput}
+use Rattle.exec_orders.specs.Executed.{end_of_fault}
+use Rattle.program_files.specs.Files.{HasStream}
 
 -- ---- the start
 
@@ -116,3 +118,56 @@ pub it-waits : (waits : Bool) (sc : Scenario) (n : ℕ) → StopsAt sc waits n �
     → (waits ≡ true) × (n ≤ sc.step)
 it-waits waits sc n (inl last) apart = absurd (apart last)
 it-waits waits sc n (inr (w, before, sees)) apart = (w, omega (arith, before))
+
+-- ---- a run that stops for its input
+
+-- up to there it is one with an input, whose output so far was written
+pub record Resumes (waits : Bool) (sc done : Scenario) (n : ℕ) (old mid : Option (List ℕ)) : Type 0 where
+  pub may : waits ≡ true
+  pub marks : done.marks ≡ []
+  pub front : Wrote done 0 n old mid
+
+pub resumes : MovesOn → (waits : Bool) (sc done : Scenario) (e : Execution) (input : List ℕ) (old mid : Option (List ℕ))
+    → sc.marks ≡ [] → (waits ≡ true → sc.setup.input ≡ []) → HasRun waits sc old mid e → (step_of e ≡ sc.step → ⊥)
+    → done ≡ with_input sc input → Resumes waits sc done (step_of e) old mid
+resumes moves waits sc done e input old mid none empty run apart is =
+    let n = step_of e in
+    let may = (it-waits waits sc n run.stops apart).0 in
+    let moved = moves e sc input run.at (empty may) (run.unseen may) in
+    record {
+      may = may;
+      marks = ap (λ (s : Scenario). s.marks) is ∙ none;
+      front =
+          wrote-of done n old mid
+          (subst (λ (s : State). Appends old mid s.output) (moved.1 ∙ ap (λ (s : Scenario). state_at s n) (sym is))
+          run.output);
+    }
+
+-- it comes to its last step
+pub resumed : (waits : Bool) (sc done : Scenario) (n : ℕ) (e : Execution) (input : List ℕ)
+    (left rest old mid new : Option (List ℕ)) → Resumes waits sc done n old mid → HasStream left input
+    → done ≡ with_input sc input → IsAt e done → step_of e ≡ done.step → Wrote done n (step_of e) mid new
+    → HasRunAll waits sc done left rest old new e
+resumed waits sc done n e input left rest old mid new it whole is at last wrote = record {
+  input = inr (it.may, input, whole, is);
+  at = at;
+  last = last;
+  output =
+      subst (λ (s : State). Appends old new s.output) (ap (state_at done) last ∙ sym (chosen-is done it.marks))
+      (wrote-all done (step_of e) old new (wrote-then done 0 n (step_of e) old mid new it.front wrote));
+  marks = it.marks;
+}
+
+-- or it ends early
+pub cut-short : OutputGrows → (waits : Bool) (sc done : Scenario) (n : ℕ) (input : List ℕ)
+    (left old mid new : Option (List ℕ)) (end : ExecEnd) → Resumes waits sc done n old mid → HasStream left input
+    → done ≡ with_input sc input → IsFault end → WroteFront done n mid new → Cuts waits sc left old new end
+cut-short grows waits sc done n input left old mid new end it whole is fault wrote =
+    inr (inl (
+      it.may,
+      input,
+      whole,
+      fault,
+      subst (λ (s : Scenario). CutsOutput s old new) is
+          (cut-of grows done old new it.marks (front-then done 0 n old mid new it.front wrote)),
+    ))

@@ -54,51 +54,33 @@ pub returns-clause-ok : goal.returns-clause-ok
 returns-clause-ok g c =
     let sc = c.args.scenario.now in
     let done = c.give.new.self in
+    let left = g.R.Read.remaining c.args.reader.now in
+    let rest = g.R.Read.remaining c.read_stream.new.reader in
     let old = g.W.Write.contents c.args.writer.now in
     let mid = g.W.Write.contents c.run_first.new.writer in
     let new = g.W.Write.contents c.run_rest.new.writer in
-    let run = c.in_ok-execution.ensures.ok in
-    let n = step_of c.in_ok-execution.execution in
-    let waits = it-waits c.args.waits sc n run.stops
-    (λ last. c.if-at-step.false (c.at.ensures ∙ last ∙ sym c.step.ensures)) in
-    let moved = c.moves_on.ensures c.in_ok-execution.execution sc c.in_ok-input.input.items run.at
-    (c.requires.empty waits.0) (run.unseen waits.0) in
-    let marks : done.marks ≡ [] = ap (λ (s : Scenario). s.marks) c.give.ensures ∙ c.requires.marks in
-    let front : Wrote done 0 n old mid = wrote-of done n old mid
-    (subst (λ (s : State). Appends old mid s.output)
-    (moved.1 ∙ ap (λ (s : Scenario). state_at s n) (sym c.give.ensures)) run.output) in
-    all-ok c.run_rest.result _ _ _ _ (λ e at last wrote. record {
-      input = inr (waits.0, c.in_ok-input.input.items, c.in_ok-input.ensures.ok, c.give.ensures);
-      at = at;
-      last = last;
-      output =
-          subst (λ (s : State). Appends old new s.output) (ap (state_at done) last ∙ sym (chosen-is done marks))
-          (wrote-all done (step_of e) old new (wrote-then done 0 n (step_of e) old mid new front wrote));
-      marks = marks;
-    }) c.run_rest.ensures.at c.run_rest.ensures.last c.run_rest.ensures.ok
+    let first = c.in_ok-execution.execution in
+    let input = c.in_ok-input.input.items in
+    let it =
+    resumes c.moves_on.ensures c.args.waits sc done first input old mid c.requires.marks c.requires.empty
+    c.in_ok-execution.ensures.ok (λ last. c.if-at-step.false (c.at.ensures ∙ last ∙ sym c.step.ensures)) c.give.ensures in
+    all-ok c.run_rest.result _ _ _ _
+    (λ e. resumed c.args.waits sc done (step_of first) e input left rest old mid new it c.in_ok-input.ensures.ok
+    c.give.ensures) c.run_rest.ensures.at c.run_rest.ensures.last c.run_rest.ensures.ok
 
 pub returns-clause-err : goal.returns-clause-err
 returns-clause-err g c =
     let sc = c.args.scenario.now in
     let done = c.give.new.self in
+    let left = g.R.Read.remaining c.args.reader.now in
     let old = g.W.Write.contents c.args.writer.now in
     let mid = g.W.Write.contents c.run_first.new.writer in
     let new = g.W.Write.contents c.run_rest.new.writer in
-    let run = c.in_ok-execution.ensures.ok in
-    let n = step_of c.in_ok-execution.execution in
-    let waits = it-waits c.args.waits sc n run.stops
-    (λ last. c.if-at-step.false (c.at.ensures ∙ last ∙ sym c.step.ensures)) in
-    let moved = c.moves_on.ensures c.in_ok-execution.execution sc c.in_ok-input.input.items run.at
-    (c.requires.empty waits.0) (run.unseen waits.0) in
-    let marks : done.marks ≡ [] = ap (λ (s : Scenario). s.marks) c.give.ensures ∙ c.requires.marks in
-    let front : Wrote done 0 n old mid = wrote-of done n old mid
-    (subst (λ (s : State). Appends old mid s.output)
-    (moved.1 ∙ ap (λ (s : Scenario). state_at s n) (sym c.give.ensures)) run.output) in
-    weaker-err c.run_rest.result _ _ (λ end h. inr (inl (
-      waits.0,
-      c.in_ok-input.input.items,
-      c.in_ok-input.ensures.ok,
-      h.0,
-      subst (λ (s : Scenario). CutsOutput s old new) c.give.ensures
-          (cut-of c.output_grows.ensures done old new marks (front-then done 0 n old mid new front h.1)),
-    ))) c.run_rest.ensures.err
+    let first = c.in_ok-execution.execution in
+    let input = c.in_ok-input.input.items in
+    let it =
+    resumes c.moves_on.ensures c.args.waits sc done first input old mid c.requires.marks c.requires.empty
+    c.in_ok-execution.ensures.ok (λ last. c.if-at-step.false (c.at.ensures ∙ last ∙ sym c.step.ensures)) c.give.ensures in
+    weaker-err c.run_rest.result _ _
+    (λ end h. cut-short c.output_grows.ensures c.args.waits sc done (step_of first) input left old mid new end it
+    c.in_ok-input.ensures.ok c.give.ensures h.0 h.1) c.run_rest.ensures.err
