@@ -1,15 +1,11 @@
-use Rattle.std.proofs.Common.{◌≡◌, ◌∙◌, [], true, ap, subst, sym, inl, inr, refl}
+use Rattle.std.proofs.Common.{◌≡◌, ◌∙◌, ap, subst, sym, inr, refl}
 use Rattle.std.proofs.KnownBytes.{Consumes-nil}
 use Rattle.std.specs.Io.KnownBytes.{Appends}
 use Rattle.ends.proofs.EndSteps.{same-error}
 use Rattle.ends.specs.declared.exec_ends.ExecEnd.TheVariants.{Early}
 use Rattle.guest_machine.specs.State.{State}
-use Rattle.scenario.specs.Edits.{with_input}
-use Rattle.scenario.specs.Scenario.{Scenario}
-use Rattle.executions.specs.Executions.{state_at, step_of, Wrote, WroteFront}
-use Rattle.executions.proofs.Steps.{front-then, wrote-then}
-use Rattle.exec_orders.specs.Executed.{CutsOutput}
-use Rattle.exec_orders.proofs.Runs.{chosen-is, cut-at, cut-of, input-kept, it-waits, wrote-all, wrote-of}
+use Rattle.executions.specs.Executions.{state_at, step_of}
+use Rattle.exec_orders.proofs.Runs.{chosen-is, cut-at, cut-short, input-kept, it-waits, resumed, resumes}
 use Rattle.exec_orders.proofs.Stages.{all-ok, weaker-err}
 use Rattle.exec_orders.proofs.executing.run_all.Goals as goal
 
