@@ -138,7 +138,7 @@ REFUSED = [
     ("no input", ["packet.elf"], "no input to edit: --input FILE gives one, --code NAME edits instructions"),
     ("bytes of no input", ["packet.elf", "--bytes=0"], "no input to edit"),
     ("an input that is never read", ["three-words.elf", "--input=packet.input"],
-     "reads none of the 8 bytes of packet.input up to step 1048576, so no edit of them changes it"),
+     "reads none of the 8 bytes of packet.input up to step 10000, so no edit of them changes it"),
     ("a table over the program", ["packet.elf", "--input=packet.input", "--table=packet.elf"],
      "--table packet.elf: it would overwrite the program"),
     ("a table over the input, by another name", ["packet.elf", "--input=packet.input", "--table=./linked.input"],
