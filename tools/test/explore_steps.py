@@ -49,7 +49,8 @@ STOPS = [("an illegal instruction", "nop; .word 0", 2), ("a break", "nop; nop; e
 
 
 def head_of(text):
-    return text.split("\n")[:2]
+    """The first two lines."""
+    return f"{text}\n\n".split("\n")[:2]
 
 
 def test_choice(tests):

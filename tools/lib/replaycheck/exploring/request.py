@@ -133,12 +133,11 @@ class Request:
             raise Fault(f"{shown_name(self.input.name)}: it is empty, so there is no byte to edit")
 
     def bytes_range(self, places, values, read):
-        """The bytes that were asked for, or those that the unedited run reads: no edit of another one changes it. None of
-        them is known to be read where the program rejects its files, which the parts say."""
+        """The bytes that were asked for, or those that the unedited run reads: no edit of another one changes it."""
         size = len(self.input.content)
-        first, last = places or (0, size - 1 if read is None else read - 1)
+        first, last = places or (0, read - 1)
         last = max(first, size - 1) if last is None else last
-        if read is not None and read < size and (not places or read <= last < size):
+        if read < size and (not places or read <= last < size):
             self.tell_unread(read, places)
         return Range("bytes", first, last, values)
 

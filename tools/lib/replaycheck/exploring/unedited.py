@@ -2,7 +2,6 @@
 sweep follows."""
 from replaycheck.looking import Run
 from replaycheck.options import LAST_STEP, USUAL_STEP
-from replaycheck.refusals import Ended
 
 TIMES, LEAST = 4, 10000  # an edited run that needs more steps than this many times those of the unedited one hangs, mostly
 
@@ -10,32 +9,26 @@ TIMES, LEAST = 4, 10000  # an edited run that needs more steps than this many ti
 class Unedited:
     """The unedited run, at which one session looks. The session ends with the block of `with`.
 
-    If the program rejects the files, nothing is known of the run: the parts say why."""
+    # Errors
+
+    `Ended`, if the program rejects a file."""
 
     def __init__(self, program, given, supp):
-        try:
-            self.run = Run(program, given, supp)
-        except Ended:
-            self.run = None
+        self.run = Run(program, given, supp)
 
     def __enter__(self):
         return self
 
     def __exit__(self, *_):
-        if self.run:
-            self.run.drop()
+        self.run.drop()
 
     def end(self):
         """Returns the step at which the run has ended; None if it still runs at the last step that there is."""
-        if self.run is None:
-            return None
         self.run.step = self.run.end()
         return None if self.run.registers().runs else self.run.step
 
     def bytes_read(self, step):
-        """Returns the number of bytes of the input that the run has read at a step; None if that isn't known."""
-        if self.run is None:
-            return None
+        """Returns the number of bytes of the input that the run has read at a step."""
         self.run.at(step)
         return int(self.run.look("input")[0].split()[1])
 
