@@ -3,7 +3,7 @@ import sys
 
 from replaycheck.endings import Fault, write
 
-LAST_STEP = 4194304
+LAST_STEP, USUAL_STEP = 4194304, 1048576
 MANY = {"*": 0, "+": 1}
 
 

@@ -28,7 +28,7 @@ def options_of(page):
     reader.add_argument("file", nargs="?")
     for name in ("--input", "--supp", "--code", "--keep", "--goal", "--table", "--svg", "--sshlogin"):
         reader.option(name)
-    reader.option("--step", type=number(0, LAST_STEP), default=1048576)
+    reader.option("--step", type=number(0, LAST_STEP))
     reader.option("--bytes", type=range_of)
     reader.option("--words", type=words_of)
     reader.option("--values", type=values_reader(BYTES, 256))
@@ -134,7 +134,7 @@ def told(options, request, sources, notes, room, outputs):
             take(place)
     lines = SourceLines(request and os.path.abspath(request.program.path))
     summary = Summary(merged, request.title() if request else anonymous(merged.head),
-                      request.before if request else lambda *_: None, lines, notes)
+                      request.before if request else lambda *_: None, lines, notes, request.step_note if request else "")
     if picture:
         outputs["svg"].write(picture.text(summary).encode("utf-8"))
     if "table" in outputs and not is_table:

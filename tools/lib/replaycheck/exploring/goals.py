@@ -2,6 +2,7 @@
 import os
 
 from .lines import shown
+from .outcomes import RUNS, still_running
 
 
 class Goal:
@@ -24,9 +25,17 @@ class Goal:
                 self.count += 1
                 self.file.write(f"{place.range.line(place.at, value)}\n")
 
+    def others_running(self):
+        """How many edits still run at the step of the sweep and haven't reached it so far."""
+        return sum(tally for number, (text, tally) in enumerate(zip(self.merged.outcomes, self.merged.tallies))
+                   if text.split(b"\n")[0] == RUNS.encode() and not self.is_reached(number))
+
     def told(self):
-        """The edits, a line each, and their number."""
+        """The edits, a line each, how many others still run, and the number of the edits."""
         self.file.seek(0)
+        others = self.others_running()
+        who = f"{others} other edit{'s' * (others > 1)}"
+        rest = f"{still_running(self.merged.head.step, who)}\n" if others else ""
         too = "; the unedited run has one too" if self.is_reached(0) else ""
-        return (f"{self.file.read()}reached by {self.count} of {self.merged.edits} edits: a line that begins with "
+        return (f"{self.file.read()}{rest}reached by {self.count} of {self.merged.edits} edits: a line that begins with "
                 f"`{shown(self.text)}`{too}\n")

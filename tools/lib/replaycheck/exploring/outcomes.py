@@ -3,11 +3,13 @@ import re
 from dataclasses import dataclass
 from typing import List
 
+from replaycheck.options import LAST_STEP
 from replaycheck.reports import kind_of
 
 FRAME = re.compile(r"   (?:at|by) (0x[0-9a-f]{8}): (.*)")
 FRAMES_TOLD = 3
 RUNNING = 20  # a run that goes on, where the unedited one ends
+RUNS = "running"  # the state of such a run
 # The first text that a part begins with says how bad it is.
 BADNESS = (("Invalid write", 90), ("Jump ", 85), ("Invalid free", 80), ("Invalid read", 70), ("stopped ", 60),
            ("Syscall ", 55), ("Use of", 50), ("Conditional", 50), ("definitely lost at", 40),
@@ -42,6 +44,11 @@ class Outcome:
                 self.parts.append(part)
 
     @property
+    def is_running(self):
+        """Whether the run hasn't ended at the step of the sweep."""
+        return self.state == RUNS
+
+    @property
     def has_errors(self):
         """Whether there is any error, which a leak or a stop alone isn't."""
         return any(kind_of(line) for line in self.lines)
@@ -64,7 +71,12 @@ class Outcome:
         news = self.news(unedited)
         if news:
             return news[0].badness
-        return RUNNING if self.state == "running" != unedited.state else 0
+        return RUNNING if self.is_running and not unedited.is_running else 0
+
+
+def still_running(step, who):
+    """A line that says which runs haven't ended at the step of a sweep, and what to type to see what they do later."""
+    return f"still running at step {step}: {who}" + ("; --step N looks further" if step < LAST_STEP else "")
 
 
 def part_of(text, trace):

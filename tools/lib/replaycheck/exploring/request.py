@@ -3,19 +3,18 @@ import hashlib
 import os
 import re
 import stat
-import subprocess
 import sys
 from dataclasses import dataclass
 
 from replaycheck.adopting.elf import Elf, refusals
-from replaycheck.endings import Fault, start
+from replaycheck.endings import Fault
 from replaycheck.options import BadValue
-from replaycheck.reports import READ
-from replaycheck.sessions import path_of, program
+from replaycheck.sessions import path_of
 
 from .heads import Range
 from .lines import shown_name
 from .tables import EDGES
+from .unedited import Unedited, default_step
 
 NUMBER = r"0[xX][0-9a-fA-F]{1,8}|[0-9]{1,10}"
 RANGE = re.compile(rf"({NUMBER})(?:\.\.({NUMBER})?)?")
@@ -96,37 +95,49 @@ def given(what, name, room):
 
 class Request:
     """`ranges` are those that the head of each part must have, where they can be told here: what the program refuses,
-    it refuses itself."""
+    it refuses itself. `step_note` says which step was chosen where none was asked for, and is empty otherwise."""
 
     def __init__(self, options, room):
-        self.step, self.has_output = options.step, options.with_output
+        self.step, self.step_note, self.has_output = options.step, "", options.with_output
         self.files = [given(what, name, room) for what, name in
                       (("program", options.file), ("input", options.input), ("supp", options.supp))]
         self.program, self.input, self.supp = self.files
         self.code = options.code
         self.elf = None if refusals(self.program.content) else Elf(self.program.content)
         self.ranges, self.notes = [], []
-        words = options.words
-        if options.code is not None:
-            words = self.code_range(options.code)
-        if not options.tables and (options.bytes or not words):
-            self.ranges.append(self.bytes_range(options.bytes, options.values or "all"))
+        words = options.words if options.code is None else self.code_range(options.code)
+        if not options.tables:
+            self.choose(options, bool(options.bytes or not words))
         if words:
             self.ranges.append(Range("words", *words, options.words_values or "skip"))
 
+    def choose(self, options, has_bytes):
+        """Chooses the step and the bytes, by what the unedited run does."""
+        if has_bytes:
+            self.check_input()
+        elif self.step is not None:
+            return
+        with Unedited(self.program.path, self.input.path or None, self.supp.path or None) as run:
+            if self.step is None:
+                self.step, self.step_note = default_step(run.end())
+            if has_bytes:
+                self.ranges.append(self.bytes_range(options.bytes, options.values or "all", run.bytes_read(self.step)))
+
     # ---- the bytes that are edited
 
-    def bytes_range(self, places, values):
-        """The bytes that were asked for, or those that the unedited run reads: no edit of another one changes it."""
-        size = len(self.input.content)
+    def check_input(self):
+        """Refuses an input without a byte."""
         if not self.input.path:
             raise Fault("no input to edit: --input FILE gives one, --code NAME edits instructions")
-        if not size:
+        if not self.input.content:
             raise Fault(f"{shown_name(self.input.name)}: it is empty, so there is no byte to edit")
-        read = self.bytes_read()
-        first, last = places or (0, size - 1 if read is None else read - 1)
+
+    def bytes_range(self, places, values, read):
+        """The bytes that were asked for, or those that the unedited run reads: no edit of another one changes it."""
+        size = len(self.input.content)
+        first, last = places or (0, read - 1)
         last = max(first, size - 1) if last is None else last
-        if read is not None and read < size and (not places or read <= last < size):
+        if read < size and (not places or read <= last < size):
             self.tell_unread(read, places)
         return Range("bytes", first, last, values)
 
@@ -139,17 +150,6 @@ class Request:
                         "instructions")
         rest = "which no edit of them changes" if places else f"so the other {size - read} are left out"
         self.notes.append(f"input: the unedited run reads {read} of {size} bytes, {rest}")
-
-    def bytes_read(self):
-        """How many bytes of the input the unedited run has read at the step of the sweep; None where the program
-        rejects its files, which the parts say."""
-        words = [program(), "run", f"--step={self.step}", f"--input={self.input.path}"]
-        words += [f"--supp={self.supp.path}"] if self.supp.path else []
-        child = start([*words, path_of(self.program.path)], stdin=subprocess.DEVNULL, stdout=subprocess.PIPE,
-                      stderr=subprocess.DEVNULL)
-        told = child.communicate()[0].decode("ascii", "replace").split("\n")
-        found = READ.fullmatch(told[2]) if not child.returncode and len(told) > 2 else None
-        return int(found[1]) if found else None
 
     def code_range(self, name):
         """The addresses of a function, or of A..B."""
@@ -217,7 +217,8 @@ class Request:
         came = [self.ranges_told(head.ranges), f"step {head.step}", f"output {'yes' if head.has_output else 'no'}"]
         for want, have in zip(wanted, came):
             if want != have:
-                raise Fault(f"{source}: it is of another sweep: {have}, not {want}")
+                how = f", the default: --step {head.step} continues it" if self.step_note and have.startswith("step ") else ""
+                raise Fault(f"{source}: it is of another sweep: {have}, not {want}{how}")
 
     @staticmethod
     def ranges_told(ranges):

@@ -12,7 +12,7 @@ SLURM = """#!/bin/bash
 # Makes the parts of a sweep, each as a task of its own, into the folder {folder}: sbatch THIS-SCRIPT
 # When all are done:
 #   {told}
-set -eu
+{note}set -eu
 folder={folder}
 table=$folder/part-$SLURM_ARRAY_TASK_ID-of-$SLURM_ARRAY_TASK_COUNT
 mkdir -p -- "$folder"
@@ -35,5 +35,6 @@ def slurm(options, request):
     words = request.words()
     own = [it for it in words[:-1] if not it.startswith(("--input=", "--supp="))]
     told = ["replaycheck", "explore", options.file, *files]
-    return SLURM.format(parts=count, folder=shlex.quote(folder), words=shlex.join([*own, *files, words[-1]]),
+    note = f"# {request.step_note}\n" if request.step_note else ""
+    return SLURM.format(parts=count, folder=shlex.quote(folder), words=shlex.join([*own, *files, words[-1]]), note=note,
                         told=f"{shlex.join(told)} --from {shlex.quote(folder)}/part-*-of-{count}")

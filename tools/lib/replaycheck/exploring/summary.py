@@ -3,11 +3,10 @@ import os
 import shutil
 
 from replaycheck.endings import Fault
-from replaycheck.options import LAST_STEP
 from replaycheck.places import PROGRAMS, Paths, Places
 
 from .lines import shown_name
-from .outcomes import Outcome
+from .outcomes import Outcome, still_running
 
 INDENT = " " * 13
 SUPPRESSIONS = 2  # the place of the suppressions among the files of a table's head
@@ -50,10 +49,12 @@ class SourceLines:
 
 
 class Summary:
-    """What a merged table says, in words. `before` gives the value that stood at a place, or None."""
+    """What a merged table says, in words. `before` gives the value that stood at a place, or None. `step_note` says why
+    the sweep has its step, if that is known."""
 
-    def __init__(self, merged, title, before, sources, notes=()):
-        self.merged, self.title, self.before, self.sources, self.notes = merged, title, before, sources, notes
+    def __init__(self, merged, title, before, sources, notes=(), step_note=""):
+        self.merged, self.title, self.before, self.sources = merged, title, before, sources
+        self.notes, self.step_note = notes, step_note
         self.outcomes = [Outcome(number, text) for number, text in enumerate(merged.outcomes)]
         self.unedited = self.outcomes[0]
         self.news = [it.news(self.unedited) for it in self.outcomes]
@@ -136,17 +137,22 @@ class Summary:
             if part.text not in {it.text for it in outcome.parts}:
                 yield f"{INDENT}- {self.sources.told(part)}"
 
+    def running_lines(self):
+        """The number of edits that still run at the step of the sweep."""
+        edits = sum(self.merged.tallies[it.number] for it in self.outcomes if it.is_running)
+        who = ["the unedited run"] * self.unedited.is_running + [counted(edits, "edit")] * bool(edits)
+        if who:
+            yield still_running(self.merged.head.step, " and ".join(who))
+
     def lines(self):
         head = self.merged.head
         where = "; ".join(map(str, head.ranges))
         yield f"{self.title}: {counted(self.merged.edits, 'edit')}, {where}, step {head.step}"
-        yield from self.notes
+        yield from filter(None, [self.step_note, *self.notes])
         errors = counted(len(self.unedited.parts), "error or leak", "errors and leaks") if self.unedited.parts else (
             "no errors or leaks")
         yield f"unedited: {self.unedited.told}, {errors}"
-        if self.unedited.state == "running":
-            more = f"; --step goes up to {LAST_STEP}" if head.step < LAST_STEP else ""
-            yield f"still running: what the program does after step {head.step} isn't seen{more}"
+        yield from self.running_lines()
         yield from self.bad_lines()
         yield ""
         yield f"   {'edits':>8}  {'first edit':<{self.width}} outcome, by its number in the table"

@@ -1,6 +1,6 @@
 """The command line of `replaycheck origin`, and its answer."""
 from replaycheck.endings import Fault, write
-from replaycheck.options import LAST_STEP, Reader, edit, number
+from replaycheck.options import LAST_STEP, USUAL_STEP, Reader, edit, number
 
 from .image import Image
 from .search import Group, Search
@@ -16,7 +16,7 @@ def options_of(page):
     reader.program_options()
     reader.repeated("--line", type=edit)
     reader.option("--error", type=number(1, LAST_STEP), default=1)
-    reader.option("--last", type=number(1, LAST_STEP), default=1048576)
+    reader.option("--last", type=number(1, LAST_STEP), default=USUAL_STEP)
     reader.option("--short", is_flag=True)
     reader.option("--long", is_flag=True)
     options = reader.read()

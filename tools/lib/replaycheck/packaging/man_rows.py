@@ -103,8 +103,9 @@ changed in check.elf:
 """, 1),),
     "explore": (
         Example("Which instruction of a check starts a wrong image if it is skipped:",
-                "replaycheck explore boot.elf --input boot.input --code verify \\\n--step 9000 --goal 'exited 0'",
-                "patch 0x0001023c 0x00000013\nreached by 1 of 13 edits: a line that begins with `exited 0`\n", 1),
+                "replaycheck explore boot.elf --input boot.input --code verify \\\n--goal 'exited 0'",
+                "patch 0x0001023c 0x00000013\nstill running at step 10000: 1 other edit; --step N looks further\n"
+                "reached by 1 of 13 edits: a line that begins with `exited 0`\n", 1),
         Example("Every value of each byte that is read, with a picture of all outcomes:",
                 "replaycheck explore station.elf --input station.input \\\n--svg picture.svg >summary.txt", status=1)),
     "gdb": (

@@ -10,13 +10,13 @@ from replaycheck.endings import Fault
 from replaycheck.exploring import outcomes
 from replaycheck.exploring.lines import BadTable
 from replaycheck.exploring.tables import Table
+from replaycheck.options import USUAL_STEP
 from replaycheck.programs import built_program
 from replaycheck.refusals import Ended
 from replaycheck.scripting.errors import Error, Usage, of_end
 from replaycheck.scripting.files import Room, Source, name_of, read
 from replaycheck.scripting.symbols import Symbols
 
-USUAL_STEP = 1048576
 # Places: a text `A..B` or `A`, a number, or a range. Values: one of the words that `replaycheck sweep` knows, or numbers.
 Places = Union[str, int, range]
 Values = Union[str, Iterable[int]]

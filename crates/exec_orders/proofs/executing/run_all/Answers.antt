@@ -59,7 +59,8 @@ returns-clause-ok g c =
     let input = c.in_ok-input.input.items in
     let it =
     resumes c.moves_on.ensures c.args.waits sc done first input old mid c.requires.marks c.requires.empty
-    c.in_ok-execution.ensures.ok (λ last. c.if-at-step.false (c.at.ensures ∙ last ∙ sym c.step.ensures)) c.give.ensures in
+    c.in_ok-execution.ensures.ok (λ last. c.if-at-step.false (c.at.ensures ∙ last ∙ sym c.step.ensures))
+    c.give.ensures in
     all-ok c.run_rest.result _ _ _ _
     (λ e. resumed c.args.waits sc done (step_of first) e input left rest old mid new it c.in_ok-input.ensures.ok
     c.give.ensures) c.run_rest.ensures.at c.run_rest.ensures.last c.run_rest.ensures.ok
@@ -76,7 +77,8 @@ returns-clause-err g c =
     let input = c.in_ok-input.input.items in
     let it =
     resumes c.moves_on.ensures c.args.waits sc done first input old mid c.requires.marks c.requires.empty
-    c.in_ok-execution.ensures.ok (λ last. c.if-at-step.false (c.at.ensures ∙ last ∙ sym c.step.ensures)) c.give.ensures in
+    c.in_ok-execution.ensures.ok (λ last. c.if-at-step.false (c.at.ensures ∙ last ∙ sym c.step.ensures))
+    c.give.ensures in
     weaker-err c.run_rest.result _ _
     (λ end h. cut-short c.output_grows.ensures c.args.waits sc done (step_of first) input left old mid new end it
     c.in_ok-input.ensures.ok c.give.ensures h.0 h.1) c.run_rest.ensures.err
