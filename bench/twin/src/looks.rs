@@ -1,7 +1,9 @@
 //! Looks at a run: lines as `replaycheck look` takes them, each with the step before it, are answered in its words. Every look goes
 //! through the run from its start, one step after another, and keeps nothing of the looks before it.
 
+use crate::changes::Change;
 use crate::machine::{Machine, Status};
+use std::collections::BTreeMap;
 use std::fmt::Write;
 use std::ops::Range;
 
@@ -14,20 +16,69 @@ pub enum Access {
     Write,
 }
 
-/// The answer to a line: a step, and a look.
-pub fn answer(start: impl Fn() -> Machine, line: &str) -> Option<String> {
-    let words: Vec<&str> = line.split_whitespace().collect();
-    let step: u64 = words.first()?.parse().ok()?;
-    match words[1..] {
-        ["look", "registers"] => Some(registers(&after(&start, step))),
-        ["look", "memory", addr, len] => Some(memory(&after(&start, step), number(addr)?, number(len)?)),
-        ["look", "next", kind, addr, len, end] => {
-            let range = (number(addr)?, number(len)?);
-            Some(told(those_that_do(start(), kind, range, step..end.parse().ok()?).first()))
+/// A run: the machine before its first step, and what is changed in it before each step.
+pub struct Run<'a> {
+    pub start: &'a dyn Fn() -> Machine,
+    pub changes: BTreeMap<u64, Vec<Change>>,
+}
+
+impl Run<'_> {
+    fn change(&self, machine: &mut Machine, step: u64) {
+        for change in self.changes.get(&step).into_iter().flatten() {
+            machine.change(*change);
         }
-        ["look", "last", kind, addr, len, from] => {
+    }
+
+    /// The machine after so many steps, and after what is changed before the next one.
+    pub fn at(&self, steps: u64) -> Machine {
+        let mut machine = (self.start)();
+        for step in 0..steps {
+            self.change(&mut machine, step);
+            go_on(&mut machine);
+        }
+        self.change(&mut machine, steps);
+        machine
+    }
+
+    /// The steps that do something with a range, in order, among some of the run.
+    fn those_that_do(&self, kind: &str, range: (u32, u32), steps: Range<u64>) -> Vec<u64> {
+        let (mut machine, mut found) = ((self.start)(), Vec::new());
+        for step in 0..steps.end {
+            self.change(&mut machine, step);
+            let (pc, errors, does) = (machine.pc, raised(&machine), does(&machine, kind, range));
+            let known = (kind == "shadow").then(|| shadows(&machine, range));
+            go_on(&mut machine);
+            let errs = kind == "error" && is_in(range, pc) && raised(&machine) > errors;
+            let changes = known.is_some_and(|known| known != shadows(&machine, range));
+            if steps.contains(&step) && (does || errs || changes) {
+                found.push(step);
+            }
+        }
+        found
+    }
+}
+
+/// The answer to a line: a step, and a look.
+pub fn answer(run: &Run, line: &str) -> Option<String> {
+    let words: Vec<&str> = line.split_whitespace().collect();
+    match words[..] {
+        [step, "look", ..] => look(run, step.parse().ok()?, &words[2..]),
+        _ => None,
+    }
+}
+
+/// The answer to a look at a step, by its words.
+pub fn look(run: &Run, step: u64, words: &[&str]) -> Option<String> {
+    match *words {
+        ["registers"] => Some(registers(&run.at(step))),
+        ["memory", addr, len] => Some(memory(&run.at(step), number(addr)?, number(len)?)),
+        ["next", kind, addr, len, end] => {
             let range = (number(addr)?, number(len)?);
-            Some(told(those_that_do(start(), kind, range, from.parse().ok()?..step).last()))
+            Some(told(run.those_that_do(kind, range, step..number(end)?.into()).first()))
+        }
+        ["last", kind, addr, len, from] => {
+            let range = (number(addr)?, number(len)?);
+            Some(told(run.those_that_do(kind, range, number(from)?.into()..step).last()))
         }
         _ => None,
     }
@@ -51,31 +102,6 @@ fn go_on(machine: &mut Machine) {
     }
 }
 
-/// The machine after so many steps.
-fn after(start: &impl Fn() -> Machine, steps: u64) -> Machine {
-    let mut machine = start();
-    for _ in 0..steps {
-        go_on(&mut machine);
-    }
-    machine
-}
-
-/// The steps that do something with a range, in order, among some of a run.
-fn those_that_do(mut machine: Machine, kind: &str, range: (u32, u32), steps: Range<u64>) -> Vec<u64> {
-    let mut found = Vec::new();
-    for step in 0..steps.end {
-        let (pc, errors, does) = (machine.pc, raised(&machine), does(&machine, kind, range));
-        let known = (kind == "shadow").then(|| shadows(&machine, range));
-        go_on(&mut machine);
-        let errs = kind == "error" && is_in(range, pc) && raised(&machine) > errors;
-        let changes = known.is_some_and(|known| known != shadows(&machine, range));
-        if steps.contains(&step) && (does || errs || changes) {
-            found.push(step);
-        }
-    }
-    found
-}
-
 /// How many errors a machine has raised.
 fn raised(machine: &Machine) -> u64 {
     machine.errors.values().sum()
@@ -93,13 +119,18 @@ fn is_in((start, len): (u32, u32), addr: u32) -> bool {
     addr.wrapping_sub(start) < len
 }
 
-fn registers(machine: &Machine) -> String {
+/// Whether the machine runs, and where it is.
+pub fn state(machine: &Machine) -> String {
     let pc = machine.pc;
-    let mut text = match machine.status {
+    match machine.status {
         Status::Running => format!("state running {pc:#010x}"),
         Status::Exited(status) => format!("state exited {status}"),
         stop => format!("state stopped {} {pc:#010x}", format!("{stop:?}").to_lowercase()),
-    };
+    }
+}
+
+fn registers(machine: &Machine) -> String {
+    let mut text = state(machine);
     for (r, bits) in machine.registers.iter().enumerate().take(REGISTERS).skip(1) {
         write!(text, "\nx{r} {:#010x} {:#010x}", bits.value, bits.undef).expect("a string takes all");
     }

@@ -1,9 +1,11 @@
 //! A machine of RV32IM (RISC-V Unprivileged ISA 20191213, chapters 2 and 7), each of whose registers and bytes has undefined bits
 //! (Seward and Nethercote, "Using Valgrind to detect undefined value errors with bit-precision", USENIX 2005, section 2.4).
 
+use crate::elf::{Image, Segment};
 use crate::looks::Access;
 use crate::memory::{Memory, RangeKind};
-use std::collections::HashMap;
+use std::collections::{BTreeMap, HashMap};
+use std::rc::Rc;
 
 /// A word, and which of its bits are undefined.
 #[derive(Clone, Copy)]
@@ -36,6 +38,7 @@ pub enum Kind {
     Value,
     Cond,
     Parameter(u8),
+    Buffer,
     Jump,
 }
 
@@ -48,6 +51,9 @@ pub struct Machine {
     pub errors: HashMap<(Kind, u32), u64>,
     /// The address of the first of these, where one has an address.
     pub addresses: HashMap<(Kind, u32), u32>,
+    pub input: Rc<[u8]>,
+    /// How many bytes of the input it has read.
+    pub position: usize,
 }
 
 /// Where the stack pointer points at the start, at sixteen bytes that may be used.
@@ -58,16 +64,24 @@ const LARGEST_FRAME: u32 = 2_000_000;
 
 const STACK_POINTER: usize = 2;
 const A0: usize = 10;
+const A1: usize = 11;
+const A2: usize = 12;
 const A7: usize = 17;
 
 /// The opcodes of loads and stores.
 const LOAD: u32 = 0x03;
 const STORE: u32 = 0x23;
 
+const ECALL: u32 = 0x0000_0073;
+const READ: u32 = 63;
 const EXIT: u32 = 93;
 const EXIT_GROUP: u32 = 94;
 /// What a call answers that is not known: ENOSYS negated.
 const NO_SUCH_CALL: u32 = u32::MAX - 37;
+/// What `read` answers for a descriptor that isn't that of the input: EBADF negated.
+const BAD_DESCRIPTOR: u32 = u32::MAX - 8;
+/// The most bytes that one call reads.
+const MOST_READ: u32 = 4096;
 
 /// The bits `high` down to `low` of a word.
 fn field(word: u32, high: u32, low: u32) -> u32 {
@@ -176,15 +190,28 @@ fn is_stack_pointer(bits: Bits) -> bool {
 impl Machine {
     /// The machine before its first step: words at an address, and zeros after them, `memsz` bytes in all.
     pub fn start(at: u32, words: &[u32], memsz: u32) -> Machine {
+        let bytes = words.iter().flat_map(|word| word.to_le_bytes()).collect();
+        let segments = vec![Segment { start: at, bytes, len: memsz }];
+        Machine::of(&Image { segments, entry: at }, &BTreeMap::new(), Rc::default())
+    }
+
+    /// The machine before the first step of a program, in which some words are others, and which reads an input.
+    pub fn of(image: &Image, patches: &BTreeMap<u32, u32>, input: Rc<[u8]>) -> Machine {
         let mut memory = Memory::new();
-        memory.set_range(at, memsz, RangeKind::Defined);
-        for (i, word) in (0u32..).zip(words) {
-            memory.store::<4>(at.wrapping_add(4 * i), *word, 0);
+        for it in &image.segments {
+            memory.set_range(it.start, it.len, RangeKind::Defined);
+            for (i, byte) in (0u32..).zip(&it.bytes) {
+                memory.store::<1>(it.start.wrapping_add(i), (*byte).into(), 0);
+            }
+        }
+        for (addr, word) in patches {
+            memory.store::<4>(*addr, *word, 0);
         }
         memory.set_range(STACK_START, STACK_ROOM, RangeKind::Defined);
         let mut registers = [known(0); 32];
         registers[STACK_POINTER] = known(STACK_START);
-        Machine { memory, registers, pc: at, status: Status::Running, errors: HashMap::new(), addresses: HashMap::new() }
+        let (errors, addresses) = (HashMap::new(), HashMap::new());
+        Machine { memory, registers, pc: image.entry, status: Status::Running, errors, addresses, input, position: 0 }
     }
 
     #[cold]
@@ -364,19 +391,49 @@ impl Machine {
         false
     }
 
-    /// ECALL: `exit` and `exit_group`; each other call answers that there is none.
+    /// ECALL: `read`, `exit` and `exit_group`; each other call answers that there is none.
     #[cold]
     #[inline(never)]
     fn call(&mut self) -> bool {
         let number = self.registers[A7].value;
         self.test(A7 as u32, Kind::Parameter(A7 as u8));
-        if number == EXIT || number == EXIT_GROUP {
-            self.test(A0 as u32, Kind::Parameter(A0 as u8));
-            self.status = Status::Exited(self.registers[A0].value as u8);
-            return false;
+        match number {
+            EXIT | EXIT_GROUP => {
+                self.test(A0 as u32, Kind::Parameter(A0 as u8));
+                self.status = Status::Exited(self.registers[A0].value as u8);
+                return false;
+            }
+            READ => self.read(),
+            _ => self.registers[A0] = known(NO_SUCH_CALL),
         }
-        self.registers[A0] = known(NO_SUCH_CALL);
         true
+    }
+
+    /// `read`: the buffer is tested for as many bytes as may come, and takes those that do, with no undefined bits.
+    fn read(&mut self) {
+        for r in [A0, A1, A2] {
+            self.test(r as u32, Kind::Parameter(r as u8));
+        }
+        if self.registers[A0].value != 0 {
+            self.registers[A0] = known(BAD_DESCRIPTOR);
+            return;
+        }
+        let (start, count) = (self.registers[A1].value, self.registers[A2].value.min(MOST_READ));
+        let places = (0..count).map(|i| start.wrapping_add(i));
+        if let Some(bad) = places.clone().find(|addr| self.memory.load::<1>(*addr).bad.is_some()) {
+            self.raise_at(Kind::Buffer, bad);
+        }
+        let given = self.given();
+        for (addr, byte) in places.zip(&self.input[self.position..self.position + given]) {
+            self.memory.store::<1>(addr, (*byte).into(), 0);
+        }
+        self.position += given;
+        self.registers[A0] = known(given as u32);
+    }
+
+    /// How many bytes `read` gives, by its count and by what is left of the input.
+    fn given(&self) -> usize {
+        (self.registers[A2].value.min(MOST_READ) as usize).min(self.input.len() - self.position)
     }
 
     /// Carries a word out, and says whether the next instruction is the one at `pc + 4`.
@@ -410,7 +467,7 @@ impl Machine {
             0x13 => return self.immediate(word),
             0x33 => return self.registers(word),
             0x0F if field(word, 14, 12) == 0 => {}
-            0x73 if word == 0x0000_0073 => return self.call(),
+            0x73 if word == ECALL => return self.call(),
             0x73 if word == 0x0010_0073 => {
                 self.status = Status::Break;
                 return false;
@@ -458,6 +515,9 @@ impl Machine {
                 Some((Access::Read, base.wrapping_add(imm_i(word)), 1 << (funct3 % 4)))
             }
             STORE if funct3 < 3 => Some((Access::Write, base.wrapping_add(imm_s(word)), 1 << funct3)),
+            _ if word == ECALL && self.registers[A7].value == READ && self.registers[A0].value == 0 => {
+                Some((Access::Write, self.registers[A1].value, self.given() as u32))
+            }
             _ => None,
         }
     }

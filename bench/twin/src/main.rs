@@ -1,15 +1,22 @@
 //! A plain interpreter of RV32IM with accessible and undefined bits: what a step costs where nothing is proved. It runs the loop
 //! that `bench/run` gives the program too, and prints where it leads; or a program of words from a file, and prints where it is after them,
-//! or answers looks at its run, or tells whether noise changes it.
+//! or answers looks at its run, or tells whether noise changes it. Of an ELF file it answers the lines of a session that looks.
 
+mod changes;
+mod elf;
 mod looks;
 mod machine;
 mod memory;
 mod noise;
+mod session;
 #[cfg(test)]
 mod tests;
 
+use elf::Image;
+use looks::Run;
 use machine::{Machine, Status};
+use session::Session;
+use std::collections::BTreeMap;
 use std::time::Instant;
 
 /// lui x5,0x10; lw x6,256(x5); addi x6,x6,1; sw x6,256(x5); mul x7,x6,x6; xor x8,x7,x6; bne x6,x0,-20
@@ -32,12 +39,33 @@ fn main() {
             (Some(memory), Ok(bytes)) => compare_with_noise(steps, memory as u32, &bytes),
             _ => println!("twin: no such file"),
         },
+        (2 | 3, None, _) if words[0] == "session" => match files(&words[1..]) {
+            Some((image, input)) => hold(Session::new(image, input)),
+            None => println!("twin: no such file, or no program"),
+        },
         (1, Some(steps), _) => time(steps),
         (3, Some(steps), Some(memory)) => match std::fs::read(&words[2]) {
             Ok(bytes) => tell(steps, memory as u32, &bytes),
             Err(fault) => println!("twin: {fault}"),
         },
-        _ => println!("usage: twin STEPS | twin STEPS MEMORY FILE | twin looks MEMORY FILE | twin clean STEPS MEMORY FILE"),
+        _ => println!(
+            "usage: twin STEPS | twin STEPS MEMORY FILE | twin looks MEMORY FILE | twin clean STEPS MEMORY FILE \
+             | twin session PROGRAM [INPUT]"
+        ),
+    }
+}
+
+/// The program and the input, which is empty without a file.
+fn files(names: &[String]) -> Option<(Image, Vec<u8>)> {
+    let image = Image::of(&std::fs::read(&names[0]).ok()?)?;
+    let input = names.get(1).map_or(Ok(Vec::new()), std::fs::read).ok()?;
+    Some((image, input))
+}
+
+/// Answers each line of standard input, one after another.
+fn hold(mut session: Session) {
+    for line in std::io::stdin().lines().map_while(Result::ok) {
+        println!("{}", session.reply(&line));
     }
 }
 
@@ -102,8 +130,8 @@ fn words_of(bytes: &[u8]) -> Vec<u32> {
 /// Answers each line of standard input that looks at the run of such a program.
 fn look(memory: u32, bytes: &[u8]) {
     let words = words_of(bytes);
+    let run = Run { start: &|| Machine::start(PROGRAM_START, &words, memory), changes: BTreeMap::new() };
     for line in std::io::stdin().lines().map_while(Result::ok) {
-        let reply = looks::answer(|| Machine::start(PROGRAM_START, &words, memory), &line);
-        println!("{}", reply.unwrap_or("no look".to_string()));
+        println!("{}", looks::answer(&run, &line).unwrap_or("no look".to_string()));
     }
 }

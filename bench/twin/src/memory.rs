@@ -139,6 +139,12 @@ impl Memory {
         page.bytes[at] ^= noise & free;
     }
 
+    /// Inverts bits of a byte, whether it is accessible or not. Undefined bits stay so.
+    pub fn flip(&mut self, addr: u32, bits: u8) {
+        let (number, at) = place(addr);
+        self.page(number).bytes[at] ^= bits;
+    }
+
     /// Makes the `len` bytes from an address on (modulo 2^32) inaccessible, undefined or defined.
     pub fn set_range(&mut self, start: u32, len: u32, kind: RangeKind) {
         let (accessible, undef) = match kind {

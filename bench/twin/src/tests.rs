@@ -1,6 +1,10 @@
-//! What the twin knows of accessible and undefined bits, by hand.
+//! What the twin knows of accessible and undefined bits and of changes at a step, by hand.
 
-use crate::machine::{Kind, Machine, Status};
+use crate::changes::{Change, Place};
+use crate::elf::{Image, Segment};
+use crate::machine::{Bits, Kind, Machine, Status};
+use crate::memory::RangeKind;
+use crate::session::Session;
 
 const START: u32 = 0x0001_0000;
 
@@ -54,4 +58,117 @@ fn a_jump_away_stops_at_the_first_inaccessible_byte() {
     assert!(machine.status == Status::Jump);
     assert_eq!((machine.pc, machine.registers[1].value), (START + 0x2000, START + 4));
     assert_eq!(machine.errors.get(&(Kind::Jump, START + 0x2000)), Some(&1));
+}
+
+/// A machine before its first step, of a program without an end: jal x0,0.
+fn waiting() -> Machine {
+    Machine::start(START, &[0x0000_006F], 0x1000)
+}
+
+fn changed(machine: &mut Machine, change: Change) -> Bits {
+    machine.change(change);
+    machine.registers[5]
+}
+
+#[test]
+fn a_set_register_is_defined_or_as_asked_and_a_flip_keeps_undefined_bits() {
+    let (mut machine, place) = (waiting(), Place::Register(5));
+    let set = changed(&mut machine, Change::Set { place, bits: Bits { value: 6, undef: 3 } });
+    assert_eq!((set.value, set.undef), (6, 3));
+    let flipped = changed(&mut machine, Change::Flip { place, mask: 0xFF });
+    assert_eq!((flipped.value, flipped.undef), (0xF9, 3));
+    machine.change(Change::Flip { place: Place::Pc, mask: 8 });
+    machine.change(Change::Skip);
+    assert_eq!(machine.pc, START + 12);
+    machine.change(Change::Set { place: Place::Pc, bits: Bits { value: 3, undef: 0 } });
+    assert_eq!(machine.pc, 3);
+}
+
+#[test]
+fn a_write_defines_accessible_bytes_and_a_flip_of_memory_defines_none() {
+    let (mut machine, end) = (waiting(), START + 0x1000);
+    machine.change(Change::Mark { start: end - 4, len: 4, kind: RangeKind::Undefined });
+    machine.change(Change::Write { start: end - 2, len: 4, value: 0x0403_0201 });
+    let loaded = machine.memory.load::<4>(end - 4);
+    assert_eq!((loaded.value, loaded.undef, loaded.bad), (0x0201_0000, 0xFFFF, None));
+    let beyond = machine.memory.load::<2>(end);
+    assert_eq!((beyond.value, beyond.undef, beyond.bad), (0x0403, 0, Some(end)));
+    machine.change(Change::FlipBytes { start: end - 3, mask: 0x0100_FF80 });
+    let flipped = machine.memory.load::<4>(end - 4);
+    assert_eq!((flipped.value, flipped.undef), (0x02FE_8000, 0xFFFF));
+    assert_eq!(machine.memory.load::<1>(end).value, 0x02);
+    assert!(machine.errors.is_empty());
+    machine.change(Change::FlipBytes { start: u32::MAX, mask: 0x1FF });
+    assert_eq!((machine.memory.load::<1>(u32::MAX).value, machine.memory.load::<1>(0).value), (0xFF, 1));
+}
+
+#[test]
+fn a_machine_that_has_ended_takes_marks_only() {
+    // ebreak
+    let mut machine = after(&[0x0010_0073], 1);
+    let before = (machine.pc, machine.memory.load::<4>(START).value);
+    let place = Place::Register(5);
+    let bits = Bits { value: 1, undef: 1 };
+    let changes =
+        [Change::Skip, Change::Set { place, bits }, Change::Flip { place, mask: 1 }, Change::FlipBytes { start: START, mask: 1 }];
+    for change in [changes.as_slice(), &[Change::Write { start: START, len: 4, value: 0 }]].concat() {
+        machine.change(change);
+    }
+    assert_eq!((machine.pc, machine.memory.load::<4>(START).value, machine.registers[5].value), (before.0, before.1, 0));
+    machine.change(Change::Mark { start: START, len: 4, kind: RangeKind::NoAccess });
+    assert_eq!(machine.memory.load::<4>(START).bad, Some(START));
+}
+
+/// A session on the program that waits, whose segment has so many bytes.
+fn session(len: u32) -> Session {
+    let segments = vec![Segment { start: START, bytes: 0x6Fu32.to_le_bytes().to_vec(), len }];
+    Session::new(Image { segments, entry: START }, vec![1, 2, 3])
+}
+
+#[test]
+fn a_line_is_refused_for_its_form_then_its_step_then_its_range_then_the_number_of_marks() {
+    let mut session = session(0x1000);
+    for (line, number) in [
+        ("skip", 2),
+        ("skip 0 0", 2),
+        ("skip -1", 2),
+        ("skip 00000000001", 2),
+        ("skip 4294967296", 2),
+        ("skip 4194305", 5),
+        ("set 4194305 x0 1", 2),
+        ("set 0 x32 1", 2),
+        ("set 0 x05 1", 2),
+        ("set 0 a0 1", 2),
+        ("set 0 x5 1 2 3", 2),
+        ("set 0 pc 1 1", 2),
+        ("set 4194305 x5 1", 5),
+        ("flip 0 x0 1", 2),
+        ("flip 0 0x 1", 2),
+        ("flip 4194305 0 1", 5),
+        ("write 0 0 1", 2),
+        ("write 4194305 0 3 0", 5),
+        ("write 0 0 0 0", 6),
+        ("write 0 0 3 0", 6),
+        ("write 0 0 5 0", 6),
+        ("write 0 0 1 256", 6),
+        ("write 0 0 2 0x10000", 6),
+        ("write 0 0xfffffffd 4 0", 6),
+        ("unmark 0", 7),
+        ("patch 0x10002 0", 4),
+        ("patch 0x11000 0", 4),
+        (" skip 0", 2),
+    ] {
+        assert_eq!(session.reply(line), format!("refused {number}"), "{line}");
+    }
+    for line in ["write 0 0xffffffff 1 255", "flip 0 0xffffffff 0xffffffff", "set 4194304 x31 4294967295 0xFF", "patch 0x10ffc 0"]
+    {
+        assert_eq!(session.reply(line), "ok", "{line}");
+    }
+    for _ in 3..4096 {
+        assert_eq!(session.reply("skip 1"), "ok");
+    }
+    for (line, number) in [("skip 1", 10), ("mark 0 0 1 defined", 10), ("write 0 0 3 0", 6), ("unmark 4096", 7)] {
+        assert_eq!(session.reply(line), format!("refused {number}"), "{line}");
+    }
+    assert_eq!((session.reply("unmark 4095"), session.reply("skip 1")), ("ok".to_string(), "ok".to_string()));
 }

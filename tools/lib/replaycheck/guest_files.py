@@ -46,10 +46,10 @@ def answered(lines):
 class Worked:
     """A worked session's program, input, suppressions, lines and replies. An edit is a line with a report after it."""
 
-    def __init__(self, name):
+    def __init__(self, name, folder=DATA):
         self.name, self.input, self.lines, self.edits = name, b"", [], []
         words, memory, supp, told = [], 0, [], []
-        for line in (DATA / (name + ".session")).read_text().splitlines():
+        for line in (folder / (name + ".session")).read_text().splitlines():
             first, _, rest = line.partition(" ")
             if first == ">":
                 self.lines.append(rest)
@@ -63,7 +63,7 @@ class Worked:
             elif first == "memory":
                 memory = int(rest, 16)
             elif first == "elf":
-                self.program = (DATA / rest).read_bytes()
+                self.program = (folder / rest).read_bytes()
             elif first == "input":
                 self.input += bytes.fromhex(rest)
             elif first == "suppression":
