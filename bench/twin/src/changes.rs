@@ -19,7 +19,7 @@ pub enum Change {
     Set { place: Place, bits: Bits },
     /// `flip` of a register: bits are inverted. Those that are undefined stay so.
     Flip { place: Place, mask: u32 },
-    /// `flip` of memory: bits of the four bytes from an address on (modulo 2^32) are inverted, the lowest byte first.
+    /// `flip` of memory: bits of the four bytes from an address on are inverted, the lowest byte first.
     FlipBytes { start: u32, mask: u32 },
     /// `write`: so many bytes of a number are stored, the lowest first, as by a store, but for errors.
     Write { start: u32, len: u32, value: u32 },

@@ -171,11 +171,13 @@ fn change_of(fields: &[&str]) -> Result<(u32, Change), u32> {
         }
         ["flip", step, to, mask] => {
             let (step, mask) = (number(step)?, number(mask)?);
-            let change = match place(to) {
-                Ok(place) => Change::Flip { place, mask },
-                Err(_) => Change::FlipBytes { start: number(to)?, mask },
-            };
-            (step, change, true)
+            match place(to) {
+                Ok(place) => (step, Change::Flip { place, mask }, true),
+                Err(_) => {
+                    let start = number(to)?;
+                    (step, Change::FlipBytes { start, mask }, is_range(start, 4))
+                }
+            }
         }
         ["write", step, start, len, value] => {
             let (step, start, len, value) = (number(step)?, number(start)?, number(len)?, number(value)?);
