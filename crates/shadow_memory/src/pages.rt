@@ -16,6 +16,7 @@ use crate::edits::{Each, PageEdit};
 use crate::laws::all_are;
 use crate::marks::PageShadows;
 use crate::slices::{fill_at, set_all, write_at};
+use crate::word_scans::{SCAN, have_none_in_range};
 use crate::words::{ABSENT, all_bits, loaded_from, may_lie_within, word, word_bytes};
 use std::alloc::{AllocError, Global};
 
@@ -193,9 +194,14 @@ impl Page {
         ensures some { IfSome result (IsNextInRange (λ k. (cells_in self.now k).byte) (λ k. shadow_in (cells_in self.now k)) low high from) }
         ensures inside { IfSome result (λ at. at < page_len) }
     {
-        for word in from / 4..PAGE / 4 {
-            if self.holds_in_range(4 * word, low, high) {
-                return Some(4 * word);
+        let mut at = from;
+        while at < PAGE {
+            if at % SCAN == 0 && have_none_in_range(&self.bytes, at, low, high) {
+                at += SCAN;
+            } else if self.holds_in_range(at, low, high) {
+                return Some(at);
+            } else {
+                at += 4;
             }
         }
         None
