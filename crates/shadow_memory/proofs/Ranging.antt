@@ -50,17 +50,17 @@ both-false true true w h = absurd (false≢true (sym h))
 both-false true false w h = refl
 both-false false q w h = refl
 
--- sixteen of them are
-pub values-more : (bytes : ℕ → ℕ) (shadows : ℕ → Shadow) (low high from at : ℕ) → at % 4 ≡ 0
+-- a number of them are
+pub values-more : (bytes : ℕ → ℕ) (shadows : ℕ → Shadow) (low high from at n : ℕ) → at % 4 ≡ 0
     → HoldNoneInRange bytes shadows low high from at
-    → ((j : ℕ) → j < 16
+    → ((j : ℕ) → j < n
     → (nat_le low (value_at bytes (at + 4 * j)) && nat_lt (value_at bytes (at + 4 * j)) high) ≡ false)
-    → HoldNoneInRange bytes shadows low high from (at + 64)
-values-more bytes shadows low high from at whole before none a start below aligned = elim (cases_lt a at) [
+    → HoldNoneInRange bytes shadows low high from (at + 4 * n)
+values-more bytes shadows low high from at n whole before none a start below aligned = elim (cases_lt a at) [
   | inl early ↦ before a start early aligned
   | inr late ↦
       let j : ℕ = (a - at) / 4 in
-      let near : j < 16 = omega arith in
+      let near : j < n = omega arith in
       let e : a ≡ at + 4 * j = omega arith in
       ap (holds_in_range bytes shadows low high) e
       ∙ both-false (nat_le low (value_at bytes (at + 4 * j))) (nat_lt (value_at bytes (at + 4 * j)) high)

@@ -1,13 +1,14 @@
 -- Sixteen words of bytes, compared at once.
 use Rattle.std.proofs.Common.{◌≡◌, ℕ, zero, suc, Bool, true, false, ◌&&◌, List, [], ◌∷◌, map, length, get_or, replicate, take}
-use Rattle.std.proofs.Common.{refl, ap, sym, ◌∙◌, ◌+◌, ◌-◌, ◌*◌, ◌/◌, ◌%◌, ◌^◌, ◌<◌, ◌≤◌, inl, inr, cond, leb, min}
+use Rattle.std.proofs.Common.{refl, ap, ap₂, sym, ◌∙◌, ◌+◌, ◌-◌, ◌*◌, ◌/◌, ◌%◌, ◌^◌, ◌<◌, ◌≤◌, inl, inr, cond, leb, ltb, min}
 use Rattle.std.proofs.Common.{Fits, w8, w32, slice_index, nat_le, nat_lt, arith}
 use Rattle.std.proofs.lemmas.Bool.{cases_lt, false≢true}
 use Rattle.std.proofs.lemmas.Bool.Decides.{nat_tests}
-use Rattle.std.proofs.lemmas.List.{get_or-map, length-map, take_all}
-use Rattle.std.proofs.lemmas.Simd.{bitmask_splat, chunk-fits, get_or-chunk, get_or_wider, length-chunk}
-use Rattle.std.proofs.lemmas.Simd.{none_from_empty_mask, zip2_splat, below_from_Fits}
-use lib.Lanes.{chunk, digits_l, mask_l, number_l, top, zip2}
+use Rattle.std.proofs.lemmas.List.{take_all}
+use Rattle.std.proofs.lemmas.Simd.{bitmask_splat, chunk-fits, get_or-chunk, get_or-replicate, get_or-sel_l}
+use Rattle.std.proofs.lemmas.Simd.{get_or_wider, length-chunk, length-replicate, length-sel_l, length-zip2}
+use Rattle.std.proofs.lemmas.Simd.{none_from_empty_mask, below_from_Fits, get_or-zip2, tops_compared}
+use lib.Lanes.{chunk, digits_l, mask_l, number_l, sel_l, top, zip2}
 use Rattle.shadow_memory.specs.Ranges.{little_word}
 use Rattle.shadow_memory.specs.Values.{value_at}
 use Rattle.shadow_memory.proofs.Ranging.{same-number}
@@ -26,30 +27,21 @@ length-digits : (p n x : ℕ) → length (digits_l p n x) ≡ n
 length-digits p zero x = refl
 length-digits p (suc n) x = ap suc (length-digits p n (x / p))
 
--- how far above a number, round the end, a word's value lies
-abbrev above-low : ℕ → ℕ → ℕ
-above-low low x = (x + (2 ^ 32 - low)) % 2 ^ 32
-
--- if the mask of a comparison is empty, no lane passes
-none-of-lanes : (words : List ℕ) (n low most : ℕ) → length words ≡ n → n ≤ 64
-    → mask_l (map (top 31) (zip2 (λ a b. cond (leb a b) (2 ^ 32 - 1) 0)
-    (zip2 (λ a b. (a + (2 ^ 32 - b)) % 2 ^ 32) words (replicate n low)) (replicate n most))) % 2 ^ 64 ≡ 0
-    → (k : ℕ) → k < n → leb (above-low low (get_or words k 0)) most ≡ false
-none-of-lanes words n low most long few empty k near =
-    let beyond : List ℕ = map (above-low low) words in
-    let is : zip2 (λ a b. (a + (2 ^ 32 - b)) % 2 ^ 32) words (replicate n low) ≡ beyond =
-    zip2_splat (λ a b. (a + (2 ^ 32 - b)) % 2 ^ 32) words n low long in
-    let far : length beyond ≡ n = length-map words (above-low low) ∙ long in
-    let none : mask_l (map (λ x. leb x most) beyond) ≡ 0 =
-    sym (bitmask_splat w32 leb beyond n most far few)
-    ∙ ap (λ (xs : List ℕ). mask_l (map (top 31) (zip2 (λ a b. cond (leb a b) (2 ^ 32 - 1) 0) xs (replicate n most)))
-    % 2 ^ 64) (sym is) ∙ empty in
-    let whole : chunk 0 n beyond ≡ beyond = take_all n beyond (omega arith) in
-    let fails : leb (get_or beyond k 0) most ≡ false =
-    none_from_empty_mask (λ x. leb x most) beyond 0 n 0 (omega arith)
+-- if the mask of a comparison is empty, each lane is greater
+pub lanes-greater : (lanes : List ℕ) (n most : ℕ) → length lanes ≡ n → n ≤ 64
+    → mask_l (map (top 31) (zip2 (λ a b. cond (leb a b) (2 ^ 32 - 1) 0) lanes (replicate n most))) % 2 ^ 64 ≡ 0
+    → (k : ℕ) → k < n → most < get_or lanes k 0
+lanes-greater lanes n most long few empty k near =
+    let none : mask_l (map (λ x. leb x most) lanes) ≡ 0 =
+    sym (bitmask_splat w32 leb lanes n most long few) ∙ empty in
+    let whole : chunk 0 n lanes ≡ lanes = take_all n lanes (omega arith) in
+    let fails : leb (get_or lanes k 0) most ≡ false =
+    none_from_empty_mask (λ x. leb x most) lanes 0 n 0 (omega arith)
     (ap (λ (xs : List ℕ). mask_l (map (λ x. leb x most) xs)) whole ∙ none) k (omega arith) (omega arith) in
-    let within : k < length words = omega arith in
-    ap (λ x. leb x most) (sym (get_or-map (above-low low) words k 0 0 within)) ∙ fails
+    is-greater (get_or lanes k 0) most fails
+  where
+    is-greater : (x most : ℕ) → leb x most ≡ false → most < x
+    is-greater x most h = grind (arith, nat_tests)
 
 -- the words of a list of bytes
 word-of : (bytes : List ℕ) (at j : ℕ) → at + 64 ≤ length bytes → ((k : ℕ) → Fits w8 (get_or bytes k 0)) → j < 16
@@ -81,27 +73,48 @@ later-false true q e = e
 
 -- a value that isn't among so many from the least one on
 outside : (v low high most : ℕ) → v < 2 ^ 32 → low < 2 ^ 32 → most ≡ min (high - (low + 1)) (2 ^ 32 - 1)
-    → leb (above-low low v) most ≡ false → (nat_le low v && nat_lt v high) ≡ false
-outside v low high most word low-word most-is fails = elim (cases_lt v low) [
+    → most < (v + (2 ^ 32 - low)) % 2 ^ 32 → (nat_le low v && nat_lt v high) ≡ false
+outside v low high most word low-word most-is far = elim (cases_lt v low) [
   | inl less ↦ ap (λ b. b && nat_lt v high) (is-below low v less)
-  | inr more ↦
-      let far : most < (v + (2 ^ 32 - low)) % 2 ^ 32 = grind (arith, nat_tests, fails) in
-      later-false (nat_le low v) (nat_lt v high) (is-above v high (omega arith))
+  | inr more ↦ later-false (nat_le low v) (nat_lt v high) (is-above v high (omega arith))
 ]
 
-pub none-in-sixteen : (bytes : List ℕ) (at low high most : ℕ) → at + 64 ≤ length bytes
-    → ((k : ℕ) → Fits w8 (get_or bytes k 0)) → low < 2 ^ 32 → most ≡ min (high - (low + 1)) (2 ^ 32 - 1)
-    → mask_l (map (top 31) (zip2 (λ a b. cond (leb a b) (2 ^ 32 - 1) 0)
-    (zip2 (λ a b. (a + (2 ^ 32 - b)) % 2 ^ 32) (digits_l (2 ^ 32) 16 (number_l 256 (chunk at 64 bytes)))
-    (replicate 16 low)) (replicate 16 most))) % 2 ^ 64 ≡ 0
-    → (j : ℕ) → j < 16
-    → (nat_le low (value_at (slice_index bytes) (at + 4 * j)) && nat_lt (value_at (slice_index bytes) (at + 4 * j)) high)
-    ≡ false
-none-in-sixteen bytes at low high most room fits low-word most-is empty j near =
+pub word-outside : (bytes : List ℕ) (a low high most : ℕ) → ((k : ℕ) → Fits w8 (get_or bytes k 0)) → low < 2 ^ 32
+    → most ≡ min (high - (low + 1)) (2 ^ 32 - 1)
+    → most < (value_at (slice_index bytes) a + (2 ^ 32 - low)) % 2 ^ 32
+    → (nat_le low (value_at (slice_index bytes) a) && nat_lt (value_at (slice_index bytes) a) high) ≡ false
+word-outside bytes a low high most fits low-word most-is far =
+    outside (value_at (slice_index bytes) a) low high most (value-fits bytes a (λ k. (fits k).fits)) low-word most-is far
+
+-- the lanes of sixteen words
+pub lane-above : (bytes : List ℕ) (at low j : ℕ) → at + 64 ≤ length bytes → ((k : ℕ) → Fits w8 (get_or bytes k 0))
+    → j < 16
+    → get_or (zip2 (λ a b. (a + (2 ^ 32 - b)) % 2 ^ 32) (digits_l (2 ^ 32) 16 (number_l 256 (chunk at 64 bytes)))
+    (replicate 16 low)) j 0
+    ≡ (value_at (slice_index bytes) (at + 4 * j) + (2 ^ 32 - low)) % 2 ^ 32
+lane-above bytes at low j room fits near =
     let words = digits_l (2 ^ 32) 16 (number_l 256 (chunk at 64 bytes)) in
-    let small : (k : ℕ) → get_or bytes k 0 < 256 = λ k. (fits k).fits in
-    outside (value_at (slice_index bytes) (at + 4 * j)) low high most (value-fits bytes (at + 4 * j) small) low-word
-    most-is
-    (ap (λ x. leb (above-low low x) most) (sym (word-of bytes at j room fits near))
-    ∙ none-of-lanes words 16 low most (length-digits (2 ^ 32) 16 (number_l 256 (chunk at 64 bytes))) (omega arith) empty j
-    near)
+    let long : length words ≡ 16 = length-digits (2 ^ 32) 16 (number_l 256 (chunk at 64 bytes)) in
+    let many : length (replicate 16 low) ≡ 16 = length-replicate 16 low in
+    get_or-zip2 (λ a b. (a + (2 ^ 32 - b)) % 2 ^ 32) words (replicate 16 low) j 0 0 0 (omega arith) (omega arith)
+    ∙ ap₂ (λ a b. (a + (2 ^ 32 - b)) % 2 ^ 32) (word-of bytes at j room fits near) (get_or-replicate 16 j low 0 near)
+
+-- the lesser of two lanes
+pub lesser-lanes : (a b : List ℕ) (n : ℕ) → length a ≡ n → length b ≡ n
+    → (length (sel_l (map (top 31) (zip2 (λ x y. cond (ltb x y) (2 ^ 32 - 1) 0) a b)) a b) ≡ n)
+    × ((k : ℕ) → k < n → get_or (sel_l (map (top 31) (zip2 (λ x y. cond (ltb x y) (2 ^ 32 - 1) 0) a b)) a b) k 0
+    ≡ min (get_or a k 0) (get_or b k 0))
+lesser-lanes a b n la lb =
+    let tests : map (top 31) (zip2 (λ x y. cond (ltb x y) (2 ^ 32 - 1) 0) a b) ≡ zip2 ltb a b = tops_compared w32 ltb a b in
+    let long : length (zip2 ltb a b) ≡ n = length-zip2 ltb a b (la ∙ sym lb) ∙ la in (
+      ap (λ (ms : List Bool). length (sel_l ms a b)) tests
+          ∙ length-sel_l (zip2 ltb a b) a b (long ∙ sym la) (long ∙ sym lb) ∙ long,
+      λ k near.
+          ap (λ (ms : List Bool). get_or (sel_l ms a b) k 0) tests
+          ∙ get_or-sel_l (zip2 ltb a b) a b k 0 (omega arith) (omega arith) (omega arith)
+          ∙ ap (λ t. cond t (get_or a k 0) (get_or b k 0)) (get_or-zip2 ltb a b k 0 0 false (omega arith) (omega arith))
+          ∙ is-min (get_or a k 0) (get_or b k 0),
+    )
+  where
+    is-min : (x y : ℕ) → cond (ltb x y) x y ≡ min x y
+    is-min x y = grind (arith, nat_tests)

@@ -16,7 +16,7 @@ use crate::edits::{Each, PageEdit};
 use crate::laws::all_are;
 use crate::marks::PageShadows;
 use crate::slices::{fill_at, set_all, write_at};
-use crate::word_scans::{SCAN, have_none_in_range};
+use crate::word_scans::{ROW, ROWS, row_has_none, rows_have_none};
 use crate::words::{ABSENT, all_bits, loaded_from, may_lie_within, word, word_bytes};
 use std::alloc::{AllocError, Global};
 
@@ -196,8 +196,10 @@ impl Page {
     {
         let mut at = from;
         while at < PAGE {
-            if at % SCAN == 0 && have_none_in_range(&self.bytes, at, low, high) {
-                at += SCAN;
+            if at % ROWS == 0 && rows_have_none(&self.bytes, at, low, high) {
+                at += ROWS;
+            } else if at % ROW == 0 && row_has_none(&self.bytes, at, low, high) {
+                at += ROW;
             } else if self.holds_in_range(at, low, high) {
                 return Some(at);
             } else {
