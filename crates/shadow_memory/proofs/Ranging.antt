@@ -50,22 +50,27 @@ both-false true true w h = absurd (false≢true (sym h))
 both-false true false w h = refl
 both-false false q w h = refl
 
--- a number of them are
-pub values-more : (bytes : ℕ → ℕ) (shadows : ℕ → Shadow) (low high from at n : ℕ) → at % 4 ≡ 0
-    → HoldNoneInRange bytes shadows low high from at
+-- what comes up to a place, and from there on
+pub values-join : (bytes : ℕ → ℕ) (shadows : ℕ → Shadow) (low high from at to : ℕ)
+    → HoldNoneInRange bytes shadows low high from at → HoldNoneInRange bytes shadows low high at to
+    → HoldNoneInRange bytes shadows low high from to
+values-join bytes shadows low high from at to before after a start below aligned = elim (cases_lt a at) [
+  | inl early ↦ before a start early aligned
+  | inr late ↦ after a late below aligned
+]
+
+-- a number of words whose values lie outside
+pub values-outside : (bytes : ℕ → ℕ) (shadows : ℕ → Shadow) (low high at n : ℕ) → at % 4 ≡ 0
     → ((j : ℕ) → j < n
     → (nat_le low (value_at bytes (at + 4 * j)) && nat_lt (value_at bytes (at + 4 * j)) high) ≡ false)
-    → HoldNoneInRange bytes shadows low high from (at + 4 * n)
-values-more bytes shadows low high from at n whole before none a start below aligned = elim (cases_lt a at) [
-  | inl early ↦ before a start early aligned
-  | inr late ↦
-      let j : ℕ = (a - at) / 4 in
-      let near : j < n = omega arith in
-      let e : a ≡ at + 4 * j = omega arith in
-      ap (holds_in_range bytes shadows low high) e
-      ∙ both-false (nat_le low (value_at bytes (at + 4 * j))) (nat_lt (value_at bytes (at + 4 * j)) high)
-      (holds_word shadows (at + 4 * j)) (none j near)
-]
+    → HoldNoneInRange bytes shadows low high at (at + 4 * n)
+values-outside bytes shadows low high at n whole none a start below aligned =
+    let j : ℕ = (a - at) / 4 in
+    let near : j < n = omega arith in
+    let e : a ≡ at + 4 * j = omega arith in
+    ap (holds_in_range bytes shadows low high) e
+    ∙ both-false (nat_le low (value_at bytes (at + 4 * j))) (nat_lt (value_at bytes (at + 4 * j)) high)
+    (holds_word shadows (at + 4 * j)) (none j near)
 
 -- what the highest of four bytes says about their value
 is-below : (low n : ℕ) → n < low → nat_le low n ≡ false

@@ -1,6 +1,6 @@
 -- Sixteen words of bytes, compared at once.
 use Rattle.std.proofs.Common.{◌≡◌, ℕ, zero, suc, Bool, true, false, ◌&&◌, List, [], ◌∷◌, map, length, get_or, replicate, take}
-use Rattle.std.proofs.Common.{refl, ap, ap₂, sym, ◌∙◌, ◌+◌, ◌-◌, ◌*◌, ◌/◌, ◌%◌, ◌^◌, ◌<◌, ◌≤◌, inl, inr, cond, leb, ltb, min}
+use Rattle.std.proofs.Common.{refl, ap, ap₂, sym, ◌∙◌, ◌+◌, ◌-◌, ◌*◌, ◌/◌, ◌%◌, ◌^◌, ◌<◌, ◌≤◌, inl, inr, cond, eqb, leb, ltb, min, not}
 use Rattle.std.proofs.Common.{Fits, w8, w32, slice_index, nat_le, nat_lt, arith}
 use Rattle.std.proofs.lemmas.Bool.{cases_lt, false≢true}
 use Rattle.std.proofs.lemmas.Bool.Decides.{nat_tests}
@@ -118,3 +118,17 @@ lesser-lanes a b n la lb =
   where
     is-min : (x y : ℕ) → cond (ltb x y) x y ≡ min x y
     is-min x y = grind (arith, nat_tests)
+
+-- if no byte of 64 differs from 0
+pub bytes-zero : (bytes : List ℕ) (at : ℕ) → at + 64 ≤ length bytes
+    → mask_l (map (top 7) (zip2 (λ a b. cond (not (eqb a b)) (2 ^ 8 - 1) 0) (chunk at 64 bytes) (replicate 64 0))) % 2 ^ 64 ≡ 0
+    → (k : ℕ) → k < 64 → get_or bytes (at + k) 0 ≡ 0
+bytes-zero bytes at room empty k near =
+    let long : length (chunk at 64 bytes) ≡ 64 = length-chunk at 64 bytes room in
+    let none : mask_l (map (λ x. not (eqb x 0)) (chunk at 64 bytes)) ≡ 0 =
+    sym (bitmask_splat w8 (λ x y. not (eqb x y)) (chunk at 64 bytes) 64 0 long (omega arith)) ∙ empty in
+    is-zero (get_or bytes (at + k) 0)
+    (none_from_empty_mask (λ x. not (eqb x 0)) bytes at 64 0 room none (at + k) (omega arith) (omega arith))
+  where
+    is-zero : (x : ℕ) → not (eqb x 0) ≡ false → x ≡ 0
+    is-zero x h = grind (arith, nat_tests)

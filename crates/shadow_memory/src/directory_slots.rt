@@ -53,6 +53,13 @@ impl DirectorySlot {
         }
     }
 
+    /// Returns whether it is blank.
+    pub(crate) fn is_blank(&self) -> bool
+        ensures { IsTrue result → self.now ≡ DirectorySlot.Blank }
+    {
+        matches!(self, DirectorySlot::Blank)
+    }
+
     /// Returns the number of the first kept page, from a number on; 1,024 if there is none.
     pub(crate) fn next_kept(&self, number: usize) -> usize
         requires { number ≤ 1024 }

@@ -79,13 +79,19 @@ impl Shelf {
         ensures within { result ≤ 32768 }
         ensures blank { (a : ℕ) → number ≤ a / page_len → a / page_len < result → cells_on self.now a ≡ blank RangeKind.NoAccess }
     {
-        let directory = number / DIRECTORY_PAGES;
-        if directory < self.directories.len() {
-            directory * DIRECTORY_PAGES
-                + self.directories[directory].next_kept(number % DIRECTORY_PAGES)
-        } else {
-            SHELF_PAGES
+        let first = number / DIRECTORY_PAGES;
+        let mut directory = first;
+        while directory < self.directories.len() && self.directories[directory].is_blank() {
+            directory += 1;
         }
+        if first < directory {
+            return directory * DIRECTORY_PAGES;
+        }
+        if directory < self.directories.len() {
+            return directory * DIRECTORY_PAGES
+                + self.directories[directory].next_kept(number % DIRECTORY_PAGES);
+        }
+        SHELF_PAGES
     }
 
     // Makes room for the directory of a number.

@@ -1,14 +1,13 @@
-//! Scans of words, sixteen at a time.
+//! Scans of words, a row of sixteen at once, and four rows.
 ghost use Rattle.std.specs.Prelude.{◌≡◌, ℕ, ◌+◌, ◌-◌, ◌*◌, ◌%◌, ◌^◌, ◌<◌, ◌≤◌, ◌&&◌, false, length, min, nat_le, nat_lt, slice_index, IsTrue};
 ghost use Rattle.shadow_memory.specs.Values.{value_at};
 
 use std::simd::prelude::*;
 
-/// The number of bytes of sixteen words.
+/// The number of bytes of a row.
 pub(crate) const ROW: usize = 64;
 
-/// The number of bytes of four times as many.
-
+/// The number of bytes of four rows.
 pub(crate) const ROWS: usize = 256;
 
 // Returns how far above a number the values of sixteen words from a place on are, round the end.
@@ -20,6 +19,18 @@ fn above(bytes: &[u8], at: usize, low: u32) -> u32x16
         → slice_index result j ≡ (value_at (slice_index bytes.now) (at + 4 * j) + (2 ^ 32 - low)) % 2 ^ 32 }
 {
     u32x16::from_le_bytes(u8x64::from_slice(&bytes[at..])) - u32x16::splat(low)
+}
+
+/// Returns whether each of 64 bytes from a place on is 0.
+#[inline(always)]
+pub(crate) fn are_zero(bytes: &[u8], at: usize) -> bool
+    requires { at + 64 ≤ length bytes.now }
+    ensures { IsTrue result → (k : ℕ) → k < 64 → slice_index bytes.now (at + k) ≡ 0 }
+{
+    u8x64::from_slice(&bytes[at..])
+        .simd_ne(u8x64::splat(0))
+        .to_bitmask()
+        == 0
 }
 
 // Returns the lesser of two numbers, for each of sixteen pairs.
