@@ -1,5 +1,5 @@
 -- Pages that aren't kept: all their bytes are inaccessible zeros.
-use Rattle.std.proofs.Common.{◌≡◌, ℕ, true, List, length, map, ap, ◌+◌, ◌*◌, ◌/◌, ◌%◌, ◌<◌, ◌≤◌, inl, inr, arith}
+use Rattle.std.proofs.Common.{◌≡◌, ℕ, true, List, length, map, ap, ◌+◌, ◌*◌, ◌/◌, ◌<◌, ◌≤◌, inl, inr, arith}
 use Rattle.std.proofs.lemmas.Bool.{cases_lt}
 use Rattle.std.proofs.lemmas.List.{get_or_past, length-map}
 use Rattle.shadow_memory.specs.Cells.{shadow_in}

@@ -1,4 +1,4 @@
-use Rattle.std.proofs.Common.{◌≡◌, ◌+◌, ◌*◌, ◌<◌, arith, refl, subst, ℕ}
+use Rattle.std.proofs.Common.{◌+◌, ◌*◌, ◌<◌, arith, subst, ℕ}
 use Rattle.shadow_memory.proofs.Scanning.{word-outside}
 use Rattle.shadow_memory.proofs.word_scans.row_has_none.Goals as goal
 

@@ -1,4 +1,4 @@
-use Rattle.std.proofs.Common.{◌≡◌, ◌∙◌, ◌+◌, ◌-◌, ◌*◌, ◌/◌, ◌%◌, ◌^◌, ◌<◌, ◌≤◌, ℕ, IsTrue, ap₂, arith, inl, inr, min}
+use Rattle.std.proofs.Common.{◌≡◌, ◌∙◌, ◌+◌, ◌-◌, ◌*◌, ◌/◌, ◌%◌, ◌^◌, ◌<◌, ℕ, IsTrue, ap₂, arith, inl, inr, min}
 use Rattle.std.proofs.Common.{slice_index, subst}
 use Rattle.std.proofs.lemmas.Bool.{cases_lt}
 use Rattle.shadow_memory.specs.Values.{value_at}
