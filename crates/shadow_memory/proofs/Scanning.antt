@@ -1,6 +1,7 @@
 -- Sixteen words of bytes, compared at once.
 use Rattle.std.proofs.Common.{◌≡◌, ℕ, zero, suc, Bool, true, false, ◌&&◌, List, [], ◌∷◌, map, length, get_or, replicate}
-use Rattle.std.proofs.Common.{refl, ap, ap₂, sym, ◌∙◌, ◌+◌, ◌-◌, ◌*◌, ◌/◌, ◌%◌, ◌^◌, ◌<◌, ◌≤◌, inl, inr, cond, eqb, leb, ltb, min, not}
+use Rattle.std.proofs.Common.{refl, ap, ap₂, sym, ◌∙◌, ◌+◌, ◌-◌, ◌*◌, ◌/◌, ◌%◌, ◌^◌, ◌<◌, ◌≤◌, inl, inr, cond, eqb}
+use Rattle.std.proofs.Common.{leb, ltb, min, not}
 use Rattle.std.proofs.Common.{Fits, w8, w32, slice_index, nat_le, nat_lt, arith}
 use Rattle.std.proofs.lemmas.Bool.{cases_lt}
 use Rattle.std.proofs.lemmas.Bool.Decides.{nat_tests}
@@ -84,7 +85,8 @@ pub word-outside : (bytes : List ℕ) (a low high most : ℕ) → ((k : ℕ) →
     → most < (value_at (slice_index bytes) a + (2 ^ 32 - low)) % 2 ^ 32
     → (nat_le low (value_at (slice_index bytes) a) && nat_lt (value_at (slice_index bytes) a) high) ≡ false
 word-outside bytes a low high most fits low-word most-is far =
-    outside (value_at (slice_index bytes) a) low high most (value-fits bytes a (λ k. (fits k).fits)) low-word most-is far
+    outside (value_at (slice_index bytes) a) low high most (value-fits bytes a (λ k. (fits k).fits)) low-word
+    most-is far
 
 -- the lanes of sixteen words
 pub lane-above : (bytes : List ℕ) (at low j : ℕ) → at + 64 ≤ length bytes → ((k : ℕ) → Fits w8 (get_or bytes k 0))
@@ -105,7 +107,8 @@ pub lesser-lanes : (a b : List ℕ) (n : ℕ) → length a ≡ n → length b �
     × ((k : ℕ) → k < n → get_or (sel_l (map (top 31) (zip2 (λ x y. cond (ltb x y) (2 ^ 32 - 1) 0) a b)) a b) k 0
     ≡ min (get_or a k 0) (get_or b k 0))
 lesser-lanes a b n la lb =
-    let tests : map (top 31) (zip2 (λ x y. cond (ltb x y) (2 ^ 32 - 1) 0) a b) ≡ zip2 ltb a b = tops_compared w32 ltb a b in
+    let tests : map (top 31) (zip2 (λ x y. cond (ltb x y) (2 ^ 32 - 1) 0) a b) ≡ zip2 ltb a b =
+    tops_compared w32 ltb a b in
     let long : length (zip2 ltb a b) ≡ n = length-zip2 ltb a b (la ∙ sym lb) ∙ la in (
       ap (λ (ms : List Bool). length (sel_l ms a b)) tests
           ∙ length-sel_l (zip2 ltb a b) a b (long ∙ sym la) (long ∙ sym lb) ∙ long,
@@ -121,7 +124,8 @@ lesser-lanes a b n la lb =
 
 -- if no byte of 64 differs from 0
 pub bytes-zero : (bytes : List ℕ) (at : ℕ) → at + 64 ≤ length bytes
-    → mask_l (map (top 7) (zip2 (λ a b. cond (not (eqb a b)) (2 ^ 8 - 1) 0) (chunk at 64 bytes) (replicate 64 0))) % 2 ^ 64 ≡ 0
+    → mask_l (map (top 7) (zip2 (λ a b. cond (not (eqb a b)) (2 ^ 8 - 1) 0) (chunk at 64 bytes) (replicate 64 0)))
+    % 2 ^ 64 ≡ 0
     → (k : ℕ) → k < 64 → get_or bytes (at + k) 0 ≡ 0
 bytes-zero bytes at room empty k near =
     let long : length (chunk at 64 bytes) ≡ 64 = length-chunk at 64 bytes room in

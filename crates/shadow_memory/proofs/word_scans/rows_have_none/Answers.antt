@@ -17,7 +17,8 @@ unfolding far
 lane-far c greater j near =
     subst (λ (x : ℕ). c.extent.result < x)
     (c.lesser.ensures.each j near
-    ∙ ap₂ min (c.lesser-first.ensures.each j near ∙ ap₂ min (c.above.ensures.each j near) (c.above-2.ensures.each j near))
+    ∙ ap₂ min
+    (c.lesser-first.ensures.each j near ∙ ap₂ min (c.above.ensures.each j near) (c.above-2.ensures.each j near))
     (c.lesser-second.ensures.each j near ∙ ap₂ min (c.above-3.ensures.each j near) (c.above-4.ensures.each j near)))
     (c.are_greater.ensures greater j near)
 

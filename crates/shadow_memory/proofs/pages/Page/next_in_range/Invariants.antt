@@ -9,7 +9,8 @@ invariant-loop-at l = record {
   start : l.fn.from ≤ l.at;
   within : l.at ≤ 4096;
   aligned : l.at % 4 ≡ 0;
-  none : HoldNoneInRange (λ k. (cells_in l.self k).byte) (λ k. shadow_in (cells_in l.self k)) l.low l.high l.fn.from l.at;
+  none : HoldNoneInRange (λ k. (cells_in l.self k).byte) (λ k. shadow_in (cells_in l.self k)) l.low l.high l.fn.from
+      l.at;
 }
 
 abbrev pub decreases-loop-at : goal.decreases-loop-at

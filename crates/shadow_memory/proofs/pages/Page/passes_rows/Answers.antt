@@ -12,8 +12,8 @@ use Rattle.shadow_memory.proofs.pages.Page.passes_rows.Goals as goal
 abbrev AreOutside : ℕ → ℕ → ℕ → ℕ → List ℕ → Type 0
 AreOutside low high at n bytes =
     (j : ℕ) → j < n
-    → (nat_le low (value_at (slice_index bytes) (at + 4 * j)) && nat_lt (value_at (slice_index bytes) (at + 4 * j)) high)
-    ≡ false
+    → (nat_le low (value_at (slice_index bytes) (at + 4 * j))
+    && nat_lt (value_at (slice_index bytes) (at + 4 * j)) high) ≡ false
 
 pub returns-then-are_inaccessible : goal.returns-then-are_inaccessible
 unfolding cells_in
