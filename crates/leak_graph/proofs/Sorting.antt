@@ -1,15 +1,17 @@
 -- The kinds that the marks of all blocks say are those of the definition.
 use Rattle.std.proofs.Common.{◌≡◌, ℕ, ◌<◌, List, [], ◌∷◌, ◌++◌, zero, suc, Bool, true, false, length, subst, sym, ◌∙◌}
-use Rattle.std.proofs.Common.{ap, ◌⊎◌, inl, inr, refl, get_or, arith, Some, slice_get}
+use Rattle.std.proofs.Common.{ap, ◌⊎◌, inl, inr, refl, get_or, replicate, arith, Some, slice_get}
 use Rattle.std.proofs.lemmas.Bool.{cases_Bool}
+use Rattle.std.proofs.lemmas.List.{length-replicate}
 use Rattle.std.proofs.lemmas.Option.{same_Some, none-some, slice_get_within}
 use Rattle.std.specs.declared.vec.Vec.{Vec}
 use Rattle.std.specs.declared.alloc.Global.{Global}
 use Rattle.leak_graph.specs.declared.graph.Pointer.{Pointer}
 use Rattle.leak_graph.specs.declared.leak_kind.LeakKind.{LeakKind}
+use Rattle.leak_graph.specs.declared.leak_kind.LeakKind.TheVariants.{Reachable}
 use Rattle.leak_graph.specs.Graphs.{HasPointer, HasEdge, links_of}
 use Rattle.leak_graph.specs.Leaks.{Links, HasKind}
-use Rattle.leak_graph.specs.Marks.{Reaches, HeadsOf, DefiniteOf, kind_by, AreBy}
+use Rattle.leak_graph.specs.Marks.{Reaches, HeadsOf, DefiniteOf, IsMarked, kind_by, AreBy}
 use Rattle.leak_graph.proofs.Deciding.{kind_reachable, kind_possible, kind_definite, kind_indirect}
 
 slice_get_push : (kinds : List LeakKind) (last : LeakKind) (b : ℕ) (kind : LeakKind)
@@ -76,3 +78,23 @@ kinds_right roots edges reachable found heads definite kinds len r f of d by b k
     let less : b < length edges = (let h = slice_get_within kinds b kind e in omega arith) in
     subst (λ (k : LeakKind). HasKind (links_of roots edges) b k) (sym (by b kind e))
     (kind_right (links_of roots edges) reachable found heads definite b (edge_within edges) r f of d less)
+
+slice_get_same : (n : ℕ) (each kind : LeakKind) (b : ℕ) → slice_get (replicate n each) b ≡ Some kind → each ≡ kind
+slice_get_same zero each kind b e = absurd (none-some kind e)
+slice_get_same (suc n) each kind zero e = same_Some each kind e
+slice_get_same (suc n) each kind (suc b) e = slice_get_same n each kind b e
+
+-- where all blocks are marked as reachable
+pub all_right : (roots : List Pointer) (edges : List (Vec Pointer Global)) (reachable : List Bool)
+    (kinds : List LeakKind) → kinds ≡ replicate (length edges) Reachable
+    → ((b : ℕ) → b < length edges → IsMarked reachable b)
+    → Reaches (HasPointer true roots) (HasEdge true edges) reachable
+    → (b : ℕ) (kind : LeakKind) → slice_get kinds b ≡ Some kind → HasKind (links_of roots edges) b kind
+unfolding links_of
+all_right roots edges reachable kinds is marked r b kind e =
+    let here : slice_get (replicate (length edges) Reachable) b ≡ Some kind = ap (λ (l : List LeakKind). slice_get l b)
+    (sym is) ∙ e in
+    let within : b < length (replicate (length edges) Reachable) = slice_get_within _ b kind here in
+    let less : b < length edges = omega (arith, within, length-replicate (length edges) Reachable) in
+    subst (λ (k : LeakKind). HasKind (links_of roots edges) b k) (slice_get_same (length edges) Reachable kind b here)
+    (kind_reachable (links_of roots edges) reachable b r (marked b less))

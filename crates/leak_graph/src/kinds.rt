@@ -1,8 +1,8 @@
-ghost use Rattle.std.specs.Prelude.{◌≡◌, ℕ, ◌<◌, length, IfOk, slice_get, Some, slice_index_or, false, vec_len};
+ghost use Rattle.std.specs.Prelude.{◌≡◌, ℕ, ◌<◌, length, replicate, IfOk, IsTrue, slice_get, Some, slice_index_or, false, vec_len};
 ghost use Rattle.leak_graph.specs.declared.leak_kind.LeakKind.{LeakKind};
 ghost use Rattle.leak_graph.specs.Graphs.{GoWithin, AllGoWithin, links_of};
 ghost use Rattle.leak_graph.specs.Leaks.{HasKind};
-ghost use Rattle.leak_graph.specs.Marks.{kind_by, AreBy};
+ghost use Rattle.leak_graph.specs.Marks.{kind_by, AreBy, IsMarked};
 
 use crate::graph::Pointer;
 use crate::leak_kind::LeakKind;
@@ -44,6 +44,26 @@ fn sort_out(
     Ok(kinds)
 }
 
+/// Returns whether each block is marked.
+fn are_all(marks: &[bool]) -> bool
+    ensures { IsTrue result → (b : ℕ) → b < length marks.now → IsMarked marks.now b }
+{
+    for block in 0..marks.len() {
+        if !marks[block] {
+            return false;
+        }
+    }
+    true
+}
+
+/// Returns the kinds of so many blocks, all of them reachable.
+fn all_reachable(alloc: Global, count: usize) -> Result<Vec<LeakKind>, AllocError>
+    ensures { IfOk result (λ kinds. kinds.items ≡ replicate count LeakKind.Reachable) }
+{
+    let kinds = vec![in alloc; LeakKind::Reachable; count]?;
+    Ok(kinds)
+}
+
 /// Returns the leak kind of each block, from the pointers of the roots and those of each block. The time needed grows with the number of
 /// blocks and pointers together.
 pub fn leak_kinds(
@@ -58,6 +78,10 @@ pub fn leak_kinds(
         → HasKind (links_of roots.now edges.now) b kind) }
 {
     let reachable = reached(alloc, roots, edges, true)?;
+    // Then no other path makes a difference.
+    if are_all(&reachable) {
+        return all_reachable(alloc, edges.len());
+    }
     let found = reached(alloc, roots, edges, false)?;
     let heads = lost_heads(alloc, edges, &found)?;
     let definite = definite_heads(alloc, edges, &found, &heads)?;

@@ -27,7 +27,7 @@
 //! A walk with a work list marks what has a path from a block (`spread`). No walk marks a block twice, and none recurses. Two walks from
 //! the roots find what is reachable and what is found at all. The lost blocks to which no earlier lost block leads are heads. The heads are
 //! visited again from the last one down, and those to which no other head leads are definitely lost. So each pointer is followed at most
-//! four times.
+//! four times. If all blocks are reachable, the first walk is enough.
 #![tactic(auto)]
 
 mod graph;

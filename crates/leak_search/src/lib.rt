@@ -27,8 +27,8 @@
 //!
 //! # Costs
 //!
-//! Each word is looked at once, blank pages and directories are passed in one step each, and for a value from the first live block's start
-//! up to the last one's end, binary search finds the block. If there is no live block, no word is looked at. Nothing recurses.
+//! Only pages that are kept are looked at, sixteen words at once, and for a value from the first live block's start up to the last one's
+//! end, binary search finds the block. If there is no live block, no word is looked at. Nothing recurses.
 #![tactic(auto)]
 
 mod blocks;

@@ -220,9 +220,16 @@ fn are_scanned() -> bool {
 // A label; the first address; the range of values; the word that is found.
 type Search = (&'static str, u32, u32, u64, Option<u32>);
 
-const SEARCHES: [Search; 11] = [
+const SEARCHES: [Search; 12] = [
     ("the first word of a page", 0, 0x40, 0x50, Some(0x4000)),
     ("the last word of a page", 0x4001, 0x40, 0x50, Some(0x4FFC)),
+    (
+        "from within sixteen words",
+        0x4FE4,
+        0x40,
+        0x50,
+        Some(0x4FFC),
+    ),
     ("the low end of the range", 0, 0x4F, 0x50, Some(0x4FFC)),
     ("not with its high end", 0x4004, 0x40, 0x4F, None),
     (

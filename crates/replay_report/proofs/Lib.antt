@@ -3,3 +3,4 @@ pub mod LeakSteps
 pub mod OneReport
 pub mod GroupSteps
 pub mod ReportSteps
+pub mod OutlineSteps

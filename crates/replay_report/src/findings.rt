@@ -13,7 +13,7 @@ use std::alloc::{AllocError, Global};
 use suppressions::Suppression;
 
 /// Is a block of one of some kinds among these?
-fn has_leak(records: &[LeakRecord], kinds: &[bool; 4]) -> bool
+pub(crate) fn has_leak(records: &[LeakRecord], kinds: &[bool; 4]) -> bool
     ensures { result ≡ has_leak kinds.now records.now }
 {
     records.iter().any(|record| is_shown(kinds, record.kind))

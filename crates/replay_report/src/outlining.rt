@@ -9,6 +9,7 @@ ghost use Rattle.guest_machine.specs.Shows.{Shows};
 ghost use Rattle.replay_report.specs.Outlines.{stop_place, end_line, told_trace, error_outline, leak_outline, outline_head, leak_outlines, outline_text, IsOutline};
 
 use crate::filtering::told_groups;
+use crate::findings::has_leak;
 use crate::leak_lines::leak_text;
 use crate::leaks::{BlockSum, LeakKey, is_shown, leak_groups, split_records};
 use crate::options::{Options, View};
@@ -158,6 +159,10 @@ fn push_leaks_of(
     requires { 0 < view.now.options.now.callers }
     ensures { OnOk result (out.new.items ≡ out.old.items ++ leak_outlines view.now.image.now view.now.suppressions.now view.now.options.now records.now) }
 {
+    // No names are looked up, and no groups made, of blocks that aren't shown.
+    if !has_leak(records, &view.options.show) {
+        return Ok(());
+    }
     let (shown, _hidden) = split_records(alloc, records, view.image, view.suppressions)?;
     let groups = leak_groups(alloc, &shown, view.options.callers)?;
     push_leaks(out, view.image, &view.options.show, &groups)

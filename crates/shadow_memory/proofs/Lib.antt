@@ -13,3 +13,5 @@ pub mod Loading
 pub mod Storing
 pub mod Ranging
 pub mod Comparing
+pub mod Scanning
+pub mod Skipping

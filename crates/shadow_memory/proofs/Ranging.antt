@@ -36,14 +36,41 @@ zeros-hold-none bytes shadows low high from to positive zeros a start below alig
     ∙ not-from low positive)
 
 -- another multiple of 4 is looked at
-pub value-more : (bytes : ℕ → ℕ) (shadows : ℕ → Shadow) (low high from word : ℕ)
-    → HoldNoneInRange bytes shadows low high from (4 * word)
-    → holds_in_range bytes shadows low high (4 * word) ≡ false
-    → HoldNoneInRange bytes shadows low high from (4 * (word + 1))
-value-more bytes shadows low high from word before here a start below aligned = elim (cases_lt a (4 * word)) [
+pub value-more : (bytes : ℕ → ℕ) (shadows : ℕ → Shadow) (low high from at : ℕ) → at % 4 ≡ 0
+    → HoldNoneInRange bytes shadows low high from at
+    → holds_in_range bytes shadows low high at ≡ false
+    → HoldNoneInRange bytes shadows low high from (at + 4)
+value-more bytes shadows low high from at whole before here a start below aligned = elim (cases_lt a at) [
   | inl early ↦ before a start early aligned
-  | inr late ↦ let e : a ≡ 4 * word = omega arith in ap (holds_in_range bytes shadows low high) e ∙ here
+  | inr late ↦ let e : a ≡ at = omega arith in ap (holds_in_range bytes shadows low high) e ∙ here
 ]
+
+both-false : (p q w : Bool) → (p && q) ≡ false → (p && q && w) ≡ false
+both-false true true w h = absurd (false≢true (sym h))
+both-false true false w h = refl
+both-false false q w h = refl
+
+-- what comes up to a place, and from there on
+pub values-join : (bytes : ℕ → ℕ) (shadows : ℕ → Shadow) (low high from at to : ℕ)
+    → HoldNoneInRange bytes shadows low high from at → HoldNoneInRange bytes shadows low high at to
+    → HoldNoneInRange bytes shadows low high from to
+values-join bytes shadows low high from at to before after a start below aligned = elim (cases_lt a at) [
+  | inl early ↦ before a start early aligned
+  | inr late ↦ after a late below aligned
+]
+
+-- a number of words whose values lie outside
+pub values-outside : (bytes : ℕ → ℕ) (shadows : ℕ → Shadow) (low high at n : ℕ) → at % 4 ≡ 0
+    → ((j : ℕ) → j < n
+    → (nat_le low (value_at bytes (at + 4 * j)) && nat_lt (value_at bytes (at + 4 * j)) high) ≡ false)
+    → HoldNoneInRange bytes shadows low high at (at + 4 * n)
+values-outside bytes shadows low high at n whole none a start below aligned =
+    let j : ℕ = (a - at) / 4 in
+    let near : j < n = omega arith in
+    let e : a ≡ at + 4 * j = omega arith in
+    ap (holds_in_range bytes shadows low high) e
+    ∙ both-false (nat_le low (value_at bytes (at + 4 * j))) (nat_lt (value_at bytes (at + 4 * j)) high)
+    (holds_word shadows (at + 4 * j)) (none j near)
 
 -- what the highest of four bytes says about their value
 is-below : (low n : ℕ) → n < low → nat_le low n ≡ false
@@ -84,7 +111,7 @@ highest-outside byte low high highest least count word first second third fourth
           )
     ]
 
-bad-first : (b p q r : Bool) → b ≡ true → (not b && p && q && r) ≡ false
+pub bad-first : (b p q r : Bool) → b ≡ true → (not b && p && q && r) ≡ false
 bad-first true p q r h = refl
 bad-first false p q r h = absurd (false≢true h)
 

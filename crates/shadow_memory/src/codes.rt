@@ -7,6 +7,7 @@ ghost use Rattle.shadow_memory.specs.Parts.{code_of, loaded_code, part_of, taken
 use crate::cells::RangeKind;
 use crate::laws::{all_are, first_not};
 use crate::slices::set_all;
+use crate::word_scans::are_zero;
 use std::alloc::{AllocError, Global};
 
 /// The number of an inaccessible byte.
@@ -209,6 +210,16 @@ impl Codes {
             }
         }
         true
+    }
+
+    /// Returns whether each number of 256 places, from a multiple of 4 on, is that of an inaccessible byte.
+    #[inline(always)]
+    pub(crate) fn are_inaccessible(&self, at: usize) -> bool
+        requires aligned { at % 4 ≡ 0 }
+        requires within { at + 256 ≤ page_len }
+        ensures { IsTrue result → (k : ℕ) → at ≤ k → k < at + 256 → code_at self.now k ≡ 0 }
+    {
+        are_zero(&self.packed, at / 4)
     }
 
     /// Returns whether no number, from one place up to, but not including, another, is that of an inaccessible byte.

@@ -10,6 +10,9 @@ use crate::slots::PageSlot;
 use crate::views::View;
 use std::alloc::{AllocError, Global};
 
+/// The number of pages of a directory.
+pub(crate) const DIRECTORY_PAGES: usize = 1024;
+
 /// 1,024 pages in a row. Those from the first to the last that was changed are kept.
 #[derive(Drop)]
 pub(crate) struct Directory {
@@ -61,6 +64,22 @@ impl Directory {
             return Some(place);
         }
         None
+    }
+
+    /// Returns the number of the first kept page, from a number on; 1,024 if there is none.
+    pub(crate) fn next_kept(&self, number: usize) -> usize
+        requires { number ≤ 1024 }
+        ensures after { number ≤ result }
+        ensures within { result ≤ 1024 }
+        ensures blank { (a : ℕ) → number ≤ a / page_len → a / page_len < result → cells_under self.now a ≡ blank RangeKind.NoAccess }
+    {
+        if number < self.first {
+            return self.first;
+        }
+        if number - self.first < self.pages.len() {
+            return number;
+        }
+        DIRECTORY_PAGES
     }
 
     /// Returns the page of a place, to read.

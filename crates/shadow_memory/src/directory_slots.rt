@@ -1,16 +1,15 @@
 //! A directory that may be blank, or shared.
 ghost use Rattle.std.specs.Prelude.{◌≡◌, ℕ, ◌+◌, ◌/◌, ◌%◌, ◌<◌, ◌≤◌, true, IfOk, IsTrue, IsFalse, OnOk, OnErr, length, slice_index};
 ghost use Rattle.shadow_memory.specs.Changes.{received};
-ghost use Rattle.shadow_memory.specs.Shadows.{is_bad};
+ghost use Rattle.shadow_memory.specs.Marks.{blank};
 ghost use Rattle.shadow_memory.specs.Directories.{cells_at};
 ghost use Rattle.shadow_memory.specs.Edits.{change_of, count_of, each_of, Fits};
-ghost use Rattle.shadow_memory.specs.Cells.{shadow_in};
 ghost use Rattle.shadow_memory.specs.Places.{changed_from, page_len, AgreeInDirectory};
 ghost use Rattle.shadow_memory.specs.Views.{cells_seen};
 ghost use Rattle.shadow_memory.specs.Shelves.{cells_below};
 
 use crate::cells::RangeKind;
-use crate::directories::Directory;
+use crate::directories::{DIRECTORY_PAGES, Directory};
 use crate::edits::{Each, PageEdit};
 use crate::slots::PageSlot;
 use crate::views::View;
@@ -55,12 +54,22 @@ impl DirectorySlot {
     }
 
     /// Returns whether it is blank.
-    pub(crate) fn has_no_word(&self) -> bool
-        ensures { IsTrue result → (k : ℕ) → is_bad true (shadow_in (cells_below self.now k)) ≡ true }
+    pub(crate) fn is_blank(&self) -> bool
+        ensures { IsTrue result → self.now ≡ DirectorySlot.Blank }
+    {
+        matches!(self, DirectorySlot::Blank)
+    }
+
+    /// Returns the number of the first kept page, from a number on; 1,024 if there is none.
+    pub(crate) fn next_kept(&self, number: usize) -> usize
+        requires { number ≤ 1024 }
+        ensures after { number ≤ result }
+        ensures within { result ≤ 1024 }
+        ensures blank { (a : ℕ) → number ≤ a / page_len → a / page_len < result → cells_below self.now a ≡ blank RangeKind.NoAccess }
     {
         match self {
-            DirectorySlot::Blank => true,
-            DirectorySlot::Held(_) => false,
+            DirectorySlot::Blank => DIRECTORY_PAGES,
+            DirectorySlot::Held(directory) => directory.next_kept(number),
         }
     }
 

@@ -61,7 +61,7 @@
 //! reaches as far as the last shelf that was changed, and a shelf as far as its last directory that was. What was not changed is blank. So
 //! to share a memory is to copy short lists, although a stack is at high addresses: a shelf in which nothing was changed has an empty list.
 //! A directory keeps its pages from the first to the last that was changed, so a copy of it is no longer than what a program uses there. A
-//! page of zeros of one kind is blank too: it has no bytes at all.
+//! page of zeros of one kind is blank too: it has no bytes at all. A search goes from one kept page to the next (`Memory::next_kept`).
 //!
 //! The marks of a page are of one kind, or two bits for each byte with an ordered map for the partly defined bytes (as in N. Nethercote and
 //! J. Seward, "How to shadow every byte of memory used by a program", VEE 2007). A scan finds out that a change makes them one kind again.
@@ -101,6 +101,7 @@ mod shelves;
 mod slices;
 mod slots;
 mod views;
+mod word_scans;
 mod words;
 
 pub use cells::{Bad, Cell, Loaded, RangeKind};

@@ -249,6 +249,16 @@ impl Mixed {
         None
     }
 
+    // Returns whether 256 bytes, from a multiple of 4 on, are all inaccessible.
+    #[inline(always)]
+    fn are_inaccessible(&self, at: usize) -> bool
+        requires aligned { at % 4 ≡ 0 }
+        requires within { at + 256 ≤ page_len }
+        ensures { IsTrue result → (k : ℕ) → at ≤ k → k < at + 256 → marks_mixed self.now k ≡ mark_of RangeKind.NoAccess }
+    {
+        self.codes.are_inaccessible(at)
+    }
+
     // Returns whether four bytes are all accessible and defined.
     fn holds_word(&self, at: usize) -> bool
         requires { at + 4 ≤ page_len }
@@ -338,6 +348,19 @@ impl PageShadows {
         match self {
             PageShadows::Uniform(kind) => !is_bad_mark(mark_of_kind(*kind), true),
             PageShadows::Mixed(mixed) => mixed.holds_word(at),
+        }
+    }
+
+    /// Returns whether 256 bytes, from a multiple of 4 on, are all inaccessible.
+    #[inline(always)]
+    pub(crate) fn are_inaccessible(&self, at: usize) -> bool
+        requires aligned { at % 4 ≡ 0 }
+        requires within { at + 256 ≤ page_len }
+        ensures { IsTrue result → (k : ℕ) → at ≤ k → k < at + 256 → marks_in self.now k ≡ mark_of RangeKind.NoAccess }
+    {
+        match self {
+            PageShadows::Uniform(kind) => *kind == RangeKind::NoAccess,
+            PageShadows::Mixed(mixed) => mixed.are_inaccessible(at),
         }
     }
 

@@ -1,7 +1,8 @@
 //! The whole memory, and a change of it.
 ghost use Rattle.std.specs.Prelude.{◌≡◌, ℕ, ◌+◌, ◌/◌, ◌%◌, ◌^◌, ◌<◌, ◌≤◌, true, IfOk, IsTrue, IsFalse, OnOk, OnErr, length, slice_index, vec_len};
 ghost use Rattle.shadow_memory.specs.Changes.{received};
-ghost use Rattle.shadow_memory.specs.Shadows.{is_bad, shadow_of};
+ghost use Rattle.shadow_memory.specs.Marks.{blank};
+ghost use Rattle.shadow_memory.specs.Shadows.{shadow_of};
 ghost use Rattle.shadow_memory.specs.Directories.{cells_at};
 ghost use Rattle.shadow_memory.specs.Edits.{change_of, count_of, each_of, Fits};
 ghost use Rattle.shadow_memory.specs.Cells.{shadow_in, IsClean};
@@ -12,10 +13,13 @@ ghost use Rattle.shadow_memory.specs.Memories.{bytes_in, shadows_in, cells_of};
 use crate::cells::{Cell, RangeKind};
 use crate::edits::{Each, PageEdit};
 use crate::pages::PAGE;
-use crate::shelves::{DIRECTORIES, SHELF, Shelf};
+use crate::shelves::{SHELF, SHELF_PAGES, Shelf};
 use crate::slots::PageSlot;
 use crate::views::View;
 use std::alloc::{AllocError, Global};
+
+/// The number of pages of the address space.
+pub(crate) const PAGES: u32 = 1048576;
 
 /// A byte for each of 2^32 addresses, and what is known of it.
 #[derive(Drop)]
@@ -79,17 +83,20 @@ impl Memory {
         }
     }
 
-    /// Returns whether the directory of a number is blank.
-    pub(crate) fn has_no_word(&self, number: u32) -> bool
-        ensures { IsTrue result → (a : ℕ) → a / 4194304 ≡ number → is_bad true (shadows_in self.now a) ≡ true }
+    /// Returns a number, from this one on, below which no page from this one on is kept; 1,048,576 at most.
+    pub(crate) fn next_kept(&self, number: u32) -> u32
+        requires { number < 1048576 }
+        ensures after { number ≤ result }
+        ensures within { result ≤ 1048576 }
+        ensures blank { (a : ℕ) → number ≤ a / page_len → a / page_len < result → cells_of self.now a ≡ blank RangeKind.NoAccess }
     {
         let number = number as usize;
-        let shelf = number / DIRECTORIES;
-        if shelf < self.shelves.len() {
-            self.shelves[shelf].has_no_word(number % DIRECTORIES)
-        } else {
-            true
+        let shelf = number / SHELF_PAGES;
+        if shelf >= self.shelves.len() {
+            return PAGES;
         }
+        let next = shelf * SHELF_PAGES + self.shelves[shelf].next_kept(number % SHELF_PAGES);
+        next as u32
     }
 
     // Makes room for the shelf of a number.

@@ -16,6 +16,7 @@ use crate::edits::{Each, PageEdit};
 use crate::laws::all_are;
 use crate::marks::PageShadows;
 use crate::slices::{fill_at, set_all, write_at};
+use crate::word_scans::{ROW, ROWS, row_has_none, rows_have_none};
 use crate::words::{ABSENT, all_bits, loaded_from, may_lie_within, word, word_bytes};
 use std::alloc::{AllocError, Global};
 
@@ -185,6 +186,26 @@ impl Page {
         low <= value && (value as u64) < high && self.marks.holds_word(at)
     }
 
+    // Returns whether none of 64 words from a place on, a multiple of 4, has such bytes. May also return `false` for such words.
+    #[inline(always)]
+    fn passes_rows(&self, at: usize, low: u32, high: u64) -> bool
+        requires aligned { at % 4 ≡ 0 }
+        requires within { at + 256 ≤ page_len }
+        ensures { IsTrue result → HoldNoneInRange (λ k. (cells_in self.now k).byte) (λ k. shadow_in (cells_in self.now k)) low high at (at + 256) }
+    {
+        self.marks.are_inaccessible(at) || rows_have_none(&self.bytes, at, low, high)
+    }
+
+    // The same of sixteen.
+    #[inline(always)]
+    fn passes_row(&self, at: usize, low: u32, high: u64) -> bool
+        requires aligned { at % 4 ≡ 0 }
+        requires within { at + 64 ≤ page_len }
+        ensures { IsTrue result → HoldNoneInRange (λ k. (cells_in self.now k).byte) (λ k. shadow_in (cells_in self.now k)) low high at (at + 64) }
+    {
+        row_has_none(&self.bytes, at, low, high)
+    }
+
     /// Returns the first multiple of 4, from `from` on, with four such bytes.
     pub(crate) fn next_in_range(&self, from: usize, low: u32, high: u64) -> Option<usize>
         requires within { from ≤ page_len }
@@ -193,9 +214,16 @@ impl Page {
         ensures some { IfSome result (IsNextInRange (λ k. (cells_in self.now k).byte) (λ k. shadow_in (cells_in self.now k)) low high from) }
         ensures inside { IfSome result (λ at. at < page_len) }
     {
-        for word in from / 4..PAGE / 4 {
-            if self.holds_in_range(4 * word, low, high) {
-                return Some(4 * word);
+        let mut at = from;
+        while at < PAGE {
+            if at % ROWS == 0 && self.passes_rows(at, low, high) {
+                at += ROWS;
+            } else if at % ROW == 0 && self.passes_row(at, low, high) {
+                at += ROW;
+            } else if self.holds_in_range(at, low, high) {
+                return Some(at);
+            } else {
+                at += 4;
             }
         }
         None

@@ -8,14 +8,9 @@ ghost use Rattle.shadow_memory.specs.Memories.{bytes_in, cells_of, shadows_in};
 ghost use Rattle.shadow_memory.specs.Places.{page_len};
 
 use crate::cells::{Bad, RangeKind};
-use crate::memory::Memory;
+use crate::memory::{Memory, PAGES};
 use crate::pages::PAGE;
 use crate::ranges::{PAGE_LEN, count_in_page};
-
-// The number of pages of the address space, and of a directory.
-const PAGES: u32 = 1048576;
-
-const DIRECTORY_PAGES: u32 = 1024;
 
 /// A number of zeros of one kind.
 #[derive(Clone, Copy)]
@@ -83,8 +78,9 @@ impl Memory {
         let mut page = addr / PAGE_LEN;
         let mut from = (addr % PAGE_LEN + 3) / 4 * 4;
         while page < PAGES {
-            if self.has_no_word(page / DIRECTORY_PAGES) {
-                page = (page / DIRECTORY_PAGES + 1) * DIRECTORY_PAGES;
+            let next = self.next_kept(page);
+            if page < next {
+                page = next;
             } else {
                 let start = page * PAGE_LEN;
                 if let Some(place) = self.view(start).next_word(from as usize) {
@@ -98,7 +94,8 @@ impl Memory {
     }
 
     /// Returns the least multiple of 4, at or above an address, whose four bytes are all accessible and defined, with a value from `low` up
-    /// to, but not including, `high`. Zeros never have such a value, so a blank page costs one step, and so does a blank directory.
+    /// to, but not including, `high`. Zeros never have such a value, so a blank page costs one step. Pages that aren't kept cost one step for
+    /// all of a directory or a shelf.
     pub fn next_in_range(&self, addr: u32, low: u32, high: u64) -> Option<u32>
         requires { 0 < low }
         ensures none { IfNone result (HoldNoneInRange (bytes_in self.now) (shadows_in self.now) low high addr (2 ^ 32)) }
@@ -107,8 +104,9 @@ impl Memory {
         let mut page = addr / PAGE_LEN;
         let mut from = 4 * ((addr % PAGE_LEN + 3) / 4);
         while page < PAGES {
-            if self.has_no_word(page / DIRECTORY_PAGES) {
-                page = (page / DIRECTORY_PAGES + 1) * DIRECTORY_PAGES;
+            let next = self.next_kept(page);
+            if page < next {
+                page = next;
             } else {
                 let start = page * PAGE_LEN;
                 if let Some(place) = self.view(start).next_in_range(from as usize, low, high) {

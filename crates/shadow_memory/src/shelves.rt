@@ -2,6 +2,7 @@
 ghost use Rattle.std.specs.Prelude.{◌≡◌, ℕ, ◌+◌, ◌/◌, ◌%◌, ◌<◌, ◌≤◌, true, IfOk, IsTrue, IsFalse, OnOk, OnErr, length, slice_index, vec_len};
 
 use crate::cells::RangeKind;
+use crate::directories::DIRECTORY_PAGES;
 use crate::directory_slots::{DIRECTORY, DirectorySlot};
 use crate::edits::{Each, PageEdit};
 use crate::slots::PageSlot;
@@ -9,7 +10,10 @@ use crate::views::View;
 use std::alloc::{AllocError, Global};
 
 /// The number of directories of a shelf.
-pub(crate) const DIRECTORIES: usize = 32;
+const DIRECTORIES: usize = 32;
+
+/// The number of pages of a shelf.
+pub(crate) const SHELF_PAGES: usize = DIRECTORIES * DIRECTORY_PAGES;
 
 /// The number of bytes of a shelf.
 pub(crate) const SHELF: usize = 134217728;
@@ -24,10 +28,8 @@ pub(crate) struct Shelf {
 
 #[tactic(auto, unfolding(crate::specs::Shelves::cells_on, crate::specs::Shelves::cells_below, crate::specs::Views::cells_seen, crate::specs::Directories::cells_at))]
 impl Shelf {
-    ghost use Rattle.shadow_memory.specs.Shadows.{is_bad};
     ghost use Rattle.shadow_memory.specs.Directories.{cells_at};
     ghost use Rattle.shadow_memory.specs.Edits.{change_of, count_of, each_of, Fits};
-    ghost use Rattle.shadow_memory.specs.Cells.{shadow_in};
     ghost use Rattle.shadow_memory.specs.Marks.{blank};
     ghost use Rattle.shadow_memory.specs.Places.{changed_from, page_len};
     ghost use Rattle.shadow_memory.specs.Views.{cells_seen};
@@ -70,15 +72,26 @@ impl Shelf {
         }
     }
 
-    /// Returns whether the directory of a number is blank.
-    pub(crate) fn has_no_word(&self, number: usize) -> bool
-        ensures { IsTrue result → (a : ℕ) → a / 4194304 ≡ number → is_bad true (shadow_in (cells_on self.now a)) ≡ true }
+    /// Returns a number, from this one on, below which no page from this one on is kept; 32,768 at most.
+    pub(crate) fn next_kept(&self, number: usize) -> usize
+        requires { number < 32768 }
+        ensures after { number ≤ result }
+        ensures within { result ≤ 32768 }
+        ensures blank { (a : ℕ) → number ≤ a / page_len → a / page_len < result → cells_on self.now a ≡ blank RangeKind.NoAccess }
     {
-        if number < self.directories.len() {
-            self.directories[number].has_no_word()
-        } else {
-            true
+        let first = number / DIRECTORY_PAGES;
+        let mut directory = first;
+        while directory < self.directories.len() && self.directories[directory].is_blank() {
+            directory += 1;
         }
+        if first < directory {
+            return directory * DIRECTORY_PAGES;
+        }
+        if directory < self.directories.len() {
+            return directory * DIRECTORY_PAGES
+                + self.directories[directory].next_kept(number % DIRECTORY_PAGES);
+        }
+        SHELF_PAGES
     }
 
     // Makes room for the directory of a number.

@@ -3,6 +3,7 @@ use Rattle.shadow_memory.specs.Memories.{bytes_in, cells_of, shadows_in}
 use Rattle.shadow_memory.specs.Values.{HoldNoneInRange}
 use Rattle.shadow_memory.specs.Views.{cells_seen}
 use Rattle.shadow_memory.proofs.Ranging.{next-in-page, page-holds-none}
+use Rattle.shadow_memory.proofs.Skipping.{pages-hold-none}
 use Rattle.shadow_memory.proofs.memory.Memory.next_in_range.Goals as goal
 
 pub returns-in-Some-clause-some : goal.returns-in-Some-clause-some
@@ -38,3 +39,15 @@ loop-page-preserved c =
           (subst (λ (to : ℕ). HoldNoneInRange (bytes_in c.args.self.now) (shadows_in c.args.self.now) c.args.low
           c.args.high c.args.addr to) here c.loop-page.invariant.none));
     }
+
+pub loop-page-preserved-then-page-next : goal.loop-page-preserved-then-page-next
+unfolding bytes_in shadows_in
+loop-page-preserved-then-page-next c = record {
+  within = omega arith;
+  place = omega arith;
+  aligned = refl;
+  above = omega arith;
+  none =
+      pages-hold-none (cells_of c.args.self.now) c.args.addr c.loop-page.page c.next_kept-next.result c.loop-page.from
+      c.loop-page.invariant.place c.next_kept-next.ensures.blank c.args.low c.args.high c.loop-page.invariant.none;
+}

@@ -3,6 +3,7 @@ use Rattle.shadow_memory.specs.Memories.{cells_of, shadows_in}
 use Rattle.shadow_memory.specs.Shadows.{HoldNoWord}
 use Rattle.shadow_memory.specs.Views.{cells_seen}
 use Rattle.shadow_memory.proofs.Searching.{found-in-page, none-in-page}
+use Rattle.shadow_memory.proofs.Skipping.{pages-hold-no-word}
 use Rattle.shadow_memory.proofs.memory.Memory.next_word.Goals as goal
 
 pub returns-in-Some-clause-some : goal.returns-in-Some-clause-some
@@ -34,3 +35,15 @@ loop-page-preserved c =
           c.loop-page.from c.in_default.ensures.none
           (subst (λ (to : ℕ). HoldNoWord (shadows_in c.args.self.now) c.args.addr to) here c.loop-page.invariant.none));
     }
+
+pub loop-page-preserved-then-page-next : goal.loop-page-preserved-then-page-next
+unfolding shadows_in
+loop-page-preserved-then-page-next c = record {
+  within = omega arith;
+  place = omega arith;
+  aligned = refl;
+  above = omega arith;
+  none =
+      pages-hold-no-word (cells_of c.args.self.now) c.args.addr c.loop-page.page c.next_kept-next.result
+      c.loop-page.from c.loop-page.invariant.place c.next_kept-next.ensures.blank c.loop-page.invariant.none;
+}
