@@ -1,5 +1,5 @@
 -- The heap stays open and closed, by induction over the steps of a run.
-use Rattle.std.proofs.Common.{◌≡◌, ℕ, zero, suc, ◌+◌, ◌<◌, ◌≤◌, ◌∷◌, ◌==◌, Bool, true, false, cond, refl, sym, ◌⊎◌, inr}
+use Rattle.std.proofs.Common.{◌≡◌, ℕ, zero, suc, ◌+◌, ◌<◌, ◌≤◌, ◌∷◌, ◌==◌, Bool, true, false, cond, refl, sym, inr}
 use Rattle.std.proofs.Common.{ap, ◌∙◌, subst, arith, List, [], filter, fold, inl, Option, Some, None}
 use Rattle.std.specs.Prelude.{is_some}
 use Rattle.std.proofs.lemmas.Bool.{false≢true}
@@ -20,7 +20,6 @@ use Rattle.guest_machine.specs.Errors.{event_about, here}
 use Rattle.guest_machine.specs.Alterations.{altered, altered_core}
 use Rattle.guest_machine.specs.Run.{after_marks, pre, post, start_state, stack_start, image_shadows}
 use Rattle.guest_machine.specs.declared.setup.Setup.{Setup}
-use Rattle.clean_reports.specs.Disturbed.{IsStartOf}
 use Rattle.clean_reports.specs.Heap.{BlocksAreOpen, HeapIsOpen, HeapIsClosed}
 use Rattle.clean_reports.specs.Marks.{HideNothing, HidesNothing, MissTheHeap, MissesHeap, MissesTheHeap, hides}
 use Rattle.clean_reports.specs.Laws.{HeapStaysOpen, HeapStaysClosed, AccessesAreLive}

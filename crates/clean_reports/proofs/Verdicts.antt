@@ -1,5 +1,5 @@
 -- Verdicts: what marks do, and what is certified.
-use Rattle.std.proofs.Common.{◌≡◌, ℕ, ◌+◌, ◌-◌, ◌^◌, ◌<◌, ◌≤◌, ◌⊎◌, ◌||◌, ◌&&◌, Bool, true, false, cond, refl, sym, ap}
+use Rattle.std.proofs.Common.{◌≡◌, ℕ, ◌-◌, ◌<◌, ◌≤◌, ◌⊎◌, ◌&&◌, Bool, true, false, cond, refl, sym, ap}
 use Rattle.std.proofs.Common.{◌∙◌}
 use Rattle.std.proofs.Common.{arith, subst, List, [], ◌∷◌, Option, Some, None, inl, inr, nat_lt, find}
 use Rattle.std.specs.List.{list_any}
@@ -11,13 +11,13 @@ use Rattle.error_events.specs.declared.event.Event.{Event}
 use Rattle.error_events.specs.declared.event.Group.{Group}
 use Rattle.guest_elf.specs.declared.image.Image.{Image}
 use Rattle.memory_map.specs.Regions.{heap_begin, heap_end}
-use Rattle.shadow_memory.specs.Ranges.{is_in, offset}
+use Rattle.shadow_memory.specs.Ranges.{is_in}
 use Rattle.run_values.specs.declared.alteration.Act.{Act}
 use Rattle.run_values.specs.declared.alteration.Act.TheVariants.{Make}
 use Rattle.run_values.specs.declared.alteration.Alteration.{Alteration}
 use Rattle.shadow_memory.specs.declared.cells.RangeKind.{RangeKind}
 use Rattle.guest_machine.specs.State.{State}
-use Rattle.guest_machine.specs.Run.{post, pre}
+use Rattle.guest_machine.specs.Run.{post}
 use Rattle.guest_machine.specs.declared.setup.Setup.{Setup}
 use Rattle.clean_reports.specs.Disturbed.{HasBytes, IsStartOf}
 use Rattle.clean_reports.specs.Marks.{DefineNothing, DefinesNothing, HideNothing, HidesNothing, MissesHeap, defines}

@@ -93,7 +93,9 @@ impl<'a> Scenario<'a> {
         ensures ok { OnOk result (self.new ≡ (row self.old (MarkEdit mark)).after) }
         ensures err { OnErr result (self.new ≡ self.old) }
     {
-        self.marks.push(mark)?;
+        let Alteration { step, act } = mark;
+        let made = Alteration { step, act };
+        self.marks.push(made)?;
         Ok(())
     }
 

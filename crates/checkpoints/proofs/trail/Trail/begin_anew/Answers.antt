@@ -1,4 +1,4 @@
-use Rattle.std.proofs.Common.{◌≡◌, ℕ, ◌<◌, ◌≤◌, ◌-◌, ◌*◌, ◌∙◌, List, [], ◌∷◌, refl, ap, sym, arith, length, take, inl}
+use Rattle.std.proofs.Common.{◌≡◌, ℕ, ◌<◌, ◌-◌, ◌*◌, ◌∙◌, List, [], ◌∷◌, refl, ap, sym, arith, length, take, inl}
 use Rattle.std.proofs.Common.{subst}
 use Rattle.std.proofs.Math.ListN.{set}
 use Rattle.guest_machine.specs.State.{State}
