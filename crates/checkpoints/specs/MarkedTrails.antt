@@ -1,4 +1,4 @@
--- A trail is right for a run with marks alone if it is right for the run with these marks as alterations.
+-- A trail is right for a run with only marks if it is right for the run with these marks as alterations.
 use Rattle.std.specs.Prelude.{List}
 use Rattle.guest_machine.specs.MarkedRun.{alterations_of}
 use Rattle.guest_machine.specs.State.{State}

@@ -1,4 +1,4 @@
-//! The machine at a step of a run with marks alone.
+//! The machine at a step of a run with only marks.
 ghost use Rattle.std.specs.Prelude.{◌≡◌, ◌+◌, ◌≤◌, min, IfOk, OnOk, OnErr};
 ghost use Rattle.guest_machine.specs.State.{State};
 ghost use Rattle.guest_machine.specs.MarkedRun.{alterations_of, post};

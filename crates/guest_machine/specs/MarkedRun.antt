@@ -1,4 +1,4 @@
--- A run from step zero with marks alone between steps. It is the run with these marks as alterations (`RunsAsMarked`).
+-- A run from step zero with only marks between steps. It is the run with these marks as alterations (`RunsAsMarked`).
 use Rattle.std.specs.Prelude.{ℕ, zero, suc, ◌==◌, List, filter, fold, map}
 use Rattle.guest_machine.specs.State.{State}
 use Rattle.guest_machine.specs.Exec.{exec}

@@ -4,8 +4,8 @@
 //! registers with their undefined bits; pc; whether it runs; the frames of the calls that it is in; the blocks of the heap; how much of the
 //! input was read, how much output was written, and the number of heap calls; and the errors so far, counted by kind and trace.
 //! [`Machine::step`] executes one instruction (ECALL included), or one call of a function of the heap that the setup names by its first
-//! address. [`Machine::run`] executes many steps. Between steps a range can be marked, a word poked, and the machine altered in other ways. Once the machine is halted, a step
-//! changes nothing, and `run` executes none.
+//! address. [`Machine::run`] executes many steps. Between steps a range can be marked, a word poked, and the machine altered in other ways.
+//! Once the machine is halted, a step changes nothing, and `run` executes none.
 //!
 //! # Public items
 //!
@@ -38,9 +38,9 @@
 //! | [`laws::alters_as_marked`], [`laws::runs_as_marked`] | likewise; their contracts say what marks are as alterations |
 //!
 //! [`Setup`], [`Input`], [`Hooks`], [`Mark`], [`Alteration`], [`Act`], [`Touched`], [`Span`], [`Register`], [`Width`], [`Status`] and
-//! [`Stop`] are the values that these take and return. [`USUAL_REDZONE`] and [`USUAL_VOLUME`] are Memcheck's settings of the heap. The values for memory, traces, blocks and errors
-//! are in the crates `shadow_memory`, `call_stacks`, `guest_heap` and `error_events`. If memory runs out, what consumes a machine drops it
-//! and returns `AllocError`; nothing else fails.
+//! [`Stop`] are the values that these take and return. [`USUAL_REDZONE`] and [`USUAL_VOLUME`] are Memcheck's settings of the heap. The
+//! values for memory, traces, blocks and errors are in the crates `shadow_memory`, `call_stacks`, `guest_heap` and `error_events`. If
+//! memory runs out, what consumes a machine drops it and returns `AllocError`; nothing else fails.
 //!
 //! # What a caller can rely on
 //!
@@ -53,18 +53,18 @@
 //! - `meter`: the meter has risen by one, up to the greatest `u64`;
 //! - `unmoved`: if memory ran out, the meter is where it was.
 //!
-//! The calls between steps have the same form: `start` shows `start_state`, `mark` leads from a state to `marked`, `alter` to `altered`, `poke_word`
-//! to `poked`, `share` to the same state, and each observer except `has_raised` returns a field of it. So a run of any length is the definition `pre`
-//! or `post`, by as many calls. The laws let a caller replay less after an edit. A step is the same if the edit changed only a word that it
-//! doesn't touch, input that it hasn't come to, or, if it is no heap call, the heap's options. A word that it doesn't touch may as well be
-//! poked after it. A step of a halted machine need not be executed.
+//! The calls between steps have the same form: `start` shows `start_state`, `mark` leads from a state to `marked`, `alter` to `altered`,
+//! `poke_word` to `poked`, `share` to the same state, and each observer except `has_raised` returns a field of it. So a run of any length
+//! is the definition `pre` or `post`, by as many calls. The laws let a caller replay less after an edit. A step is the same if the edit
+//! changed only a word that it doesn't touch, input that it hasn't come to, or, if it is no heap call, the heap's options. A word that it
+//! doesn't touch may as well be poked after it. A step of a halted machine need not be executed.
 //!
 //! # Where the definitions are
 //!
 //! They are in `specs/`, here from the outside in:
 //!
 //! - `Run`: the state at the start, marks, pokes, and the states before and after the alterations of each step. `Alterations`: what each of
-//!   these does. `MarkedRun`: the run with marks alone.
+//!   these does. `MarkedRun`: the run with only marks.
 //! - `Exec`: one step (`exec`) and what it touches (`touched_of`, `touches`), in three parts: what the step does (`deed_at`: it fetches the
 //!   word at pc, calls a function by name, or neither), what it uses, and what it leaves. It depends on no other byte and no other part of
 //!   the setup; the laws follow from this form.
