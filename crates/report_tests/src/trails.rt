@@ -6,7 +6,9 @@ ghost use Rattle.checkpoints.specs.Trails.{LoadsAs};
 use crate::runs::setup_of;
 use checkpoints::{Effect, Fork, Sought, Trail, Watch, run_to};
 use guest_elf::{Image, read};
-use guest_machine::{Input, Machine, Mark, Meter, Setup, Span, Status, Stop};
+use guest_machine::{
+    Act as Deed, Alteration, Input, Machine, Mark, Meter, Setup, Span, Status, Stop, Width,
+};
 use guest_programs::sized_program;
 use shadow_memory::RangeKind;
 use std::alloc::{AllocError, Global};
@@ -106,6 +108,10 @@ pub(crate) enum Act {
     Patch(u32, u32),
     /// A mark is appended to the list.
     AddMark(Mark),
+    /// A word is written just before a step.
+    Write(u32, u32, u32),
+    /// A word is patched that is written in this way too.
+    PatchWritten(u32, u32),
     /// The first mark is removed.
     TakeMark,
     /// The input is another, from an offset on.
@@ -200,6 +206,25 @@ const EDITS: [Case; 4] = [
             Act::ReplaceInput(1, b"a\x07"),
             Act::Ask(10, (20, Status::Exited(7), 0x10024, 0)),
             Act::Ask(5, (25, RUNS, 0x10014, 0)),
+        ],
+    ),
+];
+
+const ALTERED: [Case; 1] = [
+    // The word that is read in step 1201 is written before step 60: with 0, so that a patch of it doesn't show at step 3000, and with 1.
+    (
+        "a word that is written and patched",
+        Program::ReadsOn,
+        &[
+            Act::Ask(3000, (3000, RUNS, 0x1000C, 0)),
+            Act::Write(60, 0x10654, 0),
+            Act::Ask(3000, (6000, RUNS, 0x1000C, 0)),
+            Act::PatchWritten(0x10654, 1),
+            Act::Ask(3000, (9000, RUNS, 0x1000C, 0)),
+            Act::Write(1100, 0x10654, 1),
+            Act::Ask(3000, (10976, ENDS, 0x10010, 0)),
+            Act::PatchWritten(0x10654, 0),
+            Act::Ask(3000, (13976, ENDS, 0x10010, 0)),
         ],
     ),
 ];
@@ -312,7 +337,7 @@ struct Edited<'a> {
     trail: Trail,
     ghost loads: { LoadsAs trail image },
     setup: Setup,
-    marks: Vec<Mark>,
+    marks: Vec<Alteration>,
 }
 
 /// Returns whether a machine continues from a fork as expected, without marks.
@@ -366,7 +391,7 @@ impl<'a> Edited<'a> {
 
     /// Returns whether the machine at a step is as expected.
     fn asks(&mut self, step: u32, told: &Told) -> Result<bool, AllocError> {
-        let machine = self.trail.at(step, &self.setup, &self.marks)?;
+        let machine = self.trail.at_altered(step, &self.setup, &self.marks)?;
         let (made, status, pc, errors) = told;
         Ok(
             self.trail.meter().read() == *made
@@ -386,8 +411,29 @@ impl<'a> Edited<'a> {
     }
 
     fn adds_mark(&mut self, mark: Mark) -> Result<bool, AllocError> {
-        self.marks.push(mark)?;
+        self.marks.push(Alteration::from(mark))?;
         self.trail.cut(Effect::After(mark.step));
+        Ok(true)
+    }
+
+    /// Has a word written just before a step.
+    fn writes(&mut self, step: u32, addr: u32, value: u32) -> Result<bool, AllocError> {
+        let act = Deed::Write {
+            addr,
+            width: Width::Word,
+            value,
+        };
+        self.marks.push(Alteration { step, act })?;
+        self.trail.cut(Effect::After(step));
+        Ok(true)
+    }
+
+    /// Patches a word that is written in this way, if its bytes are loaded.
+    fn patches_written(&mut self, addr: u32, word: u32) -> Result<bool, AllocError> {
+        if addr % 4 != 0 || !self.image.patchable(addr) {
+            return Ok(false);
+        }
+        self.trail.follow(Effect::Anew { addr, word })?;
         Ok(true)
     }
 
@@ -501,6 +547,8 @@ impl<'a> Edited<'a> {
             Act::Ask(step, told) => self.asks(*step, told),
             Act::Patch(addr, word) => self.patches(*addr, *word),
             Act::AddMark(mark) => self.adds_mark(*mark),
+            Act::Write(step, addr, value) => self.writes(*step, *addr, *value),
+            Act::PatchWritten(addr, word) => self.patches_written(*addr, *word),
             Act::TakeMark => Ok(self.takes_mark()),
             Act::ReplaceInput(offset, bytes) => self.replaces_input(*offset, bytes),
             Act::Append(byte) => self.appends(*byte),
@@ -568,6 +616,11 @@ pub(crate) fn assert_performed(rt: &impl Abort, alloc: Global, cases: &[Case]) {
 #[test]
 fn edits_cost_what_follows_them(rt: HostRuntime) {
     assert_performed(&rt, rt.alloc(), &EDITS);
+}
+
+#[test]
+fn written_words_are_patched(rt: HostRuntime) {
+    assert_performed(&rt, rt.alloc(), &ALTERED);
 }
 
 #[test]
