@@ -9,7 +9,7 @@ use Rattle.guest_machine.specs.State.{State}
 use Rattle.guest_machine.specs.Run.{pre, poked}
 use Rattle.guest_machine.specs.Shows.{Shows}
 use Rattle.guest_machine.specs.Laws.{KeepsInput, KeepsHeap, KeepsEnd, EndStays, ReadsOn}
-use Rattle.run_values.specs.declared.mark.Mark.{Mark}
+use Rattle.run_values.specs.declared.alteration.Alteration.{Alteration}
 use Rattle.guest_machine.specs.declared.setup.Setup.{Setup}
 use Rattle.checkpoints.specs.Entries.{below}
 use Rattle.checkpoints.specs.FirstUses.{uses_word, IsFirstBelow}
@@ -20,6 +20,7 @@ use Rattle.checkpoints.specs.Trails.{machines_of, table_of, is_short, IsRightFor
 use Rattle.checkpoints.specs.declared.trail.Trail.{Trail}
 use Rattle.checkpoints.specs.declared.effect.Effect.{Effect}
 use Rattle.checkpoints.specs.declared.effect.Effect.TheVariants.{Nowhere, After, Input, End, Heap, Word}
+use Rattle.checkpoints.specs.declared.effect.Effect.TheVariants.{Anew}
 use Rattle.checkpoints.proofs.RunSteps.{SameStep, reads-rise, no-calls, unseen-before, same-before-input}
 use Rattle.checkpoints.proofs.RunSteps.{same-before-end, same-before-heap, same-before-mark}
 use Rattle.checkpoints.proofs.FirstSteps.{first-fewer}
@@ -39,7 +40,7 @@ told-after s k n e = tells (MarkShows s) k (nat_lt s n)
     (λ told j l at. let early : n ≤ s = grind (arith, nat_tests) in omega arith)
 
 -- by the position in the input
-pub told-input : ReadsOn → (start : State) (setup : Setup) (marks : List Mark) (offset position k : ℕ)
+pub told-input : ReadsOn → (start : State) (setup : Setup) (marks : List Alteration) (offset position k : ℕ)
     → position ≡ (pre start setup marks k).position
     → Tells (InputShows offset start setup marks) k (nat_lt offset position)
 told-input law start setup marks offset position k e =
@@ -49,7 +50,7 @@ told-input law start setup marks offset position k e =
     let rises = reads-rise law start setup marks k j l in omega arith)
 
 -- by whether the end was seen
-pub told-end : EndStays → (start : State) (setup : Setup) (marks : List Mark) (seen : Bool) (k : ℕ)
+pub told-end : EndStays → (start : State) (setup : Setup) (marks : List Alteration) (seen : Bool) (k : ℕ)
     → seen ≡ (pre start setup marks k).end_seen
     → Tells (EndShows start setup marks) k seen
 told-end law start setup marks seen k e = tells (EndShows start setup marks) k seen
@@ -57,7 +58,7 @@ told-end law start setup marks seen k e = tells (EndShows start setup marks) k s
     (λ told j l before. true≢false (sym before ∙ unseen-before law start setup marks k j l (sym e ∙ told)))
 
 -- by the number of heap calls
-pub told-heap : KeepsHeap → (start : State) (setup : Setup) (marks : List Mark) (calls k : ℕ)
+pub told-heap : KeepsHeap → (start : State) (setup : Setup) (marks : List Alteration) (calls k : ℕ)
     → calls ≡ (pre start setup marks k).heap_calls
     → Tells (HeapShows start setup marks) k (nat_lt 0 calls)
 told-heap law start setup marks calls k e = tells (HeapShows start setup marks) k (nat_lt 0 calls)
@@ -65,8 +66,14 @@ told-heap law start setup marks calls k e = tells (HeapShows start setup marks) 
     (λ told j l called. let few : calls ≤ 0 = grind (arith, nat_tests) in
     let none = no-calls law start setup marks k j l (omega arith) in omega arith)
 
+-- by the step, for a word that is written anew
+pub told-anew : (k n : ℕ) → n ≡ k → Tells (λ (j : ℕ). 0 < j) k (nat_lt 0 n)
+told-anew k n e = tells (λ (j : ℕ). 0 < j) k (nat_lt 0 n)
+    (λ told hidden. let past : 0 < n = grind (arith, nat_tests) in hidden k (omega arith) (omega arith))
+    (λ told j l at. let early : n ≤ 0 = grind (arith, nat_tests) in omega arith)
+
 -- by the word's first use
-pub told-use : (start : State) (setup : Setup) (marks : List Mark) (addr k : ℕ) (found : Option ℕ)
+pub told-use : (start : State) (setup : Setup) (marks : List Alteration) (addr k : ℕ) (found : Option ℕ)
     → IsFirstBelow (uses_word start setup marks addr) k found
     → Tells (PatchShows addr start setup marks) k (is_some found)
 told-use start setup marks addr k None unused = λ j l shown.
@@ -75,7 +82,7 @@ told-use start setup marks addr k None unused = λ j l shown.
 told-use start setup marks addr k (Some s) first =
     λ hidden. let l = first.0 in hidden (s + 1) (omega arith) (s, refl, first.1)
 
-pub told-word : (start : State) (setup : Setup) (marks : List Mark) (addr last entry k n : ℕ) → n ≡ k → k ≤ last
+pub told-word : (start : State) (setup : Setup) (marks : List Alteration) (addr last entry k n : ℕ) → n ≡ k → k ≤ last
     → IsFirstBelow (uses_word start setup marks addr) last (below last entry)
     → Tells (PatchShows addr start setup marks) k (is_some (below n entry))
 told-word start setup marks addr last entry k n e l h =
@@ -84,7 +91,7 @@ told-word start setup marks addr last entry k n e l h =
     (first-fewer (uses_word start setup marks addr) last k entry l h))
 
 -- no edit shows at step 0
-pub hidden-at-start : (effect : Effect) (trail : Trail) (start : State) (setup : Setup) (marks : List Mark)
+pub hidden-at-start : (effect : Effect) (trail : Trail) (start : State) (setup : Setup) (marks : List Alteration)
     → IsRightFor trail start setup marks
     → IsBelowFirst (EffectShows effect start setup marks) 0
 unfolding pre
@@ -105,6 +112,7 @@ hidden-at-start Heap trail start setup marks h j l shown =
     let none = h.nothing_called in
     omega arith
 hidden-at-start (Word addr word) trail start setup marks h j l shown = let next = shown.1 in omega arith
+hidden-at-start (Anew addr word) trail start setup marks h j l shown = omega arith
 
 -- ---- how far the edited run does the same
 
@@ -116,16 +124,18 @@ pub record Laws : Type 0 where
   pub stays : EndStays
   pub heap : KeepsHeap
 
-same-run : (start : State) (setup other : Setup) (marks edited : List Mark) (k : ℕ) → setup ≡ other → marks ≡ edited
+same-run : (start : State) (setup other : Setup) (marks edited : List Alteration) (k : ℕ) → setup ≡ other
+    → marks ≡ edited
     → SameStep start setup marks other edited k
 same-run start setup other marks edited k s m =
     subst (λ (o : Setup). SameStep start setup marks o edited k) s
-    (subst (λ (ms : List Mark). SameStep start setup marks setup ms k) m (record { touches = refl; exec = refl }))
+    (subst (λ (ms : List Alteration). SameStep start setup marks setup ms k) m (record { touches = refl; exec = refl }))
 
-with-marks : (start : State) (setup other : Setup) (marks edited : List Mark) (k : ℕ) → marks ≡ edited
+with-marks : (start : State) (setup other : Setup) (marks edited : List Alteration) (k : ℕ) → marks ≡ edited
     → SameStep start setup marks other marks k
     → SameStep start setup marks other edited k
-with-marks start setup other marks edited k m h = subst (λ (ms : List Mark). SameStep start setup marks other ms k) m h
+with-marks start setup other marks edited k m h = subst (λ (ms : List Alteration). SameStep start setup marks other ms
+    k) m h
 
 not-past : (a b : ℕ) → (a < b → ⊥) → b ≤ a
 not-past a b h = elim (cases_lt a b) [
@@ -138,7 +148,7 @@ not-seen true h = absurd (h refl)
 not-seen false h = refl
 
 -- each step before one at which the edit hasn't shown
-pub goes-alike : Laws → (effect : Effect) (start : State) (setup other : Setup) (marks edited : List Mark) (n : ℕ)
+pub goes-alike : Laws → (effect : Effect) (start : State) (setup other : Setup) (marks edited : List Alteration) (n : ℕ)
     → DifferBy effect setup marks other edited
     → IsBelowFirst (EffectShows effect start setup marks) n → (k : ℕ) → k < n
     → SameStep start setup marks other edited k
@@ -164,12 +174,14 @@ goes-alike laws Heap start setup other marks edited n d hidden k l =
     with-marks start setup other marks edited k d.1 (same-before-heap laws.heap start setup other marks n d.0 none k l)
 goes-alike laws (Word addr word) start setup other marks edited n d hidden k l =
     same-run start setup other marks edited k d.0 d.1
+goes-alike laws (Anew addr word) start setup other marks edited n d hidden k l =
+    same-run start setup other marks edited k d.0 d.1
 
 -- ---- the machines below the effect
 
 pub right-cut : Laws → (effect : Effect) (old new : Trail) (kept : ℕ) → machines_of new ≡ take kept (machines_of old)
     → table_of new ≡ table_of old → 0 < kept
-    → (start : State) (setup other : Setup) (marks edited : List Mark)
+    → (start : State) (setup other : Setup) (marks edited : List Alteration)
     → IsBelowFirst (EffectShows effect start setup marks) (1024 * (kept - 1))
     → DifferBy effect setup marks other edited → IsRightFor old start setup marks → IsRightFor new start other edited
 right-cut laws effect old new kept e t some start setup other marks edited hidden d h =
@@ -194,15 +206,16 @@ pub led-by-word : (addr word : ℕ) (old new : Trail) → IsRightForPoked addr w
     → IsRightForLed (Word addr word) old new
 led-by-word addr word old new right one other l h =
     let poked-start : IsRightFor new (poked one.start addr word) one.setup one.marks = right one.start one.setup
-    one.marks h in
+    one.marks l.differ.2 h in
     let setup = subst (λ (s : Setup). IsRightFor new (poked one.start addr word) s one.marks) l.differ.0 poked-start in
-    let marks = subst (λ (ms : List Mark). IsRightFor new (poked one.start addr word) other.setup ms) l.differ.1
+    let marks = subst (λ (ms : List Alteration). IsRightFor new (poked one.start addr word) other.setup ms) l.differ.1
     setup in
     subst (λ (s : State). IsRightFor new s other.setup other.marks) (sym l.start) marks
 
 -- and where none was
 abbrev pub WritesNothing : Effect → Type 0
-WritesNothing effect = (addr word : ℕ) → effect ≡ Word addr word → ⊥
+WritesNothing effect =
+    ((addr word : ℕ) → effect ≡ Word addr word → ⊥) × ((addr word : ℕ) → effect ≡ Anew addr word → ⊥)
 
 pub unwritten : (effect : Effect) → WritesNothing effect → (s : State) → written_by effect s ≡ s
 unwritten Nowhere none s = refl
@@ -210,7 +223,8 @@ unwritten (After step) none s = refl
 unwritten (Input offset) none s = refl
 unwritten End none s = refl
 unwritten Heap none s = refl
-unwritten (Word addr word) none s = absurd (none addr word refl)
+unwritten (Word addr word) none s = absurd (none.0 addr word refl)
+unwritten (Anew addr word) none s = absurd (none.1 addr word refl)
 
 pub led-by-cut : (effect : Effect) → WritesNothing effect → (old new : Trail) → IsRightForEdited effect old new
     → IsRightForLed effect old new
@@ -237,3 +251,4 @@ whole-by-cut (Input offset) old new e = e
 whole-by-cut End old new e = e
 whole-by-cut Heap old new e = e
 whole-by-cut (Word addr word) old new e = λ h. e ∙ h
+whole-by-cut (Anew addr word) old new e = e

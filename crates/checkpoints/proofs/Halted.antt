@@ -2,31 +2,32 @@
 use Rattle.std.proofs.Common.{◌≡◌, ℕ, zero, suc, ◌+◌, ◌-◌, ◌≤◌, List, [], ◌∷◌, false, refl, ap, sym, ◌∙◌, arith}
 use Rattle.std.specs.Prelude.{fold}
 use Rattle.guest_machine.specs.State.{State}
-use Rattle.guest_machine.specs.Run.{after_marks, marks_at, marked, pre, post}
+use Rattle.guest_machine.specs.Alterations.{altered}
+use Rattle.guest_machine.proofs.AlterSteps.{altered-status}
+use Rattle.guest_machine.specs.Run.{after_marks, marks_at, pre, post}
 use Rattle.guest_machine.specs.Exec.{touches, is_running}
 use Rattle.guest_machine.specs.Laws.{StaysHalted}
-use Rattle.run_values.specs.declared.mark.Mark.{Mark}
+use Rattle.run_values.specs.declared.alteration.Alteration.{Alteration}
 use Rattle.guest_machine.specs.declared.setup.Setup.{Setup}
 use Rattle.checkpoints.specs.FirstUses.{uses_word}
 use Rattle.checkpoints.proofs.WordSteps.{meets-nowhere}
 use Rattle.checkpoints.proofs.MarkSteps.{pre-more}
 
-marks-keep-status : (marks : List Mark) (s : State) → (fold marked s marks).core.status ≡ s.core.status
-unfolding marked
+marks-keep-status : (marks : List Alteration) (s : State) → (fold altered s marks).core.status ≡ s.core.status
 marks-keep-status [] s = refl
-marks-keep-status (m ∷ ms) s = marks-keep-status ms (marked s m)
+marks-keep-status (m ∷ ms) s = marks-keep-status ms (altered s m) ∙ altered-status s m
 
 -- the marks of a step don't change whether it runs
-pub marked-runs : (k : ℕ) (marks : List Mark) (s : State)
+pub marked-runs : (k : ℕ) (marks : List Alteration) (s : State)
     → is_running (after_marks k marks s).core.status ≡ is_running s.core.status
 unfolding after_marks
 marked-runs k marks s = ap is_running (marks-keep-status (marks_at k marks) s)
 
-marked-halted : (k : ℕ) (marks : List Mark) (s : State) → is_running s.core.status ≡ false
+marked-halted : (k : ℕ) (marks : List Alteration) (s : State) → is_running s.core.status ≡ false
     → is_running (after_marks k marks s).core.status ≡ false
 marked-halted k marks s h = marked-runs k marks s ∙ h
 
-module _ (law : StaysHalted) (start : State) (setup : Setup) (marks : List Mark) (from : ℕ)
+module _ (law : StaysHalted) (start : State) (setup : Setup) (marks : List Alteration) (from : ℕ)
     (halted : is_running (pre start setup marks from).core.status ≡ false) where
   -- another step
   one-more : (j : ℕ) → is_running (pre start setup marks (from + j)).core.status ≡ false

@@ -8,13 +8,14 @@ use Rattle.std.proofs.lemmas.Bool.Decides.{nat_tests}
 use Rattle.std.proofs.lemmas.List.FromFn.{length-map-range_with_len, map-range_with_len_more}
 use Rattle.std.proofs.lemmas.List.{drop-append-le, take-append-le, take_all, length-drop}
 use Rattle.std.specs.Prelude.{fold}
-use Rattle.run_values.specs.declared.mark.Mark.{Mark}
+use Rattle.run_values.specs.declared.alteration.Alteration.{Alteration}
 use Rattle.run_values.specs.declared.span.Span.{Span}
 use Rattle.shadow_memory.specs.Ranges.{above, window}
 use Rattle.guest_machine.specs.State.{State}
 use Rattle.guest_machine.specs.Calls.{bytes_taken}
 use Rattle.guest_machine.specs.Exec.{exec, touched_of}
-use Rattle.guest_machine.specs.Run.{after_marks, marks_at, marked, pre, post}
+use Rattle.guest_machine.specs.Alterations.{altered}
+use Rattle.guest_machine.specs.Run.{after_marks, marks_at, pre, post}
 use Rattle.guest_machine.specs.Streams.{WritesWhatItReads, bytes_over}
 use Rattle.guest_machine.specs.declared.setup.Setup.{Setup}
 use Rattle.checkpoints.specs.Outputs.{part}
@@ -139,16 +140,16 @@ module _ (law : WritesWhatItReads) (s : State) (setup : Setup) (before after : �
       said.0 ∙ ap (λ xs. s.output ++ xs) (λ i. bytes_over (sym (now ∙ said.1) i) (sym same i))
 
 -- marks write nothing out
-fold-output : (marks : List Mark) (s : State) → (fold marked s marks).output ≡ s.output
-unfolding marked
+fold-output : (marks : List Alteration) (s : State) → (fold altered s marks).output ≡ s.output
+unfolding altered
 fold-output [] s = refl
-fold-output (m ∷ ms) s = fold-output ms (marked s m)
+fold-output (m ∷ ms) s = fold-output ms (altered s m)
 
-pub marks-output : (k : ℕ) (marks : List Mark) (s : State) → (after_marks k marks s).output ≡ s.output
+pub marks-output : (k : ℕ) (marks : List Alteration) (s : State) → (after_marks k marks s).output ≡ s.output
 unfolding after_marks
 marks-output k marks s = fold-output (marks_at k marks) s
 
-pub post-output : (start : State) (setup : Setup) (marks : List Mark) (k : ℕ)
+pub post-output : (start : State) (setup : Setup) (marks : List Alteration) (k : ℕ)
     → (post start setup marks k).output ≡ (pre start setup marks k).output
 unfolding post
 post-output start setup marks k = marks-output k marks (pre start setup marks k)
@@ -159,7 +160,7 @@ adds : (xs ys piece : List ℕ) (Same : Type 0) → (ys ≡ xs) ⊎ ((ys ≡ xs 
 adds xs ys piece Same (inl same) = ([], same ∙ sym (append-nil xs))
 adds xs ys piece Same (inr said) = (piece, said.0)
 
-module _ (law : WritesWhatItReads) (start : State) (setup : Setup) (marks : List Mark) where
+module _ (law : WritesWhatItReads) (start : State) (setup : Setup) (marks : List Alteration) where
   one-step : (k : ℕ) → (more : List ℕ)
       × ((pre start setup marks (k + 1)).output ≡ (pre start setup marks k).output ++ more)
   one-step k =
@@ -198,7 +199,7 @@ module _ (law : WritesWhatItReads) (start : State) (setup : Setup) (marks : List
       (ap (λ n. (pre start setup marks n).output) (sym end) ∙ more.1) full
 
 -- nothing is written at the start
-pub none-at-start : (start : State) (setup : Setup) (marks : List Mark) (k n : ℕ) → k ≡ 0 → start.output ≡ []
+pub none-at-start : (start : State) (setup : Setup) (marks : List Alteration) (k n : ℕ) → k ≡ 0 → start.output ≡ []
     → length (pre start setup marks k).output ≤ n
 unfolding pre
 none-at-start start setup marks k n first empty =

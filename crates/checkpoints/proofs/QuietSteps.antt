@@ -7,7 +7,7 @@ use Rattle.guest_machine.specs.Shows.{Shows}
 use Rattle.guest_machine.specs.declared.machine.Machine.{Machine}
 use Rattle.guest_machine.specs.declared.setup.Setup.{Setup}
 use Rattle.guest_machine.specs.declared.setup.Touched.{Touched}
-use Rattle.run_values.specs.declared.mark.Mark.{Mark}
+use Rattle.run_values.specs.declared.alteration.Alteration.{Alteration}
 use Rattle.checkpoints.specs.Words.{meets, never}
 use Rattle.checkpoints.specs.Entries.{below}
 use Rattle.checkpoints.specs.FirstUses.{uses_word, IsFirstBelow}
@@ -15,21 +15,21 @@ use Rattle.checkpoints.proofs.FirstSteps.{first-more}
 use Rattle.checkpoints.proofs.MarkSteps.{after-no_marks, pre-more, shows-along}
 
 -- a step leads from after its marks to before those of the next
-pub steps-on : (start : State) (setup : Setup) (marks : List Mark) (k : ℕ) (m n : Machine)
+pub steps-on : (start : State) (setup : Setup) (marks : List Alteration) (k : ℕ) (m n : Machine)
     → ((s : State) → Shows m s → Shows n (exec s setup)) → Shows m (post start setup marks k)
     → Shows n (pre start setup marks (k + 1))
 unfolding post
 steps-on start setup marks k m n step h = shows-along n n _ _ refl (pre-more start setup marks k) (step _ h)
 
 -- and after those, where there are none
-pub unmarked : (start : State) (setup : Setup) (marks : List Mark) (k : ℕ) (m : Machine) → marks_at k marks ≡ []
+pub unmarked : (start : State) (setup : Setup) (marks : List Alteration) (k : ℕ) (m : Machine) → marks_at k marks ≡ []
     → Shows m (pre start setup marks k) → Shows m (post start setup marks k)
 unfolding post
 unmarked start setup marks k m none h =
     shows-along m m _ _ refl (after-no_marks k marks (pre start setup marks k) none) h
 
 -- and what it touches is entered
-pub enters-on : (start : State) (setup : Setup) (marks : List Mark) (addr k x y : ℕ) (touched : Touched)
+pub enters-on : (start : State) (setup : Setup) (marks : List Alteration) (addr k x y : ℕ) (touched : Touched)
     → touched ≡ touched_of (post start setup marks k) setup → addr % 4 ≡ 0 → (x < k) ⊎ (never ≤ x) → k + 1 ≤ never
     → y ≡ cond (meets (has_touched touched) (4 * (addr / 4))) (min x k) x
     → IsFirstBelow (uses_word start setup marks addr) k (below k x)

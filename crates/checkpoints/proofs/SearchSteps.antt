@@ -9,7 +9,7 @@ use Rattle.guest_machine.specs.Exec.{exec, touches, touched_of, is_running}
 use Rattle.guest_machine.specs.Run.{pre, post}
 use Rattle.guest_machine.specs.Laws.{StaysHalted}
 use Rattle.guest_machine.specs.Spans.{covers}
-use Rattle.run_values.specs.declared.mark.Mark.{Mark}
+use Rattle.run_values.specs.declared.alteration.Alteration.{Alteration}
 use Rattle.guest_machine.specs.declared.setup.Setup.{Setup}
 use Rattle.run_values.specs.declared.span.Span.{Span}
 use Rattle.checkpoints.specs.Searches.{Meets, HitsIn, Hits, IsLast}
@@ -50,7 +50,7 @@ rests-unhit law Error range s setup h hit =
     omega arith
 
 -- nor does a later one
-pub halted-unhit : StaysHalted → (sought : Sought) (start : State) (setup : Setup) (marks : List Mark) (from : ℕ)
+pub halted-unhit : StaysHalted → (sought : Sought) (start : State) (setup : Setup) (marks : List Alteration) (from : ℕ)
     → is_running (pre start setup marks from).core.status ≡ false → (k : ℕ) → from ≤ k → Hits sought start setup marks k
     → ⊥
 unfolding Hits

@@ -1,12 +1,12 @@
 -- What an edit leaves of a trail, by the edit's effect: for which run the trail is right then, and which of its
 -- machines are kept.
-use Rattle.std.specs.Prelude.{◌≡◌, ℕ, ◌⊎◌, List, Bool, Option, true, slice_index_or}
+use Rattle.std.specs.Prelude.{◌≡◌, ℕ, ◌⊎◌, List, Bool, Option, true, false, slice_index_or}
 use Rattle.guest_machine.specs.State.{State}
 use Rattle.guest_machine.specs.Run.{poked}
 use Rattle.guest_machine.specs.Shows.{Shows}
 use Rattle.guest_machine.specs.declared.machine.Machine.{Machine}
 use Rattle.guest_machine.specs.declared.setup.Setup.{Setup}
-use Rattle.run_values.specs.declared.mark.Mark.{Mark}
+use Rattle.run_values.specs.declared.alteration.Alteration.{Alteration}
 use Rattle.checkpoints.specs.FirstEffects.{IsBelowFirst}
 use Rattle.checkpoints.specs.Effects.{EffectShows, Tells, DifferBy, Run, LeadsTo, written_by}
 use Rattle.checkpoints.specs.Work.{IsBelow, lowered}
@@ -14,6 +14,7 @@ use Rattle.checkpoints.specs.Trails.{machines_of, is_short, last_held, KeepsJust
 use Rattle.checkpoints.specs.declared.trail.Trail.{Trail}
 use Rattle.checkpoints.specs.declared.effect.Effect.{Effect}
 use Rattle.checkpoints.specs.declared.effect.Effect.TheVariants.{Word}
+use Rattle.checkpoints.specs.Writes.{write_word}
 
 -- ---- for which run it is right
 
@@ -28,14 +29,14 @@ IsRightForLed effect old new =
 -- for that run, except for a word that is still to be written
 abbrev pub IsRightForEdited : Effect → Trail → Trail → Type 0
 IsRightForEdited effect old new =
-    (start : State) (setup other : Setup) (marks edited : List Mark) → DifferBy effect setup marks other edited
+    (start : State) (setup other : Setup) (marks edited : List Alteration) → DifferBy effect setup marks other edited
     → IsRightFor old start setup marks → IsRightFor new start other edited
 
--- for a start with a word written
+-- for a start with a word written, if no mark writes it
 abbrev pub IsRightForPoked : ℕ → ℕ → Trail → Trail → Type 0
 IsRightForPoked addr word old new =
-    (start : State) (setup : Setup) (marks : List Mark) → IsRightFor old start setup marks
-    → IsRightFor new (poked start addr word) setup marks
+    (start : State) (setup : Setup) (marks : List Alteration) → write_word marks addr ≡ false
+    → IsRightFor old start setup marks → IsRightFor new (poked start addr word) setup marks
 
 -- machine i of the new trail is that of the old one, with the word written if the edit writes one
 abbrev pub HasFollowed : Effect → Trail → Trail → ℕ → Type 0
@@ -48,19 +49,19 @@ HasFollowed effect old new i =
 -- a result says, for each run for which a trail is right, whether the edit shows at a step or before it
 abbrev pub TellsShown : Effect → Trail → ℕ → Bool → Type 0
 TellsShown effect trail k told =
-    (start : State) (setup : Setup) (marks : List Mark) → IsRightFor trail start setup marks
+    (start : State) (setup : Setup) (marks : List Alteration) → IsRightFor trail start setup marks
     → Tells (EffectShows effect start setup marks) k told
 
 -- exactly those below the edit's first effect
 abbrev pub KeepsBelowEffect : Effect → Trail → Trail → Type 0
 KeepsBelowEffect effect old new =
-    (start : State) (setup : Setup) (marks : List Mark) → IsRightFor old start setup marks
+    (start : State) (setup : Setup) (marks : List Alteration) → IsRightFor old start setup marks
     → KeepsJust (IsBelowFirst (EffectShows effect start setup marks)) old new
 
 -- and if memory ran out, fewer of them, which the trail says
 abbrev pub KeepsBelowEffectOrIsShort : Effect → Trail → Trail → Type 0
 KeepsBelowEffectOrIsShort effect old new =
-    (start : State) (setup : Setup) (marks : List Mark) → IsRightFor old start setup marks
+    (start : State) (setup : Setup) (marks : List Alteration) → IsRightFor old start setup marks
     → (KeepsJust (IsBelowFirst (EffectShows effect start setup marks)) old new × (is_short new ≡ is_short old))
     ⊎ (KeepsOnly (IsBelowFirst (EffectShows effect start setup marks)) old new × (is_short new ≡ true))
 

@@ -1,24 +1,27 @@
 -- The effect of an edit: at which steps of a run the edit may show, and from which run to which it leads.
-use Rattle.std.specs.Prelude.{◌≡◌, ℕ, Bool, true, false, List}
+use Rattle.std.specs.Prelude.{◌≡◌, ℕ, ◌<◌, Bool, true, false, List}
 use Rattle.guest_machine.specs.State.{State}
 use Rattle.guest_machine.specs.Run.{poked, marks_at}
 use Rattle.guest_machine.specs.Laws.{SharesFront, Extends}
 use Rattle.guest_machine.specs.declared.setup.Setup.{Setup}
-use Rattle.run_values.specs.declared.mark.Mark.{Mark}
+use Rattle.run_values.specs.declared.alteration.Alteration.{Alteration}
 use Rattle.run_values.specs.declared.span.Span.{Span}
 use Rattle.checkpoints.specs.Words.{IsWordIn}
 use Rattle.checkpoints.specs.FirstEffects.{IsBelowFirst, MarkShows, InputShows, EndShows, HeapShows, PatchShows}
 use Rattle.checkpoints.specs.declared.effect.Effect.{Effect}
 use Rattle.checkpoints.specs.declared.effect.Effect.TheVariants.{Nowhere, After, Input, End, Heap, Word}
+use Rattle.checkpoints.specs.declared.effect.Effect.TheVariants.{Anew}
+use Rattle.checkpoints.specs.Writes.{write_word}
 
 -- the steps of a run at which an edit with this effect may show
-abbrev pub EffectShows : Effect → State → Setup → List Mark → ℕ → Type 0
+abbrev pub EffectShows : Effect → State → Setup → List Alteration → ℕ → Type 0
 EffectShows Nowhere start setup marks k = ⊥
 EffectShows (After s) start setup marks k = MarkShows s k
 EffectShows (Input offset) start setup marks k = InputShows offset start setup marks k
 EffectShows End start setup marks k = EndShows start setup marks k
 EffectShows Heap start setup marks k = HeapShows start setup marks k
 EffectShows (Word addr word) start setup marks k = PatchShows addr start setup marks k
+EffectShows (Anew addr word) start setup marks k = 0 < k
 
 -- a result says whether something holds at a step or before it
 abbrev pub Tells : (ℕ → Type 0) → ℕ → Bool → Type 0
@@ -28,17 +31,19 @@ Tells P k false = IsBelowFirst P k
 -- if the effect writes a word, that is in one of these ranges
 abbrev pub WritesWithin : List Span → Effect → Type 0
 WritesWithin ranges (Word addr word) = IsWordIn ranges addr
+WritesWithin ranges (Anew addr word) = IsWordIn ranges addr
 WritesWithin ranges _ = Unit {0}
 
 -- the effect writes a word
 abbrev pub IsWrite : Effect → Type 0
 IsWrite (Word addr word) = Unit {0}
+IsWrite (Anew addr word) = Unit {0}
 IsWrite _ = ⊥
 
 -- ---- from which run to which
 
 -- two lists of marks differ only in those of one step
-abbrev pub DifferAtStep : ℕ → List Mark → List Mark → Type 0
+abbrev pub DifferAtStep : ℕ → List Alteration → List Alteration → Type 0
 DifferAtStep s marks edited = (k : ℕ) → (k ≡ s → ⊥) → marks_at k marks ≡ marks_at k edited
 
 -- two setups differ only in the options of the heap
@@ -46,25 +51,37 @@ pub record DifferInHeap (setup other : Setup) : Type 0 where
   pub input : setup.input ≡ other.input
   pub hooks : setup.hooks ≡ other.hooks
 
--- setups and marks before and after an edit with this effect
-abbrev pub DifferBy : Effect → Setup → List Mark → Setup → List Mark → Type 0
+-- setups and marks before and after an edit with this effect. A word that a mark writes too is written anew, as the
+-- machines from the mark on hold what the mark wrote
+abbrev pub DifferBy : Effect → Setup → List Alteration → Setup → List Alteration → Type 0
 DifferBy Nowhere setup marks other edited = (setup ≡ other) × (marks ≡ edited)
 DifferBy (After s) setup marks other edited = (setup ≡ other) × DifferAtStep s marks edited
 DifferBy (Input offset) setup marks other edited = SharesFront offset setup other × (marks ≡ edited)
 DifferBy End setup marks other edited = Extends setup other × (marks ≡ edited)
 DifferBy Heap setup marks other edited = DifferInHeap setup other × (marks ≡ edited)
-DifferBy (Word addr word) setup marks other edited = (setup ≡ other) × (marks ≡ edited)
+DifferBy (Word addr word) setup marks other edited =
+    (setup ≡ other) × (marks ≡ edited) × (write_word marks addr ≡ false)
+DifferBy (Anew addr word) setup marks other edited = (setup ≡ other) × (marks ≡ edited)
 
 -- a state with the word written, if the effect writes one
 abbrev pub written_by : Effect → State → State
 written_by (Word addr word) s = poked s addr word
+written_by (Anew addr word) s = poked s addr word
 written_by _ s = s
+
+-- the effect of another word at an address: whether a mark writes it, too
+abbrev pub effect_by : Bool → ℕ → ℕ → Effect
+effect_by true addr word = Anew addr word
+effect_by false addr word = Word addr word
+
+abbrev pub word_effect : List Alteration → ℕ → ℕ → Effect
+word_effect marks addr word = effect_by (write_word marks addr) addr word
 
 -- a run, by what it begins with
 pub record Run : Type 0 where
   pub start : State
   pub setup : Setup
-  pub marks : List Mark
+  pub marks : List Alteration
 
 -- an edit with this effect leads from one run to another
 pub record LeadsTo (effect : Effect) (one other : Run) : Type 0 where

@@ -5,13 +5,13 @@ use Rattle.guest_machine.specs.Run.{pre, post}
 use Rattle.guest_machine.specs.Shows.{Shows}
 use Rattle.guest_machine.specs.declared.machine.Machine.{Machine}
 use Rattle.guest_machine.specs.declared.setup.Setup.{Setup}
-use Rattle.run_values.specs.declared.mark.Mark.{Mark}
+use Rattle.run_values.specs.declared.alteration.Alteration.{Alteration}
 use Rattle.guest_machine.specs.State.{State}
 use Rattle.checkpoints.specs.Effects.{EffectShows, LeadsTo, Run}
 use Rattle.checkpoints.specs.FirstEffects.{IsBelowFirst}
 use Rattle.checkpoints.specs.Trails.{IsRightFor}
 use Rattle.checkpoints.specs.declared.effect.Effect.{Effect}
-use Rattle.checkpoints.specs.declared.effect.Effect.TheVariants.{Word}
+use Rattle.checkpoints.specs.declared.effect.Effect.TheVariants.{Word, Anew}
 use Rattle.checkpoints.specs.declared.forks.Fork.{Fork}
 use Rattle.checkpoints.specs.declared.trail.Trail.{Trail}
 
@@ -24,6 +24,7 @@ pub record IsLastUnshown (effect : Effect) (run : Run) (last k : ℕ) : Type 0 w
 -- if the effect writes a word, that is one at a multiple of 4
 abbrev pub WritesAligned : Effect → Type 0
 WritesAligned (Word addr word) = (addr % 4 ≡ 0) × (addr < 2 ^ 32)
+WritesAligned (Anew addr word) = (addr % 4 ≡ 0) × (addr < 2 ^ 32)
 WritesAligned _ = Unit {0}
 
 -- a fork's machine shows the state of a run before the fork's step, which is that one
@@ -34,7 +35,7 @@ pub record IsForkFor (effect : Effect) (run : Run) (last : ℕ) (fork : Fork) : 
 
 -- a machine shows the state after the marks of a step of each run to which an effect leads from a run that a fork is
 -- for
-abbrev pub ShowsEdited : Effect → Fork → Setup → List Mark → ℕ → ℕ → Machine → Type 0
+abbrev pub ShowsEdited : Effect → Fork → Setup → List Alteration → ℕ → ℕ → Machine → Type 0
 ShowsEdited effect fork setup marks last step machine =
     (one : Run) (start : State) → LeadsTo effect one (record { start = start; setup = setup; marks = marks })
     → IsForkFor effect one last fork
@@ -43,13 +44,13 @@ ShowsEdited effect fork setup marks last step machine =
 -- ---- of each run that a trail is right for
 
 -- a step is the last one, up to another, at which the edit doesn't show
-abbrev pub IsStepOf : Effect → Trail → Setup → List Mark → ℕ → ℕ → Type 0
+abbrev pub IsStepOf : Effect → Trail → Setup → List Alteration → ℕ → ℕ → Type 0
 IsStepOf effect trail setup marks last k =
     (start : State) → IsRightFor trail start setup marks
     → IsLastUnshown effect (record { start = start; setup = setup; marks = marks }) last k
 
 -- a fork is one for the run
-abbrev pub IsForkOf : Effect → Trail → Setup → List Mark → ℕ → Fork → Type 0
+abbrev pub IsForkOf : Effect → Trail → Setup → List Alteration → ℕ → Fork → Type 0
 IsForkOf effect trail setup marks last fork =
     (start : State) → IsRightFor trail start setup marks
     → IsForkFor effect (record { start = start; setup = setup; marks = marks }) last fork

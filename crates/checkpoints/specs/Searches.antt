@@ -7,7 +7,7 @@ use Rattle.guest_machine.specs.State.{State}
 use Rattle.guest_machine.specs.Exec.{exec, is_running, touched_of}
 use Rattle.guest_machine.specs.Run.{post}
 use Rattle.guest_machine.specs.Spans.{covers}
-use Rattle.run_values.specs.declared.mark.Mark.{Mark}
+use Rattle.run_values.specs.declared.alteration.Alteration.{Alteration}
 use Rattle.guest_machine.specs.declared.setup.Setup.{Setup}
 use Rattle.run_values.specs.declared.span.Span.{Span}
 use Rattle.checkpoints.specs.declared.searches.Watch.{Watch}
@@ -41,7 +41,7 @@ HitsIn Error range s setup =
     (is_in range.start range.len s.core.pc ≡ true) × (length s.events < length (exec s setup).events)
 
 -- step k of a run does what is sought, from the state after its marks
-unfoldable pub Hits : Sought → State → Setup → List Mark → ℕ → Type 0
+unfoldable pub Hits : Sought → State → Setup → List Alteration → ℕ → Type 0
 Hits sought start setup marks k = HitsIn sought.watch sought.range (post start setup marks k) setup
 
 -- ---- which step it is

@@ -13,6 +13,8 @@ pub enum Effect {
     End,
     /// Once a heap call was executed: the options of the heap are others.
     Heap,
-    /// After a step that touches the word at an address: another word is written there.
+    /// After a step that touches the word at an address: another word is written there, which no mark writes.
     Word { addr: u32, word: u32 },
+    /// From step 1 on: another word is written at an address that marks write too. The run is begun anew.
+    Anew { addr: u32, word: u32 },
 }

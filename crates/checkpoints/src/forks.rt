@@ -4,8 +4,8 @@ ghost use Rattle.guest_machine.specs.State.{State};
 ghost use Rattle.guest_machine.specs.Run.{pre};
 ghost use Rattle.guest_machine.specs.Shows.{Shows};
 ghost use Rattle.guest_machine.specs.declared.setup.Setup.{Setup as SetupOf};
-ghost use Rattle.run_values.specs.declared.mark.Mark.{Mark as MarkOf};
-ghost use Rattle.checkpoints.specs.Effects.{written_by};
+ghost use Rattle.run_values.specs.declared.alteration.Alteration.{Alteration as AlterationOf};
+ghost use Rattle.checkpoints.specs.Effects.{word_effect, written_by};
 ghost use Rattle.checkpoints.specs.FirstEffects.{IsBelowFirst, InputShows};
 ghost use Rattle.checkpoints.specs.Forks.{IsLastUnshown, IsForkFor, ShowsEdited, WritesAligned, IsStepOf, IsForkOf};
 ghost use Rattle.checkpoints.specs.Trails.{is_short, loaded_of, last_held, IsRightFor};
@@ -17,8 +17,9 @@ use crate::effect::Effect;
 use crate::reaching::SPACING;
 use crate::running::{apply_marks, next_step, pass_marks, run_on};
 use crate::trail::Trail;
+use crate::writes::write_word;
 use guest_machine::laws::{end_stays, keeps_end, keeps_heap, keeps_input, keeps_pokes, reads_on};
-use guest_machine::{Machine, Mark, Meter, Setup};
+use guest_machine::{Alteration, Machine, Meter, Setup};
 use std::alloc::AllocError;
 
 /// A machine of a run, before a step at which an edit doesn't show yet, and that step.
@@ -37,7 +38,7 @@ impl Fork {
         &self,
         effect: Effect,
         setup: &Setup,
-        marks: &[Mark],
+        marks: &[Alteration],
         step: u32,
         meter: &mut Meter,
     ) -> Result<Machine, AllocError>
@@ -64,7 +65,9 @@ fn written_copy(machine: &Machine, effect: Effect) -> Result<Machine, AllocError
     ensures { IfOk result (λ copy. (s : State) → Shows machine.now s → Shows copy (written_by effect s)) }
 {
     match effect {
-        Effect::Word { addr, word } => poked_copy(machine, addr, word),
+        Effect::Word { addr, word } | Effect::Anew { addr, word } => poked_copy(
+            machine, addr, word,
+        ),
         _ => machine.share_ready(),
     }
 }
@@ -78,7 +81,7 @@ impl Trail {
         offset: u32,
         last: u32,
         setup: &Setup,
-        marks: &[Mark],
+        marks: &[Alteration],
     ) -> Result<Fork, AllocError>
         requires { last < 2 ^ 31 }
         ensures right { (start : State) → IsRightFor self.old start setup.now marks.now → IsRightFor self.new start setup.now marks.now }
@@ -92,26 +95,26 @@ impl Trail {
         self.fork_at(step, setup, marks)
     }
 
-    /// Returns a fork of the run before the last step, up to another, with no earlier use of the word at an address. Each run in which
-    /// another word is written there continues from it.
+    /// Returns a fork of the run before the last step, up to another, with no earlier use of the word at an address; before step 0 if a
+    /// mark writes the word. Each run in which another word is written there continues from it.
     #[tactic(auto, unfolding(crate::specs::Trails::last_held))]
     pub fn fork_at_word(
         &mut self,
         addr: u32,
         last: u32,
         setup: &Setup,
-        marks: &[Mark],
+        marks: &[Alteration],
     ) -> Result<Fork, AllocError>
         requires small { last < 2 ^ 31 }
         requires word { IsWordIn (loaded_of self.old) addr }
         ensures right { (start : State) → IsRightFor self.old start setup.now marks.now → IsRightFor self.new start setup.now marks.now }
         ensures fork { IfOk result (λ fork. (word : ℕ) (start : State) → IsRightFor self.old start setup.now marks.now
-            → IsForkFor (Effect.Word addr word) (record { start = start; setup = setup.now; marks = marks.now }) last fork) }
+            → IsForkFor (word_effect marks.now addr word) (record { start = start; setup = setup.now; marks = marks.now }) last fork) }
         ensures short { is_short self.new ≡ is_short self.old }
         ensures loaded { loaded_of self.new ≡ loaded_of self.old }
     {
         self.reach((last / SPACING + 1) as usize, setup, marks)?;
-        let step = self.last_unused(addr, last);
+        let step = self.last_without(addr, last, marks);
         self.fork_at(step, setup, marks)
     }
 
@@ -122,7 +125,7 @@ impl Trail {
         offset: u32,
         last: u32,
         setup: &Setup,
-        marks: &[Mark],
+        marks: &[Alteration],
     ) -> Result<u32, AllocError>
         requires { last < last_held self.now }
         ensures within { IfOk result (λ step. step ≤ last) }
@@ -134,20 +137,33 @@ impl Trail {
         unread_until(copy, setup, marks, offset, place * SPACING, last)
     }
 
+    /// The last step, up to another, at which another word at an address doesn't show.
+    fn last_without(&self, addr: u32, last: u32, marks: &[Alteration]) -> u32
+        requires held { last < last_held self.now }
+        requires word { IsWordIn (loaded_of self.now) addr }
+        ensures within { result ≤ last }
+        ensures step { (word : ℕ) (setup : SetupOf) → IsStepOf (word_effect marks.now addr word) self.now setup marks.now last result }
+    {
+        if write_word(marks, addr) {
+            return 0;
+        }
+        self.last_unused(addr, last)
+    }
+
     /// The last step, up to another, with no earlier use of the word at an address.
     #[tactic(auto, unfolding(crate::specs::Trails::table_of, crate::specs::Trails::loaded_of))]
     fn last_unused(&self, addr: u32, last: u32) -> u32
         requires held { last < last_held self.now }
         requires word { IsWordIn (loaded_of self.now) addr }
         ensures within { result ≤ last }
-        ensures step { (word : ℕ) (setup : SetupOf) (marks : List MarkOf) → IsStepOf (Effect.Word addr word) self.now setup marks last result }
+        ensures step { (word : ℕ) (setup : SetupOf) (marks : List AlterationOf) → IsStepOf (Effect.Word addr word) self.now setup marks last result }
     {
         self.uses.first_below(addr / 4, last).unwrap_or(last)
     }
 
     /// The machine of the run before a step.
     #[tactic(auto, unfolding(crate::specs::Trails::machines_of, crate::specs::Trails::last_held))]
-    fn fork_at(&self, step: u32, setup: &Setup, marks: &[Mark]) -> Result<Fork, AllocError>
+    fn fork_at(&self, step: u32, setup: &Setup, marks: &[Alteration]) -> Result<Fork, AllocError>
         requires { step < last_held self.now }
         ensures { IfOk result (λ fork. (effect : EffectOf) (last : ℕ) → WritesAligned effect → IsStepOf effect self.now setup.now marks.now last step
             → IsForkOf effect self.now setup.now marks.now last fork) }
@@ -171,7 +187,7 @@ fn lesser(x: u32, y: u32) -> u32
 fn unread_until(
     machine: Machine,
     setup: &Setup,
-    marks: &[Mark],
+    marks: &[Alteration],
     offset: u32,
     from: u32,
     to: u32,

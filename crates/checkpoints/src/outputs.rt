@@ -7,7 +7,7 @@ ghost use Rattle.guest_machine.specs.Run.{pre, post};
 ghost use Rattle.guest_machine.specs.Shows.{Shows};
 ghost use Rattle.guest_machine.specs.Streams.{bytes_over};
 ghost use Rattle.guest_machine.specs.declared.setup.Setup.{Setup as SetupOf};
-ghost use Rattle.run_values.specs.declared.mark.Mark.{Mark as MarkOf};
+ghost use Rattle.run_values.specs.declared.alteration.Alteration.{Alteration as AlterationOf};
 ghost use Rattle.checkpoints.specs.Outputs.{part};
 ghost use Rattle.checkpoints.specs.Trails.{machines_of, meter_of, is_short, loaded_of, last_held, IsRightFor};
 ghost use Rattle.checkpoints.specs.Words.{has_address};
@@ -17,7 +17,7 @@ use crate::reaching::SPACING;
 use crate::running::{next_step, pass_marks};
 use crate::trail::Trail;
 use guest_machine::laws::writes_what_it_reads;
-use guest_machine::{Machine, Mark, Setup, Span};
+use guest_machine::{Alteration, Machine, Setup, Span};
 use shadow_memory::Memory;
 use std::alloc::{AllocError, Global};
 
@@ -30,7 +30,7 @@ impl Trail {
         range: Span,
         step: u32,
         setup: &Setup,
-        marks: &[Mark],
+        marks: &[Alteration],
     ) -> Result<Vec<u8>, AllocError>
         ensures part { IfOk result (λ bytes. (start : State) → start.output ≡ [] → IsRightFor self.old start setup.now marks.now
             → bytes.items ≡ part range (post start setup.now marks.now step).output) }
@@ -56,7 +56,7 @@ impl Trail {
         written: u64,
         step: u32,
         setup: &Setup,
-        marks: &[Mark],
+        marks: &[Alteration],
     ) -> Result<Vec<u8>, AllocError>
         requires { floor step ≤ last_held self.now }
         ensures { IfOk result (λ bytes. (start : State) → start.output ≡ [] → IsRightFor self.now start setup.now marks.now
@@ -83,7 +83,7 @@ impl Trail {
     fn place_before(&self, place: usize, position: u32) -> usize
         requires { place < length (machines_of self.now) }
         ensures within { result ≤ place }
-        ensures before { (start : State) (setup : SetupOf) (marks : List MarkOf) → start.output ≡ [] → IsRightFor self.now start setup marks
+        ensures before { (start : State) (setup : SetupOf) (marks : List AlterationOf) → start.output ≡ [] → IsRightFor self.now start setup marks
             → length (pre start setup marks (1024 * result)).output ≤ position }
     {
         let mut place = place;
@@ -110,7 +110,7 @@ fn collect(
     alloc: Global,
     machine: Machine,
     setup: &Setup,
-    marks: &[Mark],
+    marks: &[Alteration],
     range: Span,
     end: u64,
     from: u32,

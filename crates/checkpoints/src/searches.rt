@@ -18,7 +18,7 @@ use crate::reaching::SPACING;
 use crate::running::{is_running, next_step, pass_marks, run_on};
 use crate::trail::Trail;
 use guest_machine::laws::stays_halted;
-use guest_machine::{Machine, Mark, Meter, Setup, Span, Touched};
+use guest_machine::{Alteration, Machine, Meter, Setup, Span, Touched};
 use shadow_memory::{Cell, Memory};
 use std::alloc::AllocError;
 
@@ -55,7 +55,7 @@ impl Trail {
         from: u32,
         end: u32,
         setup: &Setup,
-        marks: &[Mark],
+        marks: &[Alteration],
         meter: &mut Meter,
     ) -> Result<Option<u32>, AllocError>
         ensures next { IfOk result (λ found. (start : State) → IsRightFor self.old start setup.now marks.now
@@ -83,7 +83,7 @@ impl Trail {
         from: u32,
         before: u32,
         setup: &Setup,
-        marks: &[Mark],
+        marks: &[Alteration],
         meter: &mut Meter,
     ) -> Result<Option<u32>, AllocError>
         ensures last { IfOk result (λ found. (start : State) → IsRightFor self.old start setup.now marks.now
@@ -110,7 +110,7 @@ impl Trail {
         from: u32,
         before: u32,
         setup: &Setup,
-        marks: &[Mark],
+        marks: &[Alteration],
         meter: &mut Meter,
     ) -> Result<Option<u32>, AllocError>
         requires held { floor before ≤ last_held self.now }
@@ -138,7 +138,7 @@ impl Trail {
         from: u32,
         end: u32,
         setup: &Setup,
-        marks: &[Mark],
+        marks: &[Alteration],
         meter: &mut Meter,
     ) -> Result<Option<u32>, AllocError>
         requires some { from < end }
@@ -169,7 +169,7 @@ fn next_from(
     machine: Machine,
     sought: Sought,
     setup: &Setup,
-    marks: &[Mark],
+    marks: &[Alteration],
     from: u32,
     end: u32,
     meter: &mut Meter,
@@ -202,7 +202,7 @@ fn last_from(
     machine: Machine,
     sought: Sought,
     setup: &Setup,
-    marks: &[Mark],
+    marks: &[Alteration],
     from: u32,
     end: u32,
     meter: &mut Meter,

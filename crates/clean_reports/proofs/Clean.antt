@@ -1,7 +1,7 @@
 -- The theorems on whole runs of a program, from their parts.
 use Rattle.std.proofs.Common.{◌≡◌, ℕ, ◌<◌, ◌^◌, List, slice_index}
 use Rattle.guest_elf.specs.declared.image.Image.{Image}
-use Rattle.run_values.specs.declared.mark.Mark.{Mark}
+use Rattle.run_values.specs.declared.alteration.Alteration.{Alteration}
 use Rattle.guest_machine.specs.State.{State}
 use Rattle.guest_machine.specs.Run.{after_marks, pre, post}
 use Rattle.guest_machine.specs.declared.setup.Setup.{Setup}
@@ -17,7 +17,7 @@ use Rattle.clean_reports.proofs.Runs.{after-agree, begun, runs-agree, states-sym
 use Rattle.clean_reports.proofs.Steps.{StepAgrees, step-agrees}
 
 -- a run and a disturbed one, and one from another start
-module _ (image : Image) (start : State) (setup : Setup) (law : StepAgrees setup) (marks : List Mark) (n : ℕ)
+module _ (image : Image) (start : State) (setup : Setup) (law : StepAgrees setup) (marks : List Alteration) (n : ℕ)
     (begins : IsStartOf image start) (loose : DefineNothing marks) (hide : HideNothing marks)
     (none : NoUse (pre start setup marks n).events) where
   pub run-agrees : (states : ℕ → State) → IsDisturbed start setup marks n states

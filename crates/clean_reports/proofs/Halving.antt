@@ -1,5 +1,5 @@
 -- The search for the step that raises the first use, by halving.
-use Rattle.std.proofs.Common.{◌≡◌, ℕ, zero, suc, ◌+◌, ◌-◌, ◌*◌, ◌/◌, ◌<◌, ◌≤◌, ◌↔◌, max, Bool, true, false, refl, sym}
+use Rattle.std.proofs.Common.{◌≡◌, ℕ, suc, ◌-◌, ◌<◌, ◌≤◌, ◌↔◌, Bool, true, false, refl, sym}
 use Rattle.std.proofs.Common.{ap, ◌∙◌}
 use Rattle.std.proofs.Common.{arith, subst, List, inl, inr, IsTrue}
 use Rattle.std.proofs.lemmas.Bool.{cases_lt, false≢true}
@@ -9,24 +9,24 @@ use Rattle.checkpoints.specs.declared.trail.Trail.{Trail}
 use Rattle.guest_machine.specs.Run.{post, pre}
 use Rattle.guest_machine.specs.State.{State}
 use Rattle.guest_machine.specs.declared.setup.Setup.{Setup}
-use Rattle.run_values.specs.declared.mark.Mark.{Mark}
+use Rattle.run_values.specs.declared.alteration.Alteration.{Alteration}
 use Rattle.clean_reports.specs.Uses.{NoUse}
 use Rattle.clean_reports.specs.Verdicts.{RaisesFirstUse}
 use Rattle.clean_reports.proofs.Runs.{marks-events}
 
 -- the errors after a step's marks are those before them
-pub marked-events : (start : State) (setup : Setup) (marks : List Mark) (k : ℕ)
+pub marked-events : (start : State) (setup : Setup) (marks : List Alteration) (k : ℕ)
     → (post start setup marks k).events ≡ (pre start setup marks k).events
 unfolding post
 marked-events start setup marks k = marks-events k marks (pre start setup marks k)
 
 -- a trail is as right as it was
-abbrev pub StaysRight : Setup → List Mark → Trail → Trail → Type 0
+abbrev pub StaysRight : Setup → List Alteration → Trail → Trail → Type 0
 StaysRight setup marks old new =
     (start : State) → IsRightFor old start setup marks → IsRightFor new start setup marks
 
 -- no error up to step clean is a use, and some error up to step used is one, of those up to step end
-pub record Halves (setup : Setup) (marks : List Mark) (old new : Trail) (end clean used : ℕ) : Type 0 where
+pub record Halves (setup : Setup) (marks : List Alteration) (old new : Trail) (end clean used : ℕ) : Type 0 where
   pub order : clean ≤ used
   pub within : used ≤ end
   pub right : StaysRight setup marks old new
@@ -38,7 +38,8 @@ pub record Halves (setup : Setup) (marks : List Mark) (old new : Trail) (end cle
   pub short : is_short new ≡ is_short old
   pub loaded : loaded_of new ≡ loaded_of old
 
-pub begins : (setup : Setup) (marks : List Mark) (trail : Trail) (end : ℕ) → Halves setup marks trail trail end 0 end
+pub begins : (setup : Setup) (marks : List Alteration) (trail : Trail) (end : ℕ)
+    → Halves setup marks trail trail end 0 end
 unfolding pre
 begins setup marks trail end = record {
   order = omega arith;
@@ -56,7 +57,7 @@ no-further : (last end middle : ℕ) → middle ≤ end → reached last end ≡
 no-further last end middle h e = omega arith
 
 -- what a look at a step in the middle leaves
-pub record Tells (setup : Setup) (marks : List Mark) (old new : Trail) (middle : ℕ) (clean : Bool) : Type 0 where
+pub record Tells (setup : Setup) (marks : List Alteration) (old new : Trail) (middle : ℕ) (clean : Bool) : Type 0 where
   pub tells : (start : State) → IsRightFor old start setup marks
       → IsTrue clean ↔ NoUse (post start setup marks middle).events
   pub right : StaysRight setup marks old new
@@ -64,7 +65,7 @@ pub record Tells (setup : Setup) (marks : List Mark) (old new : Trail) (middle :
   pub short : is_short new ≡ is_short old
   pub loaded : loaded_of new ≡ loaded_of old
 
-module _ (setup : Setup) (marks : List Mark) (old now new : Trail) (end clean used middle : ℕ) (b : Bool)
+module _ (setup : Setup) (marks : List Alteration) (old now new : Trail) (end clean used middle : ℕ) (b : Bool)
     (h : Halves setup marks old now end clean used) (t : Tells setup marks now new middle b) (low : clean ≤ middle)
     (high : middle ≤ used) where
   held-on : reached (last_held old) end ≡ last_held old → last_held new ≡ last_held old
@@ -100,7 +101,7 @@ module _ (setup : Setup) (marks : List Mark) (old now new : Trail) (end clean us
       }
 
 -- where the two are one step apart, that step raises the first use
-module _ (setup : Setup) (marks : List Mark) (old new : Trail) (end clean used : ℕ)
+module _ (setup : Setup) (marks : List Alteration) (old new : Trail) (end clean used : ℕ)
     (h : Halves setup marks old new end clean used) (near : used - clean ≤ 1) (start : State)
     (r : IsRightFor old start setup marks) (none : NoUse start.events)
     (some : NoUse (post start setup marks end).events → ⊥) where

@@ -1,5 +1,5 @@
 -- The heap stays open and closed, by induction over the steps of a run.
-use Rattle.std.proofs.Common.{◌≡◌, ℕ, zero, suc, ◌+◌, ◌<◌, ◌≤◌, ◌∷◌, ◌==◌, Bool, true, false, cond, refl, sym, ◌⊎◌, inr}
+use Rattle.std.proofs.Common.{◌≡◌, ℕ, zero, suc, ◌+◌, ◌<◌, ◌≤◌, ◌∷◌, ◌==◌, Bool, true, false, cond, refl, sym, inr}
 use Rattle.std.proofs.Common.{ap, ◌∙◌, subst, arith, List, [], filter, fold, inl, Option, Some, None}
 use Rattle.std.specs.Prelude.{is_some}
 use Rattle.std.proofs.lemmas.Bool.{false≢true}
@@ -12,14 +12,16 @@ use Rattle.guest_heap.proofs.LawSteps.{keeps-region}
 use Rattle.guest_heap.proofs.ApartLaws.{keeps-apart}
 use Rattle.guest_elf.specs.declared.image.Image.{Image}
 use Rattle.guest_elf.specs.Images.{loaded_at}
-use Rattle.run_values.specs.declared.mark.Mark.{Mark}
+use Rattle.run_values.specs.declared.alteration.Act.{Act}
+use Rattle.run_values.specs.declared.alteration.Act.TheVariants.{Make}
+use Rattle.run_values.specs.declared.alteration.Alteration.{Alteration}
 use Rattle.guest_machine.specs.State.{Core, State}
 use Rattle.guest_machine.specs.Errors.{event_about, here}
-use Rattle.guest_machine.specs.Run.{marked, after_marks, pre, post, start_state, stack_start, image_shadows}
+use Rattle.guest_machine.specs.Alterations.{altered, altered_core}
+use Rattle.guest_machine.specs.Run.{after_marks, pre, post, start_state, stack_start, image_shadows}
 use Rattle.guest_machine.specs.declared.setup.Setup.{Setup}
-use Rattle.clean_reports.specs.Disturbed.{IsStartOf}
 use Rattle.clean_reports.specs.Heap.{BlocksAreOpen, HeapIsOpen, HeapIsClosed}
-use Rattle.clean_reports.specs.Marks.{HideNothing, MissTheHeap, MissesHeap, hides}
+use Rattle.clean_reports.specs.Marks.{HideNothing, HidesNothing, MissTheHeap, MissesHeap, MissesTheHeap, hides}
 use Rattle.clean_reports.specs.Laws.{HeapStaysOpen, HeapStaysClosed, AccessesAreLive}
 use Rattle.clean_reports.proofs.Memory.{accessible-from}
 use Rattle.clean_reports.proofs.Blocks.{made-outside, is-outside}
@@ -34,54 +36,68 @@ seen-same NoAccess e = absurd (false≢true (sym e))
 seen-same Undefined e = refl
 seen-same Defined e = refl
 
--- a mark outside of the heap region leaves it as it is
-missed-marked : (s : State) (mark : Mark) → MissesHeap mark → LeavesHeap s.core (marked s mark).core
-unfolding marked
-missed-marked s mark miss = record {
+-- a range outside of the heap region leaves it as it is
+missed-made : (core : Core) (addr len : ℕ) (kind : RangeKind) → MissesHeap addr len
+    → LeavesHeap core (record core { shadow = made_so core.shadow addr len kind })
+missed-made core addr len kind miss = record {
   blocks = refl;
-  same = λ a low high. ap (λ (x : Shadow). x.accessible) (made-outside s.core.shadow mark.addr mark.len a mark.kind
-      (miss a low high));
+  same = λ a low high. ap (λ (x : Shadow). x.accessible) (made-outside core.shadow addr len a kind (miss a low high));
 }
 
-seen-marked : (s : State) (mark : Mark) → hides mark.kind ≡ false → HeapIsOpen s.core → HeapIsOpen (marked s mark).core
-unfolding marked made_so changed_in
-seen-marked s mark seen h = record {
+seen-made : (core : Core) (addr len : ℕ) (kind : RangeKind) → hides kind ≡ false → HeapIsOpen core
+    → HeapIsOpen (record core { shadow = made_so core.shadow addr len kind })
+unfolding made_so changed_in
+seen-made core addr len kind seen h = record {
   region = h.region;
   apart = h.apart;
   fits = h.fits;
-  opened = λ p b there i k. go (is_in mark.addr mark.len (p + i)) (h.opened p b there i k);
+  opened = λ p b there i k. go (is_in addr len (p + i)) (h.opened p b there i k);
 }
   where
-    go : {a : ℕ} (t : Bool) → (s.core.shadow a).accessible ≡ true
-        → (cond t (shadow_of mark.kind) (s.core.shadow a)).accessible ≡ true
-    go true was = seen-same mark.kind seen
+    go : {a : ℕ} (t : Bool) → (core.shadow a).accessible ≡ true
+        → (cond t (shadow_of kind) (core.shadow a)).accessible ≡ true
+    go true was = seen-same kind seen
     go false was = was
 
-open-marked : (s : State) (mark : Mark) → (hides mark.kind ≡ false) ⊎ MissesHeap mark → HeapIsOpen s.core
-    → HeapIsOpen (marked s mark).core
-open-marked s mark (inl seen) h = seen-marked s mark seen h
-open-marked s mark (inr miss) h = (on false s.core (marked s mark).core (missed-marked s mark miss) (h, tt)).0
+-- a mark that hides nothing keeps the heap open
+open-act : (s : State) (step : ℕ) (act : Act) → HidesNothing act → HeapIsOpen s.core
+    → HeapIsOpen (altered s (record { step = step; act = act })).core
+unfolding altered altered_core
+open-act s step (Make addr len kind) (inl seen) h = seen-made s.core addr len kind seen h
+open-act s step (Make addr len kind) (inr miss) h =
+    (on false s.core (record s.core { shadow = made_so s.core.shadow addr len kind })
+    (missed-made s.core addr len kind miss) (h, tt)).0
+open-act s step _ miss h = absurd miss
 
-open-marks : (k : ℕ) (marks : List Mark) (s : State) → HideNothing marks → HeapIsOpen s.core
-    → HeapIsOpen (fold marked s (filter (λ m. m.step == k) marks)).core
+-- and one outside of the heap region leaves it
+missed-act : (s : State) (step : ℕ) (act : Act) → MissesTheHeap act → Stands true s.core
+    → Stands true (altered s (record { step = step; act = act })).core
+unfolding altered altered_core
+missed-act s step (Make addr len kind) miss h =
+    on true s.core (record s.core { shadow = made_so s.core.shadow addr len kind })
+    (missed-made s.core addr len kind miss) h
+missed-act s step _ miss h = absurd miss
+
+open-marks : (k : ℕ) (marks : List Alteration) (s : State) → HideNothing marks → HeapIsOpen s.core
+    → HeapIsOpen (fold altered s (filter (λ m. m.step == k) marks)).core
 open-marks k [] s hide h = h
 open-marks k (m ∷ ms) s hide h = go (m.step == k) (λ t g. open-marks k ms t hide.1 g)
   where
     go : (b : Bool)
-        → ((t : State) → HeapIsOpen t.core → HeapIsOpen (fold marked t (filter (λ m. m.step == k) ms)).core)
-        → HeapIsOpen (fold marked s (cond b (m ∷ filter (λ m. m.step == k) ms) (filter (λ m. m.step == k) ms))).core
-    go true rest = rest (marked s m) (open-marked s m hide.0 h)
+        → ((t : State) → HeapIsOpen t.core → HeapIsOpen (fold altered t (filter (λ m. m.step == k) ms)).core)
+        → HeapIsOpen (fold altered s (cond b (m ∷ filter (λ m. m.step == k) ms) (filter (λ m. m.step == k) ms))).core
+    go true rest = rest (altered s m) (open-act s m.step m.act hide.0 h)
     go false rest = rest s h
 
-missed-marks : (k : ℕ) (marks : List Mark) (s : State) → MissTheHeap marks → Stands true s.core
-    → Stands true (fold marked s (filter (λ m. m.step == k) marks)).core
+missed-marks : (k : ℕ) (marks : List Alteration) (s : State) → MissTheHeap marks → Stands true s.core
+    → Stands true (fold altered s (filter (λ m. m.step == k) marks)).core
 missed-marks k [] s miss h = h
 missed-marks k (m ∷ ms) s miss h = go (m.step == k) (λ t g. missed-marks k ms t miss.1 g)
   where
     go : (b : Bool)
-        → ((t : State) → Stands true t.core → Stands true (fold marked t (filter (λ m. m.step == k) ms)).core)
-        → Stands true (fold marked s (cond b (m ∷ filter (λ m. m.step == k) ms) (filter (λ m. m.step == k) ms))).core
-    go true rest = rest (marked s m) (on true s.core (marked s m).core (missed-marked s m miss.0) h)
+        → ((t : State) → Stands true t.core → Stands true (fold altered t (filter (λ m. m.step == k) ms)).core)
+        → Stands true (fold altered s (cond b (m ∷ filter (λ m. m.step == k) ms) (filter (λ m. m.step == k) ms))).core
+    go true rest = rest (altered s m) (missed-act s m.step m.act miss.0 h)
     go false rest = rest s h
 
 -- the start --
@@ -109,7 +125,7 @@ image-closed image none a low high can =
 
 -- runs --
 
-module _ (start : State) (setup : Setup) (marks : List Mark) where
+module _ (start : State) (setup : Setup) (marks : List Alteration) where
   runs-open : HideNothing marks → HeapIsOpen start.core → (k : ℕ) → HeapIsOpen (post start setup marks k).core
   unfolding post after_marks pre
   runs-open hide begins k = open-marks k marks (pre start setup marks k) hide (before k)

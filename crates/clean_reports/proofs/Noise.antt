@@ -10,7 +10,7 @@ use Rattle.shadow_memory.specs.Shadows.{Shadow, made_so, shadow_of}
 use Rattle.shadow_memory.specs.declared.cells.RangeKind.TheVariants.{NoAccess, Defined}
 use Rattle.guest_elf.specs.Images.{loaded_at}
 use Rattle.guest_elf.specs.declared.image.Image.{Image}
-use Rattle.run_values.specs.declared.mark.Mark.{Mark}
+use Rattle.run_values.specs.declared.alteration.Alteration.{Alteration}
 use Rattle.guest_machine.specs.State.{Core, State}
 use Rattle.guest_machine.specs.Exec.{exec}
 use Rattle.guest_machine.specs.Registers.{known}
@@ -126,7 +126,7 @@ noise-agrees s noise d small = record {
 
 -- the runs --
 
-module _ (image : Image) (start : State) (setup : Setup) (law : StepAgrees setup) (marks : List Mark)
+module _ (image : Image) (start : State) (setup : Setup) (law : StepAgrees setup) (marks : List Alteration)
     (begins : IsStartOf image start) (small : AreBytes start.bytes) (loose : DefineNothing marks)
     (hide : HideNothing marks) where
   -- no use before a step, so none before an earlier one

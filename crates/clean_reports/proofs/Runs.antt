@@ -7,16 +7,19 @@ use Rattle.definedness.specs.declared.Bits.{Bits}
 use Rattle.shadow_memory.specs.Shadows.{Shadow, made_so}
 use Rattle.shadow_memory.specs.declared.cells.RangeKind.{RangeKind}
 use Rattle.shadow_memory.specs.declared.cells.RangeKind.TheVariants.{Defined}
-use Rattle.run_values.specs.declared.mark.Mark.{Mark}
+use Rattle.run_values.specs.declared.alteration.Act.{Act}
+use Rattle.run_values.specs.declared.alteration.Act.TheVariants.{Make}
+use Rattle.run_values.specs.declared.alteration.Alteration.{Alteration}
 use Rattle.guest_machine.specs.State.{State}
 use Rattle.guest_machine.specs.Exec.{exec}
-use Rattle.guest_machine.specs.Run.{marked, marks_at, after_marks, pre, post}
+use Rattle.guest_machine.specs.Alterations.{altered, altered_bytes, altered_core}
+use Rattle.guest_machine.specs.Run.{marks_at, after_marks, pre, post}
 use Rattle.guest_machine.specs.declared.setup.Setup.{Setup}
 use Rattle.clean_reports.specs.Agreement.{ValuesAgree, MemoriesAgree, StatesAgree}
 use Rattle.clean_reports.specs.Uses.{NoUse}
 use Rattle.clean_reports.specs.Heap.{BlocksAreOpen}
 use Rattle.clean_reports.specs.Disturbed.{IsDisturbed}
-use Rattle.clean_reports.specs.Marks.{DefineNothing, defines}
+use Rattle.clean_reports.specs.Marks.{DefineNothing, DefinesNothing, defines}
 use Rattle.clean_reports.proofs.Memory.{made-agrees}
 use Rattle.clean_reports.proofs.Registers.{left-none}
 use Rattle.clean_reports.proofs.Steps.{StepAgrees}
@@ -95,13 +98,13 @@ states-sym s t d = record {
 loose-kind : (kind : RangeKind) → defines kind ≡ false → kind ≡ Defined → ⊥
 loose-kind kind e is = false≢true (sym e ∙ ap defines is)
 
-mark-agrees : (s t : State) (mark : Mark) → defines mark.kind ≡ false → StatesAgree s t
-    → StatesAgree (marked s mark) (marked t mark)
-unfolding marked
-mark-agrees s t mark loose d = record {
-  memory = made-agrees s.core.shadow s.bytes t.bytes d.memory mark.addr mark.len mark.kind (loose-kind mark.kind loose);
+act-agrees : (s t : State) (step : ℕ) (act : Act) → DefinesNothing act → StatesAgree s t
+    → StatesAgree (altered s (record { step = step; act = act })) (altered t (record { step = step; act = act }))
+unfolding altered altered_core altered_bytes
+act-agrees s t step (Make addr len kind) loose d = record {
+  memory = made-agrees s.core.shadow s.bytes t.bytes d.memory addr len kind (loose-kind kind loose);
   registers = d.registers;
-  shadow = ap (λ x. made_so x mark.addr mark.len mark.kind) d.shadow;
+  shadow = ap (λ x. made_so x addr len kind) d.shadow;
   pc = d.pc;
   status = d.status;
   frames = d.frames;
@@ -112,34 +115,35 @@ mark-agrees s t mark loose d = record {
   heap_calls = d.heap_calls;
   events = d.events;
 }
+act-agrees s t step _ loose d = absurd loose
 
 -- the marks of step k, in order
-marks-agree : (k : ℕ) (marks : List Mark) (s t : State) → DefineNothing marks → StatesAgree s t
-    → StatesAgree (fold marked s (filter (λ m. m.step == k) marks)) (fold marked t (filter (λ m. m.step == k) marks))
+marks-agree : (k : ℕ) (marks : List Alteration) (s t : State) → DefineNothing marks → StatesAgree s t
+    → StatesAgree (fold altered s (filter (λ m. m.step == k) marks)) (fold altered t (filter (λ m. m.step == k) marks))
 marks-agree k [] s t loose d = d
 marks-agree k (m ∷ ms) s t loose d =
     go (m.step == k) (λ s t d. marks-agree k ms s t loose.1 d)
   where
     go : (b : Bool)
         → ((s t : State) → StatesAgree s t
-        → StatesAgree (fold marked s (filter (λ m. m.step == k) ms)) (fold marked t (filter (λ m. m.step == k) ms)))
-        → StatesAgree (fold marked s (cond b (m ∷ filter (λ m. m.step == k) ms) (filter (λ m. m.step == k) ms)))
-        (fold marked t (cond b (m ∷ filter (λ m. m.step == k) ms) (filter (λ m. m.step == k) ms)))
-    go true rest = rest (marked s m) (marked t m) (mark-agrees s t m loose.0 d)
+        → StatesAgree (fold altered s (filter (λ m. m.step == k) ms)) (fold altered t (filter (λ m. m.step == k) ms)))
+        → StatesAgree (fold altered s (cond b (m ∷ filter (λ m. m.step == k) ms) (filter (λ m. m.step == k) ms)))
+        (fold altered t (cond b (m ∷ filter (λ m. m.step == k) ms) (filter (λ m. m.step == k) ms)))
+    go true rest = rest (altered s m) (altered t m) (act-agrees s t m.step m.act loose.0 d)
     go false rest = rest s t d
 
-pub after-agree : (k : ℕ) (marks : List Mark) (s t : State) → DefineNothing marks → StatesAgree s t
+pub after-agree : (k : ℕ) (marks : List Alteration) (s t : State) → DefineNothing marks → StatesAgree s t
     → StatesAgree (after_marks k marks s) (after_marks k marks t)
 unfolding after_marks
 after-agree k marks s t loose d = marks-agree k marks s t loose d
 
 -- marks raise no errors
-fold-events : (marks : List Mark) (s : State) → (fold marked s marks).events ≡ s.events
-unfolding marked
+fold-events : (marks : List Alteration) (s : State) → (fold altered s marks).events ≡ s.events
+unfolding altered
 fold-events [] s = refl
-fold-events (m ∷ ms) s = fold-events ms (marked s m)
+fold-events (m ∷ ms) s = fold-events ms (altered s m)
 
-pub marks-events : (k : ℕ) (marks : List Mark) (s : State) → (after_marks k marks s).events ≡ s.events
+pub marks-events : (k : ℕ) (marks : List Alteration) (s : State) → (after_marks k marks s).events ≡ s.events
 unfolding after_marks
 marks-events k marks s = fold-events (marks_at k marks) s
 
@@ -148,7 +152,7 @@ pub fewer : (s : State) (setup : Setup) → NoUse (exec s setup).events → NoUs
 unfolding exec
 fewer s setup none = left-none s.events _ none
 
-module _ (start : State) (setup : Setup) (law : StepAgrees setup) (marks : List Mark) (states : ℕ → State)
+module _ (start : State) (setup : Setup) (law : StepAgrees setup) (marks : List Alteration) (states : ℕ → State)
     (loose : DefineNothing marks) where
   -- a disturbed run agrees at each step up to its last
   pub runs-agree : (n : ℕ) → IsDisturbed start setup marks n states
@@ -167,7 +171,7 @@ module _ (start : State) (setup : Setup) (law : StepAgrees setup) (marks : List 
       states-trans _ _ _ stepped (run.next k (omega arith))
 
 -- a run from another start, with nothing disturbed between steps
-module _ (start other : State) (setup : Setup) (law : StepAgrees setup) (marks : List Mark)
+module _ (start other : State) (setup : Setup) (law : StepAgrees setup) (marks : List Alteration)
     (loose : DefineNothing marks) (first : StatesAgree start other) where
   pub begun : (n : ℕ) → ((k : ℕ) → k < n → BlocksAreOpen (post start setup marks k).core)
       → NoUse (pre start setup marks n).events → StatesAgree (pre start setup marks n) (pre other setup marks n)

@@ -1,23 +1,28 @@
 -- Verdicts: what marks do, and what is certified.
-use Rattle.std.proofs.Common.{◌≡◌, ℕ, ◌+◌, ◌-◌, ◌^◌, ◌<◌, ◌≤◌, ◌⊎◌, ◌||◌, ◌&&◌, Bool, true, false, cond, refl, sym, ap}
+use Rattle.std.proofs.Common.{◌≡◌, ℕ, ◌-◌, ◌<◌, ◌≤◌, ◌⊎◌, ◌&&◌, Bool, true, false, cond, refl, sym, ap}
 use Rattle.std.proofs.Common.{◌∙◌}
 use Rattle.std.proofs.Common.{arith, subst, List, [], ◌∷◌, Option, Some, None, inl, inr, nat_lt, find}
 use Rattle.std.specs.List.{list_any}
 use Rattle.std.specs.Option.{option_map}
-use Rattle.std.proofs.lemmas.Bool.{or_parts}
+use Rattle.std.proofs.lemmas.Bool.{or_parts, true≢false}
 use Rattle.std.proofs.lemmas.Bool.Decides.{nat_tests}
 use Rattle.error_events.specs.Groups.{group_of, grouped}
 use Rattle.error_events.specs.declared.event.Event.{Event}
 use Rattle.error_events.specs.declared.event.Group.{Group}
 use Rattle.guest_elf.specs.declared.image.Image.{Image}
 use Rattle.memory_map.specs.Regions.{heap_begin, heap_end}
-use Rattle.shadow_memory.specs.Ranges.{is_in, offset}
-use Rattle.run_values.specs.declared.mark.Mark.{Mark}
+use Rattle.shadow_memory.specs.Ranges.{is_in}
+use Rattle.run_values.specs.declared.alteration.Act.{Act}
+use Rattle.run_values.specs.declared.alteration.Act.TheVariants.{Make}
+use Rattle.run_values.specs.declared.alteration.Alteration.{Alteration}
+use Rattle.shadow_memory.specs.declared.cells.RangeKind.{RangeKind}
 use Rattle.guest_machine.specs.State.{State}
-use Rattle.guest_machine.specs.Run.{post, pre}
+use Rattle.guest_machine.specs.Run.{post}
 use Rattle.guest_machine.specs.declared.setup.Setup.{Setup}
 use Rattle.clean_reports.specs.Disturbed.{HasBytes, IsStartOf}
-use Rattle.clean_reports.specs.Marks.{DefineNothing, HideNothing, MissesHeap, defines, hides, is_in_the_way, meets_heap}
+use Rattle.clean_reports.specs.Marks.{DefineNothing, DefinesNothing, HideNothing, HidesNothing, MissesHeap, defines}
+use Rattle.clean_reports.specs.Marks.{hides}
+use Rattle.clean_reports.specs.Marks.{hinders, is_in_the_way, meets_heap}
 use Rattle.clean_reports.specs.Uses.{NoUse, first_use, is_use}
 use Rattle.clean_reports.specs.Verdicts.{IsCertified, IsFirstUse, NoneInTheWay, RaisesFirstUse}
 use Rattle.clean_reports.specs.declared.verdict.FirstUse.{FirstUse}
@@ -35,33 +40,41 @@ misses : (addr len a : ℕ) → is_in addr len heap_begin ≡ false
     → is_in addr len a ≡ false
 misses addr len a one other low high = grind (arith, nat_tests)
 
-misses-heap : (mark : Mark) → meets_heap mark ≡ false → MissesHeap mark
-misses-heap mark e a low high =
-    let parts = or_parts (is_in mark.addr mark.len heap_begin) _ e in
-    misses mark.addr mark.len a parts.0 parts.1 low high
+misses-heap : (addr len : ℕ) → meets_heap addr len ≡ false → MissesHeap addr len
+misses-heap addr len e a low high =
+    let parts = or_parts (is_in addr len heap_begin) _ e in
+    misses addr len a parts.0 parts.1 low high
 
-either : (b : Bool) (mark : Mark) → hides mark.kind ≡ b → (b && meets_heap mark) ≡ false
-    → (hides mark.kind ≡ false) ⊎ MissesHeap mark
-either false mark is e = inl is
-either true mark is e = inr (misses-heap mark e)
+either : (b : Bool) (addr len : ℕ) (kind : RangeKind) → hides kind ≡ b → (b && meets_heap addr len) ≡ false
+    → (hides kind ≡ false) ⊎ MissesHeap addr len
+either false addr len kind is e = inl is
+either true addr len kind is e = inr (misses-heap addr len e)
 
-pub define-nothing : (marks : List Mark) → NoneInTheWay marks → DefineNothing marks
+defines-nothing : (act : Act) → hinders act ≡ false → DefinesNothing act
+defines-nothing (Make addr len kind) e = (or_parts (defines kind) (hides kind && meets_heap addr len) e).0
+defines-nothing _ e = absurd (true≢false e)
+
+hides-nothing : (act : Act) → hinders act ≡ false → HidesNothing act
+hides-nothing (Make addr len kind) e =
+    either (hides kind) addr len kind refl (or_parts (defines kind) (hides kind && meets_heap addr len) e).1
+hides-nothing _ e = absurd (true≢false e)
+
+pub define-nothing : (marks : List Alteration) → NoneInTheWay marks → DefineNothing marks
 define-nothing [] none = tt
 define-nothing (m ∷ ms) none =
     let parts = or_parts (is_in_the_way m) (list_any is_in_the_way ms) none in
-    ((or_parts (defines m.kind) (hides m.kind && meets_heap m) parts.0).0, define-nothing ms parts.1)
+    (defines-nothing m.act parts.0, define-nothing ms parts.1)
 
-pub hide-nothing : (marks : List Mark) → NoneInTheWay marks → HideNothing marks
+pub hide-nothing : (marks : List Alteration) → NoneInTheWay marks → HideNothing marks
 hide-nothing [] none = tt
 hide-nothing (m ∷ ms) none =
-    let parts = or_parts (is_in_the_way m) (list_any is_in_the_way ms) none in (
-      either (hides m.kind) m refl (or_parts (defines m.kind) (hides m.kind && meets_heap m) parts.0).1,
-      hide-nothing ms parts.1,
-    )
+    let parts = or_parts (is_in_the_way m) (list_any is_in_the_way ms) none in
+    (hides-nothing m.act parts.0, hide-nothing ms parts.1)
 
 -- what is certified --
 
-pub certified : (image : Image) (start : State) (setup : Setup) (marks : List Mark) (n : ℕ) → IsStartOf image start
+pub certified : (image : Image) (start : State) (setup : Setup) (marks : List Alteration) (n : ℕ)
+    → IsStartOf image start
     → HasBytes setup → NoneInTheWay marks → NoUse (post start setup marks n).events
     → IsCertified image start setup marks n
 certified image start setup marks n begins bytes clear none =
@@ -96,7 +109,7 @@ some-use es group is none =
         used (y ∷ ys) x at none =
             used ys x (sym (ap (λ u. cond u (Some y) (first_use ys)) none.0) ∙ at) none.1
 
-pub found-use : (start : State) (setup : Setup) (marks : List Mark) (n : ℕ) (step : ℕ) (group : Group)
+pub found-use : (start : State) (setup : Setup) (marks : List Alteration) (n : ℕ) (step : ℕ) (group : Group)
     → Some group ≡ find (λ g. is_use g.kind) (grouped (post start setup marks n).events) → step < n
     → RaisesFirstUse start setup marks step → (found : FirstUse) → found.step ≡ step → found.kind ≡ group.kind
     → found.trace ≡ group.trace → IsFirstUse start setup marks n found

@@ -6,7 +6,7 @@ use Rattle.guest_elf.specs.declared.image.Image.{Image}
 use Rattle.memory_map.specs.Regions.{heap_begin, heap_end}
 use Rattle.shadow_memory.specs.Ranges.{above}
 use Rattle.error_events.specs.declared.kind.Kind.{Kind}
-use Rattle.run_values.specs.declared.mark.Mark.{Mark}
+use Rattle.run_values.specs.declared.alteration.Alteration.{Alteration}
 use Rattle.suppressions.specs.Rules.{Rule}
 use Rattle.replay_report.specs.Report.{IsReport}
 use Rattle.replay_report.specs.declared.options.Options.{Options}
@@ -30,7 +30,7 @@ StepsAgree input =
 -- so does a run from any state, whatever is disturbed between its steps
 abbrev pub RunsAgree : List ℕ → Type 0
 RunsAgree input =
-    (start : State) (setup : Setup) (marks : List Mark) (states : ℕ → State) (n : ℕ) → setup.input ≡ input
+    (start : State) (setup : Setup) (marks : List Alteration) (states : ℕ → State) (n : ℕ) → setup.input ≡ input
     → DefineNothing marks → IsDisturbed start setup marks n states
     → ((k : ℕ) → k < n → BlocksAreOpen (post start setup marks k).core)
     → NoUse (pre start setup marks n).events → StatesAgree (pre start setup marks n) (states n)
@@ -46,7 +46,7 @@ ReportsAgree =
 -- each disturbed run: status, output, errors, blocks and calls are the same.
 abbrev pub CleanRuns : List ℕ → Type 0
 CleanRuns input =
-    (image : Image) (start : State) (setup : Setup) (marks : List Mark) (states : ℕ → State) (n : ℕ)
+    (image : Image) (start : State) (setup : Setup) (marks : List Alteration) (states : ℕ → State) (n : ℕ)
     → IsStartOf image start → setup.input ≡ input → DefineNothing marks → HideNothing marks
     → IsDisturbed start setup marks n states → NoUse (pre start setup marks n).events
     → StatesAgree (post start setup marks n) (after_marks n marks (states n))
@@ -54,7 +54,7 @@ CleanRuns input =
 -- The plain case: only what undefined and inaccessible memory holds at power-on differs
 abbrev pub PowerOn : List ℕ → Type 0
 PowerOn input =
-    (image : Image) (start other : State) (setup : Setup) (marks : List Mark) (n : ℕ)
+    (image : Image) (start other : State) (setup : Setup) (marks : List Alteration) (n : ℕ)
     → IsStartOf image start → setup.input ≡ input → DefineNothing marks → HideNothing marks → StatesAgree start other
     → NoUse (pre start setup marks n).events
     → StatesAgree (post start setup marks n) (post other setup marks n)
@@ -62,7 +62,7 @@ PowerOn input =
 -- The theorem on reports: a report of such a run is the report of each disturbed run, and vice versa
 abbrev pub CleanReports : List ℕ → Type 0
 CleanReports input =
-    (image : Image) (start : State) (setup : Setup) (marks : List Mark) (states : ℕ → State) (n : ℕ)
+    (image : Image) (start : State) (setup : Setup) (marks : List Alteration) (states : ℕ → State) (n : ℕ)
     → IsStartOf image start → setup.input ≡ input → DefineNothing marks → HideNothing marks
     → IsDisturbed start setup marks n states → NoUse (pre start setup marks n).events
     → (rules : List Rule) (options : Options) (step input_len : ℕ) (text : List ℕ)
@@ -72,11 +72,11 @@ CleanReports input =
 -- There are disturbed runs: the run itself is one, and so is a run that gets any noise in its inaccessible bytes before
 -- each step
 pub record DisturbedRunsExist (input : List ℕ) : Type 0 where
-  pub itself : (image : Image) (start : State) (setup : Setup) (marks : List Mark) (n : ℕ)
+  pub itself : (image : Image) (start : State) (setup : Setup) (marks : List Alteration) (n : ℕ)
       → IsStartOf image start → AreBytes start.bytes → setup.input ≡ input → DefineNothing marks → HideNothing marks
       → NoUse (pre start setup marks n).events
       → IsDisturbed start setup marks n (pre start setup marks)
-  pub noisy : (image : Image) (start : State) (setup : Setup) (marks : List Mark) (n : ℕ)
+  pub noisy : (image : Image) (start : State) (setup : Setup) (marks : List Alteration) (n : ℕ)
       → IsStartOf image start → AreBytes start.bytes → setup.input ≡ input → DefineNothing marks → HideNothing marks
       → NoUse (pre start setup marks n).events → (noise : ℕ → ℕ → ℕ) → ((k : ℕ) → AreBytes (noise k))
       → IsDisturbed start setup marks n (noisy_run start setup marks noise)
@@ -88,13 +88,14 @@ ProgramsAreBytes file = (image : Image) → IsImageOf file image → AreBytes (s
 -- if marks hide nothing of the heap, each byte of a live block may be accessed at every step
 abbrev pub HeapStaysOpen : Type 0
 HeapStaysOpen =
-    (image : Image) (start : State) (setup : Setup) (marks : List Mark) → IsStartOf image start → HideNothing marks
+    (image : Image) (start : State) (setup : Setup) (marks : List Alteration) → IsStartOf image start
+    → HideNothing marks
     → (k : ℕ) → HeapIsOpen (post start setup marks k).core
 
 -- if marks miss the heap, and the program was read from a file, no other byte of the heap region may be accessed
 abbrev pub HeapStaysClosed : Type 0
 HeapStaysClosed =
-    (file : List ℕ) (image : Image) (start : State) (setup : Setup) (marks : List Mark) → IsImageOf file image
+    (file : List ℕ) (image : Image) (start : State) (setup : Setup) (marks : List Alteration) → IsImageOf file image
     → IsStartOf image start → MissTheHeap marks
     → (k : ℕ) → HeapIsOpen (post start setup marks k).core × HeapIsClosed (post start setup marks k).core
 

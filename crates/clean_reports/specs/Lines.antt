@@ -8,7 +8,9 @@ use Rattle.guest_machine.specs.State.{State}
 use Rattle.guest_machine.specs.declared.setup.Setup.{Setup}
 use Rattle.report_lines.specs.Lines.{kind_text}
 use Rattle.report_lines.specs.Text.{address_text, newline, shown_name}
-use Rattle.run_values.specs.declared.mark.Mark.{Mark}
+use Rattle.run_values.specs.declared.alteration.Act.{Act}
+use Rattle.run_values.specs.declared.alteration.Act.TheVariants.{Make}
+use Rattle.run_values.specs.declared.alteration.Alteration.{Alteration}
 use Rattle.shadow_memory.specs.declared.cells.RangeKind.{RangeKind}
 use Rattle.shadow_memory.specs.declared.cells.RangeKind.TheVariants.{NoAccess, Undefined, Defined}
 use Rattle.clean_reports.specs.Verdicts.{IsVerdict}
@@ -28,18 +30,23 @@ range_kind_text NoAccess = codes "noaccess"
 range_kind_text Undefined = codes "undefined"
 range_kind_text Defined = codes "defined"
 
--- `L bytes at A KIND`
-unfoldable pub range_text : Mark → List ℕ
-range_text mark =
-    decimal mark.len ++ codes " bytes at " ++ address_text mark.addr ++ codes " " ++ range_kind_text mark.kind
+-- ` makes L bytes at A KIND`
+unfoldable pub range_text : ℕ → ℕ → RangeKind → List ℕ
+range_text addr len kind =
+    codes " makes " ++ decimal len ++ codes " bytes at " ++ address_text addr ++ codes " " ++ range_kind_text kind
 
--- `not clean: mark I makes L bytes at A KIND at step N`
+-- what a mark does: that, or ` alters the machine`
+abbrev pub act_text : Act → List ℕ
+act_text (Make addr len kind) = range_text addr len kind
+act_text _ = codes " alters the machine"
+
+-- `not clean: mark I makes L bytes at A KIND at step N`, or `not clean: mark I alters the machine at step N`
 unfoldable pub mark_front : ℕ → List ℕ
-mark_front index = codes "not clean: mark " ++ decimal index ++ codes " makes "
+mark_front index = codes "not clean: mark " ++ decimal index
 
-unfoldable pub mark_line : ℕ → Mark → List ℕ
+unfoldable pub mark_line : ℕ → Alteration → List ℕ
 mark_line index mark =
-    mark_front index ++ range_text mark ++ codes " at step "
+    mark_front index ++ act_text mark.act ++ codes " at step "
     ++ decimal mark.step ++ newline
 
 -- ` at A: NAME` or `, by A: NAME`
@@ -68,6 +75,6 @@ verdict_line image n (ByMark index mark) = mark_line index mark
 verdict_line image n (Use found) = use_line image found
 
 -- a text is the line of the verdict on a run up to step n
-abbrev pub IsVerdictLine : Image → State → Setup → List Mark → ℕ → List ℕ → Type 0
+abbrev pub IsVerdictLine : Image → State → Setup → List Alteration → ℕ → List ℕ → Type 0
 IsVerdictLine image start setup marks n text =
     (verdict : Verdict) × IsVerdict start setup marks n verdict × (text ≡ verdict_line image n verdict)

@@ -4,7 +4,7 @@ use Rattle.std.specs.Prelude.{◌≡◌, ℕ, suc, ◌<◌, ◌↔◌, false, tr
 use Rattle.std.specs.List.{list_any}
 use Rattle.error_events.specs.declared.event.Event.{Event}
 use Rattle.guest_elf.specs.declared.image.Image.{Image}
-use Rattle.run_values.specs.declared.mark.Mark.{Mark}
+use Rattle.run_values.specs.declared.alteration.Alteration.{Alteration}
 use Rattle.suppressions.specs.Rules.{Rule}
 use Rattle.replay_report.specs.Report.{IsReport}
 use Rattle.replay_report.specs.declared.options.Options.{Options}
@@ -20,22 +20,23 @@ use Rattle.clean_reports.specs.declared.verdict.Verdict.{Verdict}
 use Rattle.clean_reports.specs.declared.verdict.Verdict.TheVariants.{Clean, Mark as ByMark, Use}
 
 -- no mark of a list is in the way
-abbrev pub NoneInTheWay : List Mark → Type 0
+abbrev pub NoneInTheWay : List Alteration → Type 0
 NoneInTheWay marks = list_any is_in_the_way marks ≡ false
 
 -- the mark at an index is the first that is in the way
-pub record IsFirstInTheWay (marks : List Mark) (index : ℕ) (mark : Mark) : Type 0 where
+pub record IsFirstInTheWay (marks : List Alteration) (index : ℕ) (mark : Alteration) : Type 0 where
   pub at : slice_get marks index ≡ Some mark
   pub stands : is_in_the_way mark ≡ true
   pub first : NoneInTheWay (take index marks)
 
 -- step k raises the first use of a run
-pub record RaisesFirstUse (start : State) (setup : Setup) (marks : List Mark) (k : ℕ) : Type 0 where
+pub record RaisesFirstUse (start : State) (setup : Setup) (marks : List Alteration) (k : ℕ) : Type 0 where
   pub before : NoUse (pre start setup marks k).events
   pub after : NoUse (pre start setup marks (suc k)).events → ⊥
 
 -- the first error that is a use, among those up to step n, and the step that raises it
-pub record IsFirstUse (start : State) (setup : Setup) (marks : List Mark) (n : ℕ) (found : FirstUse) : Type 0 where
+pub record IsFirstUse (start : State) (setup : Setup) (marks : List Alteration) (n : ℕ)
+    (found : FirstUse) : Type 0 where
   pub event : Event
   pub first : first_use (post start setup marks n).events ≡ Some event
   pub kind : found.kind ≡ event.kind
@@ -44,13 +45,13 @@ pub record IsFirstUse (start : State) (setup : Setup) (marks : List Mark) (n : �
   pub raises : RaisesFirstUse start setup marks found.step
 
 -- the verdict on a run up to step n: on marks first, and then on errors, including suppressed ones
-abbrev pub IsVerdict : State → Setup → List Mark → ℕ → Verdict → Type 0
+abbrev pub IsVerdict : State → Setup → List Alteration → ℕ → Verdict → Type 0
 IsVerdict start setup marks n Clean = NoneInTheWay marks × NoUse (post start setup marks n).events
 IsVerdict start setup marks n (ByMark index mark) = IsFirstInTheWay marks index mark
 IsVerdict start setup marks n (Use found) = NoneInTheWay marks × IsFirstUse start setup marks n found
 
 -- What is certified of a run up to step n: each disturbed run agrees with it, and has the same reports
-pub record IsCertified (image : Image) (start : State) (setup : Setup) (marks : List Mark) (n : ℕ) : Type 0 where
+pub record IsCertified (image : Image) (start : State) (setup : Setup) (marks : List Alteration) (n : ℕ) : Type 0 where
   pub runs : (states : ℕ → State) → IsDisturbed start setup marks n states
       → StatesAgree (post start setup marks n) (after_marks n marks (states n))
   pub reports : (states : ℕ → State) → IsDisturbed start setup marks n states

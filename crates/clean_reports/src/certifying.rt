@@ -13,14 +13,14 @@ use crate::marks::first_in_the_way;
 use crate::uses::{first_use, is_clean};
 use crate::verdict::{FirstUse, Verdict};
 use checkpoints::Trail;
-use guest_machine::{Mark, Setup};
+use guest_machine::{Alteration, Setup};
 use std::alloc::AllocError;
 
 /// Returns whether no error of a trail's run up to a step is a use.
 fn is_clean_at(
     trail: &mut Trail,
     setup: &Setup,
-    marks: &[Mark],
+    marks: &[Alteration],
     step: u32,
 ) -> Result<bool, AllocError>
     ensures tells { IfOk result (λ clean. (start : State) → IsRightFor trail.old start setup.now marks.now
@@ -30,7 +30,7 @@ fn is_clean_at(
     ensures short { is_short trail.new ≡ is_short trail.old }
     ensures loaded { loaded_of trail.new ≡ loaded_of trail.old }
 {
-    let machine = trail.at(step, setup, marks)?;
+    let machine = trail.at_altered(step, setup, marks)?;
     Ok(is_clean(&machine))
 }
 
@@ -38,7 +38,7 @@ fn is_clean_at(
 fn first_use_step(
     trail: &mut Trail,
     setup: &Setup,
-    marks: &[Mark],
+    marks: &[Alteration],
     end: u32,
 ) -> Result<u32, AllocError>
     ensures raises { IfOk result (λ step. (start : State) → IsRightFor trail.old start setup.now marks.now → NoUse start.events
@@ -63,13 +63,13 @@ fn first_use_step(
     Ok(clean)
 }
 
-/// Returns the verdict on a trail's run up to a step: on marks first, and then on errors. The trail is moved as by [`Trail::at`].
+/// Returns the verdict on a trail's run up to a step: on marks first, and then on errors. The trail is moved as by [`Trail::at_altered`].
 ///
 /// If the verdict is [`Verdict::Clean`], each disturbed run agrees with the run, and has the same reports (`IsCertified`).
 pub fn certify(
     trail: &mut Trail,
     setup: &Setup,
-    marks: &[Mark],
+    marks: &[Alteration],
     step: u32,
 ) -> Result<Verdict, AllocError>
     ensures verdict { IfOk result (λ verdict. (start : State) → IsRightFor trail.old start setup.now marks.now → NoUse start.events
@@ -82,7 +82,7 @@ pub fn certify(
     ensures short { is_short trail.new ≡ is_short trail.old }
     ensures loaded { loaded_of trail.new ≡ loaded_of trail.old }
 {
-    let machine = trail.at(step, setup, marks)?;
+    let machine = trail.at_altered(step, setup, marks)?;
     if let Some((index, mark)) = first_in_the_way(marks) {
         return Ok(Verdict::Mark(index, mark));
     }

@@ -1,11 +1,11 @@
 //! The line of a verdict.
 ghost use Rattle.std.specs.Prelude.{◌≡◌, ◌++◌, OnOk, codes};
 ghost use Rattle.std.specs.List.{flat_map};
-ghost use Rattle.clean_reports.specs.Lines.{caller_text, clean_line, mark_front, mark_line, range_kind_text, range_text, trace_text, use_front, use_line, verdict_line};
+ghost use Rattle.clean_reports.specs.Lines.{caller_text, act_text, clean_line, mark_front, mark_line, range_kind_text, range_text, trace_text, use_front, use_line, verdict_line};
 
 use crate::verdict::{FirstUse, Verdict};
 use guest_elf::Image;
-use guest_machine::Mark;
+use guest_machine::{Act, Alteration};
 use report_lines::{push_address, push_kind, push_name, push_number, push_text};
 use shadow_memory::RangeKind;
 use std::alloc::AllocError;
@@ -34,16 +34,27 @@ fn range_kind_text(kind: RangeKind) -> &'static [u8]
     }
 }
 
-/// Appends the range and the kind of a mark.
+/// Appends which range a mark makes.
 #[tactic(auto, unfolding(crate::specs::Lines::range_text), using(std::proofs::Common::append_assoc))]
-fn push_range(out: &mut Vec<u8>, mark: &Mark) -> Result<(), AllocError>
-    ensures { OnOk result (out.new.items ≡ out.old.items ++ range_text mark.now) }
+fn push_range(out: &mut Vec<u8>, addr: u32, len: u32, kind: RangeKind) -> Result<(), AllocError>
+    ensures { OnOk result (out.new.items ≡ out.old.items ++ range_text addr len kind) }
 {
-    push_number(out, u64::from(mark.len))?;
+    push_text(out, b" makes ")?;
+    push_number(out, u64::from(len))?;
     push_text(out, b" bytes at ")?;
-    push_address(out, mark.addr)?;
+    push_address(out, addr)?;
     push_text(out, b" ")?;
-    push_text(out, range_kind_text(mark.kind))
+    push_text(out, range_kind_text(kind))
+}
+
+/// Appends what a mark does.
+fn push_act(out: &mut Vec<u8>, act: &Act) -> Result<(), AllocError>
+    ensures { OnOk result (out.new.items ≡ out.old.items ++ act_text act.now) }
+{
+    match act {
+        Act::Make { addr, len, kind } => push_range(out, *addr, *len, *kind),
+        _ => push_text(out, b" alters the machine"),
+    }
 }
 
 /// Appends which mark is in the way.
@@ -52,17 +63,16 @@ fn push_mark_front(out: &mut Vec<u8>, index: usize) -> Result<(), AllocError>
     ensures { OnOk result (out.new.items ≡ out.old.items ++ mark_front index) }
 {
     push_text(out, b"not clean: mark ")?;
-    push_number(out, index as u64)?;
-    push_text(out, b" makes ")
+    push_number(out, index as u64)
 }
 
 /// Appends that a mark is in the way.
 #[tactic(auto, unfolding(crate::specs::Lines::mark_line), using(std::proofs::Common::append_assoc))]
-fn push_mark(out: &mut Vec<u8>, index: usize, mark: &Mark) -> Result<(), AllocError>
+fn push_mark(out: &mut Vec<u8>, index: usize, mark: &Alteration) -> Result<(), AllocError>
     ensures { OnOk result (out.new.items ≡ out.old.items ++ mark_line index mark.now) }
 {
     push_mark_front(out, index)?;
-    push_range(out, mark)?;
+    push_act(out, &mark.act)?;
     push_text(out, b" at step ")?;
     push_number(out, u64::from(mark.step))?;
     push_text(out, b"\n")

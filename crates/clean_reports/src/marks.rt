@@ -2,10 +2,10 @@
 ghost use Rattle.std.specs.Prelude.{◌≡◌, IfNone, IfSome};
 ghost use Rattle.memory_map.specs.Regions.{heap_begin};
 ghost use Rattle.shadow_memory.specs.Ranges.{is_in};
-ghost use Rattle.clean_reports.specs.Marks.{is_in_the_way, meets_heap};
+ghost use Rattle.clean_reports.specs.Marks.{hinders, meets_heap};
 ghost use Rattle.clean_reports.specs.Verdicts.{IsFirstInTheWay, NoneInTheWay};
 
-use guest_machine::Mark;
+use guest_machine::{Act, Alteration};
 use memory_map::{HEAP_BEGIN, HEAP_END};
 use shadow_memory::RangeKind;
 
@@ -16,32 +16,35 @@ fn is_in(start: u32, len: u32, address: u32) -> bool
     address.wrapping_sub(start) < len
 }
 
-/// Returns whether a mark has a byte of the heap region.
-fn meets_heap(mark: &Mark) -> bool
-    ensures { result ≡ meets_heap mark.now }
+/// Returns whether a range has a byte of the heap region.
+fn meets_heap(addr: u32, len: u32) -> bool
+    ensures { result ≡ meets_heap addr len }
 {
-    is_in(mark.addr, mark.len, HEAP_BEGIN)
-        || (mark.len > 0 && is_in(HEAP_BEGIN, HEAP_END - HEAP_BEGIN, mark.addr))
+    is_in(addr, len, HEAP_BEGIN) || (len > 0 && is_in(HEAP_BEGIN, HEAP_END - HEAP_BEGIN, addr))
 }
 
-/// Returns whether a mark is in the way of a clean run: it makes bytes defined, or bytes of the heap region inaccessible.
-fn is_in_the_way(mark: &Mark) -> bool
-    ensures { result ≡ is_in_the_way mark.now }
+/// Returns whether what a mark does is in the way of a clean run: it makes bytes defined, or bytes of the heap region inaccessible, or
+/// makes no range.
+fn hinders(act: &Act) -> bool
+    ensures { result ≡ hinders act.now }
 {
-    match mark.kind {
-        RangeKind::Defined => true,
-        RangeKind::Undefined => false,
-        RangeKind::NoAccess => meets_heap(mark),
+    match act {
+        Act::Make { addr, len, kind } => match kind {
+            RangeKind::Defined => true,
+            RangeKind::Undefined => false,
+            RangeKind::NoAccess => meets_heap(*addr, *len),
+        },
+        _ => true,
     }
 }
 
 /// Returns the first mark that is in the way, with its index.
-pub(crate) fn first_in_the_way(marks: &[Mark]) -> Option<(usize, Mark)>
+pub(crate) fn first_in_the_way(marks: &[Alteration]) -> Option<(usize, Alteration)>
     ensures some { IfSome result (λ found. IsFirstInTheWay marks.now found.0 found.1) }
     ensures none { IfNone result (NoneInTheWay marks.now) }
 {
     for (index, mark) in marks.iter().enumerate() {
-        if is_in_the_way(mark) {
+        if hinders(&mark.act) {
             return Some((index, *mark));
         }
     }

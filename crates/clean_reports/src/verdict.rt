@@ -1,7 +1,7 @@
 //! The verdict on a run: whether it is clean up to a step.
 use call_stacks::Trace;
 use error_events::Kind;
-use guest_machine::Mark;
+use guest_machine::Alteration;
 
 /// The first use of a run.
 #[derive(Clone, Copy)]
@@ -19,8 +19,9 @@ pub struct FirstUse {
 pub enum Verdict {
     /// The run is clean: nothing that undefined or inaccessible memory holds has an influence on it up to the step.
     Clean,
-    /// A mark makes bytes defined, or bytes of the heap inaccessible. It is the first such mark, with its index.
-    Mark(usize, Mark),
+    /// A mark makes bytes defined, or bytes of the heap inaccessible, or alters the machine in another way than by a range. It is the first
+    /// such mark, with its index.
+    Mark(usize, Alteration),
     /// An error is a use.
     Use(FirstUse),
 }

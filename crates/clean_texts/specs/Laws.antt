@@ -2,7 +2,7 @@
 -- an input is the contract of a function that takes it as a slice.
 use Rattle.std.specs.Prelude.{◌≡◌, ◌↔◌, ℕ, Bool, List, []}
 use Rattle.guest_elf.specs.declared.image.Image.{Image}
-use Rattle.run_values.specs.declared.mark.Mark.{Mark}
+use Rattle.run_values.specs.declared.alteration.Alteration.{Alteration}
 use Rattle.suppressions.specs.Rules.{Rule}
 use Rattle.replay_report.specs.Report.{IsReport}
 use Rattle.replay_report.specs.Outlines.{IsOutline}
@@ -25,7 +25,8 @@ NoErrorsMeansNone =
 -- so such a report certifies a program's run up to step n, under marks none of which is in the way
 abbrev pub CleanTexts : List ℕ → Type 0
 CleanTexts input =
-    (image : Image) (start : State) (setup : Setup) (marks : List Mark) (n : ℕ) (rules : List Rule) (options : Options)
+    (image : Image) (start : State) (setup : Setup) (marks : List Alteration) (n : ℕ) (rules : List Rule)
+    (options : Options)
     (step input_len : ℕ) (text : List ℕ)
     → IsStartOf image start → setup.input ≡ input → NoneInTheWay marks
     → IsReport (post start setup marks n) image rules options step input_len text → EndsWithNoErrors text

@@ -7,6 +7,7 @@ use Rattle.std.specs.Str.{bytes_eq}
 use Rattle.std.specs.Str.Parse.{digits_value}
 use Rattle.shadow_memory.specs.declared.cells.RangeKind.{RangeKind}
 use Rattle.shadow_memory.specs.declared.cells.RangeKind.TheVariants.{NoAccess, Undefined, Defined}
+use Rattle.run_values.specs.declared.alteration.Act.TheVariants.{Make}
 use Rattle.suppressions.specs.Added.{added}
 use Rattle.text_parts.specs.Parts.{parts}
 use Rattle.suppressions.specs.Rules.{Rule}
@@ -126,7 +127,7 @@ patch_of _ = None
 -- `mark STEP ADDR LEN KIND`
 abbrev pub mark_with : Option ℕ → Option ℕ → Option ℕ → Option RangeKind → Option Command
 mark_with (Some step) (Some addr) (Some len) (Some kind) =
-    Some (Edit (Mark (record { step = step; addr = addr; len = len; kind = kind })))
+    Some (Edit (Mark (record { step = step; act = Make addr len kind })))
 mark_with (Some step) (Some addr) (Some len) None = None
 mark_with (Some step) (Some addr) None kind = None
 mark_with (Some step) None len kind = None

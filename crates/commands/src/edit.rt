@@ -1,5 +1,5 @@
 //! An edit of a scenario.
-use run_values::Mark;
+use run_values::Alteration;
 use suppressions::{LeakKinds, Suppression};
 
 /// One edit.
@@ -13,8 +13,8 @@ pub enum Edit {
     Cut,
     /// Replaces a word of the loaded program.
     Patch { addr: u32, word: u32 },
-    /// Appends a mark to the list.
-    Mark(Mark),
+    /// Appends an alteration to the list of marks.
+    Mark(Alteration),
     /// Removes the mark at an index.
     Unmark(u32),
     /// Switches the suppression at an index on or off.

@@ -7,15 +7,17 @@
 //! | [`Command`], [`Edit`] | what a line asks for; an edit of a scenario |
 //! | [`Refusal`], [`Fault`] | why an edit is rejected; why a line is rejected, with its number |
 //! | [`BeginFault`] | why no session begins |
+//! | [`laws::lines_make_ranges`] | does nothing; its contract says that no line makes another alteration than of a range |
 //!
 //! This crate is separate from `scenario`, which applies the edits, and from `replay_session`, which carries out the commands and lists the
 //! lines. In `specs/`: `Commands`, the language, with a definition for each command over the fields of a line; `Faults`, the numbers of the
-//! faults.
+//! faults; `Laws`.
 #![tactic(auto)]
 
 mod command;
 mod edit;
 mod fault;
+pub mod laws;
 mod numbers;
 mod parsing;
 mod refusal;

@@ -7,7 +7,7 @@ use crate::command::Command;
 use crate::edit::Edit;
 use crate::fault::Fault;
 use crate::numbers::{byte, number, one_number};
-use run_values::Mark;
+use run_values::{Act, Alteration};
 use shadow_memory::RangeKind;
 use std::alloc::Global;
 use suppressions::{LeakKinds, SuppFault, Suppression};
@@ -185,11 +185,9 @@ fn mark_of(mut fields: Parts<'_>) -> Option<Command>
     let addr = number(addr)?;
     let len = number(len)?;
     let kind = kind_of(kind)?;
-    Some(Command::Edit(Edit::Mark(Mark {
+    Some(Command::Edit(Edit::Mark(Alteration {
         step,
-        addr,
-        len,
-        kind,
+        act: Act::Make { addr, len, kind },
     })))
 }
 

@@ -7,7 +7,7 @@ use Rattle.guest_elf.specs.declared.image.Image.{Image}
 use Rattle.guest_machine.specs.Run.{start_state}
 use Rattle.guest_machine.specs.State.{State}
 use Rattle.guest_machine.specs.declared.setup.Setup.{Setup}
-use Rattle.run_values.specs.declared.mark.Mark.{Mark}
+use Rattle.run_values.specs.declared.alteration.Alteration.{Alteration}
 use Rattle.scenario.specs.Setups.{setup_with}
 use Rattle.clean_reports.specs.Disturbed.{HasBytes, IsStartOf}
 use Rattle.clean_reports.specs.Lines.{verdict_line}
@@ -27,7 +27,8 @@ unfolding start_state
 begins image = record { core = refl; events = refl }
 
 module _ (image : Image) (input : List ℕ) (step : ℕ) (setup : Setup) (plain : setup ≡ setup_with image input)
-    (trail : Trail) (right : (setup : Setup) (marks : List Mark) → IsRightFor trail (start_state image) setup marks)
+    (trail : Trail) (right : (setup : Setup) (marks : List Alteration)
+    → IsRightFor trail (start_state image) setup marks)
   where
     pub verdict-once : (verdict : Verdict)
         → ((start : State) → IsRightFor trail start setup [] → NoUse start.events

@@ -14,7 +14,7 @@ use Rattle.executions.proofs.Steps.{front-none, front-then, wrote-then}
 use Rattle.guest_machine.specs.State.{State}
 use Rattle.guest_machine.specs.Run.{pre, poked, post, start_state, after_marks}
 use Rattle.guest_machine.specs.Streams.{OutputGrows}
-use Rattle.run_values.specs.declared.mark.Mark.{Mark}
+use Rattle.run_values.specs.declared.alteration.Alteration.{Alteration}
 use Rattle.scenario.specs.Edits.{with_input}
 use Rattle.scenario.specs.Scenario.{Scenario, chosen_state, first_state, with_words}
 use Rattle.scenario.specs.declared.word.Word.{Word}
@@ -42,7 +42,7 @@ first-unseen sc = words-unseen (start_state sc.image) sc.words
 
 -- ---- the last step
 
-without-marks : (s : State) (k : ℕ) (marks : List Mark) → marks ≡ [] → after_marks k marks s ≡ s
+without-marks : (s : State) (k : ℕ) (marks : List Alteration) → marks ≡ [] → after_marks k marks s ≡ s
 unfolding after_marks
 without-marks s k marks none = ap (λ marks. after_marks k marks s) none
 

@@ -1,4 +1,6 @@
 pub mod Showing
+pub mod MarkLaw
+pub mod AlterSteps
 pub mod LoadSteps
 pub mod Starting
 pub mod WordLaw

@@ -29,7 +29,7 @@ stays setup s a h =
     (right-false (covers (fetch_span s.core (deed_at s.core s.bytes setup.hooks)) a) _ h))
 
 -- the four bytes from a multiple of 4 on are those of its word
-in-word : (addr a : ℕ) → addr % 4 ≡ 0 → addr < 2 ^ 32 → is_in addr 4 a ≡ true → a / 4 ≡ addr / 4
+pub in-word : (addr a : ℕ) → addr % 4 ≡ 0 → addr < 2 ^ 32 → is_in addr 4 a ≡ true → a / 4 ≡ addr / 4
 in-word addr a m small h = grind (arith, nat_tests)
 
 out-of-word : (addr a : ℕ) → addr % 4 ≡ 0 → addr < 2 ^ 32 → is_in addr 4 a ≡ false → a / 4 ≡ addr / 4 → ⊥

@@ -7,15 +7,17 @@ use Rattle.std.proofs.lemmas.List.FromFn.{length-map-range_with_len}
 use Rattle.guest_machine.specs.State.{State}
 use Rattle.guest_machine.specs.Registers.{known}
 use Rattle.guest_machine.specs.Calls.{bytes_taken}
-use Rattle.shadow_memory.specs.Shadows.{made_so}
 use Rattle.shadow_memory.specs.Ranges.{written, byte_of}
 use Rattle.shadow_memory.specs.Memories.{bytes_in, shadows_in}
 use Rattle.guest_heap.specs.Heaps.{blocks_of}
 use Rattle.guest_machine.specs.Exec.{exec, uses_at, effect_at, touched_at, touched_of, written_to, counted}
 use Rattle.guest_machine.specs.Exec.{is_heap_deed, deed_at}
 use Rattle.guest_machine.specs.Exec.{seen_also, intake_at}
-use Rattle.guest_machine.specs.Run.{marked, poked}
+use Rattle.guest_machine.specs.Acting.{IsDone}
+use Rattle.guest_machine.specs.Alterations.{altered, altered_bytes, altered_core}
+use Rattle.guest_machine.specs.Run.{poked}
 use Rattle.error_events.specs.Adding.{add_event, add_events, GroupsGrowBy}
+use Rattle.error_events.specs.Shown.{groups_of}
 use Rattle.error_events.specs.declared.event.Event.{Event}
 use Rattle.error_events.specs.declared.event.Group.{Group}
 use Rattle.guest_machine.specs.Shows.{core_of, bytes_of, Holds}
@@ -23,7 +25,9 @@ use Rattle.guest_machine.specs.Doing.{noted_of, note_events, touched_by, DoesSte
 use Rattle.shadow_memory.specs.declared.memory.Memory.{Memory}
 use Rattle.guest_machine.specs.declared.machine.Guest.{Guest}
 use Rattle.guest_machine.specs.declared.setup.Setup.{Setup}
-use Rattle.run_values.specs.declared.mark.Mark.{Mark}
+use Rattle.run_values.specs.declared.alteration.Alteration.{Alteration}
+use Rattle.guest_machine.specs.declared.machine.Noted.{Noted}
+use Rattle.guest_machine.specs.declared.machine.Progress.{Progress}
 use Rattle.guest_machine.specs.declared.setup.Touched.{Touched}
 
 is-less : (m n : ℕ) → m < n → nat_lt m n ≡ true
@@ -137,30 +141,19 @@ pub touched_exec : (old : Guest) (setup : Setup) (t : Touched) → t ≡ touched
     → (s : State) → Holds old s → t ≡ touched_of s setup
 touched_exec old setup t e s h = e ∙ (λ i. touched_at (h.core i) (h.bytes i) (h.position i) (h.output i) setup)
 
--- a guest with a range made so
-pub holds-marked : (m : Guest) (memory : Memory) (mark : Mark) → bytes_in memory ≡ bytes_in m.memory
-    → shadows_in memory ≡ made_so (shadows_in m.memory) mark.addr mark.len mark.kind
-    → (zero : slice_index_or m.registers 0 (known 0) ≡ known 0) (s : State) → Holds m s
-    → Holds (record m { memory = memory; zero = zero }) (marked s mark)
-unfolding marked
-holds-marked m memory mark b c zero s h =
+-- a guest that was altered
+pub holds-altered : (old new : Guest) (alteration : Alteration) → IsDone alteration.act old new → (s : State)
+    → Holds old s → Holds new (altered s alteration)
+unfolding altered
+holds-altered old new alteration c s h =
     record {
-      bytes = b ∙ h.bytes;
-      core =
-          (λ i. record {
-            shadow = c i;
-            registers = m.registers;
-            pc = m.pc;
-            status = m.status;
-            frames = m.frames;
-            blocks = blocks_of m.heap;
-          })
-          ∙ (λ i. record (h.core i) { shadow = made_so (h.core i).shadow mark.addr mark.len mark.kind });
-      position = h.position;
-      end_seen = h.end_seen;
-      output = h.output;
-      heap_calls = h.heap_calls;
-      groups = h.groups;
+      bytes = c.bytes ∙ (λ i. altered_bytes alteration.act (h.core i) (h.bytes i));
+      core = c.core ∙ (λ i. altered_core alteration.act (h.core i));
+      position = ap (λ (p : Progress). p.position) c.progress ∙ h.position;
+      end_seen = ap (λ (p : Progress). p.end_seen) c.progress ∙ h.end_seen;
+      output = ap (λ (p : Progress). p.output_len) c.progress ∙ h.output;
+      heap_calls = ap (λ (p : Progress). p.heap_calls) c.progress ∙ h.heap_calls;
+      groups = ap (λ (n : Noted). groups_of n.groups) c.noted ∙ h.groups;
     }
 
 -- a guest with four byte values written

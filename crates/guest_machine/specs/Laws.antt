@@ -3,7 +3,13 @@ use Rattle.std.specs.Prelude.{◌≡◌, ℕ, ◌/◌, ◌%◌, ◌^◌, ◌<◌
 use Rattle.std.specs.Prelude.{slice_get}
 use Rattle.guest_elf.specs.declared.hook.Hook.{Hook}
 use Rattle.guest_machine.specs.State.{State}
-use Rattle.guest_machine.specs.Run.{poked}
+use Rattle.guest_machine.specs.Run as Altered
+use Rattle.guest_machine.specs.Run.{poked, marked}
+use Rattle.guest_machine.specs.Alterations.{altered}
+use Rattle.guest_machine.specs.MarkedRun as Marked
+use Rattle.guest_machine.specs.MarkedRun.{alterations_of}
+use Rattle.run_values.specs.Alterations.{alteration_of}
+use Rattle.run_values.specs.declared.mark.Mark.{Mark}
 use Rattle.guest_machine.specs.Exec.{exec, touches, counted, is_heap_deed, is_running, deed_at}
 use Rattle.guest_machine.specs.declared.setup.Setup.{Setup}
 
@@ -91,3 +97,16 @@ abbrev pub StaysHalted : Type 0
 StaysHalted =
     (setup : Setup) (s : State) → is_running s.core.status ≡ false
     → (exec s setup ≡ s) × ((a : ℕ) → touches s setup a ≡ false)
+
+-- ---- marks as alterations
+
+-- a mark alters a state as it marks it
+abbrev pub AltersAsMarked : Type 0
+AltersAsMarked = (s : State) (mark : Mark) → altered s (alteration_of mark) ≡ marked s mark
+
+-- so the run with marks as alterations is the run with marks, before the marks of each step and after them
+abbrev pub RunsAsMarked : Type 0
+RunsAsMarked =
+    (start : State) (setup : Setup) (marks : List Mark) (k : ℕ)
+    → (Altered.pre start setup (alterations_of marks) k ≡ Marked.pre start setup marks k)
+    × (Altered.post start setup (alterations_of marks) k ≡ Marked.post start setup marks k)

@@ -10,9 +10,12 @@ pub mod HeapCalls
 pub mod NamedCalls
 pub mod Exec
 pub mod Loading
+pub mod Alterations
 pub mod Run
+pub mod MarkedRun
 pub mod Shows
 pub mod Doing
+pub mod Acting
 pub mod DecodeCaches
 pub mod Streams
 pub mod Laws

@@ -1,4 +1,4 @@
--- A run from step zero, with marks between steps.
+-- A run from step zero, with alterations between steps.
 use Rattle.std.specs.Prelude.{ℕ, false, zero, suc, ◌==◌, List, filter, fold, unwrap_or, is_some, if◌then◌else◌}
 use Rattle.std.specs.Prelude.{replicate, slice_set, []}
 use Rattle.guest_elf.specs.declared.image.Image.{Image}
@@ -14,6 +14,8 @@ use Rattle.shadow_memory.specs.declared.cells.RangeKind.{RangeKind}
 use Rattle.shadow_memory.specs.declared.cells.RangeKind.TheVariants.{NoAccess, Defined}
 use Rattle.guest_machine.specs.declared.setup.Setup.{Setup}
 use Rattle.run_values.specs.declared.mark.Mark.{Mark}
+use Rattle.run_values.specs.declared.alteration.Alteration.{Alteration}
+use Rattle.guest_machine.specs.Alterations.{altered}
 use Rattle.run_values.specs.declared.status.Status.TheVariants.{Running}
 
 -- the loaded bytes, and 0 elsewhere
@@ -60,18 +62,18 @@ marked s mark = made_state s mark.addr mark.len mark.kind
 unfoldable pub poked : State → ℕ → ℕ → State
 poked s addr word = record s { bytes = written s.bytes addr 4 (byte_of word) }
 
--- the marks of a step, in list order
-abbrev pub marks_at : ℕ → List Mark → List Mark
+-- the alterations of a step, in list order
+abbrev pub marks_at : ℕ → List Alteration → List Alteration
 marks_at k marks = filter (λ m. m.step == k) marks
 
--- the marks of step k applied
-unfoldable pub after_marks : ℕ → List Mark → State → State
-after_marks k marks s = fold marked s (marks_at k marks)
+-- the alterations of step k applied
+unfoldable pub after_marks : ℕ → List Alteration → State → State
+after_marks k marks s = fold altered s (marks_at k marks)
 
 -- the state before step k of the run from a state, and the state that step k starts from
-unfoldable pub pre : State → Setup → List Mark → ℕ → State
+unfoldable pub pre : State → Setup → List Alteration → ℕ → State
 pre start setup marks zero = start
 pre start setup marks (suc k) = exec (after_marks k marks (pre start setup marks k)) setup
 
-unfoldable pub post : State → Setup → List Mark → ℕ → State
+unfoldable pub post : State → Setup → List Alteration → ℕ → State
 post start setup marks k = after_marks k marks (pre start setup marks k)

@@ -4,8 +4,8 @@
 //! registers with their undefined bits; pc; whether it runs; the frames of the calls that it is in; the blocks of the heap; how much of the
 //! input was read, how much output was written, and the number of heap calls; and the errors so far, counted by kind and trace.
 //! [`Machine::step`] executes one instruction (ECALL included), or one call of a function of the heap that the setup names by its first
-//! address. [`Machine::run`] executes many steps. Between steps a range can be marked and a word poked. Once the machine is halted, a step
-//! changes nothing, and `run` executes none.
+//! address. [`Machine::run`] executes many steps. Between steps a range can be marked, a word poked, and the machine altered in other ways.
+//! Once the machine is halted, a step changes nothing, and `run` executes none.
 //!
 //! # Public items
 //!
@@ -16,6 +16,7 @@
 //! | [`Machine::step_on`] | the same without a meter; doesn't say whether the step raised an error |
 //! | [`Machine::run`] | returns the machine many steps later |
 //! | [`Machine::mark`] | returns the machine with a range made inaccessible, undefined or defined |
+//! | [`Machine::alter`] | returns the machine with any [`Alteration`] made: a range, a register, pc, or bytes |
 //! | [`Machine::poke_word`] | returns the machine with the four bytes at an address changed |
 //! | [`Machine::share`] | returns a copy, which later changes of the original don't reach |
 //! | [`Machine::hand_on`] | likewise, for the copy that continues the run: what was decoded moves to it |
@@ -34,11 +35,12 @@
 //! | [`Meter::new`], [`Meter::read`], [`Meter::rise_by`] | a count of steps, raised by `step`, by `run` and by the steps that a caller counted |
 //! | [`laws::keeps_words`], [`laws::keeps_input`], [`laws::keeps_heap`], [`laws::keeps_pokes`] | do nothing; their contracts are laws of one step |
 //! | [`laws::reads_on`], [`laws::keeps_end`], [`laws::end_stays`], [`laws::stays_halted`] | likewise |
+//! | [`laws::alters_as_marked`], [`laws::runs_as_marked`] | likewise; their contracts say what marks are as alterations |
 //!
-//! [`Setup`], [`Input`], [`Hooks`], [`Mark`], [`Touched`], [`Span`], [`Register`], [`Status`] and [`Stop`] are the values that these take
-//! and return. [`USUAL_REDZONE`] and [`USUAL_VOLUME`] are Memcheck's settings of the heap. The values for memory, traces, blocks and errors
-//! are in the crates `shadow_memory`, `call_stacks`, `guest_heap` and `error_events`. If memory runs out, what consumes a machine drops it
-//! and returns `AllocError`; nothing else fails.
+//! [`Setup`], [`Input`], [`Hooks`], [`Mark`], [`Alteration`], [`Act`], [`Touched`], [`Span`], [`Register`], [`Width`], [`Status`] and
+//! [`Stop`] are the values that these take and return. [`USUAL_REDZONE`] and [`USUAL_VOLUME`] are Memcheck's settings of the heap. The
+//! values for memory, traces, blocks and errors are in the crates `shadow_memory`, `call_stacks`, `guest_heap` and `error_events`. If
+//! memory runs out, what consumes a machine drops it and returns `AllocError`; nothing else fails.
 //!
 //! # What a caller can rely on
 //!
@@ -51,17 +53,18 @@
 //! - `meter`: the meter has risen by one, up to the greatest `u64`;
 //! - `unmoved`: if memory ran out, the meter is where it was.
 //!
-//! The calls between steps have the same form: `start` shows `start_state`, `mark` leads from a state to `marked`, `poke_word` to `poked`,
-//! `share` to the same state, and each observer except `has_raised` returns a field of it. So a run of any length is the definition `pre`
-//! or `post`, by as many calls. The laws let a caller replay less after an edit. A step is the same if the edit changed only a word that it
-//! doesn't touch, input that it hasn't come to, or, if it is no heap call, the heap's options. A word that it doesn't touch may as well be
-//! poked after it. A step of a halted machine need not be executed.
+//! The calls between steps have the same form: `start` shows `start_state`, `mark` leads from a state to `marked`, `alter` to `altered`,
+//! `poke_word` to `poked`, `share` to the same state, and each observer except `has_raised` returns a field of it. So a run of any length
+//! is the definition `pre` or `post`, by as many calls. The laws let a caller replay less after an edit. A step is the same if the edit
+//! changed only a word that it doesn't touch, input that it hasn't come to, or, if it is no heap call, the heap's options. A word that it
+//! doesn't touch may as well be poked after it. A step of a halted machine need not be executed.
 //!
 //! # Where the definitions are
 //!
 //! They are in `specs/`, here from the outside in:
 //!
-//! - `Run`: the state at the start, marks, pokes, and the states before and after the marks of each step.
+//! - `Run`: the state at the start, marks, pokes, and the states before and after the alterations of each step. `Alterations`: what each of
+//!   these does. `MarkedRun`: the run with only marks.
 //! - `Exec`: one step (`exec`) and what it touches (`touched_of`, `touches`), in three parts: what the step does (`deed_at`: it fetches the
 //!   word at pc, calls a function by name, or neither), what it uses, and what it leaves. It depends on no other byte and no other part of
 //!   the setup; the laws follow from this form.
@@ -73,7 +76,7 @@
 //!   move of the stack pointer makes inaccessible or undefined.
 //! - `State`, `Registers`, `Spans`: what a state is, and how registers and ranges of addresses change.
 //! - `Laws`: the laws of one step.
-//! - `Shows`: that a machine shows a state. `Loading`, `Sieve`, `Doing` and `DecodeCaches` are for this crate's proofs.
+//! - `Shows`: that a machine shows a state. `Loading`, `Sieve`, `Doing`, `Acting` and `DecodeCaches` are for this crate's proofs.
 //!
 //! Sources: RISC-V Unprivileged ISA 20191213, chapters 1, 2 and 7; the Memcheck manual, chapter 4; Seward and Nethercote,
 //! "Using Valgrind to detect undefined value errors with bit-precision" (USENIX 2005). The undefined bits of a result are those
@@ -93,8 +96,8 @@ mod setup;
 
 pub use hooks::Hooks;
 pub use input::Input;
-pub use instructions::Register;
+pub use instructions::{Register, Width};
 pub use machine::Machine;
 pub use meter::Meter;
-pub use run_values::{Mark, Span, Status, Stop};
+pub use run_values::{Act, Alteration, Mark, Span, Status, Stop};
 pub use setup::{Setup, Touched, USUAL_REDZONE, USUAL_VOLUME};

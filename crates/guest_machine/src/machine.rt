@@ -2,6 +2,7 @@
 ghost use Rattle.std.specs.Prelude.{◌≡◌, slice_index_or};
 ghost use Rattle.guest_machine.specs.Registers.{known};
 
+mod altering;
 mod between;
 mod calls;
 mod checks;

@@ -12,7 +12,7 @@ use Rattle.checkpoints.specs.FirstEffects.{IsBelowFirst}
 use Rattle.checkpoints.specs.FirstUses.{uses_word}
 use Rattle.checkpoints.specs.Work.{Work, floor, reached, steps_made, ReportMoves, EditMoves}
 use Rattle.checkpoints.specs.declared.effect.Effect.{Effect}
-use Rattle.checkpoints.specs.declared.effect.Effect.TheVariants.{Nowhere, After, Input, End, Heap, Word}
+use Rattle.checkpoints.specs.declared.effect.Effect.TheVariants.{Nowhere, After, Input, End, Heap, Word, Anew}
 use Rattle.scenario.specs.Edits.{row}
 use Rattle.scenario.specs.Scenario.{Scenario, run_of}
 use Rattle.scenario.proofs.FrontSteps.{nothing_read, nothing_ended, nothing_called}
@@ -74,6 +74,11 @@ tested-by (Word addr word) run fresh = record {
   test = patch_test (uses_word run.start run.setup run.marks addr);
   decides = patch-decided _;
   later = λ x. absurd (let e = x.1 in omega arith);
+}
+tested-by (Anew addr word) run fresh = record {
+  test = λ k. nat_lt 0 k;
+  decides = λ k. Decides-ltb 0 k;
+  later = λ x. absurd (omega arith);
 }
 
 tested : (sc : Scenario) (command : Command) → Tested (ShowsAt sc command)

@@ -193,7 +193,7 @@ impl<'a> Session<'a> {
         ensures work { OnOk result (MovesWork (scenario_of self.old) Command.Report (work_on (trail_of self.old)) (work_on (trail_of self.new))) }
         ensures short { is_short (trail_of self.new) ≡ is_short (trail_of self.old) }
     {
-        self.trail.at(
+        self.trail.at_altered(
             self.scenario.step(),
             self.scenario.setup(),
             self.scenario.marks(),

@@ -5,10 +5,11 @@ use Rattle.std.specs.Prelude.{slice_get, slice_set, slice_index_or}
 use Rattle.std.proofs.lemmas.Bool.Decides.{nat_tests}
 use Rattle.std.proofs.lemmas.List.{length-set, length-append, length-take}
 use Rattle.guest_machine.specs.Run.{marks_at, start_state}
-use Rattle.run_values.specs.declared.mark.Mark.{Mark as MarkAt}
+use Rattle.run_values.specs.declared.alteration.Alteration.{Alteration}
 use Rattle.suppressions.specs.Rules.{Rule}
-use Rattle.checkpoints.specs.Effects.{DifferAtStep}
-use Rattle.scenario.specs.Scenario.{Scenario, first_state}
+use Rattle.checkpoints.specs.Effects.{DifferAtStep, LeadsTo, effect_by}
+use Rattle.checkpoints.specs.Writes.{write_word}
+use Rattle.scenario.specs.Scenario.{Scenario, first_state, run_of}
 use Rattle.scenario.specs.Edits.{Follows, TakesBack, IsTaken, row, refused_if, mark_step, switched, is_on}
 use Rattle.commands.specs.declared.edit.Edit.{Edit}
 use Rattle.commands.specs.declared.edit.Edit.TheVariants.{Input, Append, Cut, Patch, Mark, Unmark, Switch, Add, Callers}
@@ -54,17 +55,28 @@ take-front (x ∷ xs) (suc n) (suc i) l = take-front xs n i (omega arith)
 not-at : (m k : ℕ) → (k ≡ m → ⊥) → (m == k) ≡ false
 not-at m k n = grind (arith, nat_tests)
 
-differ-appended : (marks : List MarkAt) (mark : MarkAt) → DifferAtStep mark.step marks (marks ++ mark ∷ [])
+differ-appended : (marks : List Alteration) (mark : Alteration) → DifferAtStep mark.step marks (marks ++ mark ∷ [])
 differ-appended [] mark k n = sym (ap (λ b. cond b (mark ∷ []) []) (not-at mark.step k n))
 differ-appended (m ∷ ms) mark k n = ap (λ rest. cond (m.step == k) (m ∷ rest) rest) (differ-appended ms mark k n)
 
-differ-removed : (marks : List MarkAt) (i : ℕ) → DifferAtStep (mark_step marks i) marks (remove marks i)
+differ-removed : (marks : List Alteration) (i : ℕ) → DifferAtStep (mark_step marks i) marks (remove marks i)
 differ-removed [] zero k n = refl
 differ-removed [] (suc i) k n = refl
 differ-removed (m ∷ ms) zero k n = ap (λ b. cond b (m ∷ marks_at k ms) (marks_at k ms)) (not-at m.step k n)
 differ-removed (m ∷ ms) (suc i) k n = ap (λ rest. cond (m.step == k) (m ∷ rest) rest) (differ-removed ms i k n)
 
 -- ---- an edit leads from run to run
+
+patch-leads : (sc : Scenario) (addr word : ℕ) (b : Bool) → write_word sc.marks addr ≡ b
+    → LeadsTo (effect_by b addr word) (run_of sc) (run_of (row sc (Patch addr word)).after)
+unfolding first_state
+patch-leads sc addr word true h = record
+    { start = with-more (start_state sc.image) sc.words (record { addr = addr; word = word }); differ = (refl, refl) }
+patch-leads sc addr word false h = record {
+  start = with-more (start_state sc.image) sc.words (record { addr = addr; word = word });
+  differ =
+      (refl, refl, h);
+}
 
 pub follows : Follows
 unfolding first_state
@@ -106,8 +118,7 @@ follows sc Cut h =
         refl,
       );
     }
-follows sc (Patch addr word) h = record
-    { start = with-more (start_state sc.image) sc.words (record { addr = addr; word = word }); differ = (refl, refl) }
+follows sc (Patch addr word) h = patch-leads sc addr word (write_word sc.marks addr) refl
 follows sc (Mark mark) h = record { start = refl; differ = (refl, differ-appended sc.marks mark) }
 follows sc (Unmark i) h = record { start = refl; differ = (refl, differ-removed sc.marks i) }
 follows sc (Switch i on) h = record { start = refl; differ = (refl, refl) }
@@ -140,7 +151,7 @@ append-cut (x ∷ []) zero e = refl
 append-cut (x ∷ y ∷ ys) zero e = absurd (omega arith)
 append-cut (x ∷ xs) (suc n) e = ap (λ ys. x ∷ ys) (append-cut xs n (omega arith))
 
-remove-last : (marks : List MarkAt) (mark : MarkAt) → remove (marks ++ mark ∷ []) (length marks) ≡ marks
+remove-last : (marks : List Alteration) (mark : Alteration) → remove (marks ++ mark ∷ []) (length marks) ≡ marks
 remove-last [] mark = refl
 remove-last (m ∷ ms) mark = ap (λ rest. m ∷ rest) (remove-last ms mark)
 

@@ -12,13 +12,13 @@ use Rattle.guest_machine.specs.Shows.{Shows}
 use Rattle.guest_machine.specs.State.{State}
 use Rattle.guest_machine.specs.declared.machine.Machine.{Machine}
 use Rattle.guest_machine.specs.declared.setup.Setup.{Setup}
-use Rattle.run_values.specs.declared.mark.Mark.{Mark}
+use Rattle.run_values.specs.declared.alteration.Alteration.{Alteration}
 use Rattle.checkpoints.specs.Edits.{IsRightForRun}
 use Rattle.checkpoints.specs.Effects.{WritesWithin}
 use Rattle.checkpoints.specs.Trails.{IsRightFor, LoadsAs, loaded_of}
 use Rattle.checkpoints.specs.Words.{IsWordIn}
 use Rattle.checkpoints.specs.declared.effect.Effect.{Effect}
-use Rattle.checkpoints.specs.declared.effect.Effect.TheVariants.{Word as WordAt}
+use Rattle.checkpoints.specs.declared.effect.Effect.TheVariants.{Word as WordAt, Anew}
 use Rattle.checkpoints.specs.declared.trail.Trail.{Trail}
 use Rattle.guest_elf.specs.Images.{is_word, is_loaded}
 use Rattle.scenario.specs.Edits.{WritesLoaded}
@@ -63,10 +63,12 @@ word-in trail image addr loads small is =
 pub within : (trail : Trail) (image : Image) (effect : Effect) → LoadsAs trail image → WritesLoaded image effect
     → WritesWithin (loaded_of trail) effect
 within trail image (WordAt addr word) loads h = word-in trail image addr loads h.0 h.1
+within trail image (Anew addr word) loads h = word-in trail image addr loads h.0 h.1
 within trail image _ loads h = tt
 
 -- a trail that a report moved on is right for the same run
-pub moved : (sc : Scenario) (setup : Setup) (marks : List Mark) (old new : Trail) → setup ≡ sc.setup → marks ≡ sc.marks
+pub moved : (sc : Scenario) (setup : Setup) (marks : List Alteration) (old new : Trail) → setup ≡ sc.setup
+    → marks ≡ sc.marks
     → ((start : State) → IsRightFor old start setup marks → IsRightFor new start setup marks)
     → IsRightForRun old (run_of sc) → IsRightForRun new (run_of sc)
 moved sc setup marks old new given marked right h =
@@ -74,7 +76,8 @@ moved sc setup marks old new given marked right h =
     (right (first_state sc) (transport (λ i. IsRightFor old (first_state sc) (sym given i) (sym marked i)) h))
 
 -- what a trail that is right for a run says of it, for the run of a scenario
-pub told : (sc : Scenario) (setup : Setup) (marks : List Mark) (step : ℕ) (old : Trail) (P : State → Setup → List Mark
+pub told : (sc : Scenario) (setup : Setup) (marks : List Alteration) (step : ℕ) (old : Trail) (P : State → Setup
+    → List Alteration
     → ℕ → Type 0)
     → setup ≡ sc.setup → marks ≡ sc.marks → step ≡ sc.step
     → ((start : State) → IsRightFor old start setup marks → P start setup marks step)
@@ -84,7 +87,7 @@ told sc setup marks step old P given marked chosen tells h =
     (tells (first_state sc) (transport (λ i. IsRightFor old (first_state sc) (sym given i) (sym marked i)) h))
 
 -- the machine that a trail has at the chosen step
-pub shown : (sc : Scenario) (setup : Setup) (marks : List Mark) (step : ℕ) (old : Trail) (machine : Machine)
+pub shown : (sc : Scenario) (setup : Setup) (marks : List Alteration) (step : ℕ) (old : Trail) (machine : Machine)
     → setup ≡ sc.setup → marks ≡ sc.marks → step ≡ sc.step
     → ((start : State) → IsRightFor old start setup marks → Shows machine (post start setup marks step))
     → IsRightForRun old (run_of sc) → Shows machine (chosen_state sc)

@@ -4,13 +4,18 @@ use Rattle.std.specs.Prelude.{false, not, if◌then◌else◌, List, [], ◌∷�
 use Rattle.std.specs.Prelude.{slice_index_or, map, Option, Some, None}
 use Rattle.guest_elf.specs.Images.{is_word}
 use Rattle.guest_elf.specs.declared.image.Image.{Image}
-use Rattle.run_values.specs.declared.mark.Mark.{Mark as MarkAt}
+use Rattle.instructions.specs.Widths.{width_len}
+use Rattle.instructions.specs.declared.width.Width.{Width}
+use Rattle.instructions.specs.declared.width.Width.TheVariants.{Byte, Half, Word as WholeWord}
+use Rattle.run_values.specs.declared.alteration.Act.{Act}
+use Rattle.run_values.specs.declared.alteration.Act.TheVariants.{Make, Write, Turn}
+use Rattle.run_values.specs.declared.alteration.Alteration.{Alteration}
 use Rattle.suppressions.specs.Rules.{Rule}
 use Rattle.suppressions.specs.declared.leak_kinds.LeakKinds.{LeakKinds}
-use Rattle.checkpoints.specs.Effects.{LeadsTo}
+use Rattle.checkpoints.specs.Effects.{LeadsTo, word_effect}
 use Rattle.checkpoints.specs.declared.effect.Effect.{Effect}
 use Rattle.checkpoints.specs.declared.effect.Effect.TheVariants.{Nowhere, After, Input as InputFrom, End, Heap}
-use Rattle.checkpoints.specs.declared.effect.Effect.TheVariants.{Word as WordAt}
+use Rattle.checkpoints.specs.declared.effect.Effect.TheVariants.{Word as WordAt, Anew}
 use Rattle.scenario.specs.Limits.{longest_input, most_steps, most_marks, longest_mark, most_callers, largest_redzone}
 use Rattle.scenario.specs.Limits.{largest_volume}
 use Rattle.scenario.specs.Scenario.{Scenario, run_of}
@@ -27,12 +32,24 @@ abbrev pub refused_if : Bool → Refusal → Option Refusal
 refused_if true refusal = Some refusal
 refused_if false refusal = None
 
+-- is a value too wide for an access?
+abbrev pub is_too_wide : Width → ℕ → Bool
+is_too_wide Byte value = nat_lt 255 value
+is_too_wide Half value = nat_lt 65535 value
+is_too_wide WholeWord value = false
+
+-- are there no such bytes? A range has one byte at least and isn't too long; no bytes lie past the last address
+unfoldable pub is_bad_range : Act → Bool
+is_bad_range (Make addr len kind) = nat_lt len 1 || (nat_lt longest_mark len || nat_lt (2 ^ 32) (addr + len))
+is_bad_range (Write addr width value) = nat_lt (2 ^ 32) (addr + width_len width) || is_too_wide width value
+is_bad_range (Turn addr mask) = nat_lt (2 ^ 32) (addr + 4)
+is_bad_range _ = false
+
 -- why a mark is rejected for this number of marks so far, in order: its step, its range, too many marks
-unfoldable pub mark_refusal : ℕ → MarkAt → Option Refusal
+unfoldable pub mark_refusal : ℕ → Alteration → Option Refusal
 mark_refusal marks mark =
     if nat_lt most_steps mark.step then Some StepLimit
-    else if nat_lt mark.len 1 || (nat_lt longest_mark mark.len || nat_lt (2 ^ 32) (mark.addr + mark.len))
-    then Some BadRange
+    else if is_bad_range mark.act then Some BadRange
     else if nat_le most_marks marks then Some TooManyMarks
     else None
 
@@ -41,8 +58,8 @@ abbrev pub with_input : Scenario → List ℕ → Scenario
 with_input sc input = record sc { setup = record sc.setup { input = input } }
 
 -- the step of the mark at an index
-abbrev pub mark_step : List MarkAt → ℕ → ℕ
-mark_step marks i = slice_index_or (map (λ (mark : MarkAt). mark.step) marks) i 0
+abbrev pub mark_step : List Alteration → ℕ → ℕ
+mark_step marks i = slice_index_or (map (λ (mark : Alteration). mark.step) marks) i 0
 
 -- the suppressions with one of them switched on or off, and whether one is on
 abbrev pub switched : List Rule → ℕ → Bool → List Rule
@@ -94,7 +111,7 @@ row sc Cut = record {
 row sc (Patch addr word) = record {
   refusal = refused_if (not (is_word sc.image addr)) NotPatchable;
   after = record sc { words = sc.words ++ record { addr = addr; word = word } ∷ [] };
-  effect = WordAt addr word;
+  effect = word_effect sc.marks addr word;
   may_fail = true;
   back = None;
 }
@@ -174,4 +191,5 @@ TakesBack =
 -- the word that an effect writes is a loaded one
 abbrev pub WritesLoaded : Image → Effect → Type 0
 WritesLoaded image (WordAt addr word) = (addr < 2 ^ 32) × (is_word image addr ≡ true)
+WritesLoaded image (Anew addr word) = (addr < 2 ^ 32) × (is_word image addr ≡ true)
 WritesLoaded image _ = Unit {0}

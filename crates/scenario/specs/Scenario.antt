@@ -4,7 +4,7 @@ use Rattle.guest_elf.specs.declared.image.Image.{Image}
 use Rattle.guest_machine.specs.State.{State}
 use Rattle.guest_machine.specs.Run.{start_state, poked, post}
 use Rattle.guest_machine.specs.declared.setup.Setup.{Setup}
-use Rattle.run_values.specs.declared.mark.Mark.{Mark}
+use Rattle.run_values.specs.declared.alteration.Alteration.{Alteration}
 use Rattle.replay_report.specs.Outlines.{IsOutline}
 use Rattle.replay_report.specs.Report.{IsReport}
 use Rattle.replay_report.specs.declared.options.Options.{Options}
@@ -19,7 +19,7 @@ pub record Scenario : Type 0 where
   pub image : Image
   pub words : List Word
   pub setup : Setup
-  pub marks : List Mark
+  pub marks : List Alteration
   pub rules : List Rule
   pub options : Options
   pub step : ℕ

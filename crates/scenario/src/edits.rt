@@ -52,10 +52,7 @@ impl<'a> Scenario<'a> {
             Edit::Input { offset, .. } => Effect::Input(*offset),
             Edit::Append(_) => Effect::End,
             Edit::Cut => self.last_byte(),
-            Edit::Patch { addr, word } => Effect::Word {
-                addr: *addr,
-                word: *word,
-            },
+            Edit::Patch { addr, word } => self.word_shows(*addr, *word),
             Edit::Mark(mark) => Effect::After(mark.step),
             Edit::Unmark(index) => self.mark_at(*index),
             Edit::Redzone(_) | Edit::Volume(_) => Effect::Heap,

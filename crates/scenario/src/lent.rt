@@ -10,7 +10,7 @@ ghost use Rattle.scenario.specs.Scenario.{IsOutlineOf, IsReportOf, chosen_state,
 use crate::word::Word;
 use checkpoints::run_to;
 use guest_elf::Image;
-use guest_machine::{Machine, Mark, Meter, Setup};
+use guest_machine::{Alteration, Machine, Meter, Setup};
 use replay_report::{Options, outline, render};
 use std::alloc::{AllocError, Global};
 use suppressions::Suppression;
@@ -25,7 +25,7 @@ pub struct ScenarioRef<'a> {
     /// The input and the heap's settings.
     pub setup: &'a Setup,
     /// The marks, in order.
-    pub marks: &'a [Mark],
+    pub marks: &'a [Alteration],
     /// The suppressions with their switches.
     pub suppressions: &'a [Suppression],
     /// The options of the report.

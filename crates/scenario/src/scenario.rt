@@ -11,7 +11,7 @@ use crate::lent::ScenarioRef;
 use crate::setups::setup_with;
 use crate::word::Word;
 use guest_elf::Image;
-use guest_machine::{Input, Machine, Mark, Meter, Setup};
+use guest_machine::{Alteration, Input, Machine, Meter, Setup};
 use replay_report::Options;
 use std::alloc::{AllocError, Global};
 use std::marker::Model;
@@ -25,7 +25,7 @@ pub struct Scenario<'a> {
     pub(crate) image: Image<'a>,
     pub(crate) words: Vec<Word>,
     pub(crate) setup: Setup,
-    pub(crate) marks: Vec<Mark>,
+    pub(crate) marks: Vec<Alteration>,
     pub(crate) suppressions: Vec<Suppression>,
     pub(crate) options: Options,
     pub(crate) step: u32,
@@ -82,7 +82,7 @@ impl<'a> Scenario<'a> {
     }
 
     /// Returns the marks, in their order.
-    pub fn marks(&self) -> &[Mark]
+    pub fn marks(&self) -> &[Alteration]
         ensures { result.now ≡ self.now.marks }
     {
         &self.marks

@@ -5,7 +5,7 @@ use Rattle.guest_machine.specs.Run.{start_state}
 use Rattle.guest_machine.specs.Shows.{Shows}
 use Rattle.guest_machine.specs.declared.machine.Machine.{Machine}
 use Rattle.guest_machine.specs.declared.setup.Setup.{Setup}
-use Rattle.run_values.specs.declared.mark.Mark.{Mark}
+use Rattle.run_values.specs.declared.alteration.Alteration.{Alteration}
 use Rattle.checkpoints.specs.Edits.{IsRightForRun}
 use Rattle.checkpoints.specs.Trails.{IsRightFor, LoadsAs}
 use Rattle.checkpoints.specs.declared.trail.Trail.{Trail}
@@ -16,7 +16,7 @@ module _ (image : Image) (sc : Scenario) (is : image ≡ sc.image) (unedited : s
   unfolding first_state
   begins = ap start_state is ∙ ap (with_words (start_state sc.image)) (sym unedited)
 
-  pub begins-right : (trail : Trail) → ((setup : Setup) (marks : List Mark)
+  pub begins-right : (trail : Trail) → ((setup : Setup) (marks : List Alteration)
       → IsRightFor trail (start_state image) setup marks) → IsRightForRun trail (run_of sc)
   begins-right trail right = subst (λ s. IsRightFor trail s sc.setup sc.marks) begins (right sc.setup sc.marks)
 

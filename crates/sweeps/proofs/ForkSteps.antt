@@ -6,7 +6,7 @@ use Rattle.guest_machine.specs.Shows.{Shows}
 use Rattle.guest_machine.specs.State.{State}
 use Rattle.guest_machine.specs.declared.machine.Machine.{Machine}
 use Rattle.guest_machine.specs.declared.setup.Setup.{Setup}
-use Rattle.run_values.specs.declared.mark.Mark.{Mark}
+use Rattle.run_values.specs.declared.alteration.Alteration.{Alteration}
 use Rattle.checkpoints.specs.Edits.{IsRightForRun}
 use Rattle.checkpoints.specs.Effects.{LeadsTo, Run}
 use Rattle.checkpoints.specs.Forks.{IsForkFor, ShowsEdited}
@@ -16,18 +16,18 @@ use Rattle.checkpoints.specs.declared.forks.Fork.{Fork}
 use Rattle.checkpoints.specs.declared.trail.Trail.{Trail}
 use Rattle.scenario.specs.Scenario.{Scenario, chosen_state, first_state, run_of}
 
-pub fork-for : (effect : Effect) (sc : Scenario) (setup : Setup) (marks : List Mark) (step : ℕ) (trail : Trail)
-    (fork : Fork) → setup ≡ sc.setup → marks ≡ sc.marks → step ≡ sc.step
+pub fork-for : (effect : List Alteration → Effect) (sc : Scenario) (setup : Setup) (marks : List Alteration) (step : ℕ)
+    (trail : Trail) (fork : Fork) → setup ≡ sc.setup → marks ≡ sc.marks → step ≡ sc.step
     → ((start : State) → IsRightFor trail start setup marks
-    → IsForkFor effect (record { start = start; setup = setup; marks = marks }) step fork)
-    → IsRightForRun trail (run_of sc) → IsForkFor effect (run_of sc) sc.step fork
+    → IsForkFor (effect marks) (record { start = start; setup = setup; marks = marks }) step fork)
+    → IsRightForRun trail (run_of sc) → IsForkFor (effect sc.marks) (run_of sc) sc.step fork
 fork-for effect sc setup marks step trail fork given marked chosen forks h =
-    transport (λ i. IsForkFor effect (record { start = first_state sc; setup = given i; marks = marked i }) (chosen i)
-    fork)
+    transport (λ i. IsForkFor (effect (marked i))
+    (record { start = first_state sc; setup = given i; marks = marked i }) (chosen i) fork)
     (forks (first_state sc) (transport (λ i. IsRightFor trail (first_state sc) (sym given i) (sym marked i)) h))
 
 -- and of the edited one
-pub shown-edited : (effect : Effect) (one : Run) (fork : Fork) (sc : Scenario) (setup : Setup) (marks : List Mark)
+pub shown-edited : (effect : Effect) (one : Run) (fork : Fork) (sc : Scenario) (setup : Setup) (marks : List Alteration)
     (step last : ℕ) (machine : Machine)
     → setup ≡ sc.setup → marks ≡ sc.marks → step ≡ sc.step → ShowsEdited effect fork setup marks last step machine
     → LeadsTo effect one (run_of sc) → IsForkFor effect one last fork → Shows machine (chosen_state sc)

@@ -46,7 +46,7 @@ fn unedited_outcome(
     ensures loads { LoadsAs trail.new scenario.now.image }
     ensures right { IsRightForRun trail.new (run_of scenario.now) }
 {
-    let machine = trail.at(scenario.step(), scenario.setup(), scenario.marks())?;
+    let machine = trail.at_altered(scenario.step(), scenario.setup(), scenario.marks())?;
     scenario.outline(&machine, with_output)
 }
 

@@ -3,6 +3,7 @@ ghost use Rattle.std.specs.Prelude.{◌≡◌, IfOk, OnOk, []};
 ghost use Rattle.shadow_memory.specs.Memories.{bytes_in, shadows_in};
 ghost use Rattle.guest_machine.specs.Loading.{loaded_bytes, loaded_shadows};
 ghost use Rattle.guest_machine.specs.State.{State};
+ghost use Rattle.guest_machine.specs.Alterations.{altered};
 ghost use Rattle.guest_machine.specs.Run.{start_state, marked, poked};
 ghost use Rattle.guest_machine.specs.Shows.{bytes_of, core_of, Holds, Shows};
 
@@ -13,7 +14,7 @@ use call_stacks::CallStack;
 use error_events::Groups;
 use guest_elf::{Image, Segment};
 use guest_heap::Heap;
-use run_values::{Mark, Status};
+use run_values::{Alteration, Mark, Status};
 use shadow_memory::Memory;
 use std::alloc::{AllocError, Global};
 
@@ -53,11 +54,10 @@ impl Guest {
         })
     }
 
-    fn mark(&mut self, mark: &Mark) -> Result<(), AllocError>
-        ensures { OnOk result ((s : State) → Holds self.old s → Holds self.new (marked s mark.now)) }
+    fn alter(&mut self, alteration: &Alteration) -> Result<(), AllocError>
+        ensures { OnOk result ((s : State) → Holds self.old s → Holds self.new (altered s alteration.now)) }
     {
-        self.memory.set_range(mark.addr, mark.len, mark.kind)?;
-        Ok(())
+        self.act(alteration.act)
     }
 
     fn poke_word(&mut self, addr: u32, word: u32) -> Result<(), AllocError>
@@ -144,11 +144,19 @@ impl Machine {
     }
 
     /// Returns the machine with a range made inaccessible, undefined or defined; byte values stay. Drops the machine if memory runs out.
+    #[tactic(auto, unfolding(crate::specs::Alterations::altered, crate::specs::Alterations::altered_core, crate::specs::Alterations::altered_bytes, crate::specs::Run::marked))]
     pub fn mark(self, mark: &Mark) -> Result<Machine, AllocError>
         ensures { IfOk result (λ r. (s : State) → Shows self s → Shows r (marked s mark.now)) }
     {
+        self.alter(&Alteration::from(*mark))
+    }
+
+    /// Returns the machine with an alteration made: a range at any time, all else only if it runs. Drops the machine if memory runs out.
+    pub fn alter(self, alteration: &Alteration) -> Result<Machine, AllocError>
+        ensures { IfOk result (λ r. (s : State) → Shows self s → Shows r (altered s alteration.now)) }
+    {
         let mut machine = self;
-        machine.guest.mark(mark)?;
+        machine.guest.alter(alteration)?;
         Ok(machine)
     }
 

@@ -1,24 +1,58 @@
 //! Marks.
-ghost use Rattle.std.specs.Prelude.{◌≡◌};
-ghost use Rattle.scenario.specs.Edits.{mark_refusal};
+ghost use Rattle.std.specs.Prelude.{◌≡◌, ◌+◌, ◌^◌, nat_lt};
+ghost use Rattle.scenario.specs.Edits.{is_bad_range, is_too_wide, mark_refusal};
 
 use crate::edits::refused_if;
 use crate::limits::{LONGEST_MARK, MOST_MARKS, MOST_STEPS};
 use crate::scenario::Scenario;
 use checkpoints::Effect;
 use commands::Refusal;
-use guest_machine::Mark;
+use guest_machine::{Act, Alteration, Width};
 use std::alloc::AllocError;
+
+/// Returns whether bytes lie past the last address.
+fn is_past_the_end(addr: u32, len: u32) -> bool
+    ensures { result ≡ nat_lt (2 ^ 32) (addr + len) }
+{
+    u64::from(addr) + u64::from(len) > 1 << 32
+}
+
+/// Returns whether a value is too wide for an access.
+fn is_too_wide(width: Width, value: u32) -> bool
+    ensures { result ≡ is_too_wide width value }
+{
+    match width {
+        Width::Byte => value > 0xFF,
+        Width::Half => value > 0xFFFF,
+        Width::Word => false,
+    }
+}
+
+/// Returns whether there are no such bytes as an act needs.
+#[tactic(auto, unfolding(crate::specs::Edits::is_bad_range))]
+fn is_bad_range(act: &Act) -> bool
+    ensures { result ≡ is_bad_range act.now }
+{
+    match act {
+        Act::Make { addr, len, .. } => {
+            *len < 1 || *len > LONGEST_MARK || is_past_the_end(*addr, *len)
+        }
+        Act::Write { addr, width, value } => {
+            is_past_the_end(*addr, width.len()) || is_too_wide(*width, *value)
+        }
+        Act::Turn { addr, .. } => is_past_the_end(*addr, 4),
+        _ => false,
+    }
+}
 
 /// Returns why a mark is rejected, for this number of marks so far.
 #[tactic(auto, unfolding(crate::specs::Edits::mark_refusal))]
-fn refusal_of(marks: usize, mark: &Mark) -> Option<Refusal>
+fn refusal_of(marks: usize, mark: &Alteration) -> Option<Refusal>
     ensures { result ≡ mark_refusal marks mark.now }
 {
-    let ends = u64::from(mark.addr) + u64::from(mark.len);
     if mark.step > MOST_STEPS {
         Some(Refusal::StepLimit)
-    } else if mark.len < 1 || mark.len > LONGEST_MARK || ends > 1 << 32 {
+    } else if is_bad_range(&mark.act) {
         Some(Refusal::BadRange)
     } else if marks >= MOST_MARKS {
         Some(Refusal::TooManyMarks)
@@ -32,7 +66,7 @@ impl<'a> Scenario<'a> {
     ghost use Rattle.scenario.specs.Edits.{row, IsTaken};
     ghost use Rattle.commands.specs.declared.edit.Edit.TheVariants.{Mark as MarkEdit, Unmark};
 
-    pub(crate) fn mark_refusal(&self, mark: &Mark) -> Option<Refusal>
+    pub(crate) fn mark_refusal(&self, mark: &Alteration) -> Option<Refusal>
         ensures { result ≡ (row self.now (MarkEdit mark.now)).refusal }
     {
         refusal_of(self.marks.len(), mark)
@@ -54,12 +88,14 @@ impl<'a> Scenario<'a> {
         }
     }
 
-    /// Appends a mark to the list.
-    pub(crate) fn mark(&mut self, mark: Mark) -> Result<(), AllocError>
+    /// Appends an alteration to the list of marks.
+    pub(crate) fn mark(&mut self, mark: Alteration) -> Result<(), AllocError>
         ensures ok { OnOk result (self.new ≡ (row self.old (MarkEdit mark)).after) }
         ensures err { OnErr result (self.new ≡ self.old) }
     {
-        self.marks.push(mark)?;
+        let Alteration { step, act } = mark;
+        let made = Alteration { step, act };
+        self.marks.push(made)?;
         Ok(())
     }
 

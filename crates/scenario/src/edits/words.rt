@@ -5,6 +5,7 @@ ghost use Rattle.guest_elf.specs.Images.{is_word};
 use crate::edits::refused_if;
 use crate::scenario::Scenario;
 use crate::word::Word;
+use checkpoints::{Effect, word_effect};
 use commands::Refusal;
 use guest_elf::Image;
 use std::alloc::AllocError;
@@ -19,13 +20,21 @@ fn is_word(image: &Image, addr: u32) -> bool
 
 impl<'a> Scenario<'a> {
     ghost use Rattle.std.specs.Prelude.{◌≡◌, ◌-◌, take, length, OnOk, OnErr};
-    ghost use Rattle.scenario.specs.Edits.{row};
+    ghost use Rattle.scenario.specs.Edits.{row, IsTaken, WritesLoaded};
     ghost use Rattle.commands.specs.declared.edit.Edit.TheVariants.{Patch};
 
     pub(crate) fn patch_refusal(&self, addr: u32) -> Option<Refusal>
         ensures { result ≡ (row self.now (Patch addr 0)).refusal }
     {
         refused_if(!is_word(&self.image, addr), Refusal::NotPatchable)
+    }
+
+    /// Returns where another word shows.
+    pub(crate) fn word_shows(&self, addr: u32, word: u32) -> Effect
+        ensures effect { result ≡ (row self.now (Patch addr word)).effect }
+        ensures loaded { IsTaken self.now (Patch addr word) → WritesLoaded self.now.image result }
+    {
+        word_effect(&self.marks, addr, word)
     }
 
     /// Writes a word.

@@ -3,7 +3,7 @@ use Rattle.guest_machine.specs.State.{State}
 use Rattle.guest_machine.specs.Exec.{has_touched}
 use Rattle.guest_machine.specs.Run.{pre, post}
 use Rattle.guest_machine.specs.Shows.{Shows}
-use Rattle.run_values.specs.declared.mark.Mark.{Mark}
+use Rattle.run_values.specs.declared.alteration.Alteration.{Alteration}
 use Rattle.run_values.specs.declared.span.Span.{Span}
 use Rattle.checkpoints.specs.Marks.{NoneBetween}
 use Rattle.checkpoints.specs.Words.{meets, IsPlaced}
@@ -33,7 +33,7 @@ loop-k-preserved c =
     let k = c.loop-k.k in
     let setup = c.args.setup.now in
     let within : k < c.args.end = omega arith in
-    let next : (start : State) (marks : List Mark) → NoneBetween c.args.from c.args.end marks
+    let next : (start : State) (marks : List Alteration) → NoneBetween c.args.from c.args.end marks
     → Shows c.args.machine (post start setup marks c.args.from)
     → Shows c.in_ok-stepped.stepped (pre start setup marks (k + 1)) =
     λ start marks none h. steps-on start setup marks k c.loop-k.machine c.in_ok-stepped.stepped

@@ -23,7 +23,7 @@ returns-in_default-first_use-clause-certified c = λ is image start right begins
 
 pub returns-in_err-first_use_step-clause-right : goal.returns-in_err-first_use_step-clause-right
 returns-in_err-first_use_step-clause-right c =
-    λ start right. c.first_use_step.ensures.right start (c.at.ensures.right start right)
+    λ start right. c.first_use_step.ensures.right start (c.at_altered.ensures.right start right)
 
 pub returns-clause-verdict : goal.returns-clause-verdict
 returns-clause-verdict c = λ start right none.
@@ -33,7 +33,7 @@ returns-clause-verdict c = λ start right none.
     c.in-Some-first_use.ensures
     ∙ ap (find (λ g. is_use g.kind)) (c.groups.ensures _ (c.in_ok-machine.ensures.shows start right)) in
     let some = some-use es group is in
-    let there = c.at.ensures.right start right in
+    let there = c.at_altered.ensures.right start right in
     let below = c.in_ok-first_use_step.ensures.below start there none some in (
       c.in_default.ensures.none,
       found-use start c.args.setup.now c.args.marks.now c.args.step c.in_ok-first_use_step.field-0 group is
@@ -42,4 +42,4 @@ returns-clause-verdict c = λ start right none.
 
 pub returns-clause-right : goal.returns-clause-right
 returns-clause-right c =
-    λ start right. c.first_use_step.ensures.right start (c.at.ensures.right start right)
+    λ start right. c.first_use_step.ensures.right start (c.at_altered.ensures.right start right)

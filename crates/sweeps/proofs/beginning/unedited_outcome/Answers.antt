@@ -4,8 +4,9 @@ use Rattle.sweeps.proofs.beginning.unedited_outcome.Goals as goal
 
 pub returns-in_err-machine-clause-right : goal.returns-in_err-machine-clause-right
 returns-in_err-machine-clause-right c =
-    moved c.args.scenario.now c.setup.result.now c.marks.result.now c.args.trail.now c.at.new.self c.setup.ensures
-    c.marks.ensures c.at.ensures.right c.requires.right
+    moved c.args.scenario.now c.setup.result.now c.marks.result.now c.args.trail.now c.at_altered.new.self
+    c.setup.ensures
+    c.marks.ensures c.at_altered.ensures.right c.requires.right
 
 pub returns-clause-outcome : goal.returns-clause-outcome
 returns-clause-outcome c =
@@ -16,5 +17,6 @@ returns-clause-outcome c =
 
 pub returns-clause-right : goal.returns-clause-right
 returns-clause-right c =
-    moved c.args.scenario.now c.setup.result.now c.marks.result.now c.args.trail.now c.at.new.self c.setup.ensures
-    c.marks.ensures c.at.ensures.right c.requires.right
+    moved c.args.scenario.now c.setup.result.now c.marks.result.now c.args.trail.now c.at_altered.new.self
+    c.setup.ensures
+    c.marks.ensures c.at_altered.ensures.right c.requires.right

@@ -1,6 +1,7 @@
 use Rattle.std.proofs.Common.{◌≡◌, Some, subst, arith}
 use Rattle.std.proofs.lemmas.Result.{IfOk-weaker}
-use Rattle.checkpoints.specs.declared.effect.Effect.TheVariants.{Input, Word as WordAt}
+use Rattle.checkpoints.specs.Effects.{word_effect}
+use Rattle.checkpoints.specs.declared.effect.Effect.TheVariants.{Input}
 use Rattle.scenario.proofs.TrailFacts.{moved, word-in}
 use Rattle.sweeps.specs.Standing.{stood}
 use Rattle.sweep_plans.specs.declared.change.Change.{Change}
@@ -21,7 +22,7 @@ fork_at_word-requires-clause-word c =
 pub returns-in-Byte-clause-fork : goal.returns-in-Byte-clause-fork
 returns-in-Byte-clause-fork c =
     IfOk-weaker c.fork_at_byte.result _ _
-    (λ fork is value. rw c.in-Byte.is (fork-for (Input c.in-Byte.offset) c.args.scenario.now c.setup.result.now
+    (λ fork is value. rw c.in-Byte.is (fork-for (λ marks. Input c.in-Byte.offset) c.args.scenario.now c.setup.result.now
     c.marks.result.now c.step-step.result
     c.args.trail.now fork c.setup.ensures c.marks.ensures c.step-step.ensures is c.requires.right))
     c.fork_at_byte.ensures.fork
@@ -34,7 +35,7 @@ returns-in-Byte-clause-right c =
 pub returns-in-Word-clause-fork : goal.returns-in-Word-clause-fork
 returns-in-Word-clause-fork c =
     IfOk-weaker c.fork_at_word.result _ _
-    (λ fork is value. rw c.in-Word.is (fork-for (WordAt c.in-Word.addr value) c.args.scenario.now
+    (λ fork is value. rw c.in-Word.is (fork-for (λ marks. word_effect marks c.in-Word.addr value) c.args.scenario.now
     c.setup-in-Word.result.now c.marks-in-Word.result.now
     c.step-step.result c.args.trail.now fork c.setup-in-Word.ensures c.marks-in-Word.ensures c.step-step.ensures
     (is value) c.requires.right)) c.fork_at_word.ensures.fork

@@ -6,7 +6,7 @@ use Rattle.checkpoints.specs.Effects.{Tells, WritesWithin}
 use Rattle.checkpoints.specs.declared.effect.Effect.{Effect}
 use Rattle.checkpoints.specs.FirstEffects.{InputShows, PatchShows}
 use Rattle.checkpoints.proofs.HeldSteps.{held-at}
-use Rattle.checkpoints.proofs.EffectSteps.{told-after, told-input, told-end, told-heap, told-word}
+use Rattle.checkpoints.proofs.EffectSteps.{told-after, told-input, told-end, told-heap, told-word, told-anew}
 use Rattle.checkpoints.proofs.trail.Trail.has_shown.Goals as goal
 
 pub returns-in-After : goal.returns-in-After
@@ -53,3 +53,7 @@ returns-in-Word c start setup marks h =
     (told-word start setup marks c.in-Word.addr (last_held c.args.self.now)
     (entry_of c.args.self.now.uses (c.in-Word.addr / 4)) (1024 * place) (place * 1024) (omega arith) (omega arith)
     (h.uses c.in-Word.addr word)))
+
+pub returns-in-Anew : goal.returns-in-Anew
+returns-in-Anew c start setup marks h =
+    rw c.in-Anew.is (told-anew (1024 * c.args.place) (c.args.place * 1024) (omega arith))

@@ -4,12 +4,12 @@ use Rattle.guest_machine.specs.Shows.{Shows}
 use Rattle.guest_machine.specs.State.{State}
 use Rattle.guest_machine.specs.declared.machine.Machine.{Machine}
 use Rattle.guest_machine.specs.declared.setup.Setup.{Setup}
-use Rattle.run_values.specs.declared.mark.Mark.{Mark}
+use Rattle.run_values.specs.declared.alteration.Alteration.{Alteration}
 use Rattle.checkpoints.specs.Trails.{IsRightFor}
 use Rattle.checkpoints.specs.declared.trail.Trail.{Trail}
 use Rattle.checkpoints.proofs.trail.Trail.run_before.Goals as goal
 
-along : (new old : Trail) (start : State) (setup : Setup) (marks : List Mark) → new ≡ old
+along : (new old : Trail) (start : State) (setup : Setup) (marks : List Alteration) → new ≡ old
     → IsRightFor old start setup marks → IsRightFor new start setup marks
 along new old start setup marks same right = subst (λ (t : Trail). IsRightFor t start setup marks) (sym same) right
 

@@ -7,14 +7,15 @@ use Rattle.replay_session.proofs.session.Session.machine.Goals as goal
 
 pub invariant_of-self : goal.invariant_of-self
 invariant_of-self c = record {
-  loads = λ a. ap (λ ranges. is_among ranges a) c.at.ensures.loaded ∙ c.args.self.now.loads a;
+  loads = λ a. ap (λ ranges. is_among ranges a) c.at_altered.ensures.loaded ∙ c.args.self.now.loads a;
   right =
-      moved c.args.self.now.scenario _ _ _ _ c.setup.ensures c.marks.ensures c.at.ensures.right c.args.self.now.right;
+      moved c.args.self.now.scenario _ _ _ _ c.setup.ensures c.marks.ensures c.at_altered.ensures.right
+      c.args.self.now.right;
 }
 
 pub returns-clause-shows : goal.returns-clause-shows
 unfolding turn_of
 returns-clause-shows c =
-    IfOk-weaker c.at.result _ _
+    IfOk-weaker c.at_altered.result _ _
     (λ machine shows. shown c.args.self.now.scenario _ _ _ _ machine c.setup.ensures c.marks.ensures c.step.ensures
-    shows c.args.self.now.right) c.at.ensures.shows
+    shows c.args.self.now.right) c.at_altered.ensures.shows

@@ -1,0 +1,54 @@
+-- What an alteration makes of a state between two steps. No error is raised, and nothing that only increases changes.
+use Rattle.std.specs.Prelude.{ℕ, Bool, true, if◌then◌else◌}
+use Rattle.definedness.specs.Operations.{xor_of}
+use Rattle.definedness.specs.declared.Bits.{Bits}
+use Rattle.instructions.specs.Widths.{width_len}
+use Rattle.shadow_memory.specs.Ranges.{written, byte_of, little_word, window}
+use Rattle.shadow_memory.specs.Shadows.{made_so}
+use Rattle.guest_machine.specs.State.{Core, State}
+use Rattle.guest_machine.specs.Registers.{register, set_register}
+use Rattle.guest_machine.specs.Effects.{advanced, moved_to, stored_core}
+use Rattle.guest_machine.specs.Exec.{is_running}
+use Rattle.run_values.specs.declared.alteration.Act.{Act}
+use Rattle.run_values.specs.declared.alteration.Act.TheVariants.{Make, Set, Flip, Jump, FlipPc, Write, Turn, Skip}
+use Rattle.run_values.specs.declared.alteration.Alteration.{Alteration}
+
+-- does it change a machine at all? A range is made so at any time; one that has exited or stopped keeps all else
+abbrev pub alters : Act → Core → Bool
+alters (Make addr len kind) core = true
+alters _ core = is_running core.status
+
+-- a number with bits turned; its undefined bits stay undefined
+abbrev pub turned : Bits → ℕ → Bits
+turned bits mask = record { value = xor_of bits.value mask; undef = bits.undef }
+
+-- what it makes of all that decides a step besides the byte values. The stack pointer rule is for instructions only
+abbrev pub core_by : Act → Core → Core
+core_by (Make addr len kind) core = record core { shadow = made_so core.shadow addr len kind }
+core_by (Set r value undef) core = set_register core r (record { value = value; undef = undef })
+core_by (Flip r mask) core = set_register core r (turned (register core r) mask)
+core_by (Jump target) core = moved_to core target
+core_by (FlipPc mask) core = moved_to core (xor_of core.pc mask)
+core_by (Write addr width value) core = stored_core core addr (width_len width) 0
+core_by (Turn addr mask) core = core
+core_by Skip core = advanced core
+
+-- and of the byte values
+abbrev pub bytes_by : Act → (ℕ → ℕ) → ℕ → ℕ
+bytes_by (Write addr width value) bytes = written bytes addr (width_len width) (byte_of value)
+bytes_by (Turn addr mask) bytes = written bytes addr 4 (byte_of (xor_of (little_word (window bytes addr 4)) mask))
+bytes_by _ bytes = bytes
+
+unfoldable pub altered_core : Act → Core → Core
+altered_core act core = if alters act core then core_by act core else core
+
+unfoldable pub altered_bytes : Act → Core → (ℕ → ℕ) → ℕ → ℕ
+altered_bytes act core bytes = if alters act core then bytes_by act bytes else bytes
+
+-- an alteration applied
+unfoldable pub altered : State → Alteration → State
+altered s alteration =
+    record s {
+      bytes = altered_bytes alteration.act s.core s.bytes;
+      core = altered_core alteration.act s.core;
+    }
