@@ -2,7 +2,8 @@
 //! outside (`tools/test/test-guests`).
 use crate::trials::{COUNT, NO_STREAMS, Row, Trial, are_hooks, assert_so};
 use guest_machine::laws::{
-    end_stays, keeps_end, keeps_heap, keeps_input, keeps_pokes, keeps_words, reads_on, stays_halted,
+    alters_as_marked, end_stays, keeps_end, keeps_heap, keeps_input, keeps_pokes, keeps_words,
+    reads_on, runs_as_marked, stays_halted,
 };
 use guest_machine::{Input, Span, Status, Stop};
 use std::alloc::{AllocError, Global};
@@ -246,7 +247,7 @@ fn steps_touch_and_read(rt: HostRuntime) {
     assert_so(&rt, rt.alloc(), &TOUCHES);
 }
 
-const OTHERS: [Row; 4] = [
+const OTHERS: [Row; 5] = [
     (
         "it rests where it has ended",
         &[EXIT, ECALL],
@@ -255,6 +256,7 @@ const OTHERS: [Row; 4] = [
         Trial::Rests,
     ),
     ("a mark and a poke", &[LOAD], b"", false, Trial::Marks),
+    ("alterations", &[LOAD], b"", false, Trial::Alters),
     ("a copy", &[LOAD], b"", false, Trial::Copies),
     // `next: addi a0, a0, 1; j next`
     (
@@ -286,6 +288,8 @@ fn the_laws_can_be_called() {
     keeps_end();
     end_stays();
     stays_halted();
+    alters_as_marked();
+    runs_as_marked();
 }
 
 /// Returns whether an input of three bytes has one byte left after its last two were removed.

@@ -1,7 +1,9 @@
 //! Trials of programs' machines.
 use definedness::Bits;
 use guest_elf::{Hook, Image, read};
-use guest_machine::{Hooks, Input, Machine, Mark, Meter, Register, Setup, Span, Status, Touched};
+use guest_machine::{
+    Act, Alteration, Hooks, Input, Machine, Mark, Meter, Register, Setup, Span, Status, Touched,
+};
 use guest_programs::program;
 use shadow_memory::RangeKind;
 use std::alloc::{AllocError, Global};
@@ -31,6 +33,8 @@ pub(crate) enum Trial {
     Rests,
     /// A mark and a written word take effect.
     Marks,
+    /// A register is set, bits of it are turned, and an instruction is left out.
+    Alters,
     /// A copy stays as it was.
     Copies,
     /// Decoded instructions are taken over.
@@ -176,6 +180,33 @@ fn marks(start: Machine, setup: &Setup) -> Result<bool, AllocError> {
     Ok(bits.value == 0x8765_4321 && bits.undef == u32::MAX)
 }
 
+/// Returns the machine with a0 set to a number, one bit of which is undefined, and bits of it turned.
+fn turned(start: Machine) -> Result<Machine, AllocError> {
+    let register = Register::new(10);
+    let set = start.alter(&Alteration {
+        step: 0,
+        act: Act::Set {
+            register,
+            value: 5,
+            undef: 1,
+        },
+    })?;
+    set.alter(&Alteration {
+        step: 0,
+        act: Act::Flip { register, mask: 7 },
+    })
+}
+
+/// Returns whether they are turned, and then the first instruction is left out.
+fn alters(start: Machine) -> Result<bool, AllocError> {
+    let skipped = turned(start)?.alter(&Alteration {
+        step: 0,
+        act: Act::Skip,
+    })?;
+    let bits = bits_of(&skipped, 10);
+    Ok(bits.value == 2 && bits.undef == 1 && skipped.pc() == 0x10004)
+}
+
 /// Returns whether a machine loads the new word, and then a copy the old one.
 fn loads(machine: Machine, copy: Machine, setup: &Setup) -> Result<bool, AllocError> {
     let later = answer(machine, setup, 1)?;
@@ -284,6 +315,7 @@ fn goes_well(
         Trial::Registers => Ok(has_registers(&start)),
         Trial::Rests => rests(start, setup),
         Trial::Marks => marks(start, setup),
+        Trial::Alters => alters(start),
         Trial::Copies => copies(start, setup),
         Trial::Learns => learns(alloc, image, start, setup),
     }

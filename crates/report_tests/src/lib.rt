@@ -4,6 +4,10 @@
 #![tactic(auto)]
 
 #[cfg(test)]
+mod alterations;
+#[cfg(test)]
+mod ends_of_input;
+#[cfg(test)]
 mod outlines;
 #[cfg(test)]
 mod reports;

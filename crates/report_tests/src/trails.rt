@@ -96,14 +96,16 @@ type Forked = (u32, u64, Status, u32);
 /// A step that was found, and the number of steps executed to find it.
 pub(crate) type Found = (Option<u32>, u64);
 
-const RUNS: Status = Status::Running;
+pub(crate) const RUNS: Status = Status::Running;
 
-const ENDS: Status = Status::Stopped(Stop::Break);
+pub(crate) const ENDS: Status = Status::Stopped(Stop::Break);
 
 /// An act on a trail, and what is expected then.
 pub(crate) enum Act {
     /// The machine at a step is asked for.
     Ask(u32, Told),
+    /// The machine at a step of the run with only marks is asked for, of which there are none.
+    AskUnmarked(u32, Told),
     /// A word is patched.
     Patch(u32, u32),
     /// A mark is appended to the list.
@@ -210,99 +212,6 @@ const EDITS: [Case; 4] = [
     ),
 ];
 
-const ALTERED: [Case; 1] = [
-    // The word that is read in step 1201 is written before step 60: with 0, so that a patch of it doesn't show at step 3000, and with 1.
-    (
-        "a word that is written and patched",
-        Program::ReadsOn,
-        &[
-            Act::Ask(3000, (3000, RUNS, 0x1000C, 0)),
-            Act::Write(60, 0x10654, 0),
-            Act::Ask(3000, (6000, RUNS, 0x1000C, 0)),
-            Act::PatchWritten(0x10654, 1),
-            Act::Ask(3000, (9000, RUNS, 0x1000C, 0)),
-            Act::Write(1100, 0x10654, 1),
-            Act::Ask(3000, (10976, ENDS, 0x10010, 0)),
-            Act::PatchWritten(0x10654, 0),
-            Act::Ask(3000, (13976, ENDS, 0x10010, 0)),
-        ],
-    ),
-];
-
-const BYTES: [Case; 4] = [
-    // Bytes appended to the input and removed from its end. Of n bytes, each is read by a call of its own, and the end is seen in step
-    // 1205(n + 1). A trail with one byte more or less at the end than n has the machines up to there.
-    (
-        "bytes at the end, one a call",
-        Program::ReadsBytes(1),
-        &[
-            Act::Ask(5000, (5000, Status::Exited(0), 0x10030, 0)),
-            Act::Append(b'a'),
-            Act::Ask(5000, (8976, Status::Exited(1), 0x10030, 0)),
-            Act::ReplaceInput(0, b""),
-            Act::Ask(5000, (12952, Status::Exited(0), 0x10030, 0)),
-            Act::Append(b'b'),
-            Act::Ask(5000, (16928, Status::Exited(1), 0x10030, 0)),
-            Act::Append(b'c'),
-            Act::Ask(5000, (19880, Status::Exited(2), 0x10030, 0)),
-            Act::ReplaceInput(1, b"b"),
-            Act::Ask(5000, (22832, Status::Exited(1), 0x10030, 0)),
-        ],
-    ),
-    // The same, from two bytes on.
-    (
-        "two bytes and more, one a call",
-        Program::ReadsBytes(1),
-        &[
-            Act::ReplaceInput(0, b"ab"),
-            Act::Ask(5000, (5000, Status::Exited(2), 0x10030, 0)),
-            Act::Append(b'c'),
-            Act::Ask(5000, (6928, Status::Exited(3), 0x10030, 0)),
-            Act::ReplaceInput(2, b"ab"),
-            Act::Ask(5000, (8856, Status::Exited(2), 0x10030, 0)),
-            Act::ReplaceInput(1, b"a"),
-            Act::Ask(5000, (11808, Status::Exited(1), 0x10030, 0)),
-            Act::Append(b'b'),
-            Act::Ask(5000, (14760, Status::Exited(2), 0x10030, 0)),
-        ],
-    ),
-    // The first call asks for four bytes, and sees the end if there are fewer.
-    (
-        "bytes at the end, four a call",
-        Program::ReadsBytes(4),
-        &[
-            Act::Ask(5000, (5000, Status::Exited(0), 0x10030, 0)),
-            Act::Append(b'a'),
-            Act::Ask(5000, (8976, Status::Exited(1), 0x10030, 0)),
-            Act::ReplaceInput(0, b""),
-            Act::Ask(5000, (12952, Status::Exited(0), 0x10030, 0)),
-            Act::Append(b'b'),
-            Act::Ask(5000, (16928, Status::Exited(1), 0x10030, 0)),
-            Act::Append(b'c'),
-            Act::Ask(5000, (20904, Status::Exited(2), 0x10030, 0)),
-            Act::ReplaceInput(1, b"b"),
-            Act::Ask(5000, (24880, Status::Exited(1), 0x10030, 0)),
-        ],
-    ),
-    // It doesn't see the end if there are exactly four: that shows one call later.
-    (
-        "three bytes and more, four a call",
-        Program::ReadsBytes(4),
-        &[
-            Act::ReplaceInput(0, b"abc"),
-            Act::Ask(5000, (5000, Status::Exited(3), 0x10030, 0)),
-            Act::Append(b'd'),
-            Act::Ask(5000, (8976, Status::Exited(4), 0x10030, 0)),
-            Act::Append(b'e'),
-            Act::Ask(5000, (11928, Status::Exited(5), 0x10030, 0)),
-            Act::ReplaceInput(4, b"abcd"),
-            Act::Ask(5000, (14880, Status::Exited(4), 0x10030, 0)),
-            Act::ReplaceInput(3, b"abc"),
-            Act::Ask(5000, (18856, Status::Exited(3), 0x10030, 0)),
-        ],
-    ),
-];
-
 const FORKS: [Case; 3] = [
     // The second byte is read in step 2410. Of three bytes, each is read by a call of its own.
     (
@@ -389,16 +298,25 @@ impl<'a> Edited<'a> {
         })
     }
 
+    /// Returns whether a machine is as expected.
+    fn is_told(&self, machine: &Machine, told: &Told) -> bool {
+        let (made, status, pc, errors) = told;
+        self.trail.meter().read() == *made
+            && machine.status() == *status
+            && machine.pc() == *pc
+            && machine.groups().len() == *errors
+    }
+
+    /// Returns whether the machine at a step of the run with only marks is as expected.
+    fn asks_unmarked(&mut self, step: u32, told: &Told) -> Result<bool, AllocError> {
+        let machine = self.trail.at(step, &self.setup, &[])?;
+        Ok(self.is_told(&machine, told))
+    }
+
     /// Returns whether the machine at a step is as expected.
     fn asks(&mut self, step: u32, told: &Told) -> Result<bool, AllocError> {
         let machine = self.trail.at_altered(step, &self.setup, &self.marks)?;
-        let (made, status, pc, errors) = told;
-        Ok(
-            self.trail.meter().read() == *made
-                && machine.status() == *status
-                && machine.pc() == *pc
-                && machine.groups().len() == *errors,
-        )
+        Ok(self.is_told(&machine, told))
     }
 
     /// Patches a word, if its bytes are loaded.
@@ -410,10 +328,20 @@ impl<'a> Edited<'a> {
         Ok(true)
     }
 
-    fn adds_mark(&mut self, mark: Mark) -> Result<bool, AllocError> {
-        self.marks.push(Alteration::from(mark))?;
-        self.trail.cut(Effect::After(mark.step));
+    /// Has the machine altered just before a step.
+    fn alters(&mut self, step: u32, act: Deed) -> Result<bool, AllocError> {
+        self.marks.push(Alteration { step, act })?;
+        self.trail.cut(Effect::After(step));
         Ok(true)
+    }
+
+    fn adds_mark(&mut self, mark: &Mark) -> Result<bool, AllocError> {
+        let act = Deed::Make {
+            addr: mark.addr,
+            len: mark.len,
+            kind: mark.kind,
+        };
+        self.alters(mark.step, act)
     }
 
     /// Has a word written just before a step.
@@ -423,9 +351,7 @@ impl<'a> Edited<'a> {
             width: Width::Word,
             value,
         };
-        self.marks.push(Alteration { step, act })?;
-        self.trail.cut(Effect::After(step));
-        Ok(true)
+        self.alters(step, act)
     }
 
     /// Patches a word that is written in this way, if its bytes are loaded.
@@ -545,8 +471,9 @@ impl<'a> Edited<'a> {
     fn performs(&mut self, act: &Act) -> Result<bool, AllocError> {
         match act {
             Act::Ask(step, told) => self.asks(*step, told),
+            Act::AskUnmarked(step, told) => self.asks_unmarked(*step, told),
             Act::Patch(addr, word) => self.patches(*addr, *word),
-            Act::AddMark(mark) => self.adds_mark(*mark),
+            Act::AddMark(mark) => self.adds_mark(mark),
             Act::Write(step, addr, value) => self.writes(*step, *addr, *value),
             Act::PatchWritten(addr, word) => self.patches_written(*addr, *word),
             Act::TakeMark => Ok(self.takes_mark()),
@@ -616,16 +543,6 @@ pub(crate) fn assert_performed(rt: &impl Abort, alloc: Global, cases: &[Case]) {
 #[test]
 fn edits_cost_what_follows_them(rt: HostRuntime) {
     assert_performed(&rt, rt.alloc(), &EDITS);
-}
-
-#[test]
-fn written_words_are_patched(rt: HostRuntime) {
-    assert_performed(&rt, rt.alloc(), &ALTERED);
-}
-
-#[test]
-fn bytes_at_the_end_cost_what_follows_them(rt: HostRuntime) {
-    assert_performed(&rt, rt.alloc(), &BYTES);
 }
 
 #[test]
