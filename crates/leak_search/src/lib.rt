@@ -27,7 +27,7 @@
 //!
 //! # Costs
 //!
-//! Only pages that are kept are looked at, sixteen words at once, and for a value from the first live block's start up to the last one's
+//! Only pages that are kept are looked at, 64 words at once, and for a value from the first live block's start up to the last one's
 //! end, binary search finds the block. If there is no live block, no word is looked at. Nothing recurses.
 #![tactic(auto)]
 
