@@ -1,20 +1,21 @@
 // A function's instructions, of which each can be skipped or made another word.
 import { $, element } from './dom.js';
 import { disassembled, targetOf, NOTHING } from './instructions.js';
-import { hexWord, numberOf } from './numbers.js';
+import { grouped, hexWord, numberOf } from './numbers.js';
+import { skipLine } from './scenario.js';
 
 const MOST_ROWS = 1500;
 
 export class Code {
-  // `edit` takes the scenario after an edit; `refuse` a sentence.
-  constructor({ edit, refuse }) {
-    Object.assign(this, { edit, refuse, shown: null, at: null, writing: null });
+  // `edit` takes the scenario after an edit, `alter` a line that alters the run at its step; `refuse` a sentence.
+  constructor({ edit, alter, refuse }) {
+    Object.assign(this, { edit, alter, refuse, shown: null, at: null, writing: null, pc: null, step: 0 });
     $('function').addEventListener('change', () => this.visit(Number($('function').value)));
   }
 
   // Shows `main` of a program, or its first function.
   open(elf, lineOf, scenario) {
-    Object.assign(this, { elf, lineOf, scenario, shown: null, at: null, writing: null });
+    Object.assign(this, { elf, lineOf, scenario, shown: null, at: null, writing: null, pc: null });
     $('function').replaceChildren(...elf.functions.map((it) => element('option', { value: it.address }, it.name)));
     $('code-rows').replaceChildren();
     const first = elf.functions.find((it) => it.name === 'main') ?? elf.functions[0];
@@ -49,6 +50,14 @@ export class Code {
     if (this.shown && !isSame) this.render();
   }
 
+  // Where the run is before a step, null where it has ended.
+  showPc(pc, step) {
+    const isSeen = (it) => it !== null && this.shown && this.elf.functionAt(it)?.address === this.shown.address;
+    const changes = pc !== this.pc || step !== this.step, were = isSeen(this.pc);
+    Object.assign(this, { pc, step });
+    if (changes && (were || isSeen(pc))) this.render();
+  }
+
   render() {
     const { begin, count } = this.range;
     const held = document.activeElement?.dataset?.held;
@@ -61,9 +70,10 @@ export class Code {
     if (loaded === null) return null;
     const patched = this.scenario.patches.get(address), word = patched ?? loaded;
     const text = disassembled(word, address);
-    const names = [address === this.at && 'at', patched !== undefined && 'patched'].filter(Boolean).join(' ');
+    const isNow = address === this.pc;
+    const names = [address === this.at && 'at', patched !== undefined && 'patched', isNow && 'now'].filter(Boolean).join(' ');
     return element('tr', { className: names },
-      element('td', {}, ...this.edits(address, patched)), element('td', {}, hexWord(address)),
+      element('td', {}, ...this.edits(address, patched)), element('td', {}, `${isNow ? '▸ ' : ''}${hexWord(address)}`),
       element('td', {}, this.instruction(text)),
       element('td', { className: 'quiet' }, this.lineOf(address) ?? ''), element('td', { className: 'quiet' }, hexWord(word)));
   }
@@ -84,7 +94,10 @@ export class Code {
     const set = (word) => this.edit(this.scenario.withPatch(address, word));
     const first = patched === undefined ? button('first', 'skip', 'skip the instruction at', () => set(NOTHING))
       : button('first', 'put back', 'put back the word at', () => set(null));
-    return [first, ' ', button('word', 'word…', 'another word at', () => this.write(address))];
+    const all = [first, ' ', button('word', 'word…', 'another word at', () => this.write(address))];
+    if (address !== this.pc) return all;
+    const told = `in step ${grouped(this.step)} alone, leave out the instruction at`;
+    return [...all, ' ', button('here', 'skip here', told, () => this.alter(skipLine(this.step)))];
   }
 
   // Has a field for the word at an address, or none.

@@ -5,6 +5,7 @@ import { $, say } from './dom.js';
 import { Edits } from './edits.js';
 import { ERROR_KINDS, LAST_STEP, LEAK_KINDS, MODULE_SUM } from './facts.js';
 import { History } from './history.js';
+import { Machine } from './machine.js';
 import { grouped, hexByte, many } from './numbers.js';
 import { Opened } from './opened.js';
 import { Opening } from './opening.js';
@@ -23,7 +24,7 @@ const WORKERS = Number(words.get('workers')) || navigator.hardwareConcurrency ||
 const SHORT_RUN = 100000;  // steps of a run whose edits are all made as it is opened
 const QUIET = 300;  // milliseconds after an edit, before landmarks are searched and the link is changed
 const LONG = 600;  // milliseconds after which work is told, with a button that stops it
-const PARTS = ['step', 'input', 'report', 'edits', 'code', 'picture'];
+const PARTS = ['step', 'input', 'report', 'edits', 'code', 'machine', 'picture'];
 const CHANGES_NOTHING = /^(?:#.*|report|worked|)$/;  // lines of a text that are no edits
 const BEYOND_STEPS = 5;  // the number with which a session refuses a step
 
@@ -38,7 +39,10 @@ class App {
     const make = (kind, at, value) => this.make(kind, at, value);
     this.opening = new Opening({ open: (files, how) => this.open(files, how), refuse });
     this.bytes = new Bytes({ edit, tell: (at) => this.byteTold(at) });
-    this.code = new Code({ edit, refuse });
+    const alter = (line) => this.edit(this.scenario.after(line));
+    this.code = new Code({ edit, alter, refuse });
+    this.machine = new Machine({ look: (lines) => this.opened.session.replies(this.shown.scenario, this.shown.step, lines), alter, refuse,
+      showPc: (pc, step) => this.code.showPc(pc, step), visit: (address) => this.code.visit(address) });
     this.reports = new Reports({ lineOf: (address) => this.opened.lineOf(address), visit: (address) => this.code.visit(address),
       suppress: (text) => this.edit(this.scenario.withSuppression(text)), kinds: { errors: ERROR_KINDS, leaks: LEAK_KINDS } });
     this.steps = new Steps({ go: (step) => this.go(step), most: LAST_STEP });
@@ -178,6 +182,7 @@ class App {
     document.title = `${title} — replaycheck`;
     this.steps.open(last, follow);
     this.code.open(opened.elf, opened.lineOf, scenario);
+    this.machine.open();
     if (lines.length) this.use(lines.join('\n'));
     const were = left === 1 ? 'was' : 'were';
     if (left) this.notice(`${many(left, 'edit')} didn’t fit and ${were} left out. Undo brings back what was open.`);
@@ -350,8 +355,19 @@ class App {
     this.reports.show(report, unedited, { time, where, isLast });
     this.showScenario();
     this.lookAtNew();
+    this.showMachine();
     clearTimeout(this.timer);
     this.timer = setTimeout(() => this.settle(), QUIET);
+  }
+
+  // Shows registers and memory at the step of what is shown.
+  async showMachine() {
+    const { turn, shown } = this;
+    try {
+      await this.machine.show(shown.step);
+    } catch (fault) {
+      if (turn === this.turn && shown === this.shown) this.notice(sentence(fault, LIMIT));
+    }
   }
 
   // Shows the code at the first error that is new, once, where nobody works there.

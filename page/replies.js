@@ -1,10 +1,19 @@
-// Parts what a session writes into its replies: a report goes up to its summary, any other reply is a line.
+// Parts what a program writes for lines into its replies: a report goes up to its summary, looks at registers and at memory have so
+// many lines, and any other reply is a line.
 const REPORT = 'step ';
 const LAST_LINE = '\nERROR SUMMARY: ';
+const REFUSED = 'refused ';
+const LOOKED = { registers: 32, memory: 2 };
 
 export class Replies {
   constructor() {
     this.rest = '';
+    this.asked = [];
+  }
+
+  // Takes lines whose replies come next.
+  ask(lines) {
+    this.asked.push(...lines);
   }
 
   add(text) {
@@ -13,13 +22,28 @@ export class Replies {
     for (let end = this.end(); end > 0; end = this.end()) {
       found.push(this.rest.slice(0, end));
       this.rest = this.rest.slice(end);
+      this.asked.shift();
     }
     return found;
   }
 
   // Where the next reply ends, 0 where it isn't whole.
   end() {
+    const first = this.rest.indexOf('\n') + 1;
+    if (!first || this.rest.startsWith(REFUSED)) return first;
+    const [, look] = /^look (\w+)/.exec(this.asked[0] ?? '') ?? [];
+    if (look) return this.endOfLine(LOOKED[look] ?? 1);
     const last = this.rest.startsWith(REPORT) ? this.rest.indexOf(LAST_LINE) : 0;
     return last < 0 ? 0 : this.rest.indexOf('\n', last + 1) + 1;
+  }
+
+  // Where so many lines end.
+  endOfLine(count) {
+    let end = 0;
+    for (let i = 0; i < count; i++) {
+      end = this.rest.indexOf('\n', end) + 1;
+      if (!end) return 0;
+    }
+    return end;
   }
 }

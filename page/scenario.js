@@ -1,7 +1,7 @@
 // The edits that stand, as a value that is never changed: how it looks as lines of a session, what lines lead from one to
 // another, and what is left of it without one of its edits. Whether an edit may be made, the program says.
-import { NOTHING } from './instructions.js';
-import { hexByte, hexWord, numberOf } from './numbers.js';
+import { NOTHING, REGISTERS } from './instructions.js';
+import { hexByte, hexWord, many, numberOf } from './numbers.js';
 
 const KINDS = ['defined', 'undefined', 'noaccess'];
 export const OPTIONS = { redzone: '16', queue: '20000000', callers: '12', show: 'definite,possible' };
@@ -53,6 +53,7 @@ export class Scenario {
   }
 
   withPatch(at, word) { return this.with({ patches: changed(this.patches, at, word) }); }
+  // A mark of a range, or what is altered at a step: its line, and what it is called.
   withMark(mark) { return this.with({ marks: [...this.marks, mark] }); }
   withoutMark(index) { return this.with({ marks: this.marks.filter((_, it) => it !== index) }); }
 
@@ -105,7 +106,7 @@ function changed(map, key, value) {
 
 const inputLine = (at, value) => `input ${at} ${value}`;
 const patchLine = (at, word) => `patch ${hexWord(at)} ${hexWord(word)}`;
-const markLine = (it) => `mark ${it.step} ${hexWord(it.at)} ${it.length} ${it.kind}`;
+const markLine = (it) => it.line ?? `mark ${it.step} ${hexWord(it.at)} ${it.length} ${it.kind}`;
 
 // The line that makes an edit of a sweep.
 export const editLine = (kind, at, value) => (kind === 'bytes' ? inputLine : patchLine)(at, value);
@@ -126,11 +127,47 @@ AFTER.set('mark', (it, words) => {
   const isMark = words.length === 4 && KINDS.includes(kind) && ![step, at, length].includes(null);
   return isMark ? it.withMark({ step, at, length, kind }) : null;
 });
+for (const word of ['set', 'write', 'flip', 'skip']) {
+  AFTER.set(word, (it, words) => {
+    const alteration = alterationOf(word, words);
+    return alteration && it.withMark(alteration);
+  });
+}
 AFTER.set('unmark', withNumbers(1, (it, index) => (index < it.marks.length ? it.withoutMark(index) : null)));
 AFTER.set('option', (it, words) => (words.length === 2 && Object.hasOwn(OPTIONS, words[0]) ? it.withOption(...words) : null));
 AFTER.set('supp add', (it, words) => (words.length ? it.withSuppression(words.join(' ')) : null));
 AFTER.set('supp on', switched('on'));
 AFTER.set('supp off', switched('off'));
+
+// ---- what is altered at a step
+
+export const setLine = (step, register, value, undef) => `set ${step} ${register} ${hexWord(value)}${undef ? ` ${hexWord(undef)}` : ''}`;
+export const flipLine = (step, place, mask) => `flip ${step} ${place} ${hexWord(mask)}`;
+export const writeLine = (step, at, value) => `write ${step} ${hexWord(at)} 1 ${hexByte(value)}`;
+export const skipLine = (step) => `skip ${step}`;
+
+// A register's other name, or a place in memory.
+const placeTold = (place) => (place === 'pc' ? 'pc' : REGISTER.test(place) ? REGISTERS[Number(place.slice(1))] : `the bytes at ${place}`);
+const REGISTER = /^x(?:[1-9]|[12][0-9]|3[01])$/;
+const isRegister = (it) => it === 'pc' || REGISTER.test(it ?? '');
+const areNumbers = (words) => words.every((it) => numberOf(it) !== null);
+// Of each line its fields' forms, and what it does in words.
+const ALTERS = {
+  set: [([step, place, ...numbers]) => isRegister(place) && areNumbers([step, ...numbers]) && numbers.length > 0
+    && numbers.length < (place === 'pc' ? 2 : 3),
+  ([, place, value, undef]) => `${placeTold(place)} = ${value}${undef ? `, undefined ${undef}` : ''}`],
+  flip: [(words) => words.length === 3 && areNumbers(words.filter((it, at) => at !== 1 || !isRegister(it))),
+    ([, place, mask]) => `bits ${mask} of ${placeTold(place)} turned`],
+  write: [(words) => words.length === 4 && areNumbers(words),
+    ([, at, length, value]) => `${many(numberOf(length), 'byte')} at ${at} = ${value}`],
+  skip: [(words) => words.length === 1 && areNumbers(words), () => 'an instruction left out'],
+};
+
+// What a line alters, null where it isn't of its form.
+function alterationOf(word, words) {
+  const [is, told] = ALTERS[word];
+  return is(words) ? { line: [word, ...words].join(' '), label: `step ${numberOf(words[0])}: ${told(words)}` } : null;
+}
 
 // ---- from one scenario to another
 
@@ -217,7 +254,7 @@ export function editsOf(it) {
     add(`${hexWord(at)}: ${word === NOTHING ? 'skipped' : hexWord(word)}`, [patchLine(at, word)], it.withPatch(at, null));
   }
   it.marks.forEach((mark, index) => {
-    const label = `${mark.length} at ${hexWord(mark.at)} ${mark.kind} from step ${mark.step}`;
+    const label = mark.label ?? `${mark.length} at ${hexWord(mark.at)} ${mark.kind} from step ${mark.step}`;
     add(label, [markLine(mark)], it.withoutMark(index));
   });
   if (it.cut) add(`${it.cut} cut off`, Array(it.cut).fill('input cut'), it.with({ cut: 0, appended: it.appended }));

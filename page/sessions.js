@@ -64,7 +64,7 @@ export class Helper {
   }
 }
 
-// A session that is asked for the report of a scenario at a step, and keeps what it was led to.
+// A session that is asked about a scenario at a step, and keeps what it was led to.
 export class Session {
   constructor(program, mostLines = MOST_LINES) {
     Object.assign(this, { program, mostLines, helper: null, isClosed: false, memory: 0, sessions: 0, busy: Promise.resolve() });
@@ -102,33 +102,39 @@ export class Session {
   }
 
   // The report of a scenario at a step, as the program writes it.
-  report(scenario, step) {
-    const answer = this.busy.then(() => this.lead(scenario, step));
+  async report(scenario, step) {
+    return (await this.replies(scenario, step, ['report']))[0];
+  }
+
+  // The replies to lines that ask about a scenario at a step.
+  replies(scenario, step, asked) {
+    const answer = this.busy.then(() => this.lead(scenario, step, asked));
     this.busy = answer.catch(() => {});
     return answer;
   }
 
-  async lead(scenario, step) {
+  async lead(scenario, step, asked) {
     if (this.isClosed) throw new Stopped();
     let lines = this.helper && linesBetween(this.at.scenario, scenario, this.program.loaded);
-    if (!lines || this.said + lines.length + 2 > this.mostLines) {
+    const more = asked.length + 1;
+    if (!lines || this.said + lines.length + more > this.mostLines) {
       await this.begin();
       lines = scenario.lines;
-      if (lines.length + 2 > this.mostLines) throw new TooManyLines();
+      if (lines.length + more > this.mostLines) throw new TooManyLines();
     }
     if (step !== this.at.step) lines = [...lines, `goto ${step}`];
-    const report = await this.say([...lines, 'report']);
+    const replies = await this.say([...lines, ...asked]);
     this.at = { scenario, step };
-    return report;
+    return replies.slice(-asked.length);
   }
 
-  // The last reply. Where a line is refused the next report is that of a new session.
+  // The replies to lines. Where one is refused the next ones are those of a new session.
   async say(lines) {
     this.said += lines.length;
     const answer = await this.ask('ask', { lines });
     this.memory = answer.memory;
     const refused = answer.replies.findIndex((it) => it.startsWith('refused '));
-    if (refused < 0) return answer.replies.at(-1);
+    if (refused < 0) return answer.replies;
     this.stop();
     throw new Refused(lines[refused], Number(answer.replies[refused].split(' ')[1]));
   }

@@ -6,6 +6,8 @@ import { Table } from './tables.js';
 const encoder = new TextEncoder();
 const decoder = new TextDecoder();
 const POST_EVERY = 100;  // milliseconds
+const COMMAND = 'look';  // what answers the lines of a session, and looks
+const ASKS = /^(?:report|worked|look .*)$/;  // lines that change nothing
 let session = null;
 
 class Fault extends Error {
@@ -26,7 +28,7 @@ class Waiting {
     this.replies = new Replies();
     const ask = () => this.lines.shift() ?? new Promise((wake) => { this.wake = wake; });
     const tell = (bytes) => this.told(decoder.decode(bytes));
-    const words = ['replaycheck', 'session', ...fileWords(files)];
+    const words = ['replaycheck', COMMAND, ...fileWords(files)];
     this.run = new Run(module, { words, files, limit, ask, tell, waits: true });
     this.run.start().then((status) => this.end(new Fault(status, this.run.said)), (fault) => this.end(fault));
   }
@@ -50,6 +52,7 @@ class Waiting {
     if (this.ended) return Promise.reject(this.ended);
     return new Promise((done, fail) => {
       this.asked.push({ count: lines.length, replies: [], done, fail });
+      this.replies.ask(lines);
       const wake = this.wake;
       this.wake = null;
       if (wake) wake(text(lines));
@@ -74,14 +77,15 @@ class Again {
     const { module, files, limit } = this.begun;
     const replies = new Replies();
     const written = [];
+    replies.ask([...this.before, ...lines]);
     let given = text([...this.before, ...lines]);
     const ask = () => [given, given = null][0];
     const tell = (bytes) => { written.push(...replies.add(decoder.decode(bytes))); };
-    const run = new Run(module, { words: ['replaycheck', 'session', ...fileWords(files)], files, limit, ask, tell });
+    const run = new Run(module, { words: ['replaycheck', COMMAND, ...fileWords(files)], files, limit, ask, tell });
     const status = run.start();
     this.memory = run.memory;
     if (status) throw new Fault(status, run.said);
-    this.before.push(...lines.filter((line) => line !== 'report' && line !== 'worked'));
+    this.before.push(...lines.filter((line) => !ASKS.test(line)));
     return written.slice(-lines.length);
   }
 }
@@ -92,7 +96,7 @@ function look({ module, files, limit, lines }) {
   let given = text(lines);
   const ask = () => [given, given = null][0];
   const tell = (bytes) => { written.push(decoder.decode(bytes)); };
-  const run = new Run(module, { words: ['replaycheck', 'look', ...fileWords(files)], files, limit, ask, tell });
+  const run = new Run(module, { words: ['replaycheck', COMMAND, ...fileWords(files)], files, limit, ask, tell });
   const status = run.start();
   if (status) throw new Fault(status, run.said);
   return { told: written.join('') };

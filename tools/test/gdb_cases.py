@@ -16,7 +16,11 @@ NO_UNIT = ["monitor input 37 5"]  # no record tells the unit: `show` branches on
 ON = "monitor stop_at_errors on"
 NO_MORE = "No more reverse-execution history."
 TRAP = "Program received signal SIGTRAP"
-REFUSED = "no value changes in the midst of a run: edit it, by monitor input, patch, mark or option"
+NO_ADDRESS = "a run goes on from where it is: set pc first"
+NO_STEP = "monitor goto N goes to a step"
+ENDED = "the program has ended: nothing changes any more"
+ABOVE = "no bytes lie above 2^32"
+FULL = "refused 10: there are 4096 marks already"
 
 
 @dataclass
@@ -136,10 +140,47 @@ CASES = [
     Case("edits that are refused", ["monitor input 41 1", "monitor patch 0 0", "monitor unmark 0", "monitor option colour 1",
          "monitor step"],
          ("refused 3: no such byte", "refused 4: no word", "refused 7: no such mark", "refused 9: ", at(0))),
-    Case("a register can't be set", ["set var $a0 = 5", "print $a0"], ('Could not write register "a0"', REFUSED, "$1 = 0")),
-    Case("memory can't be set", ["set var *(int *) 0x20000 = 5", "x/xw 0x20000"], (REFUSED, "0x00000000")),
-    Case("no jump", ["jump *0x10158"], (REFUSED,)),
-    Case("nothing is called", ["print getpid()"], (REFUSED,)),
+    Case("a variable is set, and set back by going back", [*TO_SHOW, "delete", "set var unit = 5", "print unit", "reverse-stepi",
+         "print $a1", "stepi", "print $a1", "print $step", "monitor changes", "monitor unmark 0", "print unit", "monitor changes"],
+         ("unit=99", "= 5 '\\005'", "= 99", "= 5\n", "= 686", "0: set 686 x11 0x00000005\n", "ok\nstep 686, ", "= 99 'c'", "no edits\n")),
+    Case("memory is set in pieces", ["monitor goto 55", 'set {char[7]} 0x20000 = "abcdef"', "x/s 0x20000", "reverse-stepi", "x/1xb 0x20000",
+         "stepi", "x/s 0x20000", "monitor changes"],
+         ('"abcdef"', "0x00\n", '"abcdef"', '0: write 55 0x00020000 4 0x64636261\n1: write 55 0x00020004 2 0x6665\n'
+          '2: write 55 0x00020006 1 0x00\n')),
+    Case("who sets a register knows it", [*NO_UNIT, "monitor goto 684", "set $a1 = $a1", "print/x $a1s1", "monitor end", "monitor errors"],
+         ("= 0x0", "0 errors from 0")),
+    Case("undefined bits are set", ["monitor goto 684", "set $a1s1 = 0xff", "print/x $a1s1", "print $a1", "monitor end", "monitor errors",
+         "monitor changes"],
+         ("= 0xff", "= 99", "1 errors from 1", "0: set 684 x11 0x00000063 0x000000ff\n")),
+    Case("a value that stands makes no edit", ["set $sp = $sp", "set $pc = $pc", "set $sps1 = 0", "monitor changes"], ("no edits",)),
+    Case("an instruction is left out, this once", ["monitor goto 657", "monitor skip", "stepi", "print *(char *) 0x7fffffc7", "monitor end",
+         "monitor errors", "monitor changes"],
+         ("ok\nstep 657, running, pc 0x00010478", "= 0 ", "Conditional jump or move", "1 errors from 1", "0: skip 657\n")),
+    Case("bits are turned", ["monitor goto 684", "monitor flip a1 4", "print $a1", "monitor flip $a1 0x4", "print $a1",
+         "monitor flip 0x20000 1", "x/1xb 0x20000", "monitor flip s0 1", "monitor flip pc 4", "monitor set 684 a0 7",
+         "print $a0", "monitor changes"],
+         ("= 103", "= 99", "0x00\n", "pc 0x00010574\n", "= 7", "0: flip 684 x11 4\n1: flip 684 x11 0x4\n2: flip 684 0x20000 1\n"
+          "3: flip 684 x8 1\n4: flip 684 pc 4\n5: set 684 x10 7\n")),
+    Case("what stands, and several taken back", ["monitor input 37 5", "monitor skip 5", "monitor make_memory defined 0x20000 1",
+         "monitor skip 7", "monitor unmark 1..", "monitor changes", "monitor unmark 0..0", "monitor changes", "monitor unmark 0..",
+         "monitor unmark 1..0", "monitor unmark x..", "monitor unmark"],
+         ("ok\n", "   input 37 5\n0: skip 5\n", "   input 37 5\n", "0..: there are 0", "1..0: there are 0", "'x' is not a number",
+          "unmark I, or")),
+    Case("a jump", [*TO_SHOW, "delete", "jump *0x106b4", "monitor changes"],
+         ("Continuing at 0x106b4", "[exited 0 at step", "set 686 pc 0x000106b4")),
+    Case("a function is called, and the run goes on", [*TO_SHOW, "delete", "print (int) strlen(station->name)", "print $step",
+         "print/x $pc", "print/x $t0s1", "monitor errors", "monitor end", "monitor errors", "monitor unmark 0..", "monitor end"],
+         ("= 4\n", "= 706", "= 0x1055c", "= 0xffffffff", "0 errors", "step 902, exited 0", "0 errors from 0", "ok\n", at(882))),
+    Case("a called function stops, and is finished", [*TO_SHOW, "break strlen", 'print (int) strlen("ab")', "delete", "print $step",
+         "finish",
+         "print $step", "print/x $a4s1"],
+         ("Breakpoint 2, ", "in a function called from GDB", "= 687", "= 699", "= 0x0")),
+    Case("what isn't altered", ["set $step = 5", "set {int} 0xfffffffe = 5", "monitor skip 1 2", "monitor flip a0",
+         "monitor flip zero 1", "monitor write 0 0x20000 3 1", "monitor set 0 a0", "monitor skip 4194305", "monitor end", "set $a0 = 77",
+         "set {char} 0x20000 = 77",
+         "monitor changes"],
+         (NO_STEP, ABOVE, "Cannot access memory", "too many arguments: skip", "too few arguments: flip", "refused 2: ", "refused 6: ",
+          "refused 2: ", "refused 5: ", ENDED, ENDED, "no edits")),
     Case("gdb leaves", ["detach", "info registers pc"], ("detached", "no registers")),
     Case("gdb kills", ["kill", "info registers pc"], ("killed", "no registers")),
 ]
@@ -151,6 +192,8 @@ HERE = "T05thread:1;"
 AT_FIRST = "00" * 8 + "f0ffff7f" + "00" * 116 + "00000100"  # x0 to x31, and pc
 # Programs of the packets: the first counts t0 down from 40,000 and then exits, in step 80,004; the other has no end.
 COUNTS = "lui t0, 10; addi t0, t0, -960; again: addi t0, t0, -1; bne t0, zero, again; li a0, 3; li a7, 93; ecall"
+PLACE = "20000"
+FULL_BUT_8 = [f"M{PLACE},1ff0:" + "01" * 0x1FF0] * 2  # 4,088 pieces of four bytes
 TURNS = "again: addi t0, t0, 1; j again"
 # A label, packets that are sent one after another, and the answer to the last. The program is COUNTS, at step 0; its words stand at
 # 0x10000.
@@ -178,11 +221,21 @@ PACKETS = [
     *[(f"no such packet: {it!r}", [it], "") for it in ("", "vMustReplyEmpty", "qTStatus", "R00", "!", "QNonStop:1", "vKill;1", "\xff\x00",
                                                       "qXfer:memory-map:read::0,10", "vCont", "QStartNoAckMode2", "cc" * 9000)],
     *[(f"a packet that can't be read: {it!r}", [it], ILL)
-      for it in ("m", "m1", "m1,2,3", "mzz,4", "m-1,4", "m1_0,4", "m 1,4", "m11111111111111111,4", "p", "p-1", "pzz", "Z0", "Z0,10000",
+      for it in ("M", "M1", "M10000,4:13", "M10000,4:1300000", "M10000,4:1300000x", "M10000:13", "P5", "P5=", "P5=0", "P=00000000",
+       "P5=0000000000", "Px=00000000", "G", "G00", "m", "m1", "m1,2,3", "mzz,4", "m-1,4", "m1_0,4", "m 1,4",
+       "m11111111111111111,4", "p", "p-1", "pzz", "Z0", "Z0,10000",
        "Z0,x,4",
                  "z1,1", "vCont;", "vCont;q", "vCont;r10", "vCont;r1,x", ASK, ASK + "0", ASK + "0,-1")],
-    *[(f"no change: {it!r}", [it], f"E.{REFUSED}") for it in ("M10000,4:13000000", "X10000,0:", "P5=00000000", "G00", "c10000", "s10000",
-                                                             "C05;10000", "S05;10000")],
+    *[(f"from another address: {it!r}", [it], f"E.{NO_ADDRESS}") for it in ("c10000", "s10000", "C05;10000", "S05;10000")],
+    ("memory is set", ["M10000,4:13000000", "m10000,4"], "13000000"), ("no memory is set", ["M10000,0:"], "OK"),
+    ("memory is set as bytes", ["X10000,0:"], ""), ("memory above 2^32", ["Mfffffffe,4:00000000"], f"E.{ABOVE}"),
+    ("a register is set", ["P5=01000000", "p5"], "01000000"), ("and to what it is", ["P5=00000000", "qRcmd," + b"changes".hex()], "OK"),
+    ("x0 is set", ["P0=01000000"], "E.zero stays 0"), ("undefined bits of x0", ["P22=01000000"], "E.zero stays 0"),
+    ("the step is set", ["P21=01000000"], f"E.{NO_STEP}"), ("no such register is set", ["P42=00000000"], "E01"),
+    ("all registers are set", ["G" + AT_FIRST.replace("f0ffff7f", "e0ffff7f"), "p2"], "e0ffff7f"),
+    ("as much is set as there may be marks", [*FULL_BUT_8, f"M{PLACE},20:" + "02" * 32, f"m{PLACE},1"], "02"),
+    ("more is set: nothing of it", [*FULL_BUT_8, f"M{PLACE},24:" + "02" * 36, f"m{PLACE},1"], "01"),
+    ("why", [*FULL_BUT_8, f"M{PLACE},24:" + "02" * 36], f"E.{FULL}"),
 ]
 
 
@@ -264,7 +317,7 @@ def editor(port):
         ("-exec-next", "*stopped", ('reason="end-stepping-range"', 'func="main"')),
         ("-exec-continue", "*stopped", ('func="show"', "*stopped")), ("-break-delete 1 2", None, ("^done",)),
         ("-exec-continue", "*stopped", ("[exited 0 at step 875]", NO_MORE, "*stopped")), ("-var-update --all-values *", None, ("^done",)),
-        ("-gdb-set var $a0=1", None, ("^error", REFUSED)), ("-target-detach", None, ("^done",)),
+        ("-gdb-set var $a0=1", None, ("^error", ENDED)), ("-target-detach", None, ("^done",)),
     ]
 
 

@@ -9,7 +9,7 @@ WORDS = {
     3: "no such byte of the input",
     4: "no word of the loaded program",
     5: "a step above 4194304",
-    6: "a mark of 0 or of more than 1048576 bytes, or one that ends above 2^32",
+    6: "no such range: a mark has 1 to 1048576 bytes, a write 1, 2 or 4 and a value that fits, and none ends above 2^32",
     7: "no such mark",
     8: "no such suppression",
     9: "no such option, or its value is out of range",

@@ -3,6 +3,7 @@ from replaycheck.endings import write
 from replaycheck.looking import Run
 from replaycheck.options import Reader, number
 
+from .altering import Alterer
 from .connections import Pipes, Port
 from .monitor import Monitor
 from .packets import Packets
@@ -38,7 +39,8 @@ def debug(options):
     run = Run(options.file, options.input, options.supp)
     run.registers()  # what keeps the program from its work is told before gdb is answered
     goer = Goer(run)
-    monitor = Monitor(run, goer)
+    alterer = Alterer(run)
+    monitor = Monitor(run, goer, alterer)
     connection = Pipes() if options.port is None else Port(options.port)
-    Stub(Packets(connection), run, goer, monitor).serve()
+    Stub(Packets(connection), run, goer, alterer, monitor).serve()
     return 0

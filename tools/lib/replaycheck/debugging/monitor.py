@@ -14,6 +14,7 @@ from replaycheck.origins.image import HEAP, LONGEST_FILE, STACK, STACK_TOP
 from replaycheck.reports import SUMS
 from replaycheck.sessions import path_of
 
+from .altering import register_of
 from .registers import NAMES
 
 HELP = """step                              which step this is, and where the program is
@@ -26,11 +27,16 @@ block_list                        the blocks of the heap that are in use: where 
 stop_at_errors on|off             continue and reverse-continue stop before each step that makes an error that isn't suppressed
 origin [N]                        where the undefined bits came from on which the Nth error so far depends
 make_memory noaccess|undefined|defined ADDR [LEN]     a mark at this step
-input .. | patch .. | mark .. | unmark .. | option .. | supp ..     edits the run, as a line of a session does;
+skip                              leaves out the instruction here, this once
+flip REGISTER|ADDR MASK           turns bits of a register, of pc or of the four bytes at ADDR, here
+changes                           the edits that stand; marks and what was altered at a step have a number
+unmark I | unmark I..J            takes one of these back, or several
+input .. | patch .. | mark .. | option .. | supp ..     edits the run, as a line of a session does;
+set STEP .. | write STEP .. | flip STEP .. | skip STEP  alters it at a step, as a line of replaycheck look does;
                                   the step stays, and all else is that of the edited run
 worked                            how many steps were made for reports and looks
 """
-EDITS = ("input", "patch", "mark", "unmark", "option", "supp")
+EDITS = ("input", "patch", "mark", "set", "write", "option", "supp")
 KINDS = ("noaccess", "undefined", "defined")
 MOST = 1 << 20  # bytes of memory that one line asks about
 HEAP_SEEN = 1 << 24  # bytes of the heap that are looked at for blocks
@@ -42,8 +48,8 @@ ACCESSIBLE = re.compile("(?:[0-9a-f]{2})+")
 class Monitor:
     """Answers lines of `monitor` over a run."""
 
-    def __init__(self, run, goer):
-        self.run, self.goer = run, goer
+    def __init__(self, run, goer, alterer):
+        self.run, self.goer, self.alterer = run, goer, alterer
         with open(run.files[0], "rb") as file:
             self.loads = [(it.vaddr, it.vaddr + it.memsz) for it in Elf(file.read(LONGEST_FILE)).loads if it.memsz]
         self.by_word = {
@@ -51,7 +57,8 @@ class Monitor:
             "errors": self.report, "leak_check": self.report, "get_vbits": self.get_vbits,
             "check_memory": self.check_memory, "who_points_at": self.who_points_at, "block_list": self.block_list,
             "stop_at_errors": self.stop_at_errors, "origin": self.origin, "make_memory": self.make_memory,
-            "worked": self.worked, **{it: self.edit for it in EDITS}}
+            "worked": self.worked, "skip": self.skip, "flip": self.flip, "changes": self.changes, "unmark": self.unmark,
+            **{it: self.edit for it in EDITS}}
 
     def answer(self, line):
         if not line.strip():
@@ -183,9 +190,43 @@ class Monitor:
         address, length = self.span(word, words[1:])
         return self.edit("mark", str(self.run.step), f"0x{address:x}", str(length), words[0].lower())
 
-    def edit(self, *words):
-        reply = self.run.edit(" ".join(words))
+    # ---- edits
+
+    def edit(self, word, *words):
+        """Gives a line that edits the run, with registers by their other names too."""
+        if word == "set" and len(words) > 1:
+            words = [words[0], register_of(words[1]), *words[2:]]
+        reply = self.run.edit(" ".join([word, *words]))
         return reply + "\n" + (self.where() if reply == "ok" else "")
+
+    def skip(self, word, *words):
+        taken(words, 0, 1, "skip [STEP]")
+        return self.edit(word, *words or [str(self.run.step)])
+
+    def flip(self, word, *words):
+        taken(words, 2, 3, "flip [STEP] REGISTER|ADDR MASK")
+        *step, place, mask = words
+        return self.edit(word, *step or [str(self.run.step)], register_of(place), mask)
+
+    def changes(self, word, *words):
+        """What stands."""
+        taken(words, 0, 0, word)
+        listed, others = self.alterer.standing()
+        rows = [*(f"   {it}" for it in others), *(f"{index}: {it}" for index, it in enumerate(listed))]
+        return "\n".join(rows or ["no edits"]) + "\n"
+
+    def unmark(self, word, *words):
+        """Takes back one mark or alteration, or several, the last of them first."""
+        taken(words, 1, 1, "unmark I, or I..J")
+        first, dots, last = words[0].partition("..")
+        if not dots:
+            return self.edit(word, first)
+        standing = len(self.alterer.standing()[0])
+        first, last = number(first), number(last) if last else standing - 1
+        if not first <= last < standing:
+            raise Fault(f"{words[0]}: there are {standing}; see monitor changes")
+        replies = [self.run.edit(f"{word} {index}") for index in reversed(range(first, last + 1))]
+        return next((it for it in replies if it != "ok"), "ok") + "\n" + self.where()
 
     def span(self, word, words):
         """The range that the words of a line have: ADDR [LEN]."""

@@ -15,8 +15,9 @@ HEAD = """<?xml version="1.0"?>
 
 
 def register(name, number, kind, group=""):
-    belongs = f' group="{group}"' if group else ""
-    return f'<reg name="{name}" bitsize="32" regnum="{number}" type="{kind}"{belongs}/>\n'
+    """A register. gdb leaves one with a group of its own alone when it sets the others back behind a call of a function."""
+    own = f' group="{group}" save-restore="no"' if group else ""
+    return f'<reg name="{name}" bitsize="32" regnum="{number}" type="{kind}"{own}/>\n'
 
 
 def feature(name, registers):

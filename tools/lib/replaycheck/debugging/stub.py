@@ -5,14 +5,16 @@ from replaycheck.endings import Fault
 from replaycheck.looking import TOP
 from replaycheck.sessions import Refused
 
+from .altering import Unaltered
 from .connections import Closed
 from .packets import MOST, Misread, numbers
 from .registers import PC, description, in_hexadecimal, value_of
 from .stops import ACCESS, END, Point
 
-REFUSED = "no value changes in the midst of a run: edit it, by monitor input, patch, mark or option"
+NO_ADDRESS = "a run goes on from where it is: set pc first"
 SUPPORTED = (f"PacketSize={MOST:x};qXfer:features:read+;ReverseStep+;ReverseContinue+;swbreak+;hwbreak+;"
              "QStartNoAckMode+;vContSupported+")
+WORD = 4  # bytes of a register
 TARGET = "qXfer:features:read:target.xml:"
 FIXED = {"qC": "QC1", "qfThreadInfo": "m1", "qsThreadInfo": "l", "qAttached": "1", "vCont?": "vCont;c;C;s;S;r",
          "qSymbol::": "OK", "QStartNoAckMode": "OK"}
@@ -21,13 +23,13 @@ FIXED = {"qC": "QC1", "qfThreadInfo": "m1", "qsThreadInfo": "l", "qAttached": "1
 class Stub:
     """Answers packets, one after another, over a run."""
 
-    def __init__(self, packets, run, goer, monitor):
-        self.packets, self.run, self.goer, self.monitor = packets, run, goer, monitor
+    def __init__(self, packets, run, goer, alterer, monitor):
+        self.packets, self.run, self.goer, self.alterer, self.monitor = packets, run, goer, alterer, monitor
         self.by_name = {"bc": goer.back, "bs": goer.step_back, "c": goer.forward, "s": goer.step}
         self.by_letter = {
             "g": self.all_registers, "p": self.one_register, "m": self.memory,
             "Z": lambda text: self.point(text, goer.add), "z": lambda text: self.point(text, goer.remove),
-            "M": self.write, "X": self.write, "P": self.refuse, "G": self.refuse, "c": self.refuse, "s": self.refuse,
+            "M": self.write, "P": self.set_register, "G": self.set_registers, "c": self.refuse, "s": self.refuse,
             "C": lambda text: self.go("c", text), "S": lambda text: self.go("s", text),
             "H": lambda _: "OK", "T": lambda _: "OK", "D": lambda _: "OK", "?": lambda _: self.stopped()}
         self.by_words = {"qSupported": lambda _: SUPPORTED, TARGET: lambda text: part(description(), text),
@@ -51,7 +53,7 @@ class Stub:
     def answer(self, packet):
         try:
             return self.reply(packet)
-        except (Misread, Refused) as fault:
+        except (Misread, Refused, Unaltered) as fault:
             return f"E.{fault}"
 
     def reply(self, packet):
@@ -113,15 +115,37 @@ class Stub:
         address, length = numbers(text, 2)
         return self.run.memory(address, min(length, MOST // 2)).data.hex() or "E01"
 
+    # ---- what is set
+
     def refuse(self, _=""):
-        return f"E.{REFUSED}"
+        return f"E.{NO_ADDRESS}"
+
+    def set_register(self, text):
+        number, _, value = text.partition("=")
+        number = numbers(number, 1)[0]
+        if value_of(number, self.run.registers(), self.run.step) is None:
+            return "E01"
+        self.alterer.set_register(number, *words_of(value, 1))
+        return "OK"
+
+    def set_registers(self, text):
+        """Sets all registers that are read by one packet."""
+        for number, value in enumerate(words_of(text, PC + 1)):
+            self.alterer.set_register(number, value)
+        return "OK"
 
     def write(self, text):
-        """Refuses to write memory. gdb tells no reason of that, but shows what comes on standard error; it asks without bytes whether
-        it may."""
-        if not text.partition(":")[0].endswith(",0"):
-            print(f"replaycheck gdb: {REFUSED}", file=sys.stderr, flush=True)
-        return self.refuse()
+        """Writes memory. gdb asks without bytes whether it may; it tells no reason why it mayn't, but shows what comes on standard
+        error."""
+        where, _, digits = text.partition(":")
+        address, length = numbers(where, 2)
+        data = bytes_of(digits, length)
+        try:
+            self.alterer.write(address, data)
+        except Unaltered as fault:
+            print(f"replaycheck gdb: {fault}", file=sys.stderr, flush=True)
+            raise
+        return "OK"
 
     def command(self, text):
         """A line of `monitor`."""
@@ -138,6 +162,23 @@ class Stub:
         if said:
             self.packets.say(said)
         return "OK"
+
+
+def bytes_of(digits, length):
+    """So many bytes, written in hexadecimal."""
+    try:
+        data = bytes.fromhex(digits)
+    except ValueError:
+        raise Misread from None
+    if len(data) != length or len(digits) != 2 * length:
+        raise Misread
+    return data
+
+
+def words_of(digits, count):
+    """So many registers, each with its lowest byte first."""
+    data = bytes_of(digits, WORD * count)
+    return [int.from_bytes(data[i:i + WORD], "little") for i in range(0, len(data), WORD)]
 
 
 def part(text, asked):

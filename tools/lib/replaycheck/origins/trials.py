@@ -7,6 +7,7 @@ from replaycheck.reports import kind_of
 from replaycheck.sessions import Session
 
 MOST_LINES, MOST_MARKS = 100000, 4096
+MARKING = {"mark": 1, "set": 1, "write": 1, "flip": 1, "skip": 1, "unmark": -1}  # how a line changes the number of marks
 AT_ONCE = 200  # so many questions fit into a pipe
 
 
@@ -38,12 +39,11 @@ class Trials:
         self.words, self.user = (file, given, supp), lines
         self.reports, self.doing, self.progress = 0, "the error", Progress()
         self.open()
-        counts = {"mark": 1, "unmark": -1}
-        self.first = sum(counts.get(line.split(" ")[0], 0) for line in lines)
+        self.first = sum(MARKING.get(line.split(" ")[0], 0) for line in lines)
         self.room = MOST_MARKS - self.first
 
     def open(self):
-        self.session = Session(*self.words)
+        self.session = Session(*self.words, command="look")
         self.marks, self.asked = [], len(self.user)
         for line in self.user:
             self.session.accepted(line)

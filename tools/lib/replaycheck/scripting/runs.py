@@ -14,11 +14,13 @@ from replaycheck.scripting.errors import Error, Usage
 from replaycheck.scripting.files import Source
 from replaycheck.scripting.inputs import Input
 from replaycheck.scripting.scenarios import EDITS, Scenario
-from replaycheck.scripting.steps import Certificate, Memory, Place, Step
+from replaycheck.scripting.steps import Certificate, Memory, Place, Registers, Step
 from replaycheck.scripting.talks import Talk
 
 WORD = 4
 KINDS = ("run", "read", "write", "shadow", "error")
+NAMED = {name: f"x{number}" for number, name in enumerate(Registers._fields) if number}
+ALTERED = {**NAMED, **{it: it for it in NAMED.values()}, "fp": NAMED["s0"], "pc": "pc"}  # registers that can be set, by their names
 MOST_WRITTEN = 4096  # bytes of output that one look returns
 
 
@@ -124,11 +126,35 @@ class Run:
     def mark(self, step: int, address: Place, length: int, kind: str) -> int:
         """Marks bytes from a step on as "undefined", "noaccess" or "defined". Returns the number of the mark, for `unmark`."""
         where = f"0x{self._address(address):x} {number('length', length)}"
-        self.edit(f"mark {number('step', step)} {where} {kind}")
+        return self._marked(f"mark {number('step', step)} {where} {kind}")
+
+    def skip(self, step: int) -> int:
+        """Leaves out the instruction of a step, this once. Returns its number among the marks, as the next three do."""
+        return self._marked(f"skip {number('step', step)}")
+
+    def set(self, step: int, register: str, value: int, undefined: int = 0) -> int:
+        """Sets a register, or "pc", just before a step, with these undefined bits."""
+        bits = f" 0x{number('undefined', undefined):08x}" if undefined else ""
+        return self._marked(f"set {number('step', step)} {register_of(register)} 0x{number('value', value):08x}{bits}")
+
+    def write(self, step: int, address: Place, value: int, length: int = WORD) -> int:
+        """Writes 1, 2 or 4 bytes just before a step, the lowest first."""
+        where = f"0x{self._address(address):x} {number('length', length)}"
+        return self._marked(f"write {number('step', step)} {where} 0x{number('value', value):x}")
+
+    def flip(self, step: int, place: Place, mask: int) -> int:
+        """Turns bits of a register, of "pc" or of the four bytes from an address on, just before a step. A name is a register's where there
+        is one."""
+        where = ALTERED[place] if isinstance(place, str) and place in ALTERED else f"0x{self._address(place):x}"
+        return self._marked(f"flip {number('step', step)} {where} 0x{number('mask', mask):08x}")
+
+    def _marked(self, line: str) -> int:
+        """Makes an edit that `unmark` removes by its number, which is returned."""
+        self.edit(line)
         return len(self._scenario.marks) - 1
 
     def unmark(self, index: int) -> None:
-        """Removes a mark. Later ones move down."""
+        """Removes a mark, or what was altered at a step. Later ones move down."""
         self.edit(f"unmark {number('index', index)}")
 
     def option(self, name: str, value: Union[int, str]) -> None:
@@ -266,6 +292,17 @@ class Run:
     def _address(self, place: Place) -> Address:
         """Returns a place as an address: a symbol by its name, or a number."""
         return self.symbol(place) if isinstance(place, str) else Address(number("address", place))
+
+
+def register_of(name: str) -> str:
+    """Returns a register by its name in the lines of a session.
+
+    # Errors
+
+    `Usage` for a name that is none of a register that can be set."""
+    if name not in ALTERED:
+        raise Usage(f"register: {name!r}: none of those that can be set")
+    return ALTERED[name]
 
 
 def edit_of(line: str) -> str:

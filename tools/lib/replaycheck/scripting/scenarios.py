@@ -4,7 +4,8 @@ from __future__ import annotations
 
 from typing import Dict, FrozenSet, Iterator, List, NamedTuple, Tuple
 
-EDITS = ("input", "patch", "mark", "unmark", "option", "supp")
+MARKS = ("mark", "set", "write", "flip", "skip")  # each makes a mark, of a range or of what is altered at a step
+EDITS = ("input", "patch", *MARKS, "unmark", "option", "supp")
 # The values of options that no line has changed.
 USUAL = {"redzone": "16", "queue": "20000000", "callers": "12", "show": "definite,possible"}
 PART = 4096  # bytes of an input that are compared at a time
@@ -32,8 +33,8 @@ class Scenario(NamedTuple):
         if name == "patch":
             at, word = map(number, words)
             return self._replace(words={**self.words, at: word})
-        if name == "mark":
-            return self._replace(marks=(*self.marks, " ".join(words)))
+        if name in MARKS:
+            return self._replace(marks=(*self.marks, line))
         if name == "unmark":
             index = number(words[0])
             return self._replace(marks=self.marks[:index] + self.marks[index + 1:])
@@ -57,7 +58,7 @@ class Scenario(NamedTuple):
         while same < min(len(self.marks), len(other.marks)) and self.marks[same] == other.marks[same]:
             same += 1
         yield from (f"unmark {index}" for index in reversed(range(same, len(self.marks))))
-        yield from (f"mark {it}" for it in other.marks[same:])
+        yield from other.marks[same:]
         for name, usual in USUAL.items():
             value = other.options.get(name, usual)
             if value != self.options.get(name, usual):
