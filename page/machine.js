@@ -25,10 +25,10 @@ export function parseMemory(text) {
 }
 
 export class Machine {
-  // `look` promises the replies to lines at what is shown; `alter` takes a line that alters the run at its step, and `refuse` a
-  // sentence; `showPc` has the code show where the run is, and `visit` goes there.
-  constructor({ look, alter, refuse, showPc, visit }) {
-    Object.assign(this, { look, alter, refuse, showPc, picked: FIRST, at: null, step: 0, seen: null, bytes: [] });
+  // `look` promises the replies to lines at what is shown, and `again` has all shown anew; `alter` takes a line that alters the run
+  // at its step, and `refuse` a sentence; `showPc` has the code show where the run is, and `visit` goes there.
+  constructor({ look, again, alter, refuse, showPc, visit }) {
+    Object.assign(this, { look, again, alter, refuse, showPc, picked: FIRST, at: null, step: 0, seen: null, bytes: [] });
     $('pc').addEventListener('click', () => visit(this.seen.pc));
     $('memory-form').addEventListener('submit', (event) => {
       event.preventDefault();
@@ -46,7 +46,7 @@ export class Machine {
   }
 
   // Asks what holds at the step of what is shown now.
-  async show(step) {
+  async show(shown) {
     const asked = this.asked = Symbol('asked');
     const [registers] = await this.look(['look registers']);
     if (asked !== this.asked) return;
@@ -54,12 +54,12 @@ export class Machine {
     this.at ??= Math.min(seen.registers[STACK].value & ~(WIDE - 1), HIGHEST - SEEN) >>> 0;
     const [memory] = await this.look([`look memory ${hexWord(this.at)} ${SEEN}`]);
     if (asked !== this.asked) return;
-    Object.assign(this, { step, seen, bytes: parseMemory(memory) });
+    Object.assign(this, { shown, step: shown.step, seen, bytes: parseMemory(memory) });
     this.render();
-    this.showPc(seen.pc, step);
+    this.showPc(seen.pc, shown.step);
   }
 
-  async goTo(text) {
+  goTo(text) {
     const at = numberOf(text);
     if (at === null) {
       this.refuse(`An address is a number such as 0x7fffffc0, and not “${text}”.`);
@@ -67,7 +67,7 @@ export class Machine {
     }
     this.at = Math.min(at, HIGHEST - SEEN);
     this.writing = null;
-    await this.show(this.step);
+    this.again();
   }
 
   render() {

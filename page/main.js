@@ -41,8 +41,9 @@ class App {
     this.bytes = new Bytes({ edit, tell: (at) => this.byteTold(at) });
     const alter = (line) => this.edit(this.scenario.after(line));
     this.code = new Code({ edit, alter, refuse });
-    this.machine = new Machine({ look: (lines) => this.opened.session.replies(this.shown.scenario, this.shown.step, lines), alter, refuse,
-      showPc: (pc, step) => this.code.showPc(pc, step), visit: (address) => this.code.visit(address) });
+    this.machine = new Machine({ look: (lines) => this.opened.session.replies(this.shown.scenario, this.shown.step, lines),
+      again: () => this.showMachine(), alter, refuse, showPc: (pc, step) => this.code.showPc(pc, step),
+      visit: (address) => this.code.visit(address) });
     this.reports = new Reports({ lineOf: (address) => this.opened.lineOf(address), visit: (address) => this.code.visit(address),
       suppress: (text) => this.edit(this.scenario.withSuppression(text)), kinds: { errors: ERROR_KINDS, leaks: LEAK_KINDS } });
     this.steps = new Steps({ go: (step) => this.go(step), most: LAST_STEP });
@@ -364,7 +365,7 @@ class App {
   async showMachine() {
     const { turn, shown } = this;
     try {
-      await this.machine.show(shown.step);
+      await this.machine.show(shown);
     } catch (fault) {
       if (turn === this.turn && shown === this.shown) this.notice(sentence(fault, LIMIT));
     }

@@ -28,7 +28,8 @@ export function filesOf(scenario, { files, elf }) {
     swept.supp.set(given);
     swept.supp.set(added, given.length);
   }
-  if (scenario.marks.length) left.push('marks');
+  if (scenario.marks.some((it) => !it.line)) left.push('marks');
+  if (scenario.marks.some((it) => it.line)) left.push('what is changed at a step');
   if (scenario.options.has('redzone') || scenario.options.has('queue')) left.push('options of the heap');
   if (scenario.switched.size) left.push('suppressions that are switched');
   return { files: swept, left };

@@ -10,6 +10,7 @@ sys.path.insert(0, str(pathlib.Path(__file__).resolve().parents[1] / "lib"))
 from replaycheck.guest_files import TOP, answered  # noqa: E402
 
 EXAMPLES = {it["name"]: it for it in json.loads((TOP / "page" / "examples.json").read_text())}
+ALTERING = {"set", "write", "flip", "skip"}
 SETTLED = ("!replaycheck.isBusy && replaycheck.shown && replaycheck.shown.scenario === replaycheck.scenario"
            " && replaycheck.shown.step === replaycheck.step")
 SWEPT = "replaycheck.sweeps.sweep?.swept.isWhole"
@@ -44,9 +45,10 @@ class Bench:
         self.folder, self.file = built / "page", (built / "replaycheck.html").as_uri()
 
     def native(self, words, lines):
-        """The program's replies to lines of a session."""
+        """The program's replies to lines: those of a session, unless one alters a step."""
         text = "".join(f"{line}\n" for line in lines)
-        ran = subprocess.run([self.program, "session", *words], input=text.encode(), capture_output=True)
+        command = "look" if any(line.split(" ")[0] in ALTERING for line in lines) else "session"
+        ran = subprocess.run([self.program, command, *words], input=text.encode(), capture_output=True)
         if ran.returncode:
             raise Wrong(f"the program ended with status {ran.returncode}: {ran.stderr.decode()}")
         return answered(ran.stdout.decode().splitlines())

@@ -1,6 +1,7 @@
 """The cases of test-page about the program in the page and its edits: what one does, against what the program says."""
 import json
 import random
+import subprocess
 import tempfile
 
 from page_bench import EXAMPLES, expect, same, words_of
@@ -132,6 +133,63 @@ def forms_in_turn(bench):
             page.click_on("#chips button")
             check("an edit taken off")
         same("lines at the end", page.run("replaycheck.scenario.lines"), [])
+
+
+def machine_in_turn(bench):
+    """Registers, bytes and the instruction of a step, seen and changed as a user does it, with the program's report after each."""
+    with bench.open() as page:
+        def check(what, *lines):
+            bench.same_report(page, STATION, what)
+            same(f"lines after {what}", page.run("replaycheck.scenario.lines"), list(lines))
+            page.until("replaycheck.machine.step === replaycheck.step && replaycheck.machine.shown === replaycheck.shown")
+            same(f"registers after {what}", page.run("replaycheck.machine.seen.registers.slice(1)"), registers(bench, lines, 684))
+        page.set("step", 684, "input")
+        check("a step")
+        same("where it is", page.text("machine-told") + page.text("pc"), "before step 684: running at0x00010570")
+        page.click_on("#registers li:nth-child(11) button")
+        page.set("register-value", "0x5")
+        page.click_on("#register-form > button")
+        check("a register that is set", "set 684 x11 0x00000005")
+        page.set("register-undef", "0xff")
+        page.click_on("#register-form > button")
+        bits = ["set 684 x11 0x00000005", "set 684 x11 0x00000005 0x000000ff"]
+        check("undefined bits", *bits)
+        page.click_on("#bits button", 29)
+        check("a bit that is turned", *bits, flip := "flip 684 x11 0x00000004")
+        page.set("memory-at", "0x20000")
+        page.click_on("#memory-form button")
+        page.until("replaycheck.machine.bytes[0]?.value === 1")
+        page.click_on("#memory-rows button", 2)
+        page.set("new-byte", "0x41")
+        page.focus("new-byte")
+        page.press("Enter")
+        check("a byte", *bits, flip, write := "write 684 0x00020002 1 0x41")
+        same("the byte", page.run("replaycheck.machine.bytes[2]"), {"value": 0x41, "undef": 0})
+        page.click_on("#pc")
+        page.click_on("#code-rows .now button", 2)
+        check("an instruction that is left out", *bits, flip, write, "skip 684")
+        for label in ("step 684: a1 = 0x00000005, undefined 0x000000ff", "step 684: bits 0x00000004 of a1 turned",
+                      "step 684: 1 byte at 0x00020002 = 0x41", "step 684: an instruction left out"):
+            expect(label in page.text("chips"), f"no edit is called {label!r}")
+        page.set("register-value", "five")
+        page.click_on("#register-form > button")
+        expect("not “five”" in page.text("notice"), "what is no number isn't told")
+        while page.run("document.querySelector('#chips button') !== null"):
+            page.click_on("#chips button")
+        check("all taken off")
+        page.set("step", page.run("replaycheck.steps.last"), "input")
+        page.until("replaycheck.machine.seen?.runs === false")
+        expect("exited 0, so nothing changes any more" in page.text("machine-told"), "the end isn't told")
+        same("what can be changed then", page.run("[...document.querySelectorAll('#machine :enabled:is(#bits *, #memory-rows *, "
+                                                  "#register-value)')].length"), 0)
+
+
+def registers(bench, lines, step):
+    """What the program tells of the registers at a step."""
+    text = "".join(f"{line}\n" for line in (*lines, f"goto {step}", "look registers"))
+    told = subprocess.run([bench.program, "look", *STATION], input=text, capture_output=True, text=True, check=True).stdout
+    rows = [row.split(" ")[1:] for row in told.splitlines()[-31:]]
+    return [{"value": int(value, 16), "undef": int(undef, 16)} for value, undef in rows]
 
 
 def runs_that_go_on(bench):
