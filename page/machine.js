@@ -4,10 +4,11 @@ import { REGISTERS } from './instructions.js';
 import { grouped, hexByte, hexWord, letter, numberOf } from './numbers.js';
 import { flipLine, setLine, writeLine } from './scenario.js';
 
-const ROWS = 4, WIDE = 16, SEEN = ROWS * WIDE;  // bytes of memory that are shown
+const ROWS = 8, WIDE = 16, SEEN = ROWS * WIDE;  // bytes of memory that are shown
+const WORD = 32, GROUP = 8;  // bits of a register, and of those that stand together
 const NO_ACCESS = '__';
 const HIGHEST = 2 ** 32;
-const STACK = 2;  // the register whose bytes are shown first
+const STACK = 2;  // the register at whose bytes the memory begins, until an address is chosen
 const FIRST = 10;  // the register that is shown with its bits first: a0
 
 // What looks at registers and at memory tell.
@@ -28,7 +29,7 @@ export class Machine {
   // `look` promises the replies to lines at what is shown, and `again` has all shown anew; `alter` takes a line that alters the run
   // at its step, and `refuse` a sentence; `showPc` has the code show where the run is, and `visit` goes there.
   constructor({ look, again, alter, refuse, showPc, visit }) {
-    Object.assign(this, { look, again, alter, refuse, showPc, picked: FIRST, at: null, step: 0, seen: null, bytes: [] });
+    Object.assign(this, { look, again, alter, refuse, showPc, picked: FIRST, chosen: null, step: 0, seen: null, bytes: [] });
     $('pc').addEventListener('click', () => visit(this.seen.pc));
     $('memory-form').addEventListener('submit', (event) => {
       event.preventDefault();
@@ -41,7 +42,7 @@ export class Machine {
   }
 
   open() {
-    Object.assign(this, { at: null, seen: null, bytes: [], writing: null });
+    Object.assign(this, { chosen: null, seen: null, bytes: [], writing: null });
     for (const it of ['registers', 'memory-rows', 'bits']) $(it).replaceChildren();
   }
 
@@ -51,10 +52,11 @@ export class Machine {
     const [registers] = await this.look(['look registers']);
     if (asked !== this.asked) return;
     const seen = parseRegisters(registers);
-    this.at ??= Math.min(seen.registers[STACK].value & ~(WIDE - 1), HIGHEST - SEEN) >>> 0;
-    const [memory] = await this.look([`look memory ${hexWord(this.at)} ${SEEN}`]);
+    const at = Math.min(this.chosen ?? seen.registers[STACK].value - seen.registers[STACK].value % WIDE, HIGHEST - SEEN);
+    const [memory] = await this.look([`look memory ${hexWord(at)} ${SEEN}`]);
     if (asked !== this.asked) return;
-    Object.assign(this, { shown, step: shown.step, seen, bytes: parseMemory(memory) });
+    if (at !== this.at || shown.step !== this.step) this.writing = null;
+    Object.assign(this, { shown, step: shown.step, seen, at, bytes: parseMemory(memory) });
     this.render();
     this.showPc(seen.pc, shown.step);
   }
@@ -65,8 +67,7 @@ export class Machine {
       this.refuse(`An address is a number such as 0x7fffffc0, and not “${text}”.`);
       return;
     }
-    this.at = Math.min(at, HIGHEST - SEEN);
-    this.writing = null;
+    this.chosen = at;
     this.again();
   }
 
@@ -98,20 +99,23 @@ export class Machine {
   }
 
   renderPicked() {
-    const { value, undef } = this.seen.registers[this.picked], name = REGISTERS[this.picked];
-    say('register-name', name);
-    const { runs } = this.seen;
+    const { runs, registers } = this.seen, { value } = registers[this.picked];
+    say('register-name', REGISTERS[this.picked]);
     for (const [id, number] of [['register-value', value], ['register-undef', 0]]) {
       if (document.activeElement !== $(id)) $(id).value = hexWord(number);
     }
     for (const it of $('register-form').elements) it.disabled = !runs;
-    const bits = Array.from({ length: 32 }, (_, i) => 31 - i);
-    $('bits').replaceChildren(...bits.map((bit) => {
-      const one = value >>> bit & 1, isUndefined = undef >>> bit & 1;
-      const told = `turn bit ${bit} of ${name}, which is ${one}${isUndefined ? ' and undefined' : ''}`;
-      return element('button', { type: 'button', disabled: !runs, className: isUndefined ? 'undefined' : '', 'aria-label': told,
-        title: told, onclick: () => this.alter(flipLine(this.step, `x${this.picked}`, (1 << bit) >>> 0)) }, String(one));
-    }));
+    const groups = Array.from({ length: WORD / GROUP }, (_, i) => WORD - GROUP * (i + 1));
+    $('bits').replaceChildren(...groups.map((low) => element('span', {},
+      ...Array.from({ length: GROUP }, (_, i) => this.bit(low + GROUP - 1 - i)))));
+  }
+
+  bit(bit) {
+    const { value, undef } = this.seen.registers[this.picked];
+    const one = value >>> bit & 1, isUndefined = undef >>> bit & 1;
+    const told = `turn bit ${bit} of ${REGISTERS[this.picked]}, which is ${one}${isUndefined ? ' and undefined' : ''}`;
+    return element('button', { type: 'button', disabled: !this.seen.runs, className: isUndefined ? 'undefined' : '', 'aria-label': told,
+      title: told, onclick: () => this.alter(flipLine(this.step, `x${this.picked}`, (1 << bit) >>> 0)) }, String(one));
   }
 
   set() {

@@ -159,7 +159,7 @@ CASES = [
     Case("bits are turned", ["monitor goto 684", "monitor flip a1 4", "print $a1", "monitor flip $a1 0x4", "print $a1",
          "monitor flip 0x20000 1", "x/1xb 0x20000", "monitor flip s0 1", "monitor flip pc 4", "monitor set 684 a0 7",
          "print $a0", "monitor changes"],
-         ("= 103", "= 99", "0x00\n", "pc 0x00010574\n", "= 7", "0: flip 684 x11 4\n1: flip 684 x11 0x4\n2: flip 684 0x20000 1\n"
+         ("= 103", "= 99", "0x00\n", "pc 0x000106a8\n", "= 7", "0: flip 684 x11 4\n1: flip 684 x11 0x4\n2: flip 684 0x20000 1\n"
           "3: flip 684 x8 1\n4: flip 684 pc 4\n5: set 684 x10 7\n")),
     Case("what stands, and several taken back", ["monitor input 37 5", "monitor skip 5", "monitor make_memory defined 0x20000 1",
          "monitor skip 7", "monitor unmark 1..", "monitor changes", "monitor unmark 0..0", "monitor changes", "monitor unmark 0..",

@@ -145,7 +145,7 @@ def machine_in_turn(bench):
             same(f"registers after {what}", page.run("replaycheck.machine.seen.registers.slice(1)"), registers(bench, lines, 684))
         page.set("step", 684, "input")
         check("a step")
-        same("where it is", page.text("machine-told") + page.text("pc"), "before step 684: running at0x00010570")
+        same("where it is", page.text("machine-told") + page.text("pc"), "before step 684: running at0x000106ac")
         page.click_on("#registers li:nth-child(11) button")
         page.set("register-value", "0x5")
         page.click_on("#register-form > button")
