@@ -147,8 +147,11 @@ CASES = [
          "stepi", "x/s 0x20000", "monitor changes"],
          ('"abcdef"', "0x00\n", '"abcdef"', '0: write 55 0x00020000 4 0x64636261\n1: write 55 0x00020004 2 0x6665\n'
           '2: write 55 0x00020006 1 0x00\n')),
-    Case("who sets a register knows it", [*NO_UNIT, "monitor goto 684", "set $a1 = $a1", "print/x $a1s1", "monitor end", "monitor errors"],
+    Case("who sets a register knows it", [*NO_UNIT, "monitor goto 684", "set $a1 = 98", "print/x $a1s1", "monitor end", "monitor errors"],
          ("= 0x0", "0 errors from 0")),
+    Case("undefined bits are made defined", [*NO_UNIT, "monitor goto 684", "set $a1s1 = 0", "print $a1", "monitor end", "monitor errors",
+         "monitor changes"],
+         ("= 0\n", "0 errors from 0", "0: set 684 x11 0x00000000 0x00000000\n")),
     Case("undefined bits are set", ["monitor goto 684", "set $a1s1 = 0xff", "print/x $a1s1", "print $a1", "monitor end", "monitor errors",
          "monitor changes"],
          ("= 0xff", "= 99", "1 errors from 1", "0: set 684 x11 0x00000063 0x000000ff\n")),
