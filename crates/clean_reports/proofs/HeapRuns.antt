@@ -13,11 +13,12 @@ use Rattle.guest_heap.proofs.ApartLaws.{keeps-apart}
 use Rattle.guest_elf.specs.declared.image.Image.{Image}
 use Rattle.guest_elf.specs.Images.{loaded_at}
 use Rattle.run_values.specs.declared.alteration.Act.{Act}
-use Rattle.run_values.specs.declared.alteration.Act.TheVariants.{Make}
+use Rattle.run_values.specs.declared.alteration.Act.TheVariants.{Make, Set, Flip, Jump, FlipPc, Write, Turn, Skip}
 use Rattle.run_values.specs.declared.alteration.Alteration.{Alteration}
 use Rattle.guest_machine.specs.State.{Core, State}
 use Rattle.guest_machine.specs.Errors.{event_about, here}
-use Rattle.guest_machine.specs.Alterations.{altered, altered_core}
+use Rattle.guest_machine.specs.Alterations.{altered, altered_core, core_by}
+use Rattle.guest_machine.specs.Exec.{is_running}
 use Rattle.guest_machine.specs.Run.{after_marks, pre, post, start_state, stack_start, image_shadows}
 use Rattle.guest_machine.specs.declared.setup.Setup.{Setup}
 use Rattle.clean_reports.specs.Heap.{BlocksAreOpen, HeapIsOpen, HeapIsClosed}
@@ -25,7 +26,7 @@ use Rattle.clean_reports.specs.Marks.{HideNothing, HidesNothing, MissTheHeap, Mi
 use Rattle.clean_reports.specs.Laws.{HeapStaysOpen, HeapStaysClosed, AccessesAreLive}
 use Rattle.clean_reports.proofs.Memory.{accessible-from}
 use Rattle.clean_reports.proofs.Blocks.{made-outside, is-outside}
-use Rattle.clean_reports.proofs.HeapSteps.{Stands, LeavesHeap, on, steps}
+use Rattle.clean_reports.proofs.HeapSteps.{Stands, LeavesHeap, as-is, goes, on, sets, steps, stores}
 use Rattle.clean_reports.proofs.Programs.{none-in-heap}
 
 -- marks --
@@ -59,6 +60,25 @@ seen-made core addr len kind seen h = record {
     go true was = seen-same kind seen
     go false was = was
 
+-- an act that makes no range leaves which bytes are accessible
+left-if : (b : Bool) (c e : Core) → LeavesHeap c e → LeavesHeap c (cond b e c)
+left-if true c e l = l
+left-if false c e l = as-is c
+
+abbrev MakesNoRange : Act → Type 0
+MakesNoRange (Make addr len kind) = ⊥
+MakesNoRange _ = Unit {0}
+
+left-by : (act : Act) (c : Core) → MakesNoRange act → LeavesHeap c (core_by act c)
+left-by (Make addr len kind) c none = absurd none
+left-by (Set r value undef) c none = sets c r _
+left-by (Flip r mask) c none = sets c r _
+left-by (Jump target) c none = goes c target
+left-by (FlipPc mask) c none = goes c _
+left-by (Write addr width value) c none = stores c addr _ 0
+left-by (Turn addr mask) c none = as-is c
+left-by Skip c none = goes c _
+
 -- a mark that hides nothing keeps the heap open
 open-act : (s : State) (step : ℕ) (act : Act) → HidesNothing act → HeapIsOpen s.core
     → HeapIsOpen (altered s (record { step = step; act = act })).core
@@ -67,7 +87,8 @@ open-act s step (Make addr len kind) (inl seen) h = seen-made s.core addr len ki
 open-act s step (Make addr len kind) (inr miss) h =
     (on false s.core (record s.core { shadow = made_so s.core.shadow addr len kind })
     (missed-made s.core addr len kind miss) (h, tt)).0
-open-act s step _ miss h = absurd miss
+open-act s step act hide h =
+    (on false s.core _ (left-if (is_running s.core.status) s.core _ (left-by act s.core tt)) (h, tt)).0
 
 -- and one outside of the heap region leaves it
 missed-act : (s : State) (step : ℕ) (act : Act) → MissesTheHeap act → Stands true s.core
@@ -76,7 +97,8 @@ unfolding altered altered_core
 missed-act s step (Make addr len kind) miss h =
     on true s.core (record s.core { shadow = made_so s.core.shadow addr len kind })
     (missed-made s.core addr len kind miss) h
-missed-act s step _ miss h = absurd miss
+missed-act s step act miss h =
+    on true s.core _ (left-if (is_running s.core.status) s.core _ (left-by act s.core tt)) h
 
 open-marks : (k : ℕ) (marks : List Alteration) (s : State) → HideNothing marks → HeapIsOpen s.core
     → HeapIsOpen (fold altered s (filter (λ m. m.step == k) marks)).core

@@ -77,7 +77,7 @@ then c d e p q = record {
   same = λ a low high. q.same a low high ∙ p.same a low high;
 }
 
-as-is : (c : Core) → LeavesHeap c c
+pub as-is : (c : Core) → LeavesHeap c c
 as-is c = record { blocks = refl; same = λ a low high. refl }
 
 open-on : (c e : Core) → LeavesHeap c e → HeapIsOpen c → HeapIsOpen e
@@ -109,7 +109,7 @@ on false c e l h = (open-on c e l h.0, tt)
 
 -- the parts of a step that do --
 
-sets : (c : Core) (r : ℕ) (x : Bits) → LeavesHeap c (set_register c r x)
+pub sets : (c : Core) (r : ℕ) (x : Bits) → LeavesHeap c (set_register c r x)
 unfolding set_register
 sets c r x = record { blocks = refl; same = λ a low high. refl }
 
@@ -153,7 +153,7 @@ stored-same undef s = go s.accessible refl
     go true e = sym e
     go false e = refl
 
-stores : (c : Core) (start n undef : ℕ) → LeavesHeap c (stored_core c start n undef)
+pub stores : (c : Core) (start n undef : ℕ) → LeavesHeap c (stored_core c start n undef)
 unfolding stored_undef
 stores c start n undef =
     changes c (stored_core c start n undef) start n (λ i s. stored_shadow (byte_of undef i) s) refl
@@ -312,7 +312,7 @@ works b Calloc c h x y redzone volume taken =
 works b Realloc c h x y redzone volume taken =
     resizes b c h x y redzone volume (resizing c.blocks x y redzone) refl
 
-goes : (c : Core) (to : ℕ) → LeavesHeap c (moved_to c to)
+pub goes : (c : Core) (to : ℕ) → LeavesHeap c (moved_to c to)
 goes c to = record { blocks = refl; same = λ a low high. refl }
 
 heap-calls : (b : Bool) (function : Hook) (c : Core) → Stands b c → (redzone volume : ℕ) (taken : ℕ → ℕ)

@@ -3,6 +3,7 @@ pub mod Inputs
 pub mod Bits
 pub mod Values
 pub mod Memory
+pub mod Altering
 pub mod Registers
 pub mod Effects
 pub mod Calls

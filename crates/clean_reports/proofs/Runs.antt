@@ -1,14 +1,15 @@
 -- Runs agree, by induction over their steps.
 use Rattle.std.proofs.Common.{◌≡◌, ℕ, zero, suc, ◌<◌, Bool, true, false, cond, refl, sym, ap, ◌∙◌, subst}
-use Rattle.std.proofs.Common.{arith, List, [], ◌∷◌, filter, fold, ◌==◌}
+use Rattle.std.proofs.Common.{arith, List, [], ◌∷◌, filter, fold, ◌==◌, ◌+◌, ◌%◌, ◌^◌}
 use Rattle.std.proofs.lemmas.Bool.{false≢true}
 use Rattle.std.specs.Int.{bit_at}
+use Rattle.definedness.specs.Operations.{xor_of}
 use Rattle.definedness.specs.declared.Bits.{Bits}
 use Rattle.shadow_memory.specs.Shadows.{Shadow, made_so}
 use Rattle.shadow_memory.specs.declared.cells.RangeKind.{RangeKind}
 use Rattle.shadow_memory.specs.declared.cells.RangeKind.TheVariants.{Defined}
 use Rattle.run_values.specs.declared.alteration.Act.{Act}
-use Rattle.run_values.specs.declared.alteration.Act.TheVariants.{Make}
+use Rattle.run_values.specs.declared.alteration.Act.TheVariants.{Make, Set, Flip, Jump, FlipPc, Write, Turn, Skip}
 use Rattle.run_values.specs.declared.alteration.Alteration.{Alteration}
 use Rattle.guest_machine.specs.State.{State}
 use Rattle.guest_machine.specs.Exec.{exec}
@@ -20,6 +21,7 @@ use Rattle.clean_reports.specs.Uses.{NoUse}
 use Rattle.clean_reports.specs.Heap.{BlocksAreOpen}
 use Rattle.clean_reports.specs.Disturbed.{IsDisturbed}
 use Rattle.clean_reports.specs.Marks.{DefineNothing, DefinesNothing, defines}
+use Rattle.clean_reports.proofs.Altering.{flip-both, if-running, moved-both, same-agrees, set-both, turn-both}
 use Rattle.clean_reports.proofs.Memory.{made-agrees}
 use Rattle.clean_reports.proofs.Registers.{left-none}
 use Rattle.clean_reports.proofs.Steps.{StepAgrees}
@@ -115,7 +117,16 @@ act-agrees s t step (Make addr len kind) loose d = record {
   heap_calls = d.heap_calls;
   events = d.events;
 }
-act-agrees s t step _ loose d = absurd loose
+act-agrees s t step (Set r value undef) loose d =
+    if-running s t _ _ _ _ d (set-both s t r _ _ (same-agrees value undef loose.0) d)
+act-agrees s t step (Flip r mask) small d = if-running s t _ _ _ _ d (flip-both s t r mask small d)
+act-agrees s t step (Jump target) loose d = if-running s t _ _ _ _ d (moved-both s t target target refl d)
+act-agrees s t step (FlipPc mask) loose d =
+    if-running s t _ _ _ _ d (moved-both s t _ _ (ap (λ pc. xor_of pc mask) d.pc) d)
+act-agrees s t step (Write addr width value) loose d = absurd loose
+act-agrees s t step (Turn addr mask) small d = if-running s t _ _ _ _ d (turn-both s t addr mask small d)
+act-agrees s t step Skip loose d =
+    if-running s t _ _ _ _ d (moved-both s t _ _ (ap (λ pc. (pc + 4) % 2 ^ 32) d.pc) d)
 
 -- the marks of step k, in order
 marks-agree : (k : ℕ) (marks : List Alteration) (s t : State) → DefineNothing marks → StatesAgree s t

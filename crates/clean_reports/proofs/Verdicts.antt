@@ -1,10 +1,10 @@
 -- Verdicts: what marks do, and what is certified.
-use Rattle.std.proofs.Common.{◌≡◌, ℕ, ◌-◌, ◌<◌, ◌≤◌, ◌⊎◌, ◌&&◌, Bool, true, false, cond, refl, sym, ap}
+use Rattle.std.proofs.Common.{◌≡◌, ℕ, ◌-◌, ◌^◌, ◌<◌, ◌≤◌, ◌⊎◌, ◌&&◌, ◌==◌, Bool, true, false, cond, refl, sym, ap}
 use Rattle.std.proofs.Common.{◌∙◌}
 use Rattle.std.proofs.Common.{arith, subst, List, [], ◌∷◌, Option, Some, None, inl, inr, nat_lt, find}
 use Rattle.std.specs.List.{list_any}
 use Rattle.std.specs.Option.{option_map}
-use Rattle.std.proofs.lemmas.Bool.{or_parts, true≢false}
+use Rattle.std.proofs.lemmas.Bool.{or_parts, and_parts, not-false, eqb-true, ltb-true, true≢false}
 use Rattle.std.proofs.lemmas.Bool.Decides.{nat_tests}
 use Rattle.error_events.specs.Groups.{group_of, grouped}
 use Rattle.error_events.specs.declared.event.Event.{Event}
@@ -13,7 +13,7 @@ use Rattle.guest_elf.specs.declared.image.Image.{Image}
 use Rattle.memory_map.specs.Regions.{heap_begin, heap_end}
 use Rattle.shadow_memory.specs.Ranges.{is_in}
 use Rattle.run_values.specs.declared.alteration.Act.{Act}
-use Rattle.run_values.specs.declared.alteration.Act.TheVariants.{Make}
+use Rattle.run_values.specs.declared.alteration.Act.TheVariants.{Make, Set, Flip, Write, Turn}
 use Rattle.run_values.specs.declared.alteration.Alteration.{Alteration}
 use Rattle.shadow_memory.specs.declared.cells.RangeKind.{RangeKind}
 use Rattle.guest_machine.specs.State.{State}
@@ -22,7 +22,7 @@ use Rattle.guest_machine.specs.declared.setup.Setup.{Setup}
 use Rattle.clean_reports.specs.Disturbed.{HasBytes, IsStartOf}
 use Rattle.clean_reports.specs.Marks.{DefineNothing, DefinesNothing, HideNothing, HidesNothing, MissesHeap, defines}
 use Rattle.clean_reports.specs.Marks.{hides}
-use Rattle.clean_reports.specs.Marks.{hinders, is_in_the_way, meets_heap}
+use Rattle.clean_reports.specs.Marks.{all_bits, hinders, is_in_the_way, is_word, meets_heap}
 use Rattle.clean_reports.specs.Uses.{NoUse, first_use, is_use}
 use Rattle.clean_reports.specs.Verdicts.{IsCertified, IsFirstUse, NoneInTheWay, RaisesFirstUse}
 use Rattle.clean_reports.specs.declared.verdict.FirstUse.{FirstUse}
@@ -52,12 +52,18 @@ either true addr len kind is e = inr (misses-heap addr len e)
 
 defines-nothing : (act : Act) → hinders act ≡ false → DefinesNothing act
 defines-nothing (Make addr len kind) e = (or_parts (defines kind) (hides kind && meets_heap addr len) e).0
-defines-nothing _ e = absurd (true≢false e)
+defines-nothing (Set register value undef) e =
+    let parts = and_parts (undef == all_bits) (is_word value) (not-false _ e) in
+    (ltb-true value (2 ^ 32) parts.1, eqb-true undef all_bits parts.0)
+defines-nothing (Flip register mask) e = ltb-true mask (2 ^ 32) (not-false _ e)
+defines-nothing (Write addr width value) e = absurd (true≢false e)
+defines-nothing (Turn addr mask) e = ltb-true addr (2 ^ 32) (not-false _ e)
+defines-nothing _ e = tt
 
 hides-nothing : (act : Act) → hinders act ≡ false → HidesNothing act
 hides-nothing (Make addr len kind) e =
     either (hides kind) addr len kind refl (or_parts (defines kind) (hides kind && meets_heap addr len) e).1
-hides-nothing _ e = absurd (true≢false e)
+hides-nothing _ e = tt
 
 pub define-nothing : (marks : List Alteration) → NoneInTheWay marks → DefineNothing marks
 define-nothing [] none = tt

@@ -1,13 +1,15 @@
--- The marks that are in the way of a clean run. One that makes bytes defined takes their values as meant. One that
--- makes bytes of the heap inaccessible has `realloc` copy them as they are. One that makes no range is in the way too:
--- it may turn bits, write bytes or move pc, and so take undefined values as they are.
-use Rattle.std.specs.Prelude.{◌≡◌, ◌⊎◌, ◌||◌, ◌&&◌, ℕ, ◌-◌, ◌<◌, ◌≤◌, nat_lt, Bool, true, false, List, [], ◌∷◌}
+-- The marks that are in the way of a clean run. One that makes bits defined takes their values as meant: a range that
+-- is made defined, a register that is set, bytes that are written. One that makes bytes of the heap inaccessible has
+-- `realloc` copy them as they are. Turned bits stay undefined where they were, and pc has no undefined bits. So a mark
+-- that turns bits, moves pc or leaves out an instruction isn't in the way.
+use Rattle.std.specs.Prelude.{◌≡◌, ◌⊎◌, ◌||◌, ◌&&◌, ◌==◌, not, ℕ, ◌-◌, ◌^◌, ◌<◌, ◌≤◌, nat_lt, Bool, true, false, List}
+use Rattle.std.specs.Prelude.{[], ◌∷◌}
 use Rattle.memory_map.specs.Regions.{heap_begin, heap_end}
 use Rattle.shadow_memory.specs.Ranges.{is_in}
 use Rattle.shadow_memory.specs.declared.cells.RangeKind.{RangeKind}
 use Rattle.shadow_memory.specs.declared.cells.RangeKind.TheVariants.{NoAccess, Undefined, Defined}
 use Rattle.run_values.specs.declared.alteration.Act.{Act}
-use Rattle.run_values.specs.declared.alteration.Act.TheVariants.{Make}
+use Rattle.run_values.specs.declared.alteration.Act.TheVariants.{Make, Set, Flip, Write, Turn}
 use Rattle.run_values.specs.declared.alteration.Alteration.{Alteration}
 
 -- does a mark of this kind make bytes defined?
@@ -26,30 +28,40 @@ hides Defined = false
 abbrev pub MissesHeap : ℕ → ℕ → Type 0
 MissesHeap addr len = (a : ℕ) → heap_begin ≤ a → a < heap_end → is_in addr len a ≡ false
 
--- what one mark does: it makes a range, but not defined; not inaccessible in the heap region; none of that region
+-- the undefined bits of a register that has no defined one
+abbrev pub all_bits : ℕ
+all_bits = 4294967295
+
+-- what one mark does: it makes no bit defined. Numbers are words, as in each line, so that a register stays one
 abbrev pub DefinesNothing : Act → Type 0
 DefinesNothing (Make addr len kind) = defines kind ≡ false
-DefinesNothing _ = ⊥
+DefinesNothing (Set register value undef) = (value < 2 ^ 32) × (undef ≡ all_bits)
+DefinesNothing (Flip register mask) = mask < 2 ^ 32
+DefinesNothing (Write addr width value) = ⊥
+DefinesNothing (Turn addr mask) = addr < 2 ^ 32
+DefinesNothing _ = Unit {0}
 
+-- it makes no byte of the heap region inaccessible
 abbrev pub HidesNothing : Act → Type 0
 HidesNothing (Make addr len kind) = (hides kind ≡ false) ⊎ MissesHeap addr len
-HidesNothing _ = ⊥
+HidesNothing _ = Unit {0}
 
+-- it makes no range with a byte of the heap region
 abbrev pub MissesTheHeap : Act → Type 0
 MissesTheHeap (Make addr len kind) = MissesHeap addr len
-MissesTheHeap _ = ⊥
+MissesTheHeap _ = Unit {0}
 
--- each mark makes a range, and none makes bytes defined
+-- no mark makes bits defined
 abbrev pub DefineNothing : List Alteration → Type 0
 DefineNothing [] = Unit {0}
 DefineNothing (m ∷ ms) = DefinesNothing m.act × DefineNothing ms
 
--- each mark makes a range, and none makes bytes of the heap region inaccessible
+-- none makes bytes of the heap region inaccessible
 abbrev pub HideNothing : List Alteration → Type 0
 HideNothing [] = Unit {0}
 HideNothing (m ∷ ms) = HidesNothing m.act × HideNothing ms
 
--- each mark makes a range, and none has a byte of the heap region
+-- none makes a range with a byte of the heap region
 abbrev pub MissTheHeap : List Alteration → Type 0
 MissTheHeap [] = Unit {0}
 MissTheHeap (m ∷ ms) = MissesTheHeap m.act × MissTheHeap ms
@@ -58,10 +70,18 @@ MissTheHeap (m ∷ ms) = MissesTheHeap m.act × MissTheHeap ms
 abbrev pub meets_heap : ℕ → ℕ → Bool
 meets_heap addr len = is_in addr len heap_begin || (nat_lt 0 len && is_in heap_begin (heap_end - heap_begin) addr)
 
+-- does a number fit a word?
+abbrev pub is_word : ℕ → Bool
+is_word n = nat_lt n (2 ^ 32)
+
 -- is what a mark does in the way of a clean run?
 abbrev pub hinders : Act → Bool
 hinders (Make addr len kind) = defines kind || (hides kind && meets_heap addr len)
-hinders _ = true
+hinders (Set register value undef) = not (undef == all_bits && is_word value)
+hinders (Flip register mask) = not (is_word mask)
+hinders (Write addr width value) = true
+hinders (Turn addr mask) = not (is_word addr)
+hinders _ = false
 
 abbrev pub is_in_the_way : Alteration → Bool
 is_in_the_way mark = hinders mark.act

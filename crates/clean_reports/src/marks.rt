@@ -2,12 +2,15 @@
 ghost use Rattle.std.specs.Prelude.{◌≡◌, IfNone, IfSome};
 ghost use Rattle.memory_map.specs.Regions.{heap_begin};
 ghost use Rattle.shadow_memory.specs.Ranges.{is_in};
-ghost use Rattle.clean_reports.specs.Marks.{hinders, meets_heap};
+ghost use Rattle.clean_reports.specs.Marks.{hinders, is_word, meets_heap};
 ghost use Rattle.clean_reports.specs.Verdicts.{IsFirstInTheWay, NoneInTheWay};
 
 use guest_machine::{Act, Alteration};
 use memory_map::{HEAP_BEGIN, HEAP_END};
 use shadow_memory::RangeKind;
+
+/// The undefined bits of a register that has no defined one.
+const ALL_BITS: u32 = u32::MAX;
 
 /// Returns whether an address is one of the `len` addresses from `start` on.
 fn is_in(start: u32, len: u32, address: u32) -> bool
@@ -23,8 +26,14 @@ fn meets_heap(addr: u32, len: u32) -> bool
     is_in(addr, len, HEAP_BEGIN) || (len > 0 && is_in(HEAP_BEGIN, HEAP_END - HEAP_BEGIN, addr))
 }
 
-/// Returns whether what a mark does is in the way of a clean run: it makes bytes defined, or bytes of the heap region inaccessible, or
-/// makes no range.
+/// Returns whether a number fits a word, as each does.
+fn is_word(n: u32) -> bool
+    ensures { result ≡ is_word n }
+{
+    u64::from(n) < 1 << 32
+}
+
+/// Returns whether what a mark does is in the way of a clean run: it makes bits defined, or bytes of the heap region inaccessible.
 fn hinders(act: &Act) -> bool
     ensures { result ≡ hinders act.now }
 {
@@ -34,7 +43,11 @@ fn hinders(act: &Act) -> bool
             RangeKind::Undefined => false,
             RangeKind::NoAccess => meets_heap(*addr, *len),
         },
-        _ => true,
+        Act::Set { value, undef, .. } => !(*undef == ALL_BITS && is_word(*value)),
+        Act::Flip { mask, .. } => !is_word(*mask),
+        Act::Write { .. } => true,
+        Act::Turn { addr, .. } => !is_word(*addr),
+        Act::Jump { .. } | Act::FlipPc { .. } | Act::Skip => false,
     }
 }
 

@@ -19,8 +19,7 @@ pub struct FirstUse {
 pub enum Verdict {
     /// The run is clean: nothing that undefined or inaccessible memory holds has an influence on it up to the step.
     Clean,
-    /// A mark makes bytes defined, or bytes of the heap inaccessible, or alters the machine in another way than by a range. It is the first
-    /// such mark, with its index.
+    /// A mark makes bits defined, or bytes of the heap inaccessible. It is the first such mark, with its index.
     Mark(usize, Alteration),
     /// An error is a use.
     Use(FirstUse),

@@ -14,7 +14,7 @@ pub(crate) const SESSION: &str =
 
 /// What `look` does.
 pub(crate) const LOOK: &str =
-    "Answers the lines of a session, and others that show registers, memory and who uses it";
+    "Answers the lines of a session, and others that show or alter registers and memory at a step";
 
 /// What `sweep` does.
 pub(crate) const SWEEP: &str =
@@ -141,6 +141,19 @@ The answer is `step N`, or `none`. Refusals, besides out of memory (1):
   5   END or FROM above 4194304
   6   a range of 0 bytes, one that ends above 2^32, or above 4096 bytes for memory, output or
       `shadow`
+
+These lines alter the machine just before step STEP, where it runs. They count as lines, and
+`unmark I` takes one back: alterations and marks are one list, applied in order.
+  set STEP REGISTER VALUE [UNDEF]  a register, x1 to x31; the bits of UNDEF are undefined
+  set STEP pc VALUE                the address of the next instruction
+  flip STEP REGISTER|pc MASK       turns these bits; undefined bits stay undefined
+  flip STEP ADDR MASK              turns these bits of four bytes, the lowest byte first: a MASK up
+                                   to 255 turns the byte at ADDR only
+  write STEP ADDR LEN VALUE        writes LEN bytes, 1, 2 or 4, the lowest first; they are defined
+                                   where they are accessible
+  skip STEP                        leaves out an instruction; it takes no step
+Such a line is answered `ok`, or refused: 2 as above, 5 for a STEP above 4194304, 6 for another
+LEN, bytes that end above 2^32 or a VALUE too wide for LEN, 10 for more than 4096 in the list.
 
 Example, the last write of a word before the first 5000 steps are over:
   printf 'goto 5000\\nlook last write 0x20010 4 0\\n' | replaycheck look program.elf

@@ -7,7 +7,7 @@ use Rattle.std.proofs.lemmas.Bool.Decides.{nat_tests}
 use Rattle.report_lines.specs.Text.{address_text}
 use Rattle.commands.specs.Commands.{command_of, fields, has_empty, input_of, input_with, number, parsed, patch_of}
 use Rattle.commands.specs.Commands.{patch_with, replace_of, taken}
-use Rattle.replay_session.specs.Turns.{Turn, accepted, after, if_command, most_lines}
+use Rattle.replay_session.specs.Turns.{Turn, accepted, after, if_command, line_refusal, most_lines}
 use Rattle.line_server.specs.Lines.{longest_line}
 use Rattle.sweeps.specs.Tables.{change_text}
 use Rattle.sweep_plans.specs.declared.change.Change.TheVariants.{Byte, Word}
@@ -102,7 +102,7 @@ module _ (addr word : ℕ) (fits : addr < 2 ^ 32) (small : word < 2 ^ 32) where
 -- a line that isn't too long is judged by its command, while lines are answered
 judged : (turn : Turn) (line : List ℕ) → turn.lines < most_lines → length line ≤ longest_line
     → accepted turn line ≡ if_command turn.scenario (parsed line)
-unfolding accepted
+unfolding line_refusal
 judged turn line few short =
     let answered : nat_le most_lines turn.lines ≡ false = grind (arith, nat_tests) in
     rw (answered, le-ltb longest_line (length line) short)

@@ -1,2 +1,3 @@
+pub mod Alterations
 pub mod Looks
 pub mod Texts

@@ -1,16 +1,18 @@
 -- Lines that are too long are all answered alike: a lemma for the server of lines, which keeps a front of such a line.
-use Rattle.std.proofs.Common.{◌≡◌, ◌<◌, ◌&&◌, ℕ, List, Bool, true, false, refl, subst, sym, length}
+use Rattle.std.proofs.Common.{◌≡◌, ◌<◌, ◌&&◌, ℕ, List, Bool, Result, true, false, refl, subst, sym, length}
 use Rattle.std.proofs.lemmas.Bool.{lt-leb}
 use Rattle.std.specs.Prelude.{codes, nat_eq, not}
 use Rattle.std.specs.Bool.{MatchBool}
 use Rattle.std.specs.List.{starts_with}
 use Rattle.line_server.specs.Lines.{longest_line}
-use Rattle.replay_session.specs.LongLines.{long_alike as session_alike}
-use Rattle.replay_session.specs.Replies.{Replies, is_over}
+use Rattle.replay_session.specs.LongLines.{accepted-alike}
+use Rattle.replay_session.specs.Replies.{RepliesAs, is_over}
 use Rattle.replay_session.specs.Stages.{Stage}
-use Rattle.replay_session.specs.Turns.{Turn}
+use Rattle.replay_session.specs.Turns.{Turn, accepted_as}
+use Rattle.commands.specs.declared.command.Command.{Command}
+use Rattle.commands.specs.declared.fault.Fault.{Fault}
 use Rattle.look_lines.specs.Looks.{asked}
-use Rattle.looks.specs.Views.{looks, Looked, Views}
+use Rattle.looks.specs.Views.{looks, Looked, Views, read_as}
 
 -- a test that fails makes a conjunction fail
 last-fails : (a b c : Bool) → c ≡ false → (a && b && c) ≡ false
@@ -23,17 +25,21 @@ unfolding looks
 too-long turn line h =
     last-fails (starts_with nat_eq line (codes "look ")) (not (is_over turn)) _ (lt-leb (length line) longest_line h)
 
--- a line that doesn't look is answered as in a session
+-- a line that doesn't look is answered as a session answers what it is read as
 module _ (old new : Stage) (line text : List ℕ) (no : looks old.turn line ≡ false) where
-  pub as_in_session : Replies old line text new → Views old line text new
-  as_in_session h =
-      subst (λ (t : Bool). MatchBool t (Looked old (asked line) text new) (Replies old line text new)) (sym no) h
+  abbrev pub IsRead : Type 0
+  IsRead = RepliesAs old (accepted_as old.turn line (read_as line)) text new
 
-  in-session : Views old line text new → Replies old line text new
-  in-session h = subst (λ (t : Bool). MatchBool t (Looked old (asked line) text new) (Replies old line text new)) no h
+  pub as_read : IsRead → Views old line text new
+  as_read h = subst (λ (t : Bool). MatchBool t (Looked old (asked line) text new) IsRead) (sym no) h
+
+  is-read : Views old line text new → IsRead
+  is-read h = subst (λ (t : Bool). MatchBool t (Looked old (asked line) text new) IsRead) no h
 
 pub long_alike : (old new : Stage) (a b text : List ℕ) → longest_line < length a → longest_line < length b
     → Views old a text new → Views old b text new
 long_alike old new a b text f g views =
-    as_in_session old new b text (too-long old.turn b g)
-    (session_alike old new a b text f g (in-session old new a text (too-long old.turn a f) views))
+    as_read old new b text (too-long old.turn b g)
+    (subst (λ (outcome : Result Command Fault). RepliesAs old outcome text new)
+    (accepted-alike old.turn a b (read_as a) (read_as b) f g)
+    (is-read old new a text (too-long old.turn a f) views))

@@ -1,4 +1,4 @@
--- The reply to a line of a session that may also be looked at.
+-- The reply to a line of a session that may also be looked at, and whose machine may be altered at a step.
 use Rattle.std.specs.Prelude.{◌≡◌, ◌⊎◌, ◌&&◌, ℕ, nat_eq, nat_le, Bool, not, if◌then◌else◌, List, MatchBool, Option}
 use Rattle.std.specs.Prelude.{Result, Ok, Err, codes, length}
 use Rattle.std.specs.List.{starts_with}
@@ -6,14 +6,20 @@ use Rattle.checkpoints.specs.Searches.{IsNext, IsLast}
 use Rattle.checkpoints.specs.Work.{ReportMoves, Work, reached}
 use Rattle.line_server.specs.Answers.{AnswersBy}
 use Rattle.line_server.specs.Lines.{longest_line}
-use Rattle.replay_session.specs.Replies.{Replies, is_over, refused_line}
+use Rattle.replay_session.specs.Replies.{RepliesAs, is_over, refused_line}
 use Rattle.replay_session.specs.Stages.{Stage}
 use Rattle.replay_session.specs.Session.{Finds, IsVerdictOf}
 use Rattle.replay_session.specs.Texts.{last_text}
-use Rattle.replay_session.specs.Turns.{Turn}
+use Rattle.replay_session.specs.Turns.{Turn, accepted_as}
+use Rattle.run_values.specs.declared.alteration.Alteration.{Alteration}
 use Rattle.scenario.specs.Scenario.{Scenario, chosen_state}
+use Rattle.commands.specs.Commands.{parsed}
+use Rattle.commands.specs.declared.command.Command.{Command}
+use Rattle.commands.specs.declared.command.Command.TheVariants.{Edit}
+use Rattle.commands.specs.declared.edit.Edit.TheVariants.{Mark}
 use Rattle.commands.specs.declared.fault.Fault.{Fault}
 use Rattle.commands.specs.declared.fault.Fault.TheVariants.{Memory}
+use Rattle.look_lines.specs.Alterations.{alteration_asked, alters}
 use Rattle.look_lines.specs.Looks.{asked}
 use Rattle.look_lines.specs.Texts.{input_text, memory_text, output_text, registers_text, step_text}
 use Rattle.look_lines.specs.declared.look.Look.{Look}
@@ -58,9 +64,20 @@ abbrev pub Looked : Stage → Result Look Fault → List ℕ → Stage → Type 
 Looked old (Ok look) text new = Told old look text new × Leaves old new
 Looked old (Err fault) text new = (text ≡ refused_line fault) × (new ≡ old)
 
--- the reply to a line that looks is this, and to any other that of a session
+-- the command of a line that alters: an edit that appends its alteration to the list of marks
+abbrev pub marking : Result Alteration Fault → Result Command Fault
+marking (Ok alteration) = Ok (Edit (Mark alteration))
+marking (Err fault) = Err fault
+
+-- the command as which any line is read that doesn't look: one that alters, or one of a session
+unfoldable pub read_as : List ℕ → Result Command Fault
+read_as line = if alters line then marking (alteration_asked line) else parsed line
+
+-- the reply to a line that looks is this, and to any other the one of a session to what it is read as
 abbrev pub Views : Stage → List ℕ → List ℕ → Stage → Type 0
-Views old line text new = MatchBool (looks old.turn line) (Looked old (asked line) text new) (Replies old line text new)
+Views old line text new =
+    MatchBool (looks old.turn line) (Looked old (asked line) text new)
+    (RepliesAs old (accepted_as old.turn line (read_as line)) text new)
 
 -- the replies to one line after another, up to the first that is rejected because there were too many
 abbrev pub ViewsLines : Stage → List (List ℕ) → List (List ℕ) → Type 0

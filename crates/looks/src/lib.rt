@@ -1,4 +1,5 @@
-//! A session whose run can be looked at: its lines, and others that show registers, memory, output and input, and which step runs, reads or writes something.
+//! A session whose run can be looked at and altered at a step: its lines, others that show registers, memory, output and input, and which
+//! step runs, reads or writes something, and others that alter registers, memory or the next address just before a step.
 //!
 //! | Item | What it is |
 //! |---|---|
@@ -6,7 +7,8 @@
 //!
 //! # The lines
 //!
-//! Those of a session (the crate `replay_session`), and these, for the chosen step of the run with all edits. They change nothing and aren't counted.
+//! Those of a session (the crate `replay_session`), and these. Lines that look are for the chosen step of the run with all edits. They
+//! change nothing and aren't counted.
 //!
 //! | Line | The reply |
 //! |---|---|
@@ -25,14 +27,32 @@
 //! bytes, one that ends above 2^32, or, of memory, of the output or for `shadow`, one of more than 4,096 bytes. 1 means out of memory. A line of more than
 //! 4,096 bytes is none of these, nor is one after 100,000 lines of a session: the reply to it is that of a session.
 //!
+//! Lines that alter the machine just before step STEP are edits: each counts as a line, and `unmark I` takes it back, as its alteration is
+//! one of the marks. The reply is `ok`.
+//!
+//! | Line | What it does to a machine that runs |
+//! |---|---|
+//! | `set STEP REGISTER VALUE` | gives the register a value with no undefined bits: who sets it knows it |
+//! | `set STEP REGISTER VALUE UNDEF` | the same, with these bits undefined |
+//! | `set STEP pc VALUE` | sets pc |
+//! | `flip STEP REGISTER MASK`, `flip STEP pc MASK` | turns these bits; undefined ones stay undefined |
+//! | `flip STEP ADDR MASK` | turns these bits of four bytes, the lowest byte first: a MASK up to 255 turns the byte at ADDR only. What is known of them stays |
+//! | `write STEP ADDR LEN VALUE` | writes LEN bytes, 1, 2 or 4, the lowest first; they are defined where they are accessible, and elsewhere stay inaccessible |
+//! | `skip STEP` | leaves out an instruction: pc advances by 4. It takes no step |
+//!
+//! REGISTER is `x1` to `x31`. Alterations and marks of a step are applied in the order of their lines. A machine that has exited or stopped
+//! is altered by marks only. An alteration is no step: it raises no error, and no search finds it. A line is rejected with the first of these
+//! numbers that applies: 12 and 11 as a line of a session; 2 for a field that is missing, too many or of another form; 5 for STEP above
+//! 4,194,304; 6 for a LEN other than 1, 2 and 4, bytes that end above 2^32, or a VALUE too wide for LEN; 10 if there are 4,096 marks already.
+//!
 //! # What a caller can rely on
 //!
 //! [`serve`]: what was written is the replies to the lines of all bytes read (`ViewsLines`). The reply to a line that looks is what holds
 //! at the chosen step of **one run from step zero of the edited program** (`Tells`), and the line leaves the session's turn as it is. The
 //! work is moved as by a report there, except that a verdict executes further steps. The reply to any other line is that of a session
-//! (`Replies`).
+//! (`RepliesAs`) to the command as which it is read (`read_as`): a line that alters is the edit that appends its alteration to the marks.
 //!
-//! In `specs/`: `Views`, the reply to a look and to any other line, over `Looks` and `Texts` of the crate `look_lines`.
+//! In `specs/`: `Views`, the reply to a look and to any other line, over `Looks`, `Texts` and `Alterations` of the crate `look_lines`.
 #![tactic(auto)]
 
 mod serving;

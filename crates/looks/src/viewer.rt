@@ -4,11 +4,16 @@ ghost use Rattle.checkpoints.specs.Trails.{is_short};
 ghost use Rattle.replay_session.specs.Session.{scenario_of, trail_of, turn_of};
 ghost use Rattle.replay_session.specs.Work.{work_on};
 ghost use Rattle.look_lines.specs.Looks.{look_refusal};
-ghost use Rattle.looks.specs.Views.{LookMoves, looks, Tells};
+ghost use Rattle.looks.specs.Views.{LookMoves, looks, marking, Tells};
 
+use commands::{Command, Edit};
 use line_server::{LONGEST_LINE, Listener};
-use look_lines::{Look, asked, push_input, push_memory, push_output, push_registers, push_step};
+use look_lines::{
+    Look, alteration_asked, alters, asked, push_input, push_memory, push_output, push_registers,
+    push_step,
+};
 use replay_session::{Fault, Session, Texts};
+use run_values::Alteration;
 use std::alloc::AllocError;
 
 /// Whether a line looks at the run of a session.
@@ -17,6 +22,14 @@ fn looks(session: &Session<'_>, line: &[u8]) -> bool
     ensures { result ≡ looks (turn_of session.now) line.now }
 {
     line.starts_with(b"look ") && !session.is_over() && line.len() <= LONGEST_LINE
+}
+
+/// Returns the command of a line that alters.
+fn marking(asked: Result<Alteration, Fault>) -> Result<Command, Fault>
+    ensures { result ≡ marking asked }
+{
+    let alteration = asked?;
+    Ok(Command::Edit(Edit::Mark(alteration)))
 }
 
 /// Writes the reply to a look into an empty text.
@@ -70,8 +83,11 @@ pub struct Viewer<'a> {
 
 impl<'a> Viewer<'a> {
     ghost use Rattle.std.specs.Prelude.{◌≡◌, IfOk, None, Ok};
-    ghost use Rattle.replay_session.specs.Replies.{refused_line};
+    ghost use Rattle.replay_session.specs.Replies.{RepliesAs, refused_line};
+    ghost use Rattle.replay_session.specs.Session.{turn_of};
     ghost use Rattle.replay_session.specs.Stages.{stage_of};
+    ghost use Rattle.replay_session.specs.Turns.{accepted_as};
+    ghost use Rattle.look_lines.specs.Alterations.{alteration_asked};
     ghost use Rattle.look_lines.specs.Looks.{asked, look_refusal};
     ghost use Rattle.looks.specs.Views.{Looked, reply_of};
 
@@ -120,6 +136,16 @@ impl<'a> Viewer<'a> {
             Err(fault) => self.refuse(fault),
         }
     }
+
+    /// Answers a line that alters the machine at a step: as a session answers an edit.
+    #[tactic(auto, unfolding(crate::specs::Views::reply_of))]
+    fn alter(&mut self, line: &[u8])
+        ensures { RepliesAs (stage_of self.old.session) (accepted_as (turn_of self.old.session) line.now (marking (alteration_asked line.now))) (reply_of self.new) (stage_of self.new.session) }
+    {
+        self.texts
+            .answer_as(&mut self.session, line, marking(alteration_asked(line)));
+        self.is_shown = false;
+    }
 }
 
 impl Listener for Viewer<'_> {
@@ -143,6 +169,8 @@ impl Listener for Viewer<'_> {
     fn answer(&mut self, line: &[u8]) {
         if looks(&self.session, line) {
             self.look(line);
+        } else if alters(line) {
+            self.alter(line);
         } else {
             self.texts.answer(&mut self.session, line);
             self.is_shown = false;

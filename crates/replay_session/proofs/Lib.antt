@@ -6,3 +6,4 @@ pub mod LeastSteps
 pub mod LawSteps
 pub mod ToldSteps
 pub mod VerdictSteps
+pub mod ReadSteps

@@ -2,11 +2,11 @@
 use Rattle.std.proofs.Common.{◌≡◌, ℕ, List, [], refl, ap, sym, ◌∙◌, subst, Result, Ok, Err, inl, inr}
 use Rattle.checkpoints.specs.Trails.{meter_of}
 use Rattle.scenario.specs.Scenario.{Scenario, IsReportOf}
-use Rattle.replay_session.specs.Replies.{Replies, Says, Moves, IsReplyTo, text_of}
-use Rattle.replay_session.specs.Turns.{Turn, accepted}
-use Rattle.replay_session.specs.Session.{Meets, AppendsFor, replied, trail_of, turn_of, work_of}
+use Rattle.replay_session.specs.Replies.{RepliesAs, Says, Moves, IsReplyTo, text_of}
+use Rattle.replay_session.specs.Turns.{Turn}
+use Rattle.replay_session.specs.Session.{MeetsAs, AppendsFor, replied, trail_of, turn_of, work_of}
 use Rattle.replay_session.specs.Stages.{stage_of}
-use Rattle.replay_session.specs.Work.{WorksLine}
+use Rattle.replay_session.specs.Work.{WorksAs}
 use Rattle.commands.specs.declared.command.Command.{Command}
 use Rattle.commands.specs.declared.command.Command.TheVariants.{Report, Worked}
 use Rattle.commands.specs.declared.fault.Fault.{Fault}
@@ -27,31 +27,33 @@ unfolding work_of trail_of
 told-work session = refl
 
 -- a line was answered, where nothing was written before
-said : (new : Session) (turn : Turn) (line : List ℕ) (result : Result Reply Fault) (out text : List ℕ)
-    → Meets new turn line result [] out → text ≡ text_of result out
-    → Says turn (work_of new) line text (turn_of new)
-said new turn line result out text (inl a) is =
-    let whole : text ≡ text_of (replied (work_of new) (accepted turn line)) out = is
-    ∙ ap (λ r. text_of r out) a.replies in
-    let P : List ℕ → Type 0 = IsReplyTo turn.scenario (work_of new) (accepted turn line) in
-    inl (subst P (sym whole) (text-is turn.scenario (work_of new) (accepted turn line) out a.appends), a.has)
-said new turn line result out text (inr w) is = inr (w.may, is ∙ ap (λ r. text_of r out) w.replies, w.has)
+said : (new : Session) (turn : Turn) (outcome : Result Command Fault) (result : Result Reply Fault)
+    (out text : List ℕ)
+    → MeetsAs new turn outcome result [] out → text ≡ text_of result out
+    → Says turn (work_of new) outcome text (turn_of new)
+said new turn outcome result out text (inl a) is =
+    let whole : text ≡ text_of (replied (work_of new) outcome) out = is ∙ ap (λ r. text_of r out) a.replies in
+    let P : List ℕ → Type 0 = IsReplyTo turn.scenario (work_of new) outcome in
+    inl (subst P (sym whole) (text-is turn.scenario (work_of new) outcome out a.appends), a.has)
+said new turn outcome result out text (inr w) is = inr (w.may, is ∙ ap (λ r. text_of r out) w.replies, w.has)
 
 -- a line that isn't answered `refused 1` moves the work
-moved : (old new : Session) (line text out : List ℕ) (result : Result Reply Fault) → text ≡ text_of result out
-    → WorksLine old new line result → Moves (stage_of old) line text (stage_of new)
-moved old new line text out result is works wanted whole =
+moved : (old new : Session) (outcome : Result Command Fault) (text out : List ℕ) (result : Result Reply Fault)
+    → text ≡ text_of result out
+    → WorksAs old new outcome result → Moves (stage_of old) outcome text (stage_of new)
+moved old new outcome text out result is works wanted whole =
     works.moves (λ e. wanted (is ∙ ap (λ r. text_of r out) e)) whole
 
-pub replied-to : (old new : Session) (line : List ℕ) (result : Result Reply Fault) (none out text : List ℕ)
-    → Meets new (turn_of old) line result none out → WorksLine old new line result → none ≡ []
+pub replied-to : (old new : Session) (outcome : Result Command Fault) (result : Result Reply Fault)
+    (none out text : List ℕ)
+    → MeetsAs new (turn_of old) outcome result none out → WorksAs old new outcome result → none ≡ []
     → text ≡ text_of result out
-    → Replies (stage_of old) line text (stage_of new)
-replied-to old new line result none out text meets works empty is =
-    let met : Meets new (turn_of old) line result [] out = subst
-    (λ (ns : List ℕ). Meets new (turn_of old) line result ns out) empty meets in (
-      subst (λ n. Says (turn_of old) n line text (turn_of new)) (told-work new)
-          (said new (turn_of old) line result out text met is),
-      moved old new line text out result is works,
+    → RepliesAs (stage_of old) outcome text (stage_of new)
+replied-to old new outcome result none out text meets works empty is =
+    let met : MeetsAs new (turn_of old) outcome result [] out = subst
+    (λ (ns : List ℕ). MeetsAs new (turn_of old) outcome result ns out) empty meets in (
+      subst (λ n. Says (turn_of old) n outcome text (turn_of new)) (told-work new)
+          (said new (turn_of old) outcome result out text met is),
+      moved old new outcome text out result is works,
       works.whole,
     )

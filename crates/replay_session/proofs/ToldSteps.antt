@@ -59,7 +59,8 @@ was-whole sc (Ok (Edit edit)) old new may whole = whole-before (row sc edit).eff
 was-whole sc (Ok _) old new may whole = sym may ∙ whole
 was-whole sc (Err fault) old new may whole = sym may ∙ whole
 
-next-is : (turn : Turn) (made : ℕ) (line text : List ℕ) (next : Turn) → Says turn made line text next → HadMemory text
+next-is : (turn : Turn) (made : ℕ) (line text : List ℕ) (next : Turn) → Says turn made (accepted turn line) text next
+    → HadMemory text
     → next ≡ applied turn line
 next-is turn made line text next (inl says) wanted = says.1
 next-is turn made line text next (inr wants) wanted = absurd (wanted wants.1)

@@ -1,45 +1,33 @@
 -- Lines that are too long are all answered alike: a lemma for the server of lines, which keeps a front of such a line.
-use Rattle.std.proofs.Common.{◌≡◌, ◌<◌, ℕ, List, true, refl, ap, ◌∙◌, subst, Result, inl, inr, length, nat_lt, lt-ltb}
-use Rattle.std.specs.Prelude.{IsOkAnd}
+use Rattle.std.proofs.Common.{◌≡◌, ◌<◌, ℕ, List, Bool, true, false, Some, refl, subst, Result, length, nat_le, lt-ltb}
+use Rattle.std.proofs.Common.{if◌then◌else◌}
 use Rattle.line_server.specs.Lines.{longest_line}
-use Rattle.replay_session.specs.Replies.{IsReplyTo, Replies, Says}
-use Rattle.replay_session.specs.Session.{TakesMemory}
+use Rattle.replay_session.specs.Replies.{Replies, RepliesAs}
 use Rattle.replay_session.specs.Stages.{Stage}
-use Rattle.replay_session.specs.Turns.{Turn, accepted, after, passed}
-use Rattle.replay_session.specs.Work.{LineMoves, MayShorten}
+use Rattle.replay_session.specs.Turns.{Turn, accepted_as, if_command, line_refusal, most_lines, unless_refused}
+use Rattle.commands.specs.Commands.{parsed}
 use Rattle.commands.specs.declared.command.Command.{Command}
 use Rattle.commands.specs.declared.fault.Fault.{Fault}
+use Rattle.commands.specs.declared.fault.Fault.TheVariants.{LineTooLong, TooManyCommands}
 
--- two lines that are accepted alike have the same replies
-says-alike : (turn : Turn) (made : ℕ) (next : Turn) (a b text : List ℕ) → accepted turn a ≡ accepted turn b
-    → Says turn made a text next
-    → Says turn made b text next
-says-alike turn made next a b text same (inl h) =
-    let P : Result Command Fault → Type 0 = λ r. IsReplyTo turn.scenario made r text in
-    inl (subst P same h.0, h.1 ∙ ap (λ r. passed turn (after turn.scenario r)) same)
-says-alike turn made next a b text same (inr h) =
-    let P : Result Command Fault → Type 0 = λ r. IsOkAnd r (TakesMemory turn.scenario) in
-    inr (subst P same h.0, h.1, h.2)
+-- a line that is rejected before it is read is rejected alike, in whatever way it would be read
+unread : (over : Bool) (a b : Result Command Fault)
+    → unless_refused (if over then Some TooManyCommands else Some LineTooLong) a
+    ≡ unless_refused (if over then Some TooManyCommands else Some LineTooLong) b
+unread true a b = refl
+unread false a b = refl
 
-replies-alike : (stage next : Stage) (a b text : List ℕ) → accepted stage.turn a ≡ accepted stage.turn b
-    → Replies stage a text next
-    → Replies stage b text next
-replies-alike stage next a b text same (says, moves, shortens) = (
-  says-alike stage.turn next.work.made next.turn a b text same says,
-  (λ wanted whole. subst (λ (r : Result Command Fault). LineMoves stage.turn.scenario r stage.work next.work) same
-      (moves wanted whole)),
-  subst (λ (r : Result Command Fault). MayShorten stage.turn.scenario r stage.short next.short) same shortens,
-)
-
-accepted-alike : (turn : Turn) (a b : List ℕ) → nat_lt longest_line (length a) ≡ true
-    → nat_lt longest_line (length b) ≡ true
-    → accepted turn a ≡ accepted turn b
-unfolding accepted
-accepted-alike turn a b f g = rw (f, g) refl
+pub accepted-alike : (turn : Turn) (a b : List ℕ) (read-a read-b : Result Command Fault) → longest_line < length a
+    → longest_line < length b
+    → accepted_as turn a read-a ≡ accepted_as turn b read-b
+unfolding line_refusal
+accepted-alike turn a b read-a read-b f g =
+    rw (lt-ltb longest_line (length a) f, lt-ltb longest_line (length b) g)
+    (unread (nat_le most_lines turn.lines) (if_command turn.scenario read-a) (if_command turn.scenario read-b))
 
 pub long_alike : (old new : Stage) (a b text : List ℕ) → longest_line < length a → longest_line < length b
     → Replies old a text new
     → Replies old b text new
 long_alike old new a b text f g =
-    replies-alike old new a b text (accepted-alike old.turn a b (lt-ltb longest_line (length a) f)
-    (lt-ltb longest_line (length b) g))
+    subst (λ (outcome : Result Command Fault). RepliesAs old outcome text new)
+    (accepted-alike old.turn a b (parsed a) (parsed b) f g)

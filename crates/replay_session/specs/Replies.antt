@@ -4,7 +4,7 @@ use Rattle.std.specs.Prelude.{nat_le}
 use Rattle.line_server.specs.Answers.{AnswersBy, Relation}
 use Rattle.commands.specs.Faults.{number_of}
 use Rattle.scenario.specs.Scenario.{Scenario, IsReportOf}
-use Rattle.replay_session.specs.Turns.{Turn, accepted, applied, passed, most_lines}
+use Rattle.replay_session.specs.Turns.{Turn, accepted, applied_as, passed, most_lines}
 use Rattle.replay_session.specs.Session.{TakesMemory}
 use Rattle.replay_session.specs.Stages.{Stage}
 use Rattle.replay_session.specs.Work.{LineMoves, MayShorten}
@@ -38,12 +38,12 @@ IsReplyTo sc made (Ok Worked) text = text ≡ worked_line made
 IsReplyTo sc made (Ok _) text = text ≡ done_line
 IsReplyTo sc made (Err fault) text = text ≡ refused_line fault
 
--- one line, its reply, and what is left after it, after this number of executed steps: as the scenario says, or memory
--- ran out where it may, and the line only counts
-abbrev pub Says : Turn → ℕ → List ℕ → List ℕ → Turn → Type 0
-Says turn made line text after =
-    (IsReplyTo turn.scenario made (accepted turn line) text × (after ≡ applied turn line))
-    ⊎ (IsOkAnd (accepted turn line) (TakesMemory turn.scenario) × (text ≡ refused_line Memory)
+-- the reply to a line that is accepted as a command, or rejected, and what is left after it, after this number of
+-- executed steps: as the scenario says, or memory ran out where it may, and the line only counts
+abbrev pub Says : Turn → ℕ → Result Command Fault → List ℕ → Turn → Type 0
+Says turn made outcome text after =
+    (IsReplyTo turn.scenario made outcome text × (after ≡ applied_as turn outcome))
+    ⊎ (IsOkAnd outcome (TakesMemory turn.scenario) × (text ≡ refused_line Memory)
     × (after ≡ passed turn turn.scenario))
 
 -- a reply isn't `refused 1`
@@ -51,16 +51,20 @@ abbrev pub HadMemory : List ℕ → Type 0
 HadMemory text = text ≡ refused_line Memory → ⊥
 
 -- the line moves the work as it asks, unless it was answered `refused 1` or the trail is short after it
-abbrev pub Moves : Stage → List ℕ → List ℕ → Stage → Type 0
-Moves old line text new =
-    HadMemory text → new.short ≡ false → LineMoves old.turn.scenario (accepted old.turn line) old.work new.work
+abbrev pub Moves : Stage → Result Command Fault → List ℕ → Stage → Type 0
+Moves old outcome text new =
+    HadMemory text → new.short ≡ false → LineMoves old.turn.scenario outcome old.work new.work
 
--- one line, its reply and the stage after it, whose work is the number that `worked` prints
+-- what a line is accepted as, its reply and the stage after it, whose work is the number that `worked` prints
+abbrev pub RepliesAs : Stage → Result Command Fault → List ℕ → Stage → Type 0
+RepliesAs old outcome text new =
+    Says old.turn new.work.made outcome text new.turn
+    × Moves old outcome text new
+    × MayShorten old.turn.scenario outcome old.short new.short
+
+-- one line of a session, its reply and the stage after it
 abbrev pub Replies : Stage → List ℕ → List ℕ → Stage → Type 0
-Replies old line text new =
-    Says old.turn new.work.made line text new.turn
-    × Moves old line text new
-    × MayShorten old.turn.scenario (accepted old.turn line) old.short new.short
+Replies old line text new = RepliesAs old (accepted old.turn line) text new
 
 -- is the limit of lines reached?
 abbrev pub is_over : Turn → Bool

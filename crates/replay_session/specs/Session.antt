@@ -8,7 +8,7 @@ use Rattle.replay_report.specs.Report.{AppendsReport}
 use Rattle.scenario.specs.Edits.{row}
 use Rattle.scenario.specs.Scenario.{Scenario, IsReportOf, first_state}
 use Rattle.clean_reports.specs.Lines.{IsVerdictLine}
-use Rattle.replay_session.specs.Turns.{Turn, accepted, applied, changed, passed}
+use Rattle.replay_session.specs.Turns.{Turn, accepted, applied_as, changed, passed}
 use Rattle.replay_session.specs.declared.session.Session.{Session}
 use Rattle.commands.specs.declared.fault.Fault.{Fault}
 use Rattle.commands.specs.declared.fault.Fault.TheVariants.{Memory}
@@ -62,24 +62,27 @@ abbrev pub AppendsFor : Scenario → Result Command Fault → List ℕ → List 
 AppendsFor sc (Ok Report) old new = AppendsReport (IsReportOf sc) old new
 AppendsFor sc _ old new = new ≡ old
 
--- the line was answered as the scenario says
-pub record Answered (new : Session) (turn : Turn) (line : List ℕ) (result : Result Reply Fault)
+-- a line that is accepted as a command, or rejected, was answered as the scenario says
+pub record Answered (new : Session) (turn : Turn) (outcome : Result Command Fault) (result : Result Reply Fault)
     (out-old out-new : List ℕ) : Type 0 where
-  pub replies : result ≡ replied (work_of new) (accepted turn line)
-  pub appends : AppendsFor turn.scenario (accepted turn line) out-old out-new
-  pub has : turn_of new ≡ applied turn line
+  pub replies : result ≡ replied (work_of new) outcome
+  pub appends : AppendsFor turn.scenario outcome out-old out-new
+  pub has : turn_of new ≡ applied_as turn outcome
 
 -- or memory ran out, at a line that isn't rejected and may need it: the line counts, and nothing else changes
-pub record Wanting (new : Session) (turn : Turn) (line : List ℕ) (result : Result Reply Fault)
+pub record Wanting (new : Session) (turn : Turn) (outcome : Result Command Fault) (result : Result Reply Fault)
     (out-old out-new : List ℕ) : Type 0 where
   pub replies : result ≡ Err Memory
-  pub may : IsOkAnd (accepted turn line) (TakesMemory turn.scenario)
+  pub may : IsOkAnd outcome (TakesMemory turn.scenario)
   pub keeps : out-new ≡ out-old
   pub has : turn_of new ≡ passed turn turn.scenario
 
+abbrev pub MeetsAs : Session → Turn → Result Command Fault → Result Reply Fault → List ℕ → List ℕ → Type 0
+MeetsAs new turn outcome result out-old out-new =
+    Answered new turn outcome result out-old out-new ⊎ Wanting new turn outcome result out-old out-new
+
 abbrev pub Meets : Session → Turn → List ℕ → Result Reply Fault → List ℕ → List ℕ → Type 0
-Meets new turn line result out-old out-new =
-    Answered new turn line result out-old out-new ⊎ Wanting new turn line result out-old out-new
+Meets new turn line result out-old out-new = MeetsAs new turn (accepted turn line) result out-old out-new
 
 -- the same for an accepted command: it was carried out
 pub record Done (new : Session) (turn : Turn) (command : Command) (result : Result Reply Fault)

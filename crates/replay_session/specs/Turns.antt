@@ -40,13 +40,25 @@ abbrev pub if_command : Scenario → Result Command Fault → Result Command Fau
 if_command sc (Err fault) = Err fault
 if_command sc (Ok command) = accepted_by (command_refusal sc command) command
 
--- the command that a line is, or why it is rejected: too many lines, a line that is too long, no command, and then the
--- command's own
-unfoldable pub accepted : Turn → List ℕ → Result Command Fault
-accepted turn line =
-    if nat_le most_lines turn.lines then Err TooManyCommands
-    else if nat_lt longest_line (length line) then Err LineTooLong
-    else if_command turn.scenario (parsed line)
+-- why a line is rejected before it is read, if it is: too many lines, or a line that is too long
+unfoldable pub line_refusal : Turn → List ℕ → Option Fault
+line_refusal turn line =
+    if nat_le most_lines turn.lines then Some TooManyCommands
+    else if nat_lt longest_line (length line) then Some LineTooLong
+    else None
+
+abbrev pub unless_refused : Option Fault → Result Command Fault → Result Command Fault
+unless_refused None outcome = outcome
+unless_refused (Some fault) outcome = Err fault
+
+-- the command that a line is which is read as this command or as none, or why it is rejected: the line, then what it is
+-- read as, and then the command's own
+abbrev pub accepted_as : Turn → List ℕ → Result Command Fault → Result Command Fault
+accepted_as turn line read = unless_refused (line_refusal turn line) (if_command turn.scenario read)
+
+-- the same of a line that is read as a session's
+abbrev pub accepted : Turn → List ℕ → Result Command Fault
+accepted turn line = accepted_as turn line (parsed line)
 
 -- the number of lines after another line; it stops at the greatest number
 abbrev pub counted : ℕ → ℕ
@@ -67,9 +79,12 @@ after sc (Err fault) = sc
 abbrev pub passed : Turn → Scenario → Turn
 passed turn sc = record { scenario = sc; lines = counted turn.lines }
 
--- the turn after a line: a rejected line changes only the number of lines
+-- the turn after a line that is accepted as a command or rejected: a rejected line changes only the number of lines
+abbrev pub applied_as : Turn → Result Command Fault → Turn
+applied_as turn outcome = passed turn (after turn.scenario outcome)
+
 abbrev pub applied : Turn → List ℕ → Turn
-applied turn line = passed turn (after turn.scenario (accepted turn line))
+applied turn line = applied_as turn (accepted turn line)
 
 -- what a session of a program, an input and suppressions begins with
 abbrev pub opening : Image → List ℕ → List Rule → Turn

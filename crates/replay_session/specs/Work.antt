@@ -52,9 +52,11 @@ pub record Works (old new : Session) (command : Command) (result : Result Reply 
   pub moves : (result ≡ Err Memory → ⊥) → is_short (trail_of new) ≡ false
       → MovesWork (scenario_of old) command (work_on (trail_of old)) (work_on (trail_of new))
 
--- and so does a line
-pub record WorksLine (old new : Session) (line : List ℕ) (result : Result Reply Fault) : Type 0 where
-  pub whole : MayShorten (scenario_of old) (accepted (turn_of old) line) (is_short (trail_of old))
-      (is_short (trail_of new))
+-- and so does a line that is accepted as a command, or rejected
+pub record WorksAs (old new : Session) (outcome : Result Command Fault) (result : Result Reply Fault) : Type 0 where
+  pub whole : MayShorten (scenario_of old) outcome (is_short (trail_of old)) (is_short (trail_of new))
   pub moves : (result ≡ Err Memory → ⊥) → is_short (trail_of new) ≡ false
-      → LineMoves (scenario_of old) (accepted (turn_of old) line) (work_on (trail_of old)) (work_on (trail_of new))
+      → LineMoves (scenario_of old) outcome (work_on (trail_of old)) (work_on (trail_of new))
+
+abbrev pub WorksLine : Session → Session → List ℕ → Result Reply Fault → Type 0
+WorksLine old new line result = WorksAs old new (accepted (turn_of old) line) result

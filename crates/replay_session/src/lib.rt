@@ -10,6 +10,7 @@
 //! |---|---|
 //! | [`Session::begin`] | returns a session of a program with an input and suppressions, or a [`BeginFault`] |
 //! | [`Session::command`] | answers one line: a [`Reply`], or a [`Fault`] with its number; appends the bytes of a report |
+//! | [`Session::command_as`] | answers a line that its caller has read, as a command or as why it is none |
 //! | [`Session::is_over`] | returns whether the limit of lines is reached |
 //! | [`Session::allocator`] | returns the allocator of its memory |
 //! | [`Session::machine`] | returns the machine at the chosen step |
@@ -19,7 +20,7 @@
 //! | [`Session::certify`] | appends the line of the verdict on the run up to the chosen step |
 //! | [`Session::trail`] | returns the held machines, on whose meter each step counts that a report executes |
 //! | [`serve`] | reads lines from any reader and writes the replies to any writer, or stops with a [`ServeFault`] |
-//! | [`Texts`] | the texts of a session's replies: answers a line with a text |
+//! | [`Texts`] | the texts of a session's replies: answers a line, or one that its caller has read, with a text |
 //! | [`setup_with`] | returns a setup: an input, Memcheck's settings of the heap, and the functions of the heap that a program has by name |
 //! | [`send`] | writes bytes, all of them, and flushes; a [`Sent`] says how many were taken |
 //! | [`laws::work_of_lines`] | does nothing; its contract says how many steps any lines cost |
@@ -61,7 +62,9 @@
 //!   (`Answered`). Or memory ran out where it may: at a report, or at an edit whose row says so and that isn't rejected. Then the line only
 //!   counts (`Wanting`). A rejected line changes only the number of lines. A line costs the steps of its command by its first effect
 //!   (`WorksLine`), as long as the trail isn't short. Only a patch makes it short.
+//! - [`Session::command_as`]: the same of a line that is read as another command (`accepted_as`), or as none.
 //! - [`Texts::answer`]: the reply to a line, from the stage that the session had to the one that it has afterwards (`Replies`).
+//!   [`Texts::answer_as`]: the same of a line that its caller has read (`RepliesAs`).
 //! - [`laws::work_of_lines`]: if each of any lines costs that, then afterwards machines are held at exactly the steps that the list of
 //!   lines says (`IsHeldAfter`), and the number of executed steps is the one sum that it says (`AddUp`). Neither speaks of a trail.
 //! - [`serve`]: at the end, it has written the replies to the lines of all bytes read, up to and including the first `refused 12`, and

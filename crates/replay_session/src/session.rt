@@ -45,9 +45,9 @@ impl<'a> Session<'a> {
     ghost use Rattle.scenario.specs.Scenario.{IsReportOf, chosen_state};
     ghost use Rattle.commands.specs.Commands.{Reads};
     ghost use Rattle.replay_session.specs.Replies.{is_over};
-    ghost use Rattle.replay_session.specs.Session.{Carried, Finds, IsVerdictOf, Meets, scenario_of, turn_of, trail_of, work_of};
-    ghost use Rattle.replay_session.specs.Turns.{accepted, changed, command_refusal, counted, opening, passed};
-    ghost use Rattle.replay_session.specs.Work.{MayShorten, MovesWork, Works, WorksLine, work_on, no_work};
+    ghost use Rattle.replay_session.specs.Session.{Carried, Finds, IsVerdictOf, Meets, MeetsAs, scenario_of, turn_of, trail_of, work_of};
+    ghost use Rattle.replay_session.specs.Turns.{accepted, accepted_as, changed, command_refusal, counted, if_command, line_refusal, opening, passed};
+    ghost use Rattle.replay_session.specs.Work.{MayShorten, MovesWork, Works, WorksAs, WorksLine, work_on, no_work};
 
     /// Returns the session of a program with an input and suppressions, without edits and with step 0 chosen. A failure drops the
     /// arguments. An input that is too large is reported before a failed allocation.
@@ -123,22 +123,51 @@ impl<'a> Session<'a> {
         }
     }
 
+    /// Returns why a line is rejected before it is read.
+    #[tactic(auto, unfolding(crate::specs::Turns::line_refusal, crate::specs::Session::turn_of))]
+    fn line_refusal(&self, line: &[u8]) -> Option<Fault>
+        ensures { result ≡ line_refusal (turn_of self.now) line.now }
+    {
+        if self.lines >= MOST_LINES {
+            Some(Fault::TooManyCommands)
+        } else if line.len() > LONGEST_LINE {
+            Some(Fault::LineTooLong)
+        } else {
+            None
+        }
+    }
+
+    /// Returns the command that a line was read as, or why it is rejected.
+    fn judge(&self, read: Result<Command, Fault>) -> Result<Command, Fault>
+        ensures judged { result ≡ if_command (scenario_of self.now) read }
+        ensures taken { IfOk result (λ command. command_refusal (scenario_of self.now) command ≡ None) }
+    {
+        let command = read?;
+        match self.command_refusal(&command) {
+            Some(fault) => Err(fault),
+            None => Ok(command),
+        }
+    }
+
     /// Returns the command that a line is, or why it is rejected.
-    #[tactic(auto, unfolding(crate::specs::Turns::accepted, crate::specs::Session::turn_of))]
     fn accept(&self, line: &[u8]) -> Result<Command, Fault>
         ensures accepted { Reads (accepted (turn_of self.now) line.now) result }
         ensures taken { IfOk result (λ command. command_refusal (scenario_of self.now) command ≡ None) }
     {
-        if self.lines >= MOST_LINES {
-            return Err(Fault::TooManyCommands);
-        }
-        if line.len() > LONGEST_LINE {
-            return Err(Fault::LineTooLong);
-        }
-        let command = parse(self.alloc, line)?;
-        match self.command_refusal(&command) {
+        match self.line_refusal(line) {
             Some(fault) => Err(fault),
-            None => Ok(command),
+            None => self.judge(parse(self.alloc, line)),
+        }
+    }
+
+    /// Returns the command that a line is, which was read as this one, or why it is rejected.
+    fn accept_as(&self, line: &[u8], read: Result<Command, Fault>) -> Result<Command, Fault>
+        ensures accepted { result ≡ accepted_as (turn_of self.now) line.now read }
+        ensures taken { IfOk result (λ command. command_refusal (scenario_of self.now) command ≡ None) }
+    {
+        match self.line_refusal(line) {
+            Some(fault) => Err(fault),
+            None => self.judge(read),
         }
     }
 
@@ -318,6 +347,20 @@ impl<'a> Session<'a> {
         }
     }
 
+    /// Counts a line, and carries out its command unless the line is rejected.
+    fn answer(
+        &mut self,
+        accepted: Result<Command, Fault>,
+        out: &mut Vec<u8>,
+    ) -> Result<Reply, Fault>
+        requires { IfOk accepted (λ command. command_refusal (scenario_of self.old) command ≡ None) }
+        ensures meets { MeetsAs self.new (turn_of self.old) accepted result out.old.items out.new.items }
+        ensures work { WorksAs self.old self.new accepted result }
+    {
+        self.count();
+        self.answer_command(accepted?, out)
+    }
+
     /// Answers one line, which has no newline. Appends the bytes of a report and nothing else. A rejected line changes nothing but the
     /// number of lines.
     pub fn command(&mut self, line: &[u8], out: &mut Vec<u8>) -> Result<Reply, Fault>
@@ -327,7 +370,21 @@ impl<'a> Session<'a> {
         ensures work { WorksLine self.old self.new line.now result }
     {
         let accepted = self.accept(line);
-        self.count();
-        self.answer_command(accepted?, out)
+        self.answer(accepted, out)
+    }
+
+    /// Answers one line that the caller has read, as a command or as why it is none: as [`Session::command`] answers a line of a session
+    /// that is read so. A line is rejected first because there were too many, or because it is too long.
+    pub fn command_as(
+        &mut self,
+        line: &[u8],
+        read: Result<Command, Fault>,
+        out: &mut Vec<u8>,
+    ) -> Result<Reply, Fault>
+        ensures meets { MeetsAs self.new (turn_of self.old) (accepted_as (turn_of self.old) line.now read) result out.old.items out.new.items }
+        ensures work { WorksAs self.old self.new (accepted_as (turn_of self.old) line.now read) result }
+    {
+        let accepted = self.accept_as(line, read);
+        self.answer(accepted, out)
     }
 }

@@ -4,7 +4,7 @@ ghost use Rattle.replay_session.specs.Replies.{number_line, short_text};
 
 use crate::reply::Reply;
 use crate::session::Session;
-use commands::Fault;
+use commands::{Command, Fault};
 use itoa::Buffer;
 use std::alloc::{AllocError, Global};
 
@@ -70,9 +70,11 @@ fn put_short(text: &mut Vec<u8>, outcome: Result<Reply, Fault>)
 
 impl Texts {
     ghost use Rattle.std.specs.Prelude.{◌≡◌};
-    ghost use Rattle.replay_session.specs.Replies.{text_of, Replies};
+    ghost use Rattle.replay_session.specs.Replies.{text_of, Replies, RepliesAs};
+    ghost use Rattle.replay_session.specs.Session.{turn_of};
     ghost use Rattle.replay_session.specs.Stages.{stage_of};
     ghost use Rattle.replay_session.specs.Texts.{last_text, report_in};
+    ghost use Rattle.replay_session.specs.Turns.{accepted_as};
 
     /// Returns texts with an empty report and room for other replies.
     pub fn new(alloc: Global) -> Result<Self, AllocError> {
@@ -101,6 +103,22 @@ impl Texts {
         self.report.clear();
         let outcome = session.command(line, &mut self.report);
         self.put(outcome);
+    }
+
+    /// Answers a line that the caller has read, as a command or as why it is none, and stores the reply.
+    #[tactic(auto, unfolding(crate::specs::Texts::last_text, crate::specs::Texts::report_in))]
+    pub fn answer_as(
+        &mut self,
+        session: &mut Session<'_>,
+        line: &[u8],
+        read: Result<Command, Fault>,
+    )
+        ensures { RepliesAs (stage_of session.old) (accepted_as (turn_of session.old) line.now read) (last_text self.new) (stage_of session.new) }
+    {
+        let text = &mut self.report;
+        text.clear();
+        let reply = session.command_as(line, read, text);
+        self.put(reply);
     }
 
     /// Returns the text of the reply that was stored last.
