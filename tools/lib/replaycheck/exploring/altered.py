@@ -1,0 +1,81 @@
+"""The instructions at the steps at which the machine is altered: where each is in the program and in its source."""
+from typing import Dict, Iterable, List, Optional, Tuple
+
+from replaycheck.disassembly import disassembled
+from replaycheck.sessions import Refused, Session
+
+from .lines import shown_name
+from .steps import PAIR, steps_in
+
+AT_ONCE = 500  # so many questions fit into a pipe
+MOST_LINES = 80000  # of a session, which takes 100,000
+
+
+class Instructions:
+    """What the unedited run executes at steps, and the second steps of pairs in the run with the first skip. `lines` has the source lines.
+    What can't be found, as the file of the program isn't there or has no such function, isn't told."""
+
+    def __init__(self, request, lines):
+        self.request, self.lines = request, lines
+        self.addresses: Dict[Tuple[int, Optional[int]], Optional[int]] = {}
+
+    def learn(self, edits: Iterable[str]) -> None:
+        """Finds out which instruction is executed at each step of edits."""
+        if self.request is None:
+            return
+        steps, pairs = set(), {}
+        for edit in edits:
+            pair = PAIR.fullmatch(edit)
+            steps.add(steps_in(edit)[0])
+            if pair:
+                pairs.setdefault(int(pair[1]), set()).add(int(pair[2]))
+        self.learn_run(None, sorted(it for it in steps if (it, None) not in self.addresses))
+        for first, seconds in sorted(pairs.items()):
+            self.learn_run(first, sorted(it for it in seconds if (it, first) not in self.addresses))
+        self.lines.learn([f"0x{it:08x}" for it in self.addresses.values() if it is not None])
+
+    def learn_run(self, skipped: Optional[int], steps: List[int]) -> None:
+        """Looks at steps of the unedited run, or of the one with a skip."""
+        for begin in range(0, len(steps), MOST_LINES):
+            files = (it.path or None for it in self.request.files)
+            session = Session(*files, command="look")
+            try:
+                if skipped is not None:
+                    session.accepted(f"skip {skipped}")
+                self.look(session, skipped, steps[begin:begin + MOST_LINES])
+            except Refused:  # a program that doesn't skip
+                self.addresses.update(((it, skipped), None) for it in steps)
+            finally:
+                session.end()
+
+    def look(self, session: Session, skipped: Optional[int], steps: List[int]) -> None:
+        for begin in range(0, len(steps), AT_ONCE):
+            part = steps[begin:begin + AT_ONCE]
+            session.send([line for it in part for line in (f"goto {it}", "look registers")])
+            for it in part:
+                session.reply()
+                state = session.reply("look registers")[0].split(" ")
+                self.addresses[it, skipped] = int(state[2], 16) if state[1] == "running" else None
+
+    def address(self, step: int, skipped: Optional[int] = None) -> Optional[int]:
+        """The pc at a step that was learnt."""
+        return self.addresses.get((step, skipped))
+
+    def where(self, address: int) -> str:
+        """A place in the program: `verify+0x24 (boot.c:71), lw ra,28(sp)`."""
+        elf, name = self.request.elf, f"0x{address:08x}"
+        symbol = elf and (elf.function_places.before(address) or elf.label_places.before(address))
+        if symbol and (not symbol.size or address < symbol.value + symbol.size):
+            away = address - symbol.value
+            name = shown_name(elf.name(symbol)) + (f"+0x{away:x}" if away else "")
+        word = self.request.word(address) if elf else None
+        text = disassembled(word, address) if word is not None else None
+        return f"{name}{self.lines.behind(f'0x{address:08x}')}" + (f", {text}" if text else "")
+
+    def told(self, edit: str) -> List[Tuple[int, str]]:
+        """The instructions of an edit, each after its step. One that is taken with a bit inverted is altered back a step later, and told
+        once."""
+        pair = PAIR.fullmatch(edit)
+        places = [(steps_in(edit)[0], None)] + ([(int(pair[2]), int(pair[1]))] if pair else [])
+        found = [(step, self.address(step, skipped)) for step, skipped in places]
+        return [(step, self.where(address)) for step, address in found if address is not None]
