@@ -6,6 +6,7 @@ import shutil
 import subprocess
 
 from explore_cases import changed
+from explore_pictures import test_swept_steps
 from explore_room import EXAMPLES
 from replaycheck.assembly import assemble
 from replaycheck.disassembly import disassembled
@@ -173,7 +174,7 @@ def test_faults(tests):
         tests.left_out("steps, by the program: the twin stands in", "program that has them")
     usual, tests.program = tests.program, tests.program if has_faults(tests) else stand_in(build_twin("test-explore"), tests.room / "twin")
     try:
-        for test in (test_fault_tables, test_fault_parts, test_fault_summary):
+        for test in (test_fault_tables, test_fault_parts, test_fault_summary, test_swept_steps):
             test(tests)
     finally:
         tests.program = usual

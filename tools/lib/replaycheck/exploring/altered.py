@@ -57,6 +57,12 @@ class Instructions:
                 state = session.reply("look registers")[0].split(" ")
                 self.addresses[it, skipped] = int(state[2], 16) if state[1] == "running" else None
 
+    def addresses_of(self, steps: Iterable[int]) -> List[Optional[int]]:
+        """The pc of the unedited run at steps."""
+        steps = list(steps)
+        self.learn_run(None, sorted(it for it in set(steps) if (it, None) not in self.addresses))
+        return [self.addresses[it, None] for it in steps]
+
     def address(self, step: int, skipped: Optional[int] = None) -> Optional[int]:
         """The pc at a step that was learnt."""
         return self.addresses.get((step, skipped))

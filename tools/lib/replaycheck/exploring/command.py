@@ -137,7 +137,7 @@ def told(options, request, sources, notes, room, outputs):
     merged, goal = Merged(sources), None
     if options.goal is not None:
         goal = goals.Goal(options.goal, merged, room)
-    picture = Picture(merged, sources) if "svg" in outputs else None
+    picture = Picture(merged, sources, goal) if "svg" in outputs else None
     lines = SourceLines(request and os.path.abspath(request.program.path))
     instructions = Instructions(request, lines)
     takers = [it.add for it in (goal, picture) if it]

@@ -15,6 +15,10 @@ class Goal:
         self.path = os.path.join(room, "reached")
         self.file = open(self.path, "w+", encoding="ascii")
 
+    @property
+    def shown(self):
+        return f"`{shown(self.text)}`"
+
     def is_reached(self, number):
         while len(self.known) <= number:
             lines = self.merged.outcomes[len(self.known)].split(b"\n")
@@ -48,4 +52,4 @@ class Goal:
         rest = f"{still_running(self.merged.head.step, who)}\n" if others else ""
         too = "; the unedited run has one too" if self.is_reached(0) else ""
         return (f"{''.join(self.edits(instructions))}{rest}reached by {self.count} of {self.merged.edits} edits: a line that begins with "
-                f"`{shown(self.text)}`{too}\n")
+                f"{self.shown}{too}\n")

@@ -1,7 +1,7 @@
 """The head of a sweep's table: which files, edits and step it is of, and which of its parts."""
 import re
 from dataclasses import dataclass
-from typing import List, Optional, Tuple, Union
+from typing import List, Tuple, Union
 
 from replaycheck.options import LAST_STEP
 
