@@ -144,11 +144,11 @@ def test_fault_summary(tests):
     goal = [*TWICE, "--at=0..", "--code=verify", "--faults=skip", "--goal=exited 0"]
     for label, words, lines in (
             ("skips", goal, [r"skip 2497: verify\+0x50( \(boot\.c:\d+\))?, lw ra,28\(sp\)"]),
-            ("no names without the file", ["--from", "twice", "--goal=exited 0"], ["skip 2497"]),
+            ("no names without the file", ["--from", "twice.table", "--goal=exited 0"], ["skip 2497"]),
             ("a function that is left out", [*goal[:-2], "--faults=skip", "--code-range=0x102c8..0x102d8", goal[-1]], [])):
         if "--code-range=0x102c8..0x102d8" in words:
             words = [it for it in words if it != "--code=verify"]
-        tests.run([*goal[:-1], "--table=twice"])
+        tests.run([*goal[:-1], "--table=twice.table"])
         status, out, err = tests.run(words)
         found = out.splitlines()[:len(lines)]
         is_well = all(map(re.fullmatch, lines, found)) and f"reached by {len(lines)} of " in out and status == bool(lines) and not err

@@ -12,6 +12,7 @@ NOT_NEW = (("#0072b2", "#3f9fd9"), ("#56b4e9", "#1f6fa0"), ("#009e73", "#26b98c"
 OTHER = ("#b9c9d9", "#62758a")
 UNEDITED = ("#e4e4e4", "#3a3a3a")
 GOAL = ("#ffe600;stroke:#000000", "#ffe600;stroke:#000000")
+BAND = ("#eeeeee", "#2c2c2c")  # a function, below steps
 GOAL_RANK = 1000
 
 
@@ -54,7 +55,8 @@ class Picture:
         if self.steps:  # colours are of kinds of outcomes: there are too many outcomes
             self.kinds = {it: kind_of_rank(self.rank(it)) for it in range(len(self.merged.outcomes))}
             named = {**{f"n{i + 1}": it for i, it in enumerate(NEW)}, **{f"o{i + 1}": it for i, it in enumerate(NOT_NEW)}, "g": GOAL}
-            self.colours.update((it, named[it]) for it in {*self.kinds.values()} - {*self.colours})
+            self.colours.update((it, named[it]) for it in named if it in self.kinds.values())
+            self.colours["band"] = BAND
             return
         for is_new, colours, name in ((True, NEW, "n"), (False, NOT_NEW, "o")):
             numbers = [it for it in summary.order[1:] if bool(summary.news[it]) == is_new]

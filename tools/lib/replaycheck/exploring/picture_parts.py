@@ -6,10 +6,10 @@ from .lines import LONGEST_SHOWN, shown_name
 STYLE = """<style>
 .bg{{fill:#ffffff}}.ink{{fill:#1a1a1a}}.dim{{fill:#555555}}
 .s{{font-size:10px}}.e{{text-anchor:end}}.m{{text-anchor:middle}}.b{{font-weight:bold}}
-.axis{{stroke:#555555;stroke-width:1}}.band{{fill:#eeeeee}}
+.axis{{stroke:#555555;stroke-width:1}}
 {light}
 @media (prefers-color-scheme:dark){{
-.bg{{fill:#161616}}.ink{{fill:#eeeeee}}.dim{{fill:#aaaaaa}}.axis{{stroke:#aaaaaa}}.band{{fill:#2c2c2c}}
+.bg{{fill:#161616}}.ink{{fill:#eeeeee}}.dim{{fill:#aaaaaa}}.axis{{stroke:#aaaaaa}}
 {dark}
 }}
 </style>"""
