@@ -3,7 +3,6 @@ program that doesn't have them."""
 import random
 import re
 import shutil
-import subprocess
 
 from explore_cases import changed
 from explore_pictures import test_swept_steps
@@ -12,7 +11,7 @@ from replaycheck.assembly import assemble
 from replaycheck.disassembly import disassembled
 from replaycheck.exploring.steps import MODELS
 from replaycheck.guest_files import ENTRY
-from twin import build_twin, stand_in
+from twin import with_steps
 
 BOOT = ["boot.elf", "--input=boot.input"]
 TWICE = ["boot-twice.elf", "--input=boot.input"]
@@ -43,11 +42,6 @@ WRONG = [
 def furnish_firmware(room):
     for name in ("boot.elf", "boot-twice.elf", "boot.input", "station.elf", "station.input"):
         shutil.copy(EXAMPLES / "firmware" / name, room)
-
-
-def has_faults(tests):
-    ran = subprocess.run([tests.program, "sweep", *SHORT], cwd=tests.room, capture_output=True)
-    return ran.returncode == 0
 
 
 def check_text(tests, label, words, texts, **more):
@@ -168,11 +162,12 @@ def test_fault_summary(tests):
 def test_faults(tests):
     furnish_firmware(tests.room)
     test_disassembly(tests)
-    if not has_faults(tests):
-        if not shutil.which("cargo"):
-            return tests.left_out("steps", "program that alters machines at steps, nor cargo for the twin")
-        tests.left_out("steps, by the program: the twin stands in", "program that has them")
-    usual, tests.program = tests.program, tests.program if has_faults(tests) else stand_in(build_twin("test-explore"), tests.room / "twin")
+    usual, program = tests.program, with_steps(tests.program, tests.room, "test-explore")
+    if program is None:
+        return tests.left_out("steps", "program that has them, nor cargo for the twin")
+    if program != usual:
+        tests.left_out("steps by the program: the twin stands in", "program that has them")
+    tests.program = program
     try:
         for test in (test_fault_tables, test_fault_parts, test_fault_summary, test_swept_steps):
             test(tests)

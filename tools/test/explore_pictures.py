@@ -127,7 +127,8 @@ def test_swept_steps(tests):
         tests.check(f"picture of steps: {label}", "" if wanted in text else text[:600])
     tests.check("picture of steps: no cell twice", overlaps(rects))
     few, text = drawn(tests, table)
-    tests.check("picture of steps: without the file", "" if few and "verify+0x20" not in text and ">left out</text>" in text else text[:300])
+    is_well = few and "verify+0x20" not in text and ">left out</text>" in text
+    tests.check("picture of steps: without the file", "" if is_well else text[:300])
     table = tests.sweep("boot-twice.elf", "--input=boot.input", "--at=2495..2510", "--faults=skip", "--pairs=skip", "--step=4000")
     rects, text = drawn(tests, table, ["boot-twice.elf", "--input=boot.input", "--goal=exited 0"])
     pairs = [it for it in rects if re.match(r"first steps? \d+", it[5])]

@@ -1,11 +1,13 @@
 """The twin (bench/twin), a plain interpreter with nothing proved."""
 import shlex
+import shutil
 import subprocess
 import sys
 
 from replaycheck.guest_files import TOP
 
 TWIN = TOP / "bench" / "twin"
+BOOT = TOP / "examples" / "firmware" / "boot.elf"
 
 
 # A stand-in for the program, which sweeps and looks.
@@ -19,6 +21,19 @@ while [ $# -gt 0 ]; do
 done
 exec {twin} session "$file" $input
 """
+
+
+def has_steps(program):
+    """Whether a program has sweeps of alterations at steps."""
+    words = [program, "sweep", BOOT, "--at=0", "--faults=skip", "--step=1"]
+    return subprocess.run([str(it) for it in words], capture_output=True).returncode == 0
+
+
+def with_steps(program, room, tool):
+    """The program, if it has sweeps of alterations at steps, or what stands in for it in a folder; None where there is no cargo."""
+    if has_steps(program):
+        return program
+    return stand_in(build_twin(tool), room / "twin") if shutil.which("cargo") else None
 
 
 def stand_in(twin, path):
