@@ -11,7 +11,7 @@ OTHER_NEW = ("#1a1a1a", "#ffffff")
 NOT_NEW = (("#0072b2", "#3f9fd9"), ("#56b4e9", "#1f6fa0"), ("#009e73", "#26b98c"), ("#a3d9c8", "#0f5a45"))
 OTHER = ("#b9c9d9", "#62758a")
 UNEDITED = ("#e4e4e4", "#3a3a3a")
-GOAL = ("#ffe600;stroke:#000000", "#ffe600;stroke:#000000")
+GOAL = ("#ffe600;stroke:#000000", "#000000;stroke:#ffffff")  # by its outline, which no other one has
 BAND = ("#eeeeee", "#2c2c2c")  # a function, below steps
 GOAL_RANK = 1000
 
