@@ -11,13 +11,15 @@ SUM = hashlib.sha256(b"").hexdigest()
 
 
 class Made:
-    """A sweep of so many bytes and words, each edit of which has an outcome by chance."""
+    """A sweep of so many bytes, words and steps, each edit of which has an outcome by chance."""
 
-    def __init__(self, places, words=0, values="3,5,7", seed=1, outcomes=OUTCOMES):
+    def __init__(self, places, words=0, values="3,5,7", seed=1, outcomes=OUTCOMES, steps=0):
         chance = random.Random(seed)
         self.head = [f"program 9 {SUM}", f"input {places} {SUM}", f"supp 0 {SUM}", f"bytes 0..{places - 1} {values}"]
         self.head += [f"words 0x00010000..0x{0x10000 + 4 * words - 1:08x} flips"] if words else []
+        self.head += [f"steps 0..{steps - 1} pc,skip"] if steps else []
         self.head += ["step 100", "output no"]
+        self.version = 2 if steps else 1
         self.outcomes = outcomes
         self.rows = []  # for each place its edits, each with an outcome
         for at in range(places):
@@ -29,13 +31,16 @@ class Made:
             at, was = 0x10000 + 4 * index, chance.getrandbits(32)
             edits = [(f"patch 0x{at:08x} 0x{was ^ 1 << bit:08x}", chance.randrange(len(outcomes))) for bit in range(32)]
             self.rows.append(edits if index % 3 else [])  # not each word is loaded
+        for step in range(steps):
+            edits = [f"skip {step}", *(f"flip {step} pc 0x{1 << bit:08x}" for bit in range(32))]
+            self.rows.append([(edit, chance.randrange(len(outcomes))) for edit in edits] if step % 4 else [])  # not each is at the code
 
     def part(self, index=1, count=1):
         """The table of a part."""
         size = len(self.rows)
         low, high = size * (index - 1) // count, size * index // count
         numbers = {self.outcomes[0]: 0}
-        lines = ["sweep 1", *self.head, f"part {index}/{count}", "outcome 0", self.outcomes[0], "unedited 0"]
+        lines = [f"sweep {self.version}", *self.head, f"part {index}/{count}", "outcome 0", self.outcomes[0], "unedited 0"]
         tallies = [0]
         edits = [it for place in self.rows[low:high] for it in place]
         for edit, index in edits:

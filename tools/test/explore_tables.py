@@ -27,10 +27,11 @@ def merged(tests, tables):
 def test_merge(tests):
     """Parts are the whole, whatever their number and order."""
     sweeps = [("a list", Made(43)), ("bytes and words", Made(17, 23, "flips")), ("all values", Made(3, 0, "all")),
-              ("one place", Made(1)), ("words that aren't loaded", Made(1, 40))]
+              ("one place", Made(1)), ("words that aren't loaded", Made(1, 40)),
+              ("bytes, words and steps", Made(5, 7, "flips", steps=30))]
     for label, made in sweeps:
         whole, chance = made.part(), random.Random(3)
-        for count in range(1, 51) if label in ("a list", "bytes and words") else (1, 2, 7, 50):
+        for count in range(1, 51) if label in ("a list", "bytes and words", "bytes, words and steps") else (1, 2, 7, 50):
             tables = [made.part(index, count) for index in range(1, count + 1)]
             chance.shuffle(tables)
             came = merged(tests, tables)
