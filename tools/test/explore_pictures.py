@@ -111,7 +111,7 @@ def test_made_steps(tests):
     tests.check("picture of steps: a goal", "" if len(reached) == 2 and "reaches the goal: a line that begins with `Invalid read`" in text
                 else (rects, text[:300]))
     rects, text = drawn(tests, Made(3, 5, "flips", steps=20))
-    wanted = ("0x00010004", "bit 31", "bits of pc, inverted", "skips: a column for each step", "a column for each place, a row for each value")
+    wanted = ("0x00010004", "bit 31", "bits of pc, inverted", "skips: a column for each step", "a column for each place, a row for each")
     tests.check("picture of steps: beside bytes and words", "" if all(it in text for it in wanted) and "input 1 " in text else text[:300])
     evil = made_steps(9, {5}, ERROR.replace("total", '<script>alert("x")</script>&'))
     rects, text = drawn(tests, evil)
