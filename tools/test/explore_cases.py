@@ -11,13 +11,15 @@ SUM = hashlib.sha256(b"").hexdigest()
 
 
 class Made:
-    """A sweep of so many bytes and words, each edit of which has an outcome by chance."""
+    """A sweep of so many bytes, words and steps, each edit of which has an outcome by chance."""
 
-    def __init__(self, places, words=0, values="3,5,7", seed=1, outcomes=OUTCOMES):
+    def __init__(self, places, words=0, values="3,5,7", seed=1, outcomes=OUTCOMES, steps=0):
         chance = random.Random(seed)
         self.head = [f"program 9 {SUM}", f"input {places} {SUM}", f"supp 0 {SUM}", f"bytes 0..{places - 1} {values}"]
         self.head += [f"words 0x00010000..0x{0x10000 + 4 * words - 1:08x} flips"] if words else []
+        self.head += [f"steps 0..{steps - 1} pc,skip"] if steps else []
         self.head += ["step 100", "output no"]
+        self.version = 2 if steps else 1
         self.outcomes = outcomes
         self.rows = []  # for each place its edits, each with an outcome
         for at in range(places):
@@ -29,13 +31,16 @@ class Made:
             at, was = 0x10000 + 4 * index, chance.getrandbits(32)
             edits = [(f"patch 0x{at:08x} 0x{was ^ 1 << bit:08x}", chance.randrange(len(outcomes))) for bit in range(32)]
             self.rows.append(edits if index % 3 else [])  # not each word is loaded
+        for step in range(steps):
+            edits = [f"skip {step}", *(f"flip {step} pc 0x{1 << bit:08x}" for bit in range(32))]
+            self.rows.append([(edit, chance.randrange(len(outcomes))) for edit in edits] if step % 4 else [])  # not each is at the code
 
     def part(self, index=1, count=1):
         """The table of a part."""
         size = len(self.rows)
         low, high = size * (index - 1) // count, size * index // count
         numbers = {self.outcomes[0]: 0}
-        lines = ["sweep 1", *self.head, f"part {index}/{count}", "outcome 0", self.outcomes[0], "unedited 0"]
+        lines = [f"sweep {self.version}", *self.head, f"part {index}/{count}", "outcome 0", self.outcomes[0], "unedited 0"]
         tallies = [0]
         edits = [it for place in self.rows[low:high] for it in place]
         for edit, index in edits:
@@ -66,7 +71,11 @@ WRONG_TABLES = [
     ("no end line", lambda it: it[:it.index(b"end ")], "no line `end ..`"),
     ("a line that is cut", lambda it: it[:-3], "the last line is cut"),
     ("cut amid the rows", lambda it: it[:it.index(b"input 1 ")], "no line `end ..`"),
-    ("another version", changed(b"sweep 1", b"sweep 2"), "unknown version: sweep 2"),
+    ("another version", changed(b"sweep 1", b"sweep 3"), "unknown version: sweep 3; this reads `sweep 1` and `sweep 2`"),
+    ("a version for steps", changed(b"sweep 1", b"sweep 2"), "`steps A..B MODELS`, as in each table of `sweep 2`, comes here"),
+    ("steps in the version before", changed(b"bytes 0..5", b"steps 0..5 skip\nbytes 0..5"),
+     "line 5: a line of `sweep 2` in a table of `sweep 1`: steps 0..5 skip"),
+    ("a line of the head that there is not", changed(b"step 100", b"places 5\nstep 100"), "`step N` comes here, and not places 5"),
     ("the form before this one", lambda it: b"#\tinput\tall\t9\tx\ty\t1:2\t\t0..1\t3\nunedited\t-\n",
      "replaycheck explore --table"),
     ("another file", lambda it: b"\x7fELF\x01\x1b[31m\n", "no table of a sweep: it begins with \\x7fELF\\x01\\x1b[31m"),
@@ -121,6 +130,26 @@ REFUSED = [
     ("values of bytes for words", ["p.elf", "--code=main", "--values=flips"], "--words-values"),
     ("values of words for bytes", ["p.elf", "--words-values=flips"], "goes with --words or --code"),
     ("two kinds of words", ["p.elf", "--code=main", "--words=0"], "at once"),
+    ("steps without models", ["p.elf", "--at=0..9"], "--at needs --faults, a list of skip, registers, pc, words, zero, ones"),
+    ("models without steps", ["p.elf", "--faults=skip"], "--faults goes with --at"),
+    ("a range of code without steps", ["p.elf", "--code-range=0..9"], "--code-range goes with --at"),
+    ("pairs without steps", ["p.elf", "--pairs=skip"], "--pairs goes with --at"),
+    ("an unknown model", ["p.elf", "--at=0", "--faults=skip,memory"],
+     "--faults: an unknown fault model: 'memory'; there are skip, registers, pc, words, zero, ones"),
+    ("a model twice", ["p.elf", "--at=0", "--faults=pc,skip,pc"], "a fault model twice"),
+    ("no model", ["p.elf", "--at=0", "--faults="], "an unknown fault model: ''"),
+    ("steps that are none", ["p.elf", "--at=9..5", "--faults=skip"], "no range: '9..5'"),
+    ("other pairs", ["p.elf", "--at=0", "--faults=skip", "--pairs=pc"], "invalid choice"),
+    ("a range of code without an end", ["p.elf", "--at=0", "--faults=skip", "--code-range=0x10000.."], "has an end"),
+    ("two ranges of code", ["p.elf", "--at=0", "--faults=skip", "--code=main", "--code-range=0..9"], "--code and --code-range at once"),
+    ("values of words for steps", ["p.elf", "--at=0", "--faults=skip", "--code=main", "--words-values=flips"],
+     "--words-values goes with --words or --code"),
+    ("values of bytes for steps", ["p.elf", "--at=0", "--faults=skip", "--values=flips"], "--values is for bytes"),
+    ("tables and steps", ["--from", "a", "--at=0", "--faults=skip"], "--from takes tables that are there: --at --faults makes them"),
+    ("steps from the end of the run on", ["use-after-free.elf", "--at=5000..", "--faults=skip"], "so there is no step to alter"),
+    ("steps beyond the step of the sweep", ["packet.elf", "--at=5..10", "--faults=skip", "--step=10"],
+     "--at 5..10: runs are compared at step 10, and alterations come before it: --step 11 or more"),
+    ("no function for steps", ["packet.elf", "--at=5..10", "--faults=skip", "--code=nothing"], "no such function"),
     ("no range", ["p.elf", "--bytes=5..x"], "no range: '5..x'"), ("a range backwards", ["p.elf", "--bytes=5..3"], "no range"),
     ("words without an end", ["p.elf", "--words=0x10000.."], "has an end"),
     ("a value twice", ["p.elf", "--values=1,2,1"], "a number twice"), ("a value of 256", ["p.elf", "--values=256"], "from 256 on"),

@@ -3,7 +3,8 @@ import re
 import time
 import xml.etree.ElementTree
 
-from explore_cases import ERROR, Made, changed
+from explore_cases import ERROR, SUM, Made, changed
+from replaycheck.exploring.steps import edits_of
 
 
 def drawn(tests, made, words=()):
@@ -53,6 +54,91 @@ def test_picture(tests):
     rects, text = drawn(tests, evil)
     tests.check("picture: a script in a name", "" if "&lt;script&gt;" in text and "<script" not in text else text[:300])
     tests.check("picture: the colour-blind", close_colours(text))
+
+
+# ---- pictures of steps
+
+
+def made_steps(count, bad=(), outcome=ERROR, model="skip"):
+    """The table of a sweep of so many steps, of which some have an outcome of their own."""
+    edits = [edit for at in range(count) for edit in edits_of(model, at, None)]
+    is_bad = [int(it.split(" ")[1]) in bad and not it.endswith("x5 0xffffffff") for it in edits]
+    lines = ["sweep 2", f"program 9 {SUM}", f"input 0 {SUM}", f"supp 0 {SUM}", f"steps 0..{count - 1} {model}", f"step {count}",
+             "output no", "part 1/1", "outcome 0", "exited 0", "unedited 0"]
+    first = is_bad.index(True) if bad else len(edits)
+    for index, (edit, is_one) in enumerate(zip(edits, is_bad)):
+        lines += ["outcome 1", f"exited 0\n{outcome}"] * (index == first)
+        lines.append(f"{edit} {int(is_one)}")
+    tallies = [len(edits) - sum(is_bad)] + [sum(is_bad)] * bool(bad)
+    lines += [f"tally {number} {tally}" for number, tally in enumerate(tallies)] + [f"end {len(edits)} {len(tallies)} 1"]
+    return "".join(f"{line}\n" for line in lines).encode()
+
+
+def overlaps(rects):
+    """Two rectangles of one row that share a place."""
+    rows = {}
+    for it in sorted(rects, key=lambda it: (it[2], it[1])):
+        before = rows.get(it[2])
+        if before and before[1] + before[3] > it[1] + 0.01:
+            return before, it
+        rows[it[2]] = it
+    return None
+
+
+def test_made_steps(tests):
+    """From one step to 100,000: all are drawn, runs of equal cells are one rectangle, and the worst is seen."""
+    for count in (1, 40, 400, 100000):
+        rects, text = drawn(tests, made_steps(count, {count // 2}))
+        marks = [it for it in rects if it[0].startswith("n")]
+        wide = sum(it[3] for it in rects)
+        is_well = len(rects) == min(3, count) and len(marks) == 1 and marks[0][3] >= 3 and min(24, 960 // min(count, 320)) * min(
+            count, 320) - 2 * 3 <= wide <= 963 and not overlaps(rects)
+        tests.check(f"picture of steps: {count} skips", "" if is_well else (rects, text[:300]))
+        named = f"skip {count // 2}\n1: exited 0; Invalid read of size 1"
+        tests.check(f"picture of steps: {count} skips, the title", "" if marks and named in marks[0][5] else marks)
+        shared = f"{count} steps share 320 columns, and the worst is seen" in text
+        tests.check(f"picture of steps: {count} skips, what shares a column", shared != (count > 320))
+    rects, text = drawn(tests, made_steps(700, set(range(300, 400)), model="ones"))
+    marks, rows = [it for it in rects if it[0].startswith("n")], {it[2] for it in rects}
+    is_well = len(rows) == 31 and len(marks) == 30 and len(rects) == 30 * 3 + 1 and not overlaps(rects)
+    tests.check("picture of steps: registers", "" if is_well else (len(rows), len(marks), len(rects)))
+    names = [f">{it}</text>" in text for it in ("ra", "sp", "a0", "t6")]
+    tests.check("picture of steps: registers, their names", "" if all(names) else text[:300])
+    first = f"steps {-(-137 * 700 // 320)} to "
+    tests.check("picture of steps: registers, the title", "" if marks and marks[0][5].startswith(first) else marks[:1])
+    rects, text = drawn(tests, made_steps(40, {3, 4, 20}), ["--goal=Invalid read"])
+    reached = [it for it in rects if it[0] == "g"]
+    tests.check("picture of steps: a goal", "" if len(reached) == 2 and "reaches the goal: a line that begins with `Invalid read`" in text
+                else (rects, text[:300]))
+    rects, text = drawn(tests, Made(3, 5, "flips", steps=20))
+    wanted = ("0x00010004", "bit 31", "bits of pc, inverted", "skips: a column for each step", "a column for each place, a row for each")
+    tests.check("picture of steps: beside bytes and words", "" if all(it in text for it in wanted) and "input 1 " in text else text[:300])
+    evil = made_steps(9, {5}, ERROR.replace("total", '<script>alert("x")</script>&'))
+    rects, text = drawn(tests, evil)
+    tests.check("picture of steps: a script in a name", "" if "&lt;script&gt;" in text and "<script" not in text else text[:300])
+    tests.check("picture of steps: the colour-blind", close_colours(text))
+    tests.check("picture of steps: both kinds of pages", "prefers-color-scheme:dark" not in text)
+
+
+def test_swept_steps(tests):
+    """Of a program: instructions and functions are named."""
+    table = tests.sweep("boot.elf", "--input=boot.input", "--at=1260..1299", "--faults=skip,registers,words,pc", "--step=2000")
+    rects, text = drawn(tests, table, ["boot.elf", "--input=boot.input", "--goal=exited 0"])
+    for label, wanted in (("a panel", "bits of the instruction, inverted for this step only"), ("a row's name", ">0x0001023c</text>"),
+                          ("an instruction", ">verify+0x20"), ("a function", "<title>checksum_of</title>"),
+                          ("a skip", "execution 1 of 0x0001023c: skip 1274: verify+0x20"), ("a register", "steps 1275 to 1279, a0: flip ")):
+        tests.check(f"picture of steps: {label}", "" if wanted in text else text[:600])
+    tests.check("picture of steps: no cell twice", overlaps(rects))
+    few, text = drawn(tests, table)
+    is_well = few and "verify+0x20" not in text and ">left out</text>" in text
+    tests.check("picture of steps: without the file", "" if is_well else text[:300])
+    table = tests.sweep("boot-twice.elf", "--input=boot.input", "--at=2495..2510", "--faults=skip", "--pairs=skip", "--step=4000")
+    rects, text = drawn(tests, table, ["boot-twice.elf", "--input=boot.input", "--goal=exited 0"])
+    pairs = [it for it in rects if re.match(r"first steps? \d+", it[5])]
+    cells = sum(int(round(it[3] / 24 + 0.5)) for it in pairs)
+    wanted = table.count(b"\nskip ") - len(re.findall(rb"\nskip \d+ \d", table))
+    tests.check("picture of steps: pairs", "" if cells == wanted > 50 and not overlaps(pairs) else (cells, wanted))
+    tests.check("picture of steps: a pair", "" if "first step 2497, second step 2505: skip 2497; skip 2505" in text else text[:300])
 
 
 def close_colours(text):

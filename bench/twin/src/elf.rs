@@ -1,6 +1,12 @@
-//! The memory that an ELF file asks for (System V ABI, edition 4.1, chapters 4 and 5), and where its program begins.
+//! The memory that an ELF file asks for (System V ABI, edition 4.1, chapters 4 and 5), where its program begins, and what its functions
+//! are called.
 
 const LOAD: u32 = 1;
+/// The type of a section that is the symbol table, and that of a symbol that is a function.
+const SYMBOLS: u32 = 2;
+const FUNCTION: u8 = 2;
+
+const NO_NAME: &[u8] = b"???";
 
 /// Bytes that are loaded at an address, and how many bytes they have in memory; those after them are 0.
 pub struct Segment {
@@ -9,26 +15,34 @@ pub struct Segment {
     pub len: u32,
 }
 
+/// A function of the symbol table.
+pub struct Symbol {
+    pub start: u32,
+    /// How many bytes it has; 0 where that isn't known.
+    pub len: u32,
+    pub name: Vec<u8>,
+}
+
 pub struct Image {
     pub segments: Vec<Segment>,
     pub entry: u32,
+    /// In the order of the table.
+    pub functions: Vec<Symbol>,
 }
 
 impl Image {
     /// Returns the image of a file for RV32; `None` if a segment or a header lies outside of the file. Nothing else is checked.
     pub fn of(file: &[u8]) -> Option<Image> {
-        let half = |at: usize| Some(u16::from_le_bytes(*file.get(at..)?.first_chunk()?));
-        let word = |at: usize| Some(u32::from_le_bytes(*file.get(at..)?.first_chunk()?));
-        let (table, size, count) = (word(28)? as usize, half(42)? as usize, half(44)? as usize);
+        let (table, size, count) = (word(file, 28)? as usize, half(file, 42)? as usize, half(file, 44)? as usize);
         let mut segments = Vec::new();
         for header in (0..count).map(|i| table + size * i) {
-            if word(header)? == LOAD {
-                let (offset, start) = (word(header + 4)? as usize, word(header + 8)?);
-                let bytes = file.get(offset..offset + word(header + 16)? as usize)?.to_vec();
-                segments.push(Segment { start, bytes, len: word(header + 20)? });
+            if word(file, header)? == LOAD {
+                let (offset, start) = (word(file, header + 4)? as usize, word(file, header + 8)?);
+                let bytes = file.get(offset..offset + word(file, header + 16)? as usize)?.to_vec();
+                segments.push(Segment { start, bytes, len: word(file, header + 20)? });
             }
         }
-        Some(Image { segments, entry: word(24)? })
+        Some(Image { segments, entry: word(file, 24)?, functions: functions(file)? })
     }
 
     /// Whether an address is that of a word, all of whose bytes are loaded.
@@ -36,4 +50,40 @@ impl Image {
         let is_loaded = |addr: u32| self.segments.iter().any(|it| addr.wrapping_sub(it.start) < it.len);
         addr % 4 == 0 && (addr..=addr | 3).all(is_loaded)
     }
+
+    /// The name of the function at an address: that of the nearest symbol at it or below, the first of equals.
+    pub fn name_of(&self, addr: u32) -> &[u8] {
+        let mut nearest: Option<&Symbol> = None;
+        for it in &self.functions {
+            if it.start <= addr && nearest.is_none_or(|other| it.start > other.start) {
+                nearest = Some(it);
+            }
+        }
+        nearest.filter(|it| it.len == 0 || addr - it.start < it.len).map_or(NO_NAME, |it| &it.name)
+    }
+}
+
+fn half(file: &[u8], at: usize) -> Option<u16> {
+    Some(u16::from_le_bytes(*file.get(at..)?.first_chunk()?))
+}
+
+fn word(file: &[u8], at: usize) -> Option<u32> {
+    Some(u32::from_le_bytes(*file.get(at..)?.first_chunk()?))
+}
+
+/// The functions of the first symbol table, if there is one: those that are defined and have a name.
+fn functions(file: &[u8]) -> Option<Vec<Symbol>> {
+    let (table, size, count) = (word(file, 32)? as usize, half(file, 46)? as usize, half(file, 48)? as usize);
+    let sections = if table == 0 { 0 } else { count };
+    let Some(header) = (0..sections).map(|i| table + size * i).find(|at| word(file, at + 4) == Some(SYMBOLS)) else {
+        return Some(Vec::new());
+    };
+    let section = |header: usize| file.get(word(file, header + 16)? as usize..)?.get(..word(file, header + 20)? as usize);
+    let strings = section(table + size * word(file, header + 24)? as usize)?;
+    let symbol = |entry: &[u8]| {
+        let name = strings.get(word(entry, 0)? as usize..)?.split(|byte| *byte == 0).next()?.to_vec();
+        let is_named = entry[12] & 0xF == FUNCTION && half(entry, 14)? != 0 && !name.is_empty();
+        is_named.then_some(Symbol { start: word(entry, 4)?, len: word(entry, 8)?, name })
+    };
+    Some(section(header)?.chunks_exact(16).filter_map(symbol).collect())
 }

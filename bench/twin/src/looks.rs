@@ -104,7 +104,7 @@ fn go_on(machine: &mut Machine) {
 
 /// How many errors a machine has raised.
 fn raised(machine: &Machine) -> u64 {
-    machine.errors.values().sum()
+    machine.errors.total()
 }
 
 /// The undefined bits of each byte of a range, and nothing of one that may not be accessed.

@@ -2,9 +2,12 @@
 //! (Seward and Nethercote, "Using Valgrind to detect undefined value errors with bit-precision", USENIX 2005, section 2.4).
 
 use crate::elf::{Image, Segment};
+use crate::errors::{Errors, Kind};
+use crate::heap::Heap;
 use crate::looks::Access;
 use crate::memory::{Memory, RangeKind};
-use std::collections::{BTreeMap, HashMap};
+use crate::stack::Stack;
+use std::collections::BTreeMap;
 use std::rc::Rc;
 
 /// A word, and which of its bits are undefined.
@@ -15,7 +18,7 @@ pub struct Bits {
 }
 
 /// A word with no undefined bit.
-fn known(value: u32) -> Bits {
+pub fn known(value: u32) -> Bits {
     Bits { value, undef: 0 }
 }
 
@@ -30,30 +33,19 @@ pub enum Status {
     Misaligned,
 }
 
-/// What an error is.
-#[derive(Clone, Copy, Debug, PartialEq, Eq, Hash)]
-pub enum Kind {
-    Read(u8),
-    Write(u8),
-    Value,
-    Cond,
-    Parameter(u8),
-    Buffer,
-    Jump,
-}
-
 pub struct Machine {
     pub memory: Memory,
     pub registers: [Bits; 32],
     pub pc: u32,
     pub status: Status,
-    /// How many errors there are of each kind at each instruction.
-    pub errors: HashMap<(Kind, u32), u64>,
-    /// The address of the first of these, where one has an address.
-    pub addresses: HashMap<(Kind, u32), u32>,
+    pub stack: Stack,
+    pub heap: Heap,
+    pub errors: Errors,
     pub input: Rc<[u8]>,
     /// How many bytes of the input it has read.
     pub position: usize,
+    /// How many bytes it has written.
+    pub output: u32,
 }
 
 /// Where the stack pointer points at the start, at sixteen bytes that may be used.
@@ -63,26 +55,12 @@ const STACK_ROOM: u32 = 16;
 const LARGEST_FRAME: u32 = 2_000_000;
 
 const STACK_POINTER: usize = 2;
-const A0: usize = 10;
-const A1: usize = 11;
-const A2: usize = 12;
-const A7: usize = 17;
 
 /// The opcodes of loads and stores.
 const LOAD: u32 = 0x03;
 const STORE: u32 = 0x23;
 
 const ECALL: u32 = 0x0000_0073;
-const READ: u32 = 63;
-const EXIT: u32 = 93;
-const EXIT_GROUP: u32 = 94;
-/// What a call answers that is not known: ENOSYS negated.
-const NO_SUCH_CALL: u32 = u32::MAX - 37;
-/// What `read` answers for a descriptor that isn't that of the input: EBADF negated.
-const BAD_DESCRIPTOR: u32 = u32::MAX - 8;
-/// The most bytes that one call reads.
-const MOST_READ: u32 = 4096;
-
 /// The bits `high` down to `low` of a word.
 fn field(word: u32, high: u32, low: u32) -> u32 {
     (word >> low) & (u32::MAX >> (31 - high + low))
@@ -182,6 +160,11 @@ fn wide(funct3: u32, x: Bits, y: Bits) -> Bits {
     Bits { value, undef: if x.undef | y.undef == 0 { 0 } else { u32::MAX } }
 }
 
+/// Whether a register holds return addresses (RISC-V Unprivileged ISA, section 2.5).
+fn is_link(r: u32) -> bool {
+    r == 1 || r == 5
+}
+
 /// A defined address in the stack region, its end included.
 fn is_stack_pointer(bits: Bits) -> bool {
     bits.undef == 0 && (0x7F00_0000..=0x8000_0000).contains(&bits.value)
@@ -192,7 +175,7 @@ impl Machine {
     pub fn start(at: u32, words: &[u32], memsz: u32) -> Machine {
         let bytes = words.iter().flat_map(|word| word.to_le_bytes()).collect();
         let segments = vec![Segment { start: at, bytes, len: memsz }];
-        Machine::of(&Image { segments, entry: at }, &BTreeMap::new(), Rc::default())
+        Machine::of(&Image { segments, entry: at, functions: Vec::new() }, &BTreeMap::new(), Rc::default())
     }
 
     /// The machine before the first step of a program, in which some words are others, and which reads an input.
@@ -210,30 +193,49 @@ impl Machine {
         memory.set_range(STACK_START, STACK_ROOM, RangeKind::Defined);
         let mut registers = [known(0); 32];
         registers[STACK_POINTER] = known(STACK_START);
-        let (errors, addresses) = (HashMap::new(), HashMap::new());
-        Machine { memory, registers, pc: image.entry, status: Status::Running, errors, addresses, input, position: 0 }
+        Machine {
+            memory,
+            registers,
+            pc: image.entry,
+            status: Status::Running,
+            stack: Stack::default(),
+            heap: Heap::of(image),
+            errors: Errors::default(),
+            input,
+            position: 0,
+            output: 0,
+        }
+    }
+
+    /// Becomes what another machine is. Pages are shared until one of the two writes them.
+    pub fn become_copy_of(&mut self, other: &Machine) {
+        self.memory.become_copy_of(&other.memory);
+        self.registers = other.registers;
+        (self.pc, self.status) = (other.pc, other.status);
+        self.stack.clone_from(&other.stack);
+        self.heap.clone_from(&other.heap);
+        self.errors.clone_from(&other.errors);
+        (self.position, self.output) = (other.position, other.output);
     }
 
     #[cold]
     #[inline(never)]
-    fn raise(&mut self, kind: Kind) {
-        let count = self.errors.entry((kind, self.pc)).or_insert(0);
-        *count = count.saturating_add(1);
+    pub fn raise(&mut self, kind: Kind) {
+        self.errors.raise(kind, self.stack.trace(self.pc), None);
     }
 
-    /// The same with the first inaccessible address.
+    /// The same with the address at fault.
     #[cold]
     #[inline(never)]
-    fn raise_at(&mut self, kind: Kind, bad: u32) {
-        self.addresses.entry((kind, self.pc)).or_insert(bad);
-        self.raise(kind);
+    pub fn raise_at(&mut self, kind: Kind, address: u32) {
+        self.errors.raise(kind, self.stack.trace(self.pc), Some(address));
     }
 
-    fn register(&self, r: u32) -> Bits {
+    pub fn register(&self, r: u32) -> Bits {
         self.registers[r as usize % 32]
     }
 
-    fn set(&mut self, r: u32, bits: Bits) {
+    pub fn set(&mut self, r: u32, bits: Bits) {
         if r != 0 {
             self.registers[r as usize % 32] = bits;
         }
@@ -241,7 +243,7 @@ impl Machine {
 
     /// Tests that a register is defined, and makes it so.
     #[inline(always)]
-    fn test(&mut self, r: u32, kind: Kind) {
+    pub fn test(&mut self, r: u32, kind: Kind) {
         if self.register(r).undef != 0 {
             self.raise(kind);
             self.set(r, known(self.register(r).value));
@@ -381,59 +383,21 @@ impl Machine {
         true
     }
 
-    /// JAL and JALR, to an address.
+    /// JAL and JALR, to an address: a call, a return or neither, by its link register and by the one that JALR goes by.
     #[inline(always)]
-    fn linked_jump(&mut self, word: u32, to: u32) -> bool {
-        let link = self.pc.wrapping_add(4);
+    fn linked_jump(&mut self, word: u32, by: u32, to: u32) -> bool {
+        let (site, link, rd) = (self.pc, self.pc.wrapping_add(4), field(word, 11, 7));
         if self.jump(to) {
-            self.set(field(word, 11, 7), known(link));
+            let (returns, calls) = (is_link(by), is_link(rd));
+            if returns && !(calls && by == rd) {
+                self.stack.leave(to);
+            }
+            if calls {
+                self.stack.enter(site, link);
+            }
+            self.set(rd, known(link));
         }
         false
-    }
-
-    /// ECALL: `read`, `exit` and `exit_group`; each other call answers that there is none.
-    #[cold]
-    #[inline(never)]
-    fn call(&mut self) -> bool {
-        let number = self.registers[A7].value;
-        self.test(A7 as u32, Kind::Parameter(A7 as u8));
-        match number {
-            EXIT | EXIT_GROUP => {
-                self.test(A0 as u32, Kind::Parameter(A0 as u8));
-                self.status = Status::Exited(self.registers[A0].value as u8);
-                return false;
-            }
-            READ => self.read(),
-            _ => self.registers[A0] = known(NO_SUCH_CALL),
-        }
-        true
-    }
-
-    /// `read`: the buffer is tested for as many bytes as may come, and takes those that do, with no undefined bits.
-    fn read(&mut self) {
-        for r in [A0, A1, A2] {
-            self.test(r as u32, Kind::Parameter(r as u8));
-        }
-        if self.registers[A0].value != 0 {
-            self.registers[A0] = known(BAD_DESCRIPTOR);
-            return;
-        }
-        let (start, count) = (self.registers[A1].value, self.registers[A2].value.min(MOST_READ));
-        let places = (0..count).map(|i| start.wrapping_add(i));
-        if let Some(bad) = places.clone().find(|addr| self.memory.load::<1>(*addr).bad.is_some()) {
-            self.raise_at(Kind::Buffer, bad);
-        }
-        let given = self.given();
-        for (addr, byte) in places.zip(&self.input[self.position..self.position + given]) {
-            self.memory.store::<1>(addr, (*byte).into(), 0);
-        }
-        self.position += given;
-        self.registers[A0] = known(given as u32);
-    }
-
-    /// How many bytes `read` gives, by its count and by what is left of the input.
-    fn given(&self) -> usize {
-        (self.registers[A2].value.min(MOST_READ) as usize).min(self.input.len() - self.position)
     }
 
     /// Carries a word out, and says whether the next instruction is the one at `pc + 4`.
@@ -442,12 +406,12 @@ impl Machine {
         match word & 0x7F {
             0x37 => self.set(field(word, 11, 7), known(word & 0xFFFF_F000)),
             0x17 => self.set(field(word, 11, 7), known(self.pc.wrapping_add(word & 0xFFFF_F000))),
-            0x6F => return self.linked_jump(word, self.pc.wrapping_add(imm_j(word))),
+            0x6F => return self.linked_jump(word, 0, self.pc.wrapping_add(imm_j(word))),
             0x67 if field(word, 14, 12) == 0 => {
                 let rs1 = field(word, 19, 15);
                 let to = self.register(rs1).value.wrapping_add(imm_i(word)) & !1;
                 self.test(rs1, Kind::Value);
-                return self.linked_jump(word, to);
+                return self.linked_jump(word, rs1, to);
             }
             0x63 => return self.branch(word),
             LOAD => match field(word, 14, 12) {
@@ -484,6 +448,10 @@ impl Machine {
             self.status = Status::Misaligned;
             return;
         }
+        if let Some(function) = self.heap.function_at(self.pc) {
+            self.call_by_name(function);
+            return;
+        }
         let word = self.memory.load::<4>(self.pc);
         if let Some(bad) = word.bad {
             self.raise_at(Kind::Jump, bad);
@@ -515,9 +483,7 @@ impl Machine {
                 Some((Access::Read, base.wrapping_add(imm_i(word)), 1 << (funct3 % 4)))
             }
             STORE if funct3 < 3 => Some((Access::Write, base.wrapping_add(imm_s(word)), 1 << funct3)),
-            _ if word == ECALL && self.registers[A7].value == READ && self.registers[A0].value == 0 => {
-                Some((Access::Write, self.registers[A1].value, self.given() as u32))
-            }
+            _ if word == ECALL => self.read_access(),
             _ => None,
         }
     }

@@ -1,20 +1,33 @@
 //! A plain interpreter of RV32IM with accessible and undefined bits: what a step costs where nothing is proved. It runs the loop
 //! that `bench/run` gives the program too, and prints where it leads; or a program of words from a file, and prints where it is after them,
-//! or answers looks at its run, or tells whether noise changes it. Of an ELF file it answers the lines of a session that looks.
+//! or answers looks at its run, or tells whether noise changes it. Of an ELF file it answers the lines of a session that looks, or writes
+//! the table of a sweep of alterations at steps.
 
+mod calls;
 mod changes;
 mod elf;
+mod errors;
+mod hash;
+mod heap;
+mod leaks;
 mod looks;
 mod machine;
 mod memory;
+mod models;
 mod noise;
+mod outline;
+mod request;
 mod session;
+mod stack;
+mod suppressions;
+mod sweep;
 #[cfg(test)]
 mod tests;
 
 use elf::Image;
 use looks::Run;
 use machine::{Machine, Status};
+use request::Request;
 use session::Session;
 use std::collections::BTreeMap;
 use std::time::Instant;
@@ -29,6 +42,9 @@ const MEMORY: u32 = 0x2000;
 
 fn main() {
     let words: Vec<String> = std::env::args().skip(1).collect();
+    if words.first().is_some_and(|word| word == "sweep") {
+        std::process::exit(sweep_of(&words[1..]));
+    }
     let number = |at: usize| words.get(at).and_then(|word| word.parse().ok());
     match (words.len(), number(0), number(1)) {
         (3, None, Some(memory)) if words[0] == "looks" => match std::fs::read(&words[2]) {
@@ -50,8 +66,21 @@ fn main() {
         },
         _ => println!(
             "usage: twin STEPS | twin STEPS MEMORY FILE | twin looks MEMORY FILE | twin clean STEPS MEMORY FILE \
-             | twin session PROGRAM [INPUT]"
+             | twin session PROGRAM [INPUT] | twin sweep PROGRAM --at A..B --faults LIST [--code-range LO..HI] [--pairs skip] \
+             [--step N] [--input F] [--supp F] [--with-output] [--part I/N]"
         ),
+    }
+}
+
+/// Writes the table of a sweep, and answers the exit status.
+fn sweep_of(words: &[String]) -> i32 {
+    let out = std::io::BufWriter::new(std::io::stdout().lock());
+    match Request::of(words).and_then(|request| sweep::sweep(&request, out)) {
+        Ok(()) => 0,
+        Err(fault) => {
+            eprintln!("twin: {fault}");
+            2
+        }
     }
 }
 
@@ -90,14 +119,14 @@ fn make(machine: &mut Machine, steps: u64) -> u64 {
 }
 
 /// Makes so many steps of a program whose words are the bytes of a file, in so many bytes of memory, and prints the state, and each
-/// error: its kind, its instruction, how often it came, and its first address.
+/// error: its instruction, how often it came, its first address or `-`, and its text.
 fn tell(steps: u64, memory: u32, bytes: &[u8]) {
     let mut machine = Machine::start(PROGRAM_START, &words_of(bytes), memory);
     make(&mut machine, steps);
     println!("{:?} {:#010x}", machine.status, machine.pc);
-    for (error, count) in &machine.errors {
-        let address = machine.addresses.get(error).map_or(String::new(), |address| format!(" {address:#010x}"));
-        println!("{:?} {:#010x} {count}{address}", error.0, error.1);
+    for ((kind, pc), (count, address)) in machine.errors.by_place() {
+        let address = address.map_or("-".to_string(), |address| format!("{address:#010x}"));
+        println!("{pc:#010x} {count} {address} {}", kind.text());
     }
 }
 
@@ -119,7 +148,8 @@ fn compare_with_noise(steps: u64, memory: u32, bytes: &[u8]) {
         println!("clean {step} {}", told(step));
     }
     if let Some(kind) = first_use {
-        println!("use {kind:?} {}", told(steps));
+        let kind = format!("{kind:?}");
+        println!("use {} {}", kind.split('(').next().unwrap_or_default(), told(steps));
     }
 }
 

@@ -1,5 +1,7 @@
 //! The guest's memory: a flat table of pages, each with a byte, an accessible flag and the undefined bits of every address.
 
+use std::rc::Rc;
+
 const PAGE: usize = 4096;
 const PAGES: usize = 1 << 20;
 
@@ -7,13 +9,14 @@ const PAGES: usize = 1 << 20;
 const ACCESSIBLE: u8 = 0xFF;
 
 /// What a range of bytes is made.
-#[derive(Clone, Copy)]
+#[derive(Clone, Copy, Debug)]
 pub enum RangeKind {
     NoAccess,
     Undefined,
     Defined,
 }
 
+#[derive(Clone)]
 struct Page {
     bytes: [u8; PAGE],
     accessible: [u8; PAGE],
@@ -29,7 +32,9 @@ pub struct Loaded {
 }
 
 pub struct Memory {
-    pages: Box<[Option<Box<Page>>; PAGES]>,
+    pages: Box<[Option<Rc<Page>>; PAGES]>,
+    /// The numbers of the pages that there are.
+    used: Vec<usize>,
 }
 
 /// The page of an address, and the place in it.
@@ -47,14 +52,39 @@ fn number<const N: usize>(bytes: &[u8; N]) -> u32 {
 impl Memory {
     /// Every byte is 0 and inaccessible.
     pub fn new() -> Memory {
-        let pages: Vec<Option<Box<Page>>> = (0..PAGES).map(|_| None).collect();
+        let pages: Vec<Option<Rc<Page>>> = (0..PAGES).map(|_| None).collect();
         let pages = pages.into_boxed_slice().try_into().ok();
-        Memory { pages: pages.expect("the table has this length") }
+        Memory { pages: pages.expect("the table has this length"), used: Vec::new() }
     }
 
-    /// The page of a number, made where there is none.
+    /// Holds what another memory holds. Pages are shared until one of the two writes them.
+    pub fn become_copy_of(&mut self, other: &Memory) {
+        for number in self.used.drain(..) {
+            self.pages[number] = None;
+        }
+        for number in &other.used {
+            self.pages[*number].clone_from(&other.pages[*number]);
+        }
+        self.used.clone_from(&other.used);
+    }
+
+    /// The page of a number, made where there is none, which no other memory shares.
     fn page(&mut self, number: usize) -> &mut Page {
-        self.pages[number].get_or_insert_with(|| Box::new(Page { bytes: [0; PAGE], accessible: [0; PAGE], undef: [0; PAGE] }))
+        if self.pages[number].is_none() {
+            self.used.push(number);
+        }
+        let empty = || Rc::new(Page { bytes: [0; PAGE], accessible: [0; PAGE], undef: [0; PAGE] });
+        Rc::make_mut(self.pages[number].get_or_insert_with(empty))
+    }
+
+    /// The values of the words at the multiples of 4 all of whose bytes are accessible and defined, each with its address.
+    pub fn words(&self) -> impl Iterator<Item = (u32, u32)> {
+        let words = |number: &usize| (number * PAGE..(number + 1) * PAGE).step_by(4).map(|at| at as u32);
+        let defined = |addr: u32| {
+            let loaded = self.load::<4>(addr);
+            (loaded.bad.is_none() && loaded.undef == 0).then_some((addr, loaded.value))
+        };
+        self.used.iter().flat_map(words).filter_map(defined)
     }
 
     /// The N bytes at an address (modulo 2^32); N is 1, 2 or 4.
@@ -104,6 +134,7 @@ impl Memory {
         {
             let accessible: &[u8; N] = page.accessible[at..at + N].try_into().unwrap();
             if *accessible == [ACCESSIBLE; N] {
+                let page = Rc::make_mut(page);
                 page.bytes[at..at + N].copy_from_slice(&value.to_le_bytes()[..N]);
                 page.undef[at..at + N].copy_from_slice(&undef.to_le_bytes()[..N]);
                 return None;

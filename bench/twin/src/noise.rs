@@ -1,7 +1,8 @@
 //! Runs with noise: before each step, undefined bits of registers, and what undefined and inaccessible bytes hold, become others by
 //! chance. A run that has made no use of them must go the same way.
 
-use crate::machine::{Kind, Machine, Status};
+use crate::errors::Kind;
+use crate::machine::{Machine, Status};
 
 /// A generator of numbers by chance (xorshift, Marsaglia 2003), the same ones for the same seed.
 pub struct Noise {
@@ -46,7 +47,7 @@ fn is_use(kind: Kind) -> bool {
 }
 
 fn has_use(machine: &Machine) -> bool {
-    machine.errors.keys().any(|(kind, _)| is_use(*kind))
+    machine.errors.kinds().any(is_use)
 }
 
 /// A machine after so many steps, disturbed before each of them where there is noise.
@@ -73,7 +74,7 @@ pub fn clean_steps(start: &impl Fn() -> Machine, most: u64) -> (u64, Option<Kind
         }
         machine.step();
         if has_use(&machine) {
-            return (step, machine.errors.keys().map(|(kind, _)| *kind).find(|kind| is_use(*kind)));
+            return (step, machine.errors.kinds().find(|kind| is_use(*kind)));
         }
     }
     (most, None)
@@ -87,8 +88,6 @@ pub fn is_same(start: &impl Fn() -> Machine, steps: u64, seeds: &[u64]) -> (bool
 
 /// What a report tells of a machine: its state, and its errors with their addresses.
 fn shown(machine: &Machine) -> (Status, u32, Vec<String>) {
-    let error = |(key, count)| format!("{key:?} {count} {:?}", machine.addresses.get(key));
-    let mut errors: Vec<String> = machine.errors.iter().map(error).collect();
-    errors.sort();
-    (machine.status, machine.pc, errors)
+    let errors = machine.errors.by_place();
+    (machine.status, machine.pc, errors.iter().map(|(place, found)| format!("{place:?} {found:?}")).collect())
 }

@@ -1,10 +1,17 @@
 //! What the twin knows of accessible and undefined bits and of changes at a step, by hand.
 
 use crate::changes::{Change, Place};
-use crate::elf::{Image, Segment};
-use crate::machine::{Bits, Kind, Machine, Status};
+use crate::elf::{Image, Segment, Symbol};
+use crate::errors::Kind;
+use crate::hash::sha256;
+use crate::leaks::{self, LeakKind};
+use crate::machine::{Bits, Machine, Status};
 use crate::memory::RangeKind;
+use crate::request::Request;
 use crate::session::Session;
+use crate::suppressions::{self, Target};
+use std::collections::BTreeMap;
+use std::rc::Rc;
 
 const START: u32 = 0x0001_0000;
 
@@ -25,7 +32,7 @@ fn a_frame_is_undefined_and_a_branch_on_it_is_an_error() {
     assert_eq!((loaded.registers[5].value, loaded.registers[5].undef), (0, 0xFF));
     assert_eq!(after(&words, 3).registers[6].undef, 0xF);
     let branched = after(&words, 4);
-    assert_eq!(branched.errors.get(&(Kind::Cond, START + 12)), Some(&1));
+    assert_eq!(branched.errors.at(Kind::Cond, START + 12), 1);
     assert_eq!((branched.pc, branched.registers[6].undef), (START + 20, 0));
 }
 
@@ -35,9 +42,9 @@ fn a_sum_carries_and_a_defined_bit_decides_equality() {
     let words = [0xFF01_0113, 0x0031_4283, 0x0102_F293, 0x0052_8333, 0x4050_03B3, 0x1002_E293, 0x0002_8463, 0x0002_C463];
     let machine = after(&words, 7);
     assert_eq!((machine.registers[6].undef, machine.registers[7].undef), (0x30, 0xFFFF_FFF0));
-    assert_eq!((machine.registers[5].undef, machine.errors.len()), (0x10, 0));
+    assert_eq!((machine.registers[5].undef, machine.errors.total()), (0x10, 0));
     let compared = after(&words, 8);
-    assert_eq!(compared.errors.get(&(Kind::Cond, START + 28)), Some(&1));
+    assert_eq!(compared.errors.at(Kind::Cond, START + 28), 1);
     assert_eq!(compared.registers[5].undef, 0);
 }
 
@@ -47,8 +54,8 @@ fn an_inaccessible_byte_takes_its_value_and_loads_as_defined() {
     let words = [0x0002_02B7, 0xFFF0_0313, 0x0062_80A3, 0x0002_D383];
     let machine = after(&words, 4);
     assert_eq!((machine.registers[7].value, machine.registers[7].undef), (0xFF00, 0));
-    assert_eq!(machine.errors.get(&(Kind::Write(1), START + 8)), Some(&1));
-    assert_eq!(machine.errors.get(&(Kind::Read(2), START + 12)), Some(&1));
+    assert_eq!(machine.errors.at(Kind::Write(1), START + 8), 1);
+    assert_eq!(machine.errors.at(Kind::Read(2), START + 12), 1);
 }
 
 #[test]
@@ -57,7 +64,7 @@ fn a_jump_away_stops_at_the_first_inaccessible_byte() {
     let machine = after(&[0x0000_20EF], 2);
     assert!(machine.status == Status::Jump);
     assert_eq!((machine.pc, machine.registers[1].value), (START + 0x2000, START + 4));
-    assert_eq!(machine.errors.get(&(Kind::Jump, START + 0x2000)), Some(&1));
+    assert_eq!(machine.errors.at(Kind::Jump, START + 0x2000), 1);
 }
 
 /// A machine before its first step, of a program without an end: jal x0,0.
@@ -120,7 +127,7 @@ fn a_machine_that_has_ended_takes_marks_only() {
 /// A session on the program that waits, whose segment has so many bytes.
 fn session(len: u32) -> Session {
     let segments = vec![Segment { start: START, bytes: 0x6Fu32.to_le_bytes().to_vec(), len }];
-    Session::new(Image { segments, entry: START }, vec![1, 2, 3])
+    Session::new(Image { segments, entry: START, functions: Vec::new() }, vec![1, 2, 3])
 }
 
 #[test]
@@ -170,4 +177,90 @@ fn a_line_is_refused_for_its_form_then_its_step_then_its_range_then_the_number_o
         assert_eq!(session.reply(line), format!("refused {number}"), "{line}");
     }
     assert_eq!((session.reply("unmark 4095"), session.reply("skip 1")), ("ok".to_string(), "ok".to_string()));
+}
+
+#[test]
+fn a_hash_is_that_of_the_standard() {
+    // FIPS 180-4's examples: https://csrc.nist.gov/projects/cryptographic-standards-and-guidelines/example-values
+    assert_eq!(sha256(b"abc"), "ba7816bf8f01cfea414140de5dae2223b00361a396177a9cb410ff61f20015ad");
+    let long = b"abcdbcdecdefdefgefghfghighijhijkijkljklmklmnlmnomnopnopq";
+    assert_eq!(sha256(long), "248d6a61d20638b8e5c026930c3e6039a33ce45964ff2167f6ecedd419db06c1");
+}
+
+/// A machine at the first address of a function of the heap, with these arguments, which returns to the same address.
+fn at_function(name: &str) -> Machine {
+    let functions = vec![Symbol { start: START, len: 0, name: name.into() }];
+    let segments = vec![Segment { start: START, bytes: Vec::new(), len: 0x1000 }];
+    let mut machine = Machine::of(&Image { segments, entry: START, functions }, &BTreeMap::new(), Rc::default());
+    machine.registers[1].value = START;
+    machine
+}
+
+/// What the function answers to these arguments.
+fn asked(machine: &mut Machine, x: u32, y: u32) -> u32 {
+    (machine.registers[10], machine.registers[11]) = (Bits { value: x, undef: 0 }, Bits { value: y, undef: 0 });
+    machine.step();
+    machine.registers[10].value
+}
+
+#[test]
+fn each_block_is_at_its_lowest_place_and_a_freed_one_keeps_its_own() {
+    let mut machine = at_function("malloc");
+    let places = [8, 0, 40, 16_777_216, 16_777_217].map(|size| asked(&mut machine, size, 0));
+    assert_eq!(places, [0x4000_0010, 0x4000_0040, 0x4000_0070, 0x4000_00C0, 0]);
+    machine.heap.release(0x4000_0040);
+    assert_eq!(asked(&mut machine, 1, 0), 0x4100_00E0);
+    assert!(machine.memory.load::<1>(0x4000_0018).bad.is_some() && machine.memory.load::<1>(0x4000_0017).undef == 0xFF);
+}
+
+#[test]
+fn a_resized_block_keeps_its_bytes_and_a_wrong_address_is_an_error() {
+    let mut machine = at_function("realloc");
+    let block = asked(&mut machine, 0, 8);
+    machine.memory.store::<4>(block, 77, 0);
+    let other = asked(&mut machine, block, 4);
+    assert_eq!((other, machine.memory.load::<4>(other).value, machine.memory.load::<4>(other).undef), (0x4000_0040, 77, 0));
+    assert_eq!((machine.memory.load::<1>(block).bad, machine.errors.total()), (Some(block), 0));
+    assert_eq!((asked(&mut machine, block, 4), machine.errors.at(Kind::Free, START)), (0, 1));
+    assert_eq!((asked(&mut machine, other, 0), machine.heap.live.len()), (0, 0));
+}
+
+#[test]
+fn of_a_lost_ring_the_lowest_block_is_definitely_lost() {
+    let mut machine = at_function("malloc");
+    let blocks = [16; 5].map(|size| asked(&mut machine, size, 0));
+    for (from, to) in [(0, 1), (1, 0), (1, 2), (3, 4)] {
+        machine.memory.store::<4>(blocks[from], blocks[to], 0);
+    }
+    machine.registers[10].value = blocks[3] + 15;
+    let kinds: Vec<LeakKind> = leaks::search(&machine).into_iter().map(|it| it.1).collect();
+    let (lost, held, possible) = (LeakKind::Definite, LeakKind::Indirect, LeakKind::Possible);
+    assert_eq!(kinds, [lost, held, held, possible, possible]);
+    machine.registers[11].value = blocks[4];
+    assert_eq!(leaks::search(&machine)[4].1, LeakKind::Reachable);
+}
+
+#[test]
+fn a_suppression_fits_the_first_names_of_a_trace() {
+    let text =
+        b"{\n a\n Memcheck:Param\n write(buf)\n fun:w*\n ...\n fun:ma?n\n}\n{\nb\nMemcheck:Leak\nmatch-leak-kinds: possible\n}\n";
+    let rules = suppressions::parse(text).expect("two blocks");
+    let error = Target::Error(Kind::Parameter("write(buf)", crate::errors::Wrong::Undefined));
+    let names: [&[u8]; 4] = [b"write", b"a", b"b", b"main"];
+    assert!(rules[0].matches(error, &names) && rules[0].matches(error, &[b"w", b"main"]));
+    assert!(!rules[0].matches(error, &names[1..]) && !rules[0].matches(error, &names[..3]));
+    assert!(rules[1].matches(Target::Leak(LeakKind::Possible), &[]) && !rules[1].matches(Target::Leak(LeakKind::Definite), &[]));
+    assert!(!rules[1].matches(error, &names) && suppressions::parse(b"a\n").is_none());
+}
+
+#[test]
+fn a_sweep_is_refused_before_it_begins() {
+    for words in ["--faults=skip", "--at=0", "--at=0 --faults=skip,skip", "--at=0 --faults=memory", "--at=2..1 --faults=skip"] {
+        let words: Vec<String> = words.split(' ').map(String::from).collect();
+        assert!(Request::of(&words).is_err(), "{words:?}");
+    }
+    for words in ["--at=5 --faults=skip --step=5", "--at=0.. --faults=skip --step=0", "--at=0 --faults=skip --part=2/1"] {
+        let words: Vec<String> = words.split(' ').map(String::from).collect();
+        assert!(Request::of(&words).is_err(), "{words:?}");
+    }
 }

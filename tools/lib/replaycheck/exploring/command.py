@@ -9,14 +9,16 @@ from replaycheck.options import LAST_STEP, Reader, number
 from replaycheck.sessions import program
 
 from . import goals, remote, scripts
+from .altered import Instructions
 from .heads import MOST_PARTS
 from .keeping import Kept, Room
 from .lines import shown_name
 from .merging import Merged, in_order, sources_in, spooled
 from .outputs import Outputs, check_outputs
 from .picture import Picture
-from .request import Request, range_of, values_reader, words_of
+from .request import Request, models_of, range_of, values_reader, words_of
 from .running import Progress, Runner
+from .steps import MODELS
 from .summary import SourceLines, Summary
 
 PARTS_A_JOB = 8
@@ -33,6 +35,10 @@ def options_of(page):
     reader.option("--words", type=words_of)
     reader.option("--values", type=values_reader(BYTES, 256))
     reader.option("--words-values", type=values_reader(WORDS, 1 << 32))
+    reader.option("--at", type=range_of)
+    reader.option("--faults", type=models_of)
+    reader.option("--code-range", type=words_of)
+    reader.option("--pairs", choices=["skip"])
     reader.option("--with-output", is_flag=True)
     reader.option("--jobs", type=number(1, 10000))
     reader.option("--parts", type=number(1, MOST_PARTS))
@@ -48,14 +54,19 @@ def options_of(page):
 
 def check(reader, options):
     """Rejects what doesn't go together."""
-    words = options.words is not None or options.code is not None
-    making = [it for it in ("--bytes", "--words", "--code", "--values", "--words-values", "--with-output", "--jobs",
-                            "--parts", "--keep", "--sshlogin", "--script")
+    words = options.words is not None or options.code is not None and options.at is None
+    making = [it for it in ("--bytes", "--words", "--code", "--values", "--words-values", "--at", "--faults", "--code-range", "--pairs",
+                            "--with-output", "--jobs", "--parts", "--keep", "--sshlogin", "--script")
               if getattr(options, it[2:].replace("-", "_")) not in (None, False)]
     faults = [(options.file is None and not options.tables, "no FILE, and no --from"),
               (options.file is None and (options.input or options.supp), "--input and --supp go with a FILE"),
               (options.tables and making, f"--from takes tables that are there: {' '.join(making)} makes them"),
-              (options.code is not None and options.words is not None, "--code and --words at once"),
+              (options.at is None and options.code is not None and options.words is not None, "--code and --words at once"),
+              (options.code is not None and options.code_range is not None, "--code and --code-range at once"),
+              (options.at is not None and options.faults is None, f"--at needs --faults, a list of {', '.join(MODELS)}"),
+              *((options.at is None and getattr(options, name) is not None, f"--{name.replace('_', '-')} goes with --at")
+                for name in ("faults", "code_range", "pairs")),
+              (options.values is not None and options.at is not None and options.bytes is None, "--values is for bytes, with --bytes"),
               (options.values is not None and words and options.bytes is None,
                "--values is for bytes, with --bytes; for words it is --words-values"),
               (options.words_values is not None and not words, "--words-values goes with --words or --code"),
@@ -126,15 +137,16 @@ def told(options, request, sources, notes, room, outputs):
     merged, goal = Merged(sources), None
     if options.goal is not None:
         goal = goals.Goal(options.goal, merged, room)
-    picture = Picture(merged, sources) if "svg" in outputs else None
+    picture = Picture(merged, sources, goal) if "svg" in outputs else None
+    lines = SourceLines(request and os.path.abspath(request.program.path))
+    instructions = Instructions(request, lines)
     takers = [it.add for it in (goal, picture) if it]
     is_table = "table" in outputs and options.sample is None
     for place in merged.places(outputs["table"].write if is_table else None):
         for take in takers:
             take(place)
-    lines = SourceLines(request and os.path.abspath(request.program.path))
     summary = Summary(merged, request.title() if request else anonymous(merged.head),
-                      request.before if request else lambda *_: None, lines, notes, request.step_note if request else "")
+                      request.before if request else lambda *_: None, lines, notes, request.step_note if request else "", instructions)
     if picture:
         outputs["svg"].write(picture.text(summary).encode("utf-8"))
     if "table" in outputs and not is_table:
@@ -143,7 +155,7 @@ def told(options, request, sources, notes, room, outputs):
     for it in outputs.values():
         it.end()
     if "-" not in (options.table, options.svg):
-        write(goal.told() if goal else "".join(f"{line}\n" for line in summary.lines()))
+        write(goal.told(instructions) if goal else "".join(f"{line}\n" for line in summary.lines()))
     flush()
     return int(bool(goal.count if goal else summary.is_new))
 

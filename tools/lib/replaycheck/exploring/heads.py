@@ -1,23 +1,27 @@
 """The head of a sweep's table: which files, edits and step it is of, and which of its parts."""
 import re
 from dataclasses import dataclass
-from typing import List, Optional, Tuple, Union
+from typing import List, Tuple, Union
 
 from replaycheck.options import LAST_STEP
 
 from .lines import NUMBER, BadTable, shown
+from .steps import Steps, models_fault
 
 MOST_PARTS, LONGEST_INPUT = 1000000, 1048576
 DIGEST = re.compile(rb"(program|input|supp) (%b) ([0-9a-f]{64})" % NUMBER)
 BYTES = re.compile(rb"bytes (%b)\.\.(%b) (all|flips|edges|%b(?:,%b)*)" % ((NUMBER,) * 4))
 WORD = rb"0x[0-9a-f]{8}"
 WORDS = re.compile(rb"words (%b)\.\.(%b) (skip|flips|%b(?:,%b)*)" % ((WORD,) * 4))
+STEPS = re.compile(rb"steps (%b)\.\.(%b) ([!-~]+)(?: code (%b)\.\.(%b))?( pairs skip)?" % (NUMBER, NUMBER, WORD, WORD))
 STEP = re.compile(rb"step (%b)" % NUMBER)
 OUTPUT = re.compile(rb"output (yes|no)")
 PART = re.compile(rb"part (%b)/(%b)" % (NUMBER, NUMBER))
 OLD = re.compile(rb"#\t(input|patch)\t")
 SMALL = {"program": 1 << 27, "input": LONGEST_INPUT, "supp": LONGEST_INPUT}
 MOST_EDITS = {"all": 255, "edges": 7, "skip": 1}
+# The versions of tables, each with what its head has: a table has the least version that can say what it is of.
+VERSIONS = {b"sweep 1": "bytes or words", b"sweep 2": "steps too"}
 Values = Union[str, Tuple[int, ...]]
 
 
@@ -79,7 +83,7 @@ class Head:
 
     lines: Tuple[bytes, ...]
     files: Tuple[Tuple[int, str], ...]
-    ranges: Tuple[Range, ...]
+    ranges: Tuple[Union[Range, Steps], ...]
     step: int
     has_output: bool
     part: Tuple[int, int]
@@ -147,26 +151,50 @@ def read_files(lines):
         yield at_most(lines, found[2], limit, "a length"), found[3].decode()
 
 
+def read_steps(lines, version, limit):
+    """The steps at which the machine is altered, or None where the next line has none. A table of version 1 has none, one of version 2
+    does."""
+    has_steps = lines.next.startswith(b"steps ")
+    if version == b"sweep 2" and not has_steps:
+        lines.other("`steps A..B MODELS`, as in each table of `sweep 2`,")
+    if not has_steps:
+        return None
+    if version != b"sweep 2":
+        lines.here(f"a line of `sweep 2` in a table of `{version.decode()}`: {shown(lines.next)}")
+    found = lines.must(STEPS, "`steps A..B MODELS`")
+    first, last = (at_most(lines, it, limit, "a step") for it in found.groups()[:2])
+    code = tuple(int(it, 16) for it in found.groups()[3:5]) if found[4] else None
+    if first > last or code and code[0] > code[1]:
+        lines.fault("a range that ends before it begins")
+    models = found[3].decode()
+    if models_fault(models):
+        lines.fault(models_fault(models))
+    return Steps(first, last, models, code, bool(found[6]))
+
+
 def read_version(lines):
+    """The first line, of a version that is known."""
     if not lines.next:
         lines.other("`sweep 1`")
     if OLD.match(lines.next):
         raise BadTable(f"{lines.name}: a table in the form that `replaycheck sweep --table` wrote before: make it anew "
                        "by `replaycheck explore --table`, or by `replaycheck sweep` with --part")
-    if re.fullmatch(rb"sweep [0-9]+", lines.next) and lines.next != b"sweep 1":
-        lines.here(f"an unknown version: {shown(lines.next)}; this reads `sweep 1`")
-    if lines.next != b"sweep 1":
-        lines.here(f"no table of a sweep: it begins with {shown(lines.next)}")
+    if lines.next not in VERSIONS:
+        known = " and ".join(f"`{it.decode()}`" for it in VERSIONS)
+        lines.here(f"an unknown version: {shown(lines.next)}; this reads {known}" if re.fullmatch(rb"sweep [0-9]+", lines.next) else
+                   f"no table of a sweep: it begins with {shown(lines.next)}")
     lines.go_on()
+    return lines.was
 
 
 def read_head(lines):
     """The head that the next lines are."""
     taken = lines.taken = []
-    read_version(lines)
+    version = read_version(lines)
     files = tuple(read_files(lines))
-    ranges: List[Optional[Range]] = [read_range(lines, "bytes", BYTES, LONGEST_INPUT - 1, 255),
-                                     read_range(lines, "words", WORDS, 0xFFFFFFFF, 0xFFFFFFFF)]
+    ranges: List[Union[Range, Steps, None]] = [read_range(lines, "bytes", BYTES, LONGEST_INPUT - 1, 255),
+                                               read_range(lines, "words", WORDS, 0xFFFFFFFF, 0xFFFFFFFF),
+                                               read_steps(lines, version, LAST_STEP)]
     step = at_most(lines, lines.must(STEP, "`step N`")[1], LAST_STEP, "a step")
     has_output = lines.must(OUTPUT, "`output yes` or `output no`")[1] == b"yes"
     before = tuple(taken)
@@ -175,6 +203,8 @@ def read_head(lines):
     if not 1 <= index <= count:
         lines.fault("no part")
     if not any(ranges):
-        lines.fault("neither bytes nor words in the head")
+        lines.fault("neither bytes nor words nor steps in the head")
+    if ranges[2] and ranges[2].last >= step:
+        lines.fault(f"steps up to {ranges[2].last}, and runs that are compared at step {step}")
     lines.taken = None
     return Head(before, files, tuple(it for it in ranges if it), step, has_output, (index, count))

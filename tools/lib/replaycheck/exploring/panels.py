@@ -129,10 +129,11 @@ class Panel:
 
 
 def panels_of(head, sources):
-    """A panel for each range of a sweep."""
+    """A panel for each range of bytes or words of a sweep."""
     intervals = [it.head.interval for it in sources]
     begin, found = 0, []
     for it in head.ranges:
-        found.append(Panel(it, begin, intervals))
+        if it.kind != "steps":
+            found.append(Panel(it, begin, intervals))
         begin += it.size
     return found

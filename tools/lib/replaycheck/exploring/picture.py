@@ -1,9 +1,9 @@
 """A picture of a sweep, as SVG."""
-import html
-
-from .lines import LONGEST_SHOWN, shown_name
 from .outcomes import Outcome
 from .panels import panels_of
+from .picture_parts import LEAST_MARK, LEFT, LEGEND_LINE, NARROWEST, STYLE, TOP, xml
+from .step_panels import StepPanels
+from .step_picture import KINDS, StepPicture, kind_of_rank
 
 # Colours for light and dark pages that the colour-blind tell apart: warm for what is new, cold for what is not.
 NEW = (("#d55e00", "#ff7a1a"), ("#e69f00", "#ffc04d"), ("#a6447d", "#e08bbd"), ("#7a3b00", "#c08a5a"))
@@ -11,33 +11,31 @@ OTHER_NEW = ("#1a1a1a", "#ffffff")
 NOT_NEW = (("#0072b2", "#3f9fd9"), ("#56b4e9", "#1f6fa0"), ("#009e73", "#26b98c"), ("#a3d9c8", "#0f5a45"))
 OTHER = ("#b9c9d9", "#62758a")
 UNEDITED = ("#e4e4e4", "#3a3a3a")
-STYLE = """<style>
-.bg{{fill:#ffffff}}.ink{{fill:#1a1a1a}}.dim{{fill:#555555}}
-.s{{font-size:10px}}.e{{text-anchor:end}}.m{{text-anchor:middle}}.b{{font-weight:bold}}
-.axis{{stroke:#555555;stroke-width:1}}
-{light}
-@media (prefers-color-scheme:dark){{
-.bg{{fill:#161616}}.ink{{fill:#eeeeee}}.dim{{fill:#aaaaaa}}.axis{{stroke:#aaaaaa}}
-{dark}
-}}
-</style>"""
-LEFT, TOP, LEGEND_LINE, LEAST_MARK, NARROWEST = 84, 72, 18, 3, 1060
-
-
-def xml(text, longest=LONGEST_SHOWN):
-    """A text as XML has it: printable characters, all else as `\\x1b`, cut where it is long."""
-    told = "".join(shown_name(text[at:at + LONGEST_SHOWN]) for at in range(0, min(len(text), longest), LONGEST_SHOWN))
-    return html.escape(told[:longest] + ("..." if len(text) > longest else ""), quote=True)
+GOAL = ("#ffe600;stroke:#000000", "#000000;stroke:#ffffff")  # by its outline, which no other one has
+BAND = ("#eeeeee", "#2c2c2c")  # a function, below steps
+GOAL_RANK = 1000
 
 
 class Picture:
     """Takes the places of a merged table, and draws them."""
 
-    def __init__(self, merged, sources):
-        self.merged, self.panels, self.outcomes = merged, panels_of(merged.head, sources), []
+    def __init__(self, merged, sources, goal=None):
+        self.merged, self.panels, self.outcomes, self.goal = merged, panels_of(merged.head, sources), [], goal
+        self.steps = next((StepPanels(it) for it in merged.head.ranges if it.kind == "steps"), None)
 
     def add(self, place):
-        next(it for it in self.panels if it.range == place.range).add(place, self.badness)
+        if place.range.kind == "steps":
+            self.steps.add(place, self.rank)
+        else:
+            next(it for it in self.panels if it.range == place.range).add(place, self.badness)
+
+    def rank(self, number):
+        """How bad an outcome is; one that reaches the goal is the worst."""
+        return GOAL_RANK if self.goal and self.goal.is_reached(number) else self.badness(number)
+
+    def kind(self, number):
+        """The class of an outcome's colour."""
+        return self.kinds[number]
 
     def badness(self, number):
         """How bad an outcome is; the unedited run's is the least."""
@@ -54,6 +52,12 @@ class Picture:
         """The class of each outcome: those with the most edits have a colour of their own."""
         self.summary, self.kinds = summary, {0: "o0"}
         self.colours = {"o0": UNEDITED, "n": OTHER_NEW, "o": OTHER}
+        if self.steps:  # colours are of kinds of outcomes: there are too many outcomes
+            self.kinds = {it: kind_of_rank(self.rank(it)) for it in range(len(self.merged.outcomes))}
+            named = {**{f"n{i + 1}": it for i, it in enumerate(NEW)}, **{f"o{i + 1}": it for i, it in enumerate(NOT_NEW)}, "g": GOAL}
+            self.colours.update((it, named[it]) for it in named if it in self.kinds.values())
+            self.colours["band"] = BAND
+            return
         for is_new, colours, name in ((True, NEW, "n"), (False, NOT_NEW, "o")):
             numbers = [it for it in summary.order[1:] if bool(summary.news[it]) == is_new]
             numbers.sort(key=lambda it: (-self.merged.tallies[it], it))
@@ -70,26 +74,34 @@ class Picture:
 
     def text(self, summary):
         self.choose_colours(summary)
-        body, below = [], TOP
+        body, below = [], TOP + (14 if self.steps else 0)
         for panel in self.panels:
             body += self.panel(panel, below)
             below += panel.tall * panel.rows + 70
-        legend = list(self.legend(below))
-        width = max([NARROWEST, *(LEFT + it.wide * it.bins + 20 for it in self.panels)])
+        steps = StepPicture(self, self.steps, summary.instructions) if self.steps else None
+        if steps:
+            body += steps.body(below)
+            below += sum(map(steps.height, steps.grids))
+        legend = list(self.kind_legend(below) if self.steps else self.legend(below))
+        width = max([NARROWEST, *(LEFT + it.wide * it.bins + 20 for it in self.panels), *(map(steps.width, steps.grids) if steps else ())])
         height = below + LEGEND_LINE * (len(legend) + 1)
         ranges = "; ".join(map(str, self.merged.head.ranges))
-        title = xml(f"{summary.title}: {self.merged.edits} edits, {ranges}, step {self.merged.head.step}", 140)
+        asked = f"{self.merged.edits} edits, {ranges}, step {self.merged.head.step}"
+        title = xml(f"{summary.title}: {asked}", 300 if steps else 140)
+        shown_title = xml(summary.title, 140) if steps else title
         shared = [f"{it.count} places share {it.bins} columns, and the worst is seen" for it in self.panels
                   if it.bins < it.count]
-        notes = ["a column for each place, a row for each value, the value as it was left out", *shared, *summary.notes]
+        own = ["a column for each place, a row for each value, the value as it was left out"] if self.panels else []
+        notes = [*own, *shared, *(steps.notes if steps else ()), *summary.notes]
         note = xml("; ".join(notes), 200)
         return "\n".join([
             '<?xml version="1.0" encoding="UTF-8"?>',
             f'<svg xmlns="http://www.w3.org/2000/svg" role="img" width="{width}" height="{height}" '
             f'viewBox="0 0 {width} {height}" font-family="DejaVu Sans, Verdana, Arial, sans-serif" font-size="12">',
             f"<title>{title}</title>", self.style(), '<rect class="bg" width="100%" height="100%"/>',
-            f'<text class="ink" x="16" y="24" font-size="16">{title}</text>',
-            f'<text class="dim" x="16" y="44">{note}</text>',
+            f'<text class="ink" x="16" y="24" font-size="16">{shown_title}</text>',
+            f'<text class="dim" x="16" y="44">{xml(asked, 160) if steps else note}</text>',
+            *([f'<text class="dim" x="16" y="60">{note}</text>'] if steps and note else []),
             *body, *legend, "</svg>", ""])
 
     def panel(self, panel, top):
@@ -145,6 +157,23 @@ class Picture:
             yield f'<text class="dim s m" x="{x:g}" y="{below + 18}">{xml(name)}</text>'
         what = "offset in the input" if panel.range.kind == "bytes" else "address"
         yield f'<text class="dim s" x="{LEFT}" y="{below + 34}">{what}; on the left the value</text>'
+
+    def kind_legend(self, top):
+        """A line for each kind of outcome that there is, the worst first."""
+        yield (f'<text class="dim s e" x="110" y="{top}">edits</text>'
+               f'<text class="dim s" x="120" y="{top}">the worst that an edit of a cell leads to; bold: new</text>')
+        texts = {name: text for name, _, text in KINDS}
+        texts["g"] += f": a line that begins with {self.goal.shown}" if self.goal else ""
+        texts["o0"] += f": {self.told(0)}"
+        there = [it for it in texts if it in self.kinds.values()]
+        for index, name in enumerate(there):
+            y = top + LEGEND_LINE * (index + 1)
+            numbers = [it for it in self.kinds if self.kinds[it] == name]
+            edits = sum(self.merged.tallies[it] for it in numbers)
+            style = "ink b" if name[0] in "gn" else "ink"
+            told = "; ".join(f"{it}: {self.told(it)}" for it in numbers)
+            yield (f'<rect class="{name}" x="16" y="{y - 11}" width="14" height="14"/><text class="ink e" x="110" y="{y}">{edits}</text>'
+                   f'<text class="{style}" x="120" y="{y}">{xml(texts[name], 120)}<title>{xml(told, 1000)}</title></text>')
 
     def legend(self, top):
         """A line for each outcome that has a colour of its own, and for the others together."""

@@ -13,6 +13,7 @@ from replaycheck.sessions import path_of
 
 from .heads import Range
 from .lines import shown_name
+from .steps import Steps, models_fault
 from .tables import EDGES
 from .unedited import Unedited, default_step
 
@@ -40,6 +41,13 @@ def words_of(text):
     if last is None:
         raise BadValue(f"a range of words has an end: {text!r}")
     return first, last
+
+
+def models_of(text):
+    """Reads a list of fault models."""
+    if models_fault(text):
+        raise BadValue(models_fault(text))
+    return text
 
 
 def values_reader(names, limit):
@@ -105,23 +113,48 @@ class Request:
         self.code = options.code
         self.elf = None if refusals(self.program.content) else Elf(self.program.content)
         self.ranges, self.notes = [], []
-        words = options.words if options.code is None else self.code_range(options.code)
+        code = self.code_range(options.code) if options.code is not None else options.code_range
+        words = code if options.at is None and options.code is not None else options.words
+        self.at = options.at
         if not options.tables:
-            self.choose(options, bool(options.bytes or not words))
+            self.choose(options, bool(options.bytes or not words and not options.at))
         if words:
             self.ranges.append(Range("words", *words, options.words_values or "skip"))
+        if self.at and not options.tables:
+            self.ranges.append(self.steps_range(options.faults, code, options.pairs is not None))
 
     def choose(self, options, has_bytes):
-        """Chooses the step and the bytes, by what the unedited run does."""
+        """Chooses the step, the bytes and the last step that is altered, by what the unedited run does."""
+        is_open = self.at is not None and self.at[1] is None
         if has_bytes:
             self.check_input()
-        elif self.step is not None:
+        elif self.step is not None and not is_open:
             return
         with Unedited(self.program.path, self.input.path or None, self.supp.path or None) as run:
             if self.step is None:
                 self.step, self.step_note = default_step(run.end())
+            if is_open:
+                self.at = self.steps_to_end(self.at[0], run.end())
             if has_bytes:
                 self.ranges.append(self.bytes_range(options.bytes, options.values or "all", run.bytes_read(self.step)))
+
+    # ---- the steps at which the machine is altered
+
+    def steps_to_end(self, first, end):
+        """The steps from one on to where the unedited run ends, or to the step of the sweep."""
+        last = self.step - 1 if end is None else min(end, self.step) - 1
+        if last < first:
+            why = f"the unedited run ends at step {end}" if end is not None and end <= self.step else (
+                f"runs are compared at step {self.step}")
+            raise Fault(f"--at {first}..: {why}, so there is no step to alter")
+        return first, last
+
+    def steps_range(self, models, code, has_pairs):
+        first, last = self.at
+        if last >= self.step:
+            raise Fault(f"--at {first}..{last}: runs are compared at step {self.step}, and alterations come before it: --step {last + 1} "
+                        "or more")
+        return Steps(first, last, models, code, has_pairs)
 
     # ---- the bytes that are edited
 
@@ -177,7 +210,7 @@ class Request:
         """The value that stands at a place, None where none does."""
         if it.kind == "bytes":
             return self.input.content[at] if at < len(self.input.content) else None
-        return None if self.elf is None else self.word(at)
+        return None if self.elf is None or it.kind == "steps" else self.word(at)
 
     def word(self, address):
         """A word of the loaded program; what the file doesn't have of a segment is 0."""
@@ -191,8 +224,10 @@ class Request:
         return int.from_bytes(bytes(found), "little")
 
     def edits(self):
-        """How many edits there are, as far as that is told without a look at each place; for progress alone."""
+        """How many edits there are, as far as that is told without a look at each place, or 0; for progress alone."""
         count = 0
+        if any(it.kind == "steps" and (it.code or it.has_pairs) for it in self.ranges):
+            return 0
         for it in self.ranges:
             if it.kind == "bytes" and it.values == "edges":
                 for was in self.input.content[it.first:it.last + 1]:
@@ -226,6 +261,9 @@ class Request:
         tried."""
         told = []
         for it in ranges:
+            if it.kind == "steps":
+                told.append(str(it))
+                continue
             is_listed = it.kind == "bytes" and not isinstance(it.values, str)
             last = it.place(it.size - 1) if it.size else it.last
             told.append(str(Range(it.kind, it.start, last, tuple(sorted(it.values)) if is_listed else it.values)))

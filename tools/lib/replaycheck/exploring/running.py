@@ -16,6 +16,7 @@ from .merging import sources_in
 AGAIN = 2  # so often a part is tried
 REFUSED = (2, 3)  # the statuses with which the program says that it will never do it
 MOST_SAID = 1 << 16
+EDITS = (b"\ninput ", b"\npatch ", b"\nskip ", b"\nflip ", b"\nset ")  # how rows begin
 
 
 class Progress:
@@ -25,13 +26,14 @@ class Progress:
         self.edits, self.done, self.begun, self.last, self.is_shown = edits, 0, time.monotonic(), 0, False
 
     def add(self, content):
-        self.done += content.count(b"\ninput ") + content.count(b"\npatch ")
+        self.done += sum(map(content.count, EDITS))
         now = time.monotonic()
         if now - self.last > 0.2 and now - self.begun > 0.5 and sys.stderr.isatty():
             self.last, self.is_shown = now, True
             rate = self.done / (now - self.begun)
-            left = f", {max(0, self.edits - self.done) / rate:.0f} s left" if rate else ""
-            sys.stderr.write(f"\r\x1b[Kexplore: {self.done} of {self.edits} edits, {rate:.0f} a second{left}")
+            left = f", {max(0, self.edits - self.done) / rate:.0f} s left" if rate and self.edits else ""
+            edits = f"{self.done} of {self.edits} edits" if self.edits else f"{self.done} edits"
+            sys.stderr.write(f"\r\x1b[Kexplore: {edits}, {rate:.0f} a second{left}")
             sys.stderr.flush()
 
     def end(self):

@@ -11,6 +11,7 @@ from .outcomes import Outcome, still_running
 INDENT = " " * 13
 SUPPRESSIONS = 2  # the place of the suppressions among the files of a table's head
 WIDTHS = 26, 44  # the least and the greatest width of the column of first edits
+WIDE = 66  # the greatest where an edit has two lines
 
 
 def counted(number, one, many=""):
@@ -50,19 +51,23 @@ class SourceLines:
 
 class Summary:
     """What a merged table says, in words. `before` gives the value that stood at a place, or None. `step_note` says why
-    the sweep has its step, if that is known."""
+    the sweep has its step, if that is known. `instructions` has those at the steps of alterations."""
 
-    def __init__(self, merged, title, before, sources, notes=(), step_note=""):
+    def __init__(self, merged, title, before, sources, notes=(), step_note="", instructions=None):
         self.merged, self.title, self.before, self.sources = merged, title, before, sources
+        self.instructions = instructions
         self.notes, self.step_note = notes, step_note
         self.outcomes = [Outcome(number, text) for number, text in enumerate(merged.outcomes)]
         self.unedited = self.outcomes[0]
         self.news = [it.news(self.unedited) for it in self.outcomes]
         self.order = [0, *sorted(range(1, len(self.outcomes)), key=self.weight)]
         # How wide the column of first edits is.
-        self.width = min(WIDTHS[1], max(WIDTHS[0], *(len(self.first(it)) for it in self.order)))
+        has_two = any("; " in str(value) for _, _, value, _ in merged.firsts.values())
+        self.width = min(WIDE if has_two else WIDTHS[1], max(WIDTHS[0], *(len(self.first(it)) for it in self.order)))
         sources.learn([part.address for it in self.outcomes for part in it.parts] + [
             f"0x{at:08x}" for it, at, *_ in merged.firsts.values() if it.kind == "words"])
+        if instructions:
+            instructions.learn(value for it, _, value, _ in merged.firsts.values() if it.kind == "steps")
 
     def weight(self, number):
         return (-self.outcomes[number].badness(self.unedited), -self.merged.tallies[number],
@@ -127,7 +132,9 @@ class Summary:
         yield f"   {self.merged.tallies[number]:8}  {self.first(number):<{self.width}} {number}: {outcome.told}"
         if not number:
             return
-        it, at, *_ = self.merged.firsts[number]
+        it, at, value, _ = self.merged.firsts[number]
+        if it.kind == "steps" and self.instructions:
+            yield from (f"{INDENT}step {step}: {where}" for step, where in self.instructions.told(value))
         before = self.before(it, at) if it.kind == "words" else None
         if before is not None:
             yield f"{INDENT}was 0x{before:08x}{self.sources.behind(f'0x{at:08x}')}"

@@ -2,14 +2,18 @@
 number of its line."""
 import re
 from dataclasses import dataclass, field
-from typing import Dict, List
+from typing import Dict, List, Union
 
 from replaycheck.reports import LEAK_KINDS, kind_of
 
 from .heads import Head, Range, read_head
 from .lines import NUMBER, Lines, shown
+from .steps import Steps
 
-ROW = re.compile(rb"(?:input (%b) (%b)|patch (0x[0-9a-f]{8}) (0x[0-9a-f]{8})) (%b)" % (NUMBER, NUMBER, NUMBER))
+ROW = re.compile(rb"(?:input (%b) (%b)|patch (0x[0-9a-f]{8}) (0x[0-9a-f]{8})|((?:skip|flip|set) (%b)(?:[; ][!-~ ]*)?)) (%b)" % (
+    (NUMBER,) * 4))
+# What begins a line that isn't one of an outcome.
+NO_OUTCOME = (b"input ", b"patch ", b"skip ", b"flip ", b"set ", b"unedited ")
 OUTCOME = re.compile(rb"outcome (%b)" % NUMBER)
 STATE = re.compile(rb"running|exited %b|stopped (?:break|illegal|misaligned) 0x[0-9a-f]{8}|stopped jump" % NUMBER)
 WRITTEN = re.compile(rb"output %b" % NUMBER)
@@ -25,12 +29,13 @@ NO_FRAME = b"Jump to the invalid address stated on the next line"
 
 @dataclass
 class Place:
-    """A byte or a word, its number among all places, and its edits: the values, and the numbers of their outcomes."""
+    """A byte, a word or a step, its number among all places, and its edits: the values, and the numbers of their outcomes. A value of a
+    step is the edit's text."""
 
-    range: Range
+    range: Union[Range, Steps]
     at: int
     ordinal: int
-    edits: Dict[int, int] = field(default_factory=dict)
+    edits: Dict[Union[int, str], int] = field(default_factory=dict)
 
     @property
     def values(self):
@@ -57,7 +62,7 @@ def read_outcome(lines, has_output):
     lines.must(STATE, "a state")
     if has_output:
         lines.must(WRITTEN, "`output W`")
-    while not lines.next.startswith((b"input ", b"patch ", b"unedited ")) and len(taken) < MOST_LINES:
+    while not lines.next.startswith(NO_OUTCOME) and len(taken) < MOST_LINES:
         text = lines.next.decode("ascii", "replace")
         if text not in LEAK_KINDS and not kind_of(text):
             lines.other("an error, a leak or an edit")
@@ -102,6 +107,8 @@ def value_before(place):
 def has_all(place):
     """Whether the edits of a place are all that the sweep makes there, in order."""
     values, edited = place.range.values, place.values
+    if place.range.kind == "steps":
+        return place.range.has_all(place.at, edited)
     if isinstance(values, str) and values != "skip":
         return value_before(place) is not None
     wanted = [NO_OP] if values == "skip" else sorted(values) if place.range.kind == "bytes" else list(values)
@@ -149,13 +156,16 @@ class Table:
                 if lines.next.startswith(b"tally ") and tallies[-1] >= 0:
                     return
                 lines.other("an edit, `outcome K` or `tally K COUNT`")
-            outcome = int(found[5])
+            outcome = int(found[7])
             if outcome >= len(tallies) or tallies[-1] < 0 and outcome != len(tallies) - 1:
                 lines.here(f"outcome {len(tallies) - 1} comes here: {shown(lines.next)}")
             tallies[outcome] = tallies[outcome] + 1 if tallies[outcome] >= 0 else 1
             self.edits += 1
-            yield ("bytes", int(found[1]), int(found[2]), outcome) if found[1] else (
-                "words", int(found[3], 16), int(found[4], 16), outcome)
+            if found[5]:
+                yield "steps", int(found[6]), found[5].decode(), outcome
+            else:
+                yield ("bytes", int(found[1]), int(found[2]), outcome) if found[1] else (
+                    "words", int(found[3], 16), int(found[4], 16), outcome)
             lines.go_on()
 
     def places(self):

@@ -19,6 +19,7 @@ td, th { border: 1px solid #8888; padding: .2em .5em; vertical-align: top; text-
 """
 # The pages of a release, of docs/.
 SHIPPED = ("manual.md", "manual/*.md", "glossary.md", "page.md", "case-studies.md", "case-studies/*.md")
+PICTURES = ("station.svg", "boot-twice.svg")
 # What a page says of a checkout, and what it says instead in a release, where all is built and installed. Lines may break elsewhere.
 IN_RELEASE = (
     ("Type the commands in `examples/firmware`, with the launcher `replaycheck` on the path. In a checkout: "
@@ -56,10 +57,10 @@ def turned(text, *words):
 
 
 def manual():
-    """The pages as HTML, with the picture that the manual shows, by their files' names."""
+    """The pages as HTML, with the pictures that they show, by their files' names."""
     texts = sources()
     made = {of_release(name): html(text, name, texts) for name, text in texts.items()}
-    return made | {"station.svg": (TOP / "examples/firmware/station.svg").read_bytes()}
+    return made | {it: (TOP / "examples/firmware" / it).read_bytes() for it in PICTURES}
 
 
 def of_release(name):
@@ -81,5 +82,6 @@ def html(text, name, texts):
     page = turned(text, "-m", f"title={title}")
     page = page.replace("</head>\n", STYLE, 1).replace("&#47;", "/")
     page = re.sub(r'(<h\d id=")([^"]+)(")', lambda it: it[1] + re.sub(r"[^\w-]", "", it[2].lower()) + it[3], page)
-    page = re.sub(r'src="[^"]*station\.svg"', f'src="{os.path.relpath("station.svg", folder or ".")}"', page)
+    for it in PICTURES:
+        page = re.sub(f'src="[^"]*{re.escape(it)}"', f'src="{os.path.relpath(it, folder or ".")}"', page)
     return LINK.sub(link, page)

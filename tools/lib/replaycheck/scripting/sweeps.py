@@ -20,6 +20,8 @@ from replaycheck.scripting.symbols import Symbols
 # Places: a text `A..B` or `A`, a number, or a range. Values: one of the words that `replaycheck sweep` knows, or numbers.
 Places = Union[str, int, range]
 Values = Union[str, Iterable[int]]
+# Fault models: a text with commas, or their names.
+Names = Union[str, Iterable[str]]
 
 
 class Outcome:
@@ -40,10 +42,13 @@ class Outcome:
 
 def sweep(program: Source, input: Optional[Source] = None, suppressions: Optional[Source] = None, *,  # noqa: A002
           bytes: Optional[Places] = None, values: Optional[Values] = None, words: Optional[Places] = None,  # noqa: A002
-          words_values: Optional[Values] = None, function: Optional[str] = None, step: int = USUAL_STEP,
+          words_values: Optional[Values] = None, function: Optional[str] = None, at: Optional[Places] = None,
+          faults: Optional[Names] = None, code: Optional[Places] = None, pairs: bool = False, step: int = USUAL_STEP,
           with_output: bool = False) -> Iterator[Tuple[str, Outcome]]:
     """Yields each edit of a sweep as a line of a session, with its outcome at a step. `bytes` of the input get `values`, and `words` of the
-    program, or those of a `function`, get `words_values`; without all of these each byte of the input gets each other value.
+    program, or those of a `function`, get `words_values`; without all of these each byte of the input gets each other value. `at` are
+    steps before which the machine is altered, by each of the models `faults`: only at addresses of `code`, or at those of a `function`;
+    with `pairs`, two instructions are left out as well. An edit of two lines has `; ` between them.
 
     # Errors
 
@@ -52,9 +57,13 @@ def sweep(program: Source, input: Optional[Source] = None, suppressions: Optiona
     there = {what: source for what, source in sources.items() if source is not None}
     data = {what: read(what, source) for what, source in there.items()}
     names = {what: name_of(what, source) for what, source in there.items()}
-    if function is not None:
+    if function is not None and at is None:
         words = words_of(data["image"], function, names["image"])
-    given = {"bytes": places_of(bytes), "values": values_of(values), "words": places_of(words), "words-values": values_of(words_values)}
+    elif function is not None:
+        code = words_of(data["image"], function, names["image"])
+    given = {"bytes": places_of(bytes), "values": values_of(values), "words": places_of(words), "words-values": values_of(words_values),
+             "at": places_of(at), "faults": faults if faults is None or isinstance(faults, str) else ",".join(faults),
+             "code-range": places_of(code), "pairs": "skip" if pairs else None}
     options = [f"--{name}={text}" for name, text in given.items() if text is not None]
     options += [f"--step={step}", *(["--with-output"] if with_output else [])]
     names |= {"bytes": f"bytes {given['bytes']}", "words": f"words {given['words']}"}

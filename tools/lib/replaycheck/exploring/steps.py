@@ -1,0 +1,136 @@
+"""Steps at which the machine is altered: the fault models, and the edits of each step in the order of a table."""
+import re
+from dataclasses import dataclass
+from typing import Iterator, List, Optional, Tuple
+
+LAST_REGISTER, BITS, ONES = 31, 32, 0xFFFFFFFF
+# The fault models, in the order of a place's edits, each with what it does.
+MODELS = {
+    "skip": "an instruction left out",
+    "registers": "a bit of a register inverted",
+    "pc": "a bit of pc inverted",
+    "words": "an instruction with one bit inverted",
+    "zero": "a register set to 0",
+    "ones": "a register set to all ones",
+}
+SIZES = {"skip": 1, "registers": LAST_REGISTER * BITS, "pc": BITS, "words": BITS, "zero": LAST_REGISTER, "ones": LAST_REGISTER}
+REGISTERS = [f"x{number}" for number in range(1, LAST_REGISTER + 1)]
+MASKS = [f"0x{1 << bit:08x}" for bit in range(BITS)]
+TURNED = re.compile(r"flip [0-9]+ (0x[0-9a-f]{8}) ")  # a word of the program
+PAIR = re.compile(r"skip ([0-9]+); skip ([0-9]+)")
+
+
+@dataclass(frozen=True)
+class Steps:
+    """Steps of the unedited run, from a first to a last one, at which the machine is altered. `values` are the fault models, as they
+    were given, between commas; `code` is the range of pc at which it is, if that is narrowed."""
+
+    first: int
+    last: int
+    values: str
+    code: Optional[Tuple[int, int]] = None
+    has_pairs: bool = False
+
+    kind = "steps"
+    stride = 1
+
+    @property
+    def models(self):
+        """The models in their order."""
+        given = self.values.split(",")
+        return [it for it in MODELS if it in given]
+
+    @property
+    def start(self):
+        return self.first
+
+    @property
+    def size(self):
+        return self.last - self.first + 1
+
+    @property
+    def single(self):
+        """How many edits a place has at most, without pairs."""
+        return sum(SIZES[it] for it in self.models)
+
+    @property
+    def most(self):
+        """How many edits a place has at most."""
+        return self.single + (self.last - self.first if self.has_pairs else 0)
+
+    def place(self, index):
+        return self.first + index
+
+    @staticmethod
+    def named(place):
+        return str(place)
+
+    @staticmethod
+    def line(_, edit):
+        """The lines of a session that make an edit, which are its value."""
+        return edit
+
+    @property
+    def asked(self):
+        """What it is, as the head of a table has it."""
+        code = " code 0x%08x..0x%08x" % self.code if self.code else ""
+        return f"{self.first}..{self.last} {self.values}{code}{' pairs skip' if self.has_pairs else ''}"
+
+    def __str__(self):
+        return "steps " + ", ".join(filter(None, (
+            f"{self.first}..{self.last}", f"faults {self.values}", self.code and "code 0x%08x..0x%08x" % self.code,
+            self.has_pairs and "pairs skip")))
+
+    def words(self):
+        """The options that ask for it."""
+        return [f"--at={self.first}..{self.last}", f"--faults={self.values}",
+                *(["--code-range=0x%08x..0x%08x" % self.code] if self.code else []), *(["--pairs=skip"] if self.has_pairs else [])]
+
+    # ---- the edits of a place
+
+    def singles(self, step: int, address: Optional[str]) -> Iterator[str]:
+        """The edits of a step but for pairs. `address` is that of the word at its pc, if it is known."""
+        for model in self.models:
+            yield from edits_of(model, step, address)
+
+    def has_all(self, step: int, edits: List[str]) -> bool:
+        """Whether these are all edits of a step, in order. Which second steps pairs have depends on the run with the first skip."""
+        found = next((it[1] for it in map(TURNED.match, edits) if it), None)
+        wanted = list(self.singles(step, found))
+        pairs = edits[len(wanted):]
+        if edits[:len(wanted)] != wanted or pairs and not self.has_pairs:
+            return False
+        last = step
+        for it in map(PAIR.fullmatch, pairs):
+            if not it or int(it[1]) != step or not last < int(it[2]) <= self.last:
+                return False
+            last = int(it[2])
+        return not (found and self.code) or self.code[0] <= int(found, 16) <= self.code[1]
+
+
+def edits_of(model: str, step: int, address: Optional[str]) -> Iterator[str]:
+    """The edits of a model at a step."""
+    if model == "skip":
+        yield f"skip {step}"
+    elif model == "registers":
+        yield from (f"flip {step} {it} {mask}" for it in REGISTERS for mask in MASKS)
+    elif model == "pc":
+        yield from (f"flip {step} pc {mask}" for mask in MASKS)
+    elif model == "words" and address:
+        yield from (f"flip {step} {address} {mask}; flip {step + 1} {address} {mask}" for mask in MASKS)
+    elif model in ("zero", "ones"):
+        yield from (f"set {step} {it} 0x{0 if model == 'zero' else ONES:08x}" for it in REGISTERS)
+
+
+def steps_in(edit: str) -> List[int]:
+    """The steps at which an edit alters the machine."""
+    return list(dict.fromkeys(int(line.split(" ")[1]) for line in edit.split("; ")))
+
+
+def models_fault(text: str) -> str:
+    """Why a text names no models, or nothing."""
+    names = text.split(",")
+    unknown = next((it for it in names if it not in MODELS), None)
+    if unknown is not None:
+        return f"an unknown fault model: {unknown!r}; there are {', '.join(MODELS)}"
+    return "a fault model twice" if len(set(names)) < len(names) else ""

@@ -1,0 +1,175 @@
+"""Sweeps of alterations at steps, by `replaycheck explore --at A..B --faults LIST`, for tools/test/test-explore. The twin stands in for a
+program that doesn't have them."""
+import random
+import re
+import shutil
+
+from explore_cases import changed
+from explore_pictures import test_swept_steps
+from explore_room import EXAMPLES
+from replaycheck.assembly import assemble
+from replaycheck.disassembly import disassembled
+from replaycheck.exploring.steps import MODELS
+from replaycheck.guest_files import ENTRY
+from twin import with_steps
+
+BOOT = ["boot.elf", "--input=boot.input"]
+TWICE = ["boot-twice.elf", "--input=boot.input"]
+VERIFY = "code 0x0001021c..0x000102b0"
+SHORT = [*BOOT, "--at=1270..1276", "--faults=skip,pc", "--step=2000"]
+# What becomes of a good table of SHORT, and what is said of it.
+WRONG = [
+    ("no steps", lambda it: re.sub(rb"\nsteps .*", b"", it), "`steps A..B MODELS`, as in each table of `sweep 2`, comes here"),
+    ("an unknown model", changed(b"skip,pc", b"skip,memory"), "an unknown fault model: 'memory'"),
+    ("a model twice", changed(b"skip,pc", b"skip,skip"), "a fault model twice"),
+    ("steps the wrong way round", changed(b"1270..1276", b"1276..1270"), "ends before it begins"),
+    ("steps beyond the runs", changed(b"step 2000", b"step 1276"), "steps up to 1276, and runs that are compared at step 1276"),
+    ("a range of code without its end", changed(b"skip,pc", b"skip,pc code 0x00010000"), "`steps A..B MODELS` comes here"),
+    ("an edit that there is not", changed(b"skip 1272", b"jump 1272"), "comes here"),
+    ("an edit of another model", changed(b"skip 1272 ", b"set 1272 x1 0x00000000 "), "those of step 1272 aren't all"),
+    ("a skip that is missing", lambda it: re.sub(rb"\nskip 1272 \d+", b"", it), "those of step 1272 aren't all"),
+    ("a bit that is missing", lambda it: re.sub(rb"\nflip 1272 pc 0x40000000 \d+", b"", it), "those of step 1272 aren't all"),
+    ("bits out of turn", changed(b"flip 1272 pc 0x00000002", b"flip 1272 pc 0x00000004"), "stands there twice"),
+    ("another mask", changed(b"flip 1272 pc 0x00000002", b"flip 1272 pc 0x00000003"), "those of step 1272 aren't all"),
+    ("a step outside", changed(b"skip 1276 ", b"skip 1277 "), "outside of the sweep"),
+    ("a step again", changed(b"skip 1273 ", b"skip 1271 "), "an edit out of turn"),
+    ("a pair without pairs", lambda it: re.sub(rb"\n(flip 1272 pc 0x80000000 (\d+))", rb"\n\1\nskip 1272; skip 1274 \2", it),
+     "more edits of a place than 33"),
+    ("a step of 14 digits", changed(b"skip 1272 ", b"skip 99999999999999 "), "outside of the sweep"),
+]
+
+
+def furnish_firmware(room):
+    for name in ("boot.elf", "boot-twice.elf", "boot.input", "station.elf", "station.input"):
+        shutil.copy(EXAMPLES / "firmware" / name, room)
+
+
+def check_text(tests, label, words, texts, **more):
+    """What `explore` prints has each of these texts."""
+    status, out, err = tests.run(words, **more)
+    tests.check(label, next(((text, status, out, err) for text in texts if text not in out), ""))
+
+
+def test_disassembly(tests):
+    """A word of which there is a text is the word that the text is assembled to, but for fields that don't matter."""
+    chosen, names = random.Random(0), set()
+    for opcode in (0x03, 0x0F, 0x13, 0x17, 0x23, 0x33, 0x37, 0x63, 0x67, 0x6F, 0x73):
+        for _ in range(3000):
+            word = chosen.getrandbits(32) & ~0x7F | opcode
+            word &= 0xFFFFFFFF if opcode != 0x33 else chosen.choice((0x01FFFFFF, 0x03FFFFFF, 0x41FFFFFF))
+            word = chosen.choice((0x73, 0x100073, 0x13, 0x8067, word)) if opcode in (0x13, 0x67, 0x73) else word
+            text = disassembled(word, ENTRY)
+            if text is None or text == "fence":
+                continue
+            names.add(text.split()[0])
+            long = {"ret": "jalr zero,0(ra)"}.get(text, re.sub(r"^jal (0x\w+)$", r"jal ra,\1", text))
+            if assemble(long) != [word]:
+                tests.check("an instruction's text", (hex(word), text))
+                return
+    tests.check("an instruction's text: of each instruction", "" if len(names) >= 46 else sorted(names))
+    for word, text in ((0x01C12083, "lw ra,28(sp)"), (0xFE010113, "addi sp,sp,-32"), (0x02850863, "beq a0,s0,0x00010030"),
+                       (0xF71FF0EF, "jal 0x0000ff70"), (0x00150513, "addi a0,a0,1"), (0x00000000, None), (0x0000100F, None)):
+        tests.check(f"an instruction's text: {text}", "" if disassembled(word, ENTRY) == text else disassembled(word, ENTRY))
+
+
+def test_fault_tables(tests):
+    """The merged table of parts is that of the program, and one that is wrong is refused."""
+    for words in (SHORT, [*TWICE, "--at=55..67", "--faults=ones,skip,words", "--pairs=skip", "--step=3000"],
+                  [*BOOT, "--at=0..1305", "--faults=skip", "--code-range=0x1021c..0x1024c", "--step=9000", "--with-output"]):
+        whole = tests.sweep(*words)
+        for count in (1, 3, 7, 50):
+            status, out, err = tests.run([*words, f"--parts={count}", "--table=-"])
+            is_well = out.encode() == whole and len(whole) > 1000
+            tests.check(f"steps: {words[3]}, {count} parts", "" if is_well else (status, out[-300:], err))
+    good = tests.file("good-steps", tests.sweep(*SHORT)).read_bytes()
+    tests.check("steps: a good table", tests.run(["--from", "good-steps"])[2])
+    rows = []
+    for index, (label, change, text) in enumerate(WRONG):
+        tests.file(f"wrong-steps-{index}", change(good))
+        rows.append((f"wrong table of steps: {label}", ["--from", f"wrong-steps-{index}"], text))
+    tests.refuse_all(rows)
+    pairs = tests.sweep(*TWICE, "--at=55..60", "--faults=skip", "--pairs=skip", "--step=3000")
+    for label, change in (("another first step", changed(b"skip 56; skip 58", b"skip 57; skip 58")),
+                          ("out of turn", changed(b"skip 56; skip 58", b"skip 56; skip 56")),
+                          ("beyond the steps", changed(b"skip 56; skip 60", b"skip 56; skip 61"))):
+        tests.file("wrong-pairs", change(pairs))
+        tests.refuses(f"wrong table of pairs: {label}", ["--from", "wrong-pairs"], "aren't all")
+    words = tests.sweep(*BOOT, "--at=1270..1271", "--faults=words", "--step=2000")
+    tests.file("wrong-words", re.sub(rb"flip 1271 (0x\w+) 0x00000002; flip 1272", rb"flip 1271 \1 0x00000002; flip 1273", words))
+    tests.refuses("wrong table of words", ["--from", "wrong-words"], "those of step 1271 aren't all")
+
+
+def test_fault_parts(tests):
+    """Parts of one sweep, of another one, kept, and elsewhere."""
+    for index in (1, 2, 3):
+        tests.file(f"steps-{index}", tests.sweep(*SHORT, f"--part={index}/3"))
+    out = tests.run(["--table=-", "--from", "steps-2", "steps-1", "steps-3"])[1]
+    tests.check("steps: parts by sweep --part", out.encode() != tests.sweep(*SHORT))
+    tests.file("steps-other", tests.sweep(*[it.replace("skip,pc", "pc,skip") for it in SHORT], "--part=3/3"))
+    tests.refuses("steps: a part of another sweep", ["--from", "steps-1", "steps-2", "steps-other"],
+                  "steps 1270..1276, faults pc,skip, not steps 1270..1276, faults skip,pc")
+    tests.refuses("steps: a part is missing", ["--from", "steps-1", "steps-3"], "missing: part 2/3")
+    keep = [*SHORT, "--parts=3", "--keep=kept-steps"]
+    whole = tests.run(keep)
+    came = tests.run(keep, REPLAYCHECK=tests.wrapper("exit 4"))
+    tests.check("steps: kept parts", came != whole)
+    tests.refuses("steps: kept parts of another sweep", [*SHORT, "--code=verify", "--parts=3", "--keep=kept-steps"],
+                  "steps 1270..1276, faults skip,pc, not steps 1270..1276, faults skip,pc, code 0x0001021c..0x0001024c")
+    script = tests.run([*BOOT, "--at=1270..", "--faults=pc,skip", "--code=verify", "--pairs=skip", "--script=slurm"])[1]
+    wanted = ("\nreplaycheck sweep --step=10000 --at=1270..1305 --faults=pc,skip --code-range=0x0001021c..0x0001024c --pairs=skip "
+              "--input=boot.input boot.elf \\\n")
+    tests.check("steps: a script", "" if wanted in script else script)
+    if shutil.which("parallel"):
+        tests.check("steps: --sshlogin", tests.run([*SHORT, "--parts=2", "--sshlogin=:"]) != whole)
+    else:
+        tests.left_out("steps: --sshlogin", "parallel")
+    first = sorted(random.Random(3).sample(range(1, 8), 2))[0]
+    out = tests.run([*SHORT, "--sample=2", "--seed=3", "--table=-"])[1]
+    tests.check("steps: a sample", "" if f"part {first}/7\n" in out and "skip" in out else out[:300])
+
+
+def test_fault_summary(tests):
+    """What is said of edits: their lines, and the instructions at their steps."""
+    check_text(tests, "steps: a summary", [*TWICE, "--at=0..", "--code=verify", "--faults=skip"], (
+        f"boot-twice.elf with boot.input, verify: 26 edits, steps 0..2532, faults skip, {VERIFY}, step 10132\n",
+        "step 10132 by default: 4 times the 2533 steps of the unedited run\n", "unedited: exited 1, no errors or leaks\n",
+        f"          1  {'skip 2497':<26} 9: exited 0\n             step 2497: verify+0x50", ", lw ra,28(sp)\n",
+        "             + Syscall param exit(status) contains uninitialised byte(s) at 0x000101a0: _exit"))
+    goal = [*TWICE, "--at=0..", "--code=verify", "--faults=skip", "--goal=exited 0"]
+    for label, words, lines in (
+            ("skips", goal, [r"skip 2497: verify\+0x50( \(boot\.c:\d+\))?, lw ra,28\(sp\)"]),
+            ("no names without the file", ["--from", "twice.table", "--goal=exited 0"], ["skip 2497"]),
+            ("a function that is left out", [*goal[:-2], "--faults=skip", "--code-range=0x102c8..0x102d8", goal[-1]], [])):
+        if "--code-range=0x102c8..0x102d8" in words:
+            words = [it for it in words if it != "--code=verify"]
+        tests.run([*goal[:-1], "--table=twice.table"])
+        status, out, err = tests.run(words)
+        found = out.splitlines()[:len(lines)]
+        is_well = all(map(re.fullmatch, lines, found)) and f"reached by {len(lines)} of " in out and status == bool(lines) and not err
+        tests.check(f"steps: a goal, {label}", "" if is_well else (status, out, err))
+    status, out, err = tests.run([*goal, "--pairs=skip"])
+    rows = [it for it in out.splitlines() if it.startswith("skip 2497; skip 2505")]
+    named = re.fullmatch(r"skip 2497; skip 2505: verify\+0x50.*, lw ra,28\(sp\); verify\+0x54.*, lw s0,24\(sp\)", "\n".join(rows))
+    tests.check("steps: a goal, pairs", "" if named and "reached by 24 of 348 edits" in out else (status, out, err))
+    check_text(tests, "steps: words", [*BOOT, "--at=1274", "--faults=words", "--goal=exited 0", "--step=2000"],
+               ("flip 1274 0x0001023c 0x00000004; flip 1275 0x0001023c 0x00000004: verify+0x20",))
+    check_text(tests, "steps: to the end of the run", [*BOOT, "--at=1300..", "--faults=skip"], ("6 edits, steps 1300..1305, faults skip,",))
+    check_text(tests, "steps: to the step of the sweep", [*BOOT, "--at=15..", "--faults=skip", "--step=20"], ("5 edits, steps 15..19, ",))
+    check_text(tests, "steps: each model", [*BOOT, "--at=1274", f"--faults={','.join(MODELS)}", "--step=2000"],
+               ("1119 edits, steps 1274..1274, ",))
+
+
+def test_faults(tests):
+    furnish_firmware(tests.room)
+    test_disassembly(tests)
+    usual, program = tests.program, with_steps(tests.program, tests.room, "test-explore")
+    if program is None:
+        return tests.left_out("steps", "program that has them, nor cargo for the twin")
+    if program != usual:
+        tests.left_out("steps by the program: the twin stands in", "program that has them")
+    tests.program = program
+    try:
+        for test in (test_fault_tables, test_fault_parts, test_fault_summary, test_swept_steps):
+            test(tests)
+    finally:
+        tests.program = usual
