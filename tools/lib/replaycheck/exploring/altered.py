@@ -1,7 +1,7 @@
 """The instructions at the steps at which the machine is altered: where each is in the program and in its source."""
 from typing import Dict, Iterable, List, Optional, Set, Tuple
 
-from replaycheck.disassembly import disassembled
+from replaycheck.disassembly import texts_at
 from replaycheck.sessions import Session
 
 from .lines import shown_name
@@ -18,6 +18,7 @@ class Instructions:
     def __init__(self, request, lines):
         self.request, self.lines = request, lines
         self.addresses: Dict[Tuple[int, Optional[int]], Optional[int]] = {}
+        self.texts: Dict[int, str] = {}
         self.asked = 0  # lines of the session
 
     def learn(self, edits: Iterable[str]) -> None:
@@ -31,7 +32,10 @@ class Instructions:
             if pair:
                 pairs.setdefault(int(pair[1]), set()).add(int(pair[2]))
         self.learn_runs([(None, steps), *sorted(pairs.items())])
-        self.lines.learn([f"0x{it:08x}" for it in self.addresses.values() if it is not None])
+        found = {it for it in self.addresses.values() if it is not None}
+        self.lines.learn([f"0x{it:08x}" for it in found])
+        if self.request.program.path:
+            self.texts.update(texts_at(self.request.program.path, found - self.texts.keys()))
 
     def learn_runs(self, runs: Iterable[Tuple[Optional[int], Set[int]]]) -> None:
         """Looks at steps of the unedited run, which is that without a skip, and of runs with a skip, that weren't looked at before."""
@@ -84,8 +88,7 @@ class Instructions:
         if symbol:
             away = address - symbol.value
             name = shown_name(elf.name(symbol)) + (f"+0x{away:x}" if away else "")
-        word = self.request.word(address) if elf else None
-        text = disassembled(word, address) if word is not None else None
+        text = self.texts.get(address)
         return f"{name}{self.lines.behind(f'0x{address:08x}')}" + (f", {text}" if text else "")
 
     def told(self, edit: str) -> List[Tuple[int, str]]:

@@ -14,6 +14,7 @@ MODELS = {
     "ones": "a register set to all ones",
 }
 SIZES = {"skip": 1, "registers": LAST_REGISTER * BITS, "pc": BITS, "words": BITS, "zero": LAST_REGISTER, "ones": LAST_REGISTER}
+SETTING = {"zero", "ones"}  # the models that make bits defined
 REGISTERS = [f"x{number}" for number in range(1, LAST_REGISTER + 1)]
 MASKS = [f"0x{1 << bit:08x}" for bit in range(BITS)]
 TURNED = re.compile(r"flip [0-9]+ (0x[0-9a-f]{8}) ")  # a word of the program
@@ -39,6 +40,11 @@ class Steps:
         """The models in their order."""
         given = self.values.split(",")
         return [it for it in MODELS if it in given]
+
+    @property
+    def sets(self):
+        """Whether registers are set, which makes their bits defined."""
+        return bool(SETTING & set(self.models))
 
     @property
     def start(self):

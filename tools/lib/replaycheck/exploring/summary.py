@@ -110,12 +110,14 @@ class Summary:
 
     def clean_lines(self):
         """How many runs have no error: with no suppressions an outline lists each, so these are runs without a use of undefined or
-        inaccessible memory."""
+        inaccessible memory. Nothing is said of what memory holds where registers are set, as this makes bits defined."""
         edits = sum(self.merged.tallies[it.number] for it in self.outcomes if not it.has_errors)
         if edits and not self.merged.head.files[SUPPRESSIONS][0]:
             too = "" if self.unedited.has_errors else " and the unedited run"
-            yield (f"no error by {counted(edits, 'edit')}{too}: nothing that uninitialised, freed or unmapped memory holds can change "
-                   f"these runs up to step {self.merged.head.step}")
+            says = "" if any(it.kind == "steps" and it.sets for it in self.merged.head.ranges) else (
+                ": nothing that uninitialised, freed or unmapped memory holds can change these runs up to step "
+                f"{self.merged.head.step}")
+            yield f"no error by {counted(edits, 'edit')}{too}{says}"
 
     # ---- outcomes
 
