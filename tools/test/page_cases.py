@@ -320,7 +320,8 @@ def many_edits(bench):
 def refused_edits(bench):
     """An edit that the program refuses is told in words, and nothing changes; and so is a line that is none."""
     refused = (("patch 0x40 0x13", "no word of the loaded program"), ("input 999 1", "no such byte"), ("input 0 256", "refused"),
-               ("patch 4295033312 0x13", "refused"), ("option redzone 5000", "out of range"), ("mark 0 0x20011 0 defined", "a mark has 1 to"),
+               ("patch 4295033312 0x13", "refused"), ("option redzone 5000", "out of range"),
+               ("mark 0 0x20011 0 defined", "a mark has 1 to"),
                ("supp add Nonsense", "can't be read"))
     with bench.open() as page:
         page.run("replaycheck.use('input 1 8')")
