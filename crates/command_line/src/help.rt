@@ -14,7 +14,7 @@ pub(crate) const SESSION: &str =
 
 /// What `look` does.
 pub(crate) const LOOK: &str =
-    "Answers the lines of a session, and others that show or alter registers and memory at a step";
+    "Answers the lines of a session, and others that show or alter registers and memory";
 
 /// What `sweep` does.
 pub(crate) const SWEEP: &str =

@@ -51,8 +51,8 @@ abbrev pub unless_refused : Option Fault → Result Command Fault → Result Com
 unless_refused None outcome = outcome
 unless_refused (Some fault) outcome = Err fault
 
--- the command that a line is which is read as this command or as none, or why it is rejected: the line, then what it is
--- read as, and then the command's own
+-- what a line comes to that is read as this command, or as none: the command, or why the line is rejected. The line is
+-- judged first, then how it is read, and then the command
 abbrev pub accepted_as : Turn → List ℕ → Result Command Fault → Result Command Fault
 accepted_as turn line read = unless_refused (line_refusal turn line) (if_command turn.scenario read)
 
