@@ -60,12 +60,7 @@ impl Fork {
     }
 
     /// Returns a fork before a later step, or the same one, of a run to which other marks of one step lead, if this is a fork for these.
-    pub fn go_on(
-        &self,
-        step: u32,
-        setup: &Setup,
-        marks: &[Alteration],
-    ) -> Result<Fork, AllocError>
+    pub fn go_on(&self, step: u32, setup: &Setup, marks: &[Alteration]) -> Result<Fork, AllocError>
         requires { self.now.step ≤ step }
         ensures step { IfOk result (λ fork. fork.step ≡ step) }
         ensures fork { IfOk result (λ fork. (s : ℕ) (one : Run) (start : State) (last : ℕ) → step ≤ last

@@ -25,11 +25,20 @@ pub enum Glitch {
 #[derive(Clone, Copy)]
 pub enum Change {
     /// Another byte of the input.
-    Byte { offset: u32, byte: u8 },
+    Byte {
+        offset: u32,
+        byte: u8,
+    },
     /// Another word of the program, at a multiple of 4.
-    Word { addr: u32, word: u32 },
+    Word {
+        addr: u32,
+        word: u32,
+    },
     /// A glitch just before a step.
-    Once { step: u32, glitch: Glitch },
+    Once {
+        step: u32,
+        glitch: Glitch,
+    },
     /// A glitch just before a step, and another one just before a later step.
     Twice {
         step: u32,

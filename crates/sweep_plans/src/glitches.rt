@@ -125,11 +125,7 @@ fn push_word(
 }
 
 /// Appends the changes that set x1 to x31 to a value, one register each.
-fn push_register_sets(
-    changes: &mut Vec<Change>,
-    step: u32,
-    value: u32,
-) -> Result<(), AllocError>
+fn push_register_sets(changes: &mut Vec<Change>, step: u32, value: u32) -> Result<(), AllocError>
     ensures { OnOk result (changes.new.items ≡ changes.old.items ++ register_sets step value) }
 {
     for r in 0..REGISTERS {

@@ -147,7 +147,10 @@ impl Plan {
         if let Some(word) = self.words.at(i) {
             return Place::Word(4 * word);
         }
-        match self.steps.at(i.saturating_sub(u64::from(self.words.count()))) {
+        match self
+            .steps
+            .at(i.saturating_sub(u64::from(self.words.count())))
+        {
             Some(step) => Place::Step(step),
             None => Place::Nowhere,
         }

@@ -124,12 +124,7 @@ fn pairs_of(named: Option<StepRequest>) -> bool
 
 /// Returns the plan of a sweep of a program with an input of some length, for outcomes at a step.
 #[tactic(auto, unfolding(crate::specs::Planned::bytes_meant))]
-pub fn plan_of<'a>(
-    request: Request,
-    image: &Image,
-    len: u32,
-    step: u32,
-) -> Result<Plan, End<'a>>
+pub fn plan_of<'a>(request: Request, image: &Image, len: u32, step: u32) -> Result<Plan, End<'a>>
     ensures ok { IfOk result (λ plan. IsPlanOf request image.now len step plan) }
     ensures err { IfErr result (HasNoPlan request image.now len step) }
 {

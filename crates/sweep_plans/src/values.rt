@@ -93,11 +93,7 @@ pub fn others(alloc: Global, words: &[u32], old: u32) -> Result<Vec<u32>, AllocE
 }
 
 /// Returns the changes of the byte at an offset to some values, of each the low eight bits.
-pub fn byte_changes(
-    alloc: Global,
-    offset: u32,
-    values: &[u32],
-) -> Result<Vec<Change>, AllocError>
+pub fn byte_changes(alloc: Global, offset: u32, values: &[u32]) -> Result<Vec<Change>, AllocError>
     ensures { IfOk result (λ changes. changes.items ≡ map (byte_to offset) values.now) }
 {
     let mut changes = Vec::new(alloc);

@@ -198,6 +198,12 @@ pub(crate) fn push_head(
     push_files(alloc, out, sources)?;
     push_bytes(out, plan.bytes, words.byte_values)?;
     push_words(out, named, words.word_values)?;
-    push_steps(out, plan.steps, fault_text(words.faults), plan.code, plan.pairs)?;
+    push_steps(
+        out,
+        plan.steps,
+        fault_text(words.faults),
+        plan.code,
+        plan.pairs,
+    )?;
     push_rest(out, words.step, words.with_output, part)
 }

@@ -1,5 +1,5 @@
--- The outcome of a change: the outcome of one run from step zero with only that change, and the number of steps that the
--- change needs.
+-- The outcome of a change: the outcome of one run from step zero with only that change, and the number of steps that
+-- the change needs.
 use Rattle.std.specs.Prelude.{◌≡◌, ℕ, ◌-◌, Bool, List, [], ◌∷◌, Option, Some, None, fold, min, sum_by}
 use Rattle.checkpoints.specs.Forks.{IsLastUnshown}
 use Rattle.scenario.specs.Edits.{row}

@@ -1,6 +1,7 @@
 -- What is at the places of a scenario, and the changes there.
-use Rattle.std.specs.Prelude.{◌≡◌, ℕ, zero, suc, ◌+◌, ◌-◌, ◌<◌, ◌≤◌, min, ◌∷◌, ◌&&◌, nat_lt, nat_le, Bool, true, if◌then◌else◌, List}
-use Rattle.std.specs.Prelude.{[], ◌++◌, length, slice_index_or, Option, Some, None, is_none, unwrap_or}
+use Rattle.std.specs.Prelude.{◌≡◌, ℕ, zero, suc, ◌+◌, ◌-◌, ◌<◌, ◌≤◌, min, ◌∷◌, ◌&&◌, nat_lt, nat_le, Bool, true}
+use Rattle.std.specs.Prelude.{if◌then◌else◌, List, [], ◌++◌, length, slice_index_or, Option, Some, None, is_none}
+use Rattle.std.specs.Prelude.{unwrap_or}
 use Rattle.shadow_memory.specs.Ranges.{little_word, window}
 use Rattle.guest_elf.specs.Hooks.{hook_at}
 use Rattle.guest_elf.specs.Images.{is_word}

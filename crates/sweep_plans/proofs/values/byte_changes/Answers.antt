@@ -14,4 +14,5 @@ loop-value-preserved c =
 
 pub returns : goal.returns
 returns c =
-    c.loop-value.invariant ∙ ap (map (byte_to c.args.offset)) (take_all c.loop-value.value-index c.args.values.now (omega arith))
+    c.loop-value.invariant
+    ∙ ap (map (byte_to c.args.offset)) (take_all c.loop-value.value-index c.args.values.now (omega arith))

@@ -14,4 +14,5 @@ loop-word-preserved c =
 
 pub returns : goal.returns
 returns c =
-    c.loop-word.invariant ∙ ap (map (Word c.args.addr)) (take_all c.loop-word.word-index c.args.values.now (omega arith))
+    c.loop-word.invariant
+    ∙ ap (map (Word c.args.addr)) (take_all c.loop-word.word-index c.args.values.now (omega arith))

@@ -25,7 +25,8 @@ edit-requires-3 c =
 pub take_back-requires : goal.take_back-requires
 take_back-requires c =
     let sc = c.args.scenario.now in
-    subst (λ s. GoesBack s c.args.standing) (sym (c.in_ok-edit.ensures.ok ∙ ap (λ e. (row sc e).after) c.edit-3.ensures))
+    subst (λ s. GoesBack s c.args.standing)
+    (sym (c.in_ok-edit.ensures.ok ∙ ap (λ e. (row sc e).after) c.edit-3.ensures))
     (goes-back sc c.args.standing c.args.change c.requires.stands c.requires.at)
 
 pub returns-clause-outcome : goal.returns-clause-outcome

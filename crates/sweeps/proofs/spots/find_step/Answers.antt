@@ -16,6 +16,8 @@ standing_step-requires-clause-shows c =
 
 pub returns-clause-found : goal.returns-clause-found
 returns-clause-found c =
-    let is = sym c.standing_step.ensures ∙ c.in-Some.is in
-    (is, step-continues c.args.scenario.now c.args.code c.args.step c.in-Some.standing c.in_ok-fork.fork is
-    c.in_ok-fork.ensures.fork)
+    let is = sym c.standing_step.ensures ∙ c.in-Some.is in (
+      is,
+      step-continues c.args.scenario.now c.args.code c.args.step c.in-Some.standing c.in_ok-fork.fork is
+          c.in_ok-fork.ensures.fork,
+    )

@@ -20,6 +20,7 @@ returns-clause-fork c s one start last within l fork =
       aligned = tt;
       shows = c.in_ok-machine.ensures.shows start
           (shows-along _ _ _ _ refl same (c.in_ok-copy.ensures _ fork.shows));
-      step = step-is-last c.args.step last (record { start = start; setup = c.args.setup.now; marks = c.args.marks.now })
-          within;
+      step =
+          step-is-last c.args.step last
+          (record { start = start; setup = c.args.setup.now; marks = c.args.marks.now }) within;
     }

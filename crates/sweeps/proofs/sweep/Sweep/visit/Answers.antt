@@ -34,7 +34,8 @@ returns-in_default-clause-met c =
     let self = c.args.self.now in
     let plan = c.args.plan.now in
     let none = found-none self.scenario _ c.in_ok-found.found c.in_default.not-Some c.in_ok-found.ensures.found in
-    let nothing = ap (all_changes self.scenario plan) (ap (standing_in self.scenario plan) (sym c.place-place.ensures) ∙ none) in
+    let nothing = ap (all_changes self.scenario plan) (ap (standing_in self.scenario plan) (sym c.place-place.ensures)
+    ∙ none) in
     meets-from self.with_output self.scenario self.scenario self.counts self.counts _ c.args.out.now.items
     c.args.out.now.items refl
     (subst (λ (xs : List Change). CountsMore self.counts self.counts self.with_output self.scenario xs
@@ -48,7 +49,8 @@ returns-clause-met c =
     let plan = c.args.plan.now in
     let there = found-some self.scenario _ c.in_ok-found.found c.in-Some.spot c.in-Some.is c.in_ok-found.ensures.found
     in
-    let all = ap (all_changes self.scenario plan) (ap (standing_in self.scenario plan) (sym c.place-place.ensures) ∙ there.0) in
+    let all = ap (all_changes self.scenario plan) (ap (standing_in self.scenario plan) (sym c.place-place.ensures)
+    ∙ there.0) in
     on_ok_weaker c.meet_place.result (λ met.
     meets-from self.with_output self.scenario c.meet_place.new.scenario self.counts c.meet_place.new.counts _
     c.args.out.now.items c.meet_place.new.out.items c.meet_place.ensures.same
