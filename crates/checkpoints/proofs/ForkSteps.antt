@@ -16,7 +16,7 @@ use Rattle.checkpoints.specs.FirstEffects.{IsBelowFirst, PatchShows}
 use Rattle.checkpoints.specs.Effects.{EffectShows, Run, LeadsTo, effect_by, written_by}
 use Rattle.checkpoints.specs.Forks.{IsLastUnshown, WritesAligned}
 use Rattle.checkpoints.specs.declared.effect.Effect.{Effect}
-use Rattle.checkpoints.specs.declared.effect.Effect.TheVariants.{Word, Anew}
+use Rattle.checkpoints.specs.declared.effect.Effect.TheVariants.{After, Word, Anew}
 use Rattle.checkpoints.proofs.RunSteps.{same-pre, pre-poked}
 use Rattle.checkpoints.proofs.WordSteps.{unmet}
 use Rattle.checkpoints.proofs.FirstSteps.{is-low}
@@ -58,6 +58,14 @@ anew-is-first addr word last run = record {
   within = omega arith;
   hidden = λ j low shown. omega arith;
   next = λ l hidden. hidden 1 (omega arith) (omega arith);
+}
+
+-- other marks at a step: the step itself is the last one before they show
+pub step-is-last : (step last : ℕ) (run : Run) → step ≤ last → IsLastUnshown (After step) run last step
+step-is-last step last run l = record {
+  within = l;
+  hidden = λ j low shown. omega arith;
+  next = λ l hidden. hidden (step + 1) (omega arith) refl;
 }
 
 pub word-aligned : (b : Bool) (addr word : ℕ) → addr % 4 ≡ 0 → addr < 2 ^ 32 → WritesAligned (effect_by b addr word)

@@ -5,7 +5,7 @@ ghost use Rattle.guest_machine.specs.Run.{pre};
 ghost use Rattle.guest_machine.specs.Shows.{Shows};
 ghost use Rattle.guest_machine.specs.declared.setup.Setup.{Setup as SetupOf};
 ghost use Rattle.run_values.specs.declared.alteration.Alteration.{Alteration as AlterationOf};
-ghost use Rattle.checkpoints.specs.Effects.{word_effect, written_by};
+ghost use Rattle.checkpoints.specs.Effects.{LeadsTo, Run, word_effect, written_by};
 ghost use Rattle.checkpoints.specs.FirstEffects.{IsBelowFirst, InputShows};
 ghost use Rattle.checkpoints.specs.Forks.{IsLastUnshown, IsForkFor, ShowsEdited, WritesAligned, IsStepOf, IsForkOf};
 ghost use Rattle.checkpoints.specs.Trails.{is_short, loaded_of, last_held, IsRightFor};
@@ -57,6 +57,26 @@ impl Fork {
         let machine = run_on(written, setup, marks, self.step, step, meter)?;
         let marked = apply_marks(machine, marks, step)?;
         Ok(marked)
+    }
+
+    /// Returns a fork before a later step, or the same one, of a run to which other marks of one step lead, if this is a fork for these.
+    pub fn go_on(&self, step: u32, setup: &Setup, marks: &[Alteration]) -> Result<Fork, AllocError>
+        requires { self.now.step ≤ step }
+        ensures step { IfOk result (λ fork. fork.step ≡ step) }
+        ensures fork { IfOk result (λ fork. (s : ℕ) (one : Run) (start : State) (last : ℕ) → step ≤ last
+            → LeadsTo (Effect.After s) one (record { start = start; setup = setup.now; marks = marks.now })
+            → IsForkFor (Effect.After s) one last self.now
+            → IsForkFor (Effect.After step) (record { start = start; setup = setup.now; marks = marks.now }) last fork) }
+    {
+        keeps_input();
+        keeps_end();
+        reads_on();
+        end_stays();
+        keeps_heap();
+        keeps_pokes();
+        let copy = self.machine.share_ready()?;
+        let machine = run_on(copy, setup, marks, self.step, step, &mut Meter::new())?;
+        Ok(Fork { machine, step })
     }
 }
 
@@ -118,6 +138,28 @@ impl Trail {
         self.fork_at(step, setup, marks)
     }
 
+    /// Returns a fork of the run before a step. Each run whose marks differ only at that step continues from it.
+    #[tactic(auto, unfolding(crate::specs::Trails::last_held))]
+    pub fn fork_at_step(
+        &mut self,
+        step: u32,
+        last: u32,
+        setup: &Setup,
+        marks: &[Alteration],
+    ) -> Result<Fork, AllocError>
+        requires small { last < 2 ^ 31 }
+        requires within { step ≤ last }
+        ensures right { (start : State) → IsRightFor self.old start setup.now marks.now → IsRightFor self.new start setup.now marks.now }
+        ensures step { IfOk result (λ fork. fork.step ≡ step) }
+        ensures fork { IfOk result (λ fork. (start : State) → IsRightFor self.old start setup.now marks.now
+            → IsForkFor (Effect.After step) (record { start = start; setup = setup.now; marks = marks.now }) last fork) }
+        ensures short { is_short self.new ≡ is_short self.old }
+        ensures loaded { loaded_of self.new ≡ loaded_of self.old }
+    {
+        self.reach((step / SPACING + 1) as usize, setup, marks)?;
+        self.fork_at(step, setup, marks)
+    }
+
     /// The last step, up to another, at which the byte of the input at an offset isn't read yet.
     #[tactic(auto, unfolding(crate::specs::Trails::machines_of, crate::specs::Trails::last_held))]
     fn last_unread(
@@ -165,7 +207,8 @@ impl Trail {
     #[tactic(auto, unfolding(crate::specs::Trails::machines_of, crate::specs::Trails::last_held))]
     fn fork_at(&self, step: u32, setup: &Setup, marks: &[Alteration]) -> Result<Fork, AllocError>
         requires { step < last_held self.now }
-        ensures { IfOk result (λ fork. (effect : EffectOf) (last : ℕ) → WritesAligned effect → IsStepOf effect self.now setup.now marks.now last step
+        ensures step { IfOk result (λ fork. fork.step ≡ step) }
+        ensures fork { IfOk result (λ fork. (effect : EffectOf) (last : ℕ) → WritesAligned effect → IsStepOf effect self.now setup.now marks.now last step
             → IsForkOf effect self.now setup.now marks.now last fork) }
     {
         let copy = self.copy_of((step / SPACING) as usize)?;

@@ -78,17 +78,25 @@ default_option name default = record (option name) { defaults = default ∷ [] }
 abbrev pub output_flag : Rule
 output_flag = record (new_rule (codes "with-output")) { long = Some (codes "with-output"); action = Some SetTrue }
 
--- `sweep`, with the bytes that it edits, and whole
+-- `sweep`, with the bytes that it edits, with the words, with the steps at which faults strike, and whole
 abbrev pub sweep_of_bytes : App
 sweep_of_bytes =
     with_rule (with_rule (with_rule (program_command (codes "sweep")) step_option) (option (codes "bytes")))
     (default_option (codes "values") (codes "all"))
 
+abbrev pub sweep_of_words : App
+sweep_of_words =
+    with_rule (with_rule sweep_of_bytes (option (codes "words")))
+    (default_option (codes "words-values") (codes "skip"))
+
+abbrev pub sweep_of_steps : App
+sweep_of_steps =
+    with_rule (with_rule (with_rule (with_rule sweep_of_words (option (codes "at"))) (option (codes "faults")))
+    (option (codes "code-range"))) (option (codes "pairs"))
+
 abbrev pub sweep_command : App
 sweep_command =
-    with_rule (with_rule (with_rule (with_rule sweep_of_bytes (option (codes "words")))
-    (default_option (codes "words-values") (codes "skip"))) output_flag)
-    (default_option (codes "part") (codes "1/1"))
+    with_rule (with_rule sweep_of_steps output_flag) (default_option (codes "part") (codes "1/1"))
 
 -- with `sweep`
 abbrev pub with_sweep : App
@@ -170,6 +178,10 @@ pub record IsSweepOf (rows : List Row) (asked : SweepWords) : Type 0 where
   pub byte_values : Some asked.byte_values.now ≡ first_of (codes "values") rows
   pub words : text_of asked.words ≡ first_of (codes "words") rows
   pub word_values : Some asked.word_values.now ≡ first_of (codes "words-values") rows
+  pub at : text_of asked.at ≡ first_of (codes "at") rows
+  pub faults : text_of asked.faults ≡ first_of (codes "faults") rows
+  pub code : text_of asked.code ≡ first_of (codes "code-range") rows
+  pub pairs : text_of asked.pairs ≡ first_of (codes "pairs") rows
   pub part : Some asked.part.now ≡ first_of (codes "part") rows
   pub with_output : IsFlagOf (codes "with-output") rows asked.with_output
 

@@ -2,7 +2,7 @@
 ghost use Rattle.std.specs.Prelude.{◌≡◌, IfErr, IfOk, IfSome, IsSomeAnd, false, map, string_bytes, true};
 ghost use Rattle.clap.specs.Words.{FailsBy, app_of, fault_of, found_of, kind_of, rows_of, rule_of, subcommand_rows_of, takes};
 ghost use Rattle.clap.specs.declared.builder.command.Command.TheViews.{out-Command};
-ghost use Rattle.command_line.specs.Orders.{IsOrderFor, IsOrderOf, IsStepOf, IsSweepOf, IsTaskOf, certify_command, command_line, default_option, file_argument, input_command, option, output_flag, program_command, run_command, step_option, sweep_command, sweep_of_bytes, with_certify, with_look, with_run, with_session, with_sweep};
+ghost use Rattle.command_line.specs.Orders.{IsOrderFor, IsOrderOf, IsStepOf, IsSweepOf, IsTaskOf, certify_command, command_line, default_option, file_argument, input_command, option, output_flag, program_command, run_command, step_option, sweep_command, sweep_of_bytes, sweep_of_steps, sweep_of_words, with_certify, with_look, with_run, with_session, with_sweep};
 
 use crate::exec::{exec_command, exec_of};
 use crate::help::{
@@ -158,16 +158,38 @@ fn sweep_of_bytes<'a>(alloc: Global) -> Result<Command<'a>, AllocError>
     command.arg(default_option(alloc, "values", "VALUES", "all", values))
 }
 
-/// `sweep`.
-fn sweep_command<'a>(alloc: Global) -> Result<Command<'a>, AllocError>
-    ensures shape { IfOk result (λ command. app_of command ≡ sweep_command) }
+/// `sweep` with the bytes and the words that it edits.
+fn sweep_of_words<'a>(alloc: Global) -> Result<Command<'a>, AllocError>
+    ensures shape { IfOk result (λ command. app_of command ≡ sweep_of_words) }
     ensures globals { IfOk result (λ command. (out-Command command).has_globals ≡ false) }
 {
     let words = "Loaded words from address A to address B; the one at A";
     let command = sweep_of_bytes(alloc)?.arg(option(alloc, "words", "A..B", words))?;
     let values = "skip, flips, or numbers with commas";
-    let values = default_option(alloc, "words-values", "VALUES", "skip", values);
-    let command = command.arg(values)?.arg(output_flag(alloc))?;
+    command.arg(default_option(alloc, "words-values", "VALUES", "skip", values))
+}
+
+/// `sweep` with all that it changes.
+fn sweep_of_steps<'a>(alloc: Global) -> Result<Command<'a>, AllocError>
+    ensures shape { IfOk result (λ command. app_of command ≡ sweep_of_steps) }
+    ensures globals { IfOk result (λ command. (out-Command command).has_globals ≡ false) }
+{
+    let at = "Steps A to B, at which faults strike; A.. up to the last before --step";
+    let command = sweep_of_words(alloc)?.arg(option(alloc, "at", "A..B", at))?;
+    let faults = "Their models, with commas: skip, registers, pc, words, zero, ones";
+    let command = command.arg(option(alloc, "faults", "MODELS", faults))?;
+    let code = "Only at steps with pc from address A to address B";
+    let command = command.arg(option(alloc, "code-range", "A..B", code))?;
+    let pairs = "skip: two instructions left out, too";
+    command.arg(option(alloc, "pairs", "MODEL", pairs))
+}
+
+/// `sweep`.
+fn sweep_command<'a>(alloc: Global) -> Result<Command<'a>, AllocError>
+    ensures shape { IfOk result (λ command. app_of command ≡ sweep_command) }
+    ensures globals { IfOk result (λ command. (out-Command command).has_globals ≡ false) }
+{
+    let command = sweep_of_steps(alloc)?.arg(output_flag(alloc))?;
     let part = "Part I of N of the places, from 1";
     command.arg(default_option(alloc, "part", "I/N", "1/1", part))
 }
@@ -239,6 +261,10 @@ fn sweep_of<'a>(chosen: &ArgMatches<'a>) -> Option<SweepWords<'a>>
         byte_values: chosen.get_str("values")?,
         words: chosen.get_str("words"),
         word_values: chosen.get_str("words-values")?,
+        at: chosen.get_str("at"),
+        faults: chosen.get_str("faults"),
+        code: chosen.get_str("code-range"),
+        pairs: chosen.get_str("pairs"),
         part: chosen.get_str("part")?,
         with_output: chosen.get_flag("with-output"),
     })

@@ -163,31 +163,47 @@ Example, the last write of a word before the first 5000 steps are over:
 /// The end of the help of `sweep`: its table.
 pub(crate) const AFTER_SWEEP: &str = with_refusals!(
     "\
-With neither --bytes nor --words, all bytes of the input are edited; `--input -` is standard input.
-Numbers are decimal, or hexadecimal after 0x. The places are the bytes, then the words, each at a
-multiple of 4; a table has one part of them. Each place gets these values, except its own:
+With none of --bytes, --words and --at, all bytes of the input are edited; `--input -` is standard
+input. Numbers are decimal, or hexadecimal after 0x. The places are the bytes, then the words, each
+at a multiple of 4, then the steps; a table has one part of them. Bytes and words get these values,
+except their own:
   all      each other byte
   flips    each value that differs in one bit
   edges    0, 1, 0x7f, 0x80, 0xff, its own plus 1 and minus 1
   skip     the instruction that does nothing, 0x00000013
   N,N,..   these numbers, each at most once
 
+At each step that the unedited run executes, one fault is tried at a time, of each model in the list:
+  skip       the instruction is left out
+  registers  one bit of x1 to x31 is turned, just before the step
+  pc         one bit of pc
+  words      one bit of the word at pc, for this step only
+  zero, ones x1 to x31 is set to 0, to 0xffffffff
+`--pairs skip` also leaves out two instructions, the second at a later step of --at. --at and
+--faults need each other, and --code-range and --pairs need both. Steps at which a function of the
+heap is called by name are left out.
+
 The table, which `replaycheck explore` reads:
-  sweep 1                   its format; then the lengths and SHA-256 of the files, and what is asked
+  sweep 1                   its format, 2 with steps; then the files' lengths and SHA-256, and what is asked
   outcome K                 an outcome, just before the first row that has it; its lines follow: the
                             state, each error and each shown leak with its trace
   unedited 0                the run with no edit
   input OFFSET BYTE K       an edit, as a line of a session makes it, and its outcome
   patch ADDR WORD K
+  skip STEP K               a fault, as `replaycheck look` makes it: also flip STEP xR MASK, flip STEP
+                            pc MASK, flip STEP ADDR MASK, set STEP xR VALUE; two lines with `; `
   tally K COUNT             how many edits have an outcome
   end EDITS OUTCOMES STEPS  a table without this line isn't whole
 
-Two more refusals:
+Three more refusals:
   `replaycheck: bytes refused 3`: a range that isn't inside the input, or an input of no bytes
   `replaycheck: words refused 4`: no word of the range is loaded
+  `replaycheck: steps refused 5`: a range that isn't below --step
 
 Example, each other value of the first four bytes:
   replaycheck sweep program.elf --input bytes --bytes 0..3
+and each instruction of a function left out once:
+  replaycheck sweep program.elf --step 9000 --at 0.. --faults skip --code-range 0x10200..0x1023f
 "
 );
 

@@ -43,6 +43,14 @@ pub struct SweepWords<'a> {
     pub words: Option<&'a str>,
     /// Which values they get.
     pub word_values: &'a str,
+    /// At which steps faults strike.
+    pub at: Option<&'a str>,
+    /// By which fault models.
+    pub faults: Option<&'a str>,
+    /// To which addresses pc is limited there.
+    pub code: Option<&'a str>,
+    /// Which pairs of faults are tried, too.
+    pub pairs: Option<&'a str>,
     /// Which part of the places is swept.
     pub part: &'a str,
     /// Whether an outcome has the number of bytes written.

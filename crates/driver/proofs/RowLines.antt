@@ -116,3 +116,4 @@ rows_are_lines turn (Word addr word) few small free =
     let read = judged turn _ few (word_short addr word small.0 small.1)
     ∙ ap (if_command turn.scenario) (word_parsed addr word small.0 small.1) ∙ rw free in
     (read, ap (after turn.scenario) read)
+rows_are_lines turn _ few small free = absurd small

@@ -1,7 +1,9 @@
 //! How orders are carried out and what they write, over files, readers and writers that fail.
 use crate::shelf::Shelf;
 use command_line::{Order, SweepWords, Task};
-use driver::{End, ReadFault, RunFault, SweepOption, read_opened, run_once, run_order, tell};
+use driver::{
+    End, LoneOption, ReadFault, RunFault, SweepOption, read_opened, run_once, run_order, tell,
+};
 use fake_streams::{Room, Script};
 use guest_elf::{ElfFault, Image, read};
 use guest_programs::program;
@@ -185,6 +187,35 @@ fn ends_of_files_are_told(rt: HostRuntime) {
     assert_told(&rt, rt.alloc(), &FILE_ENDS);
 }
 
+const STEP_ENDS: [Told; 5] = [
+    (End::StepsRefused, 3, b"replaycheck: steps refused 5\n"),
+    (
+        End::Lone(LoneOption::At),
+        2,
+        b"replaycheck: --at needs --faults\n",
+    ),
+    (
+        End::Lone(LoneOption::Faults),
+        2,
+        b"replaycheck: --faults needs --at\n",
+    ),
+    (
+        End::Lone(LoneOption::CodeRange),
+        2,
+        b"replaycheck: --code-range needs --at\n",
+    ),
+    (
+        End::Lone(LoneOption::Pairs),
+        2,
+        b"replaycheck: --pairs needs --at\n",
+    ),
+];
+
+#[test]
+fn ends_of_steps_are_told(rt: HostRuntime) {
+    assert_told(&rt, rt.alloc(), &STEP_ENDS);
+}
+
 const WORD_ENDS: [Told; 5] = [
     (End::InputTooLarge, 3, b"replaycheck: input refused 14\n"),
     (End::BytesRefused, 3, b"replaycheck: bytes refused 3\n"),
@@ -265,6 +296,10 @@ fn task_of(asked: &Asked) -> (Option<&'static str>, Task<'static>) {
                 byte_values: "0,97",
                 words: *words,
                 word_values: "0x00100513,0x513",
+                at: None,
+                faults: None,
+                code: None,
+                pairs: None,
                 part,
                 with_output: true,
             };

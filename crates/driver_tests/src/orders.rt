@@ -30,6 +30,10 @@ fn is_sweep(asked: &SweepWords<'_>, want: &SweepWords<'_>) -> bool {
         && asked.byte_values == want.byte_values
         && is_text(asked.words, want.words)
         && asked.word_values == want.word_values
+        && is_text(asked.at, want.at)
+        && is_text(asked.faults, want.faults)
+        && is_text(asked.code, want.code)
+        && is_text(asked.pairs, want.pairs)
         && asked.part == want.part
         && asked.with_output == want.with_output
 }
@@ -154,7 +158,7 @@ fn sessions_are_ordered(rt: HostRuntime) {
     assert_given(&rt, rt.alloc(), &SESSIONS);
 }
 
-const SWEEPS: [Line; 2] = [
+const SWEEPS: [Line; 3] = [
     (
         "a sweep of all bytes",
         &["sweep", "f"],
@@ -168,6 +172,10 @@ const SWEEPS: [Line; 2] = [
                 byte_values: "all",
                 words: None,
                 word_values: "skip",
+                at: None,
+                faults: None,
+                code: None,
+                pairs: None,
                 part: "1/1",
                 with_output: false,
             }),
@@ -196,8 +204,41 @@ const SWEEPS: [Line; 2] = [
                 byte_values: "edges",
                 words: Some("0x4"),
                 word_values: "flips",
+                at: None,
+                faults: None,
+                code: None,
+                pairs: None,
                 part: "2/3",
                 with_output: true,
+            }),
+        },
+    ),
+    (
+        "a sweep of steps",
+        &[
+            "sweep",
+            "f",
+            "--at=3..",
+            "--faults=skip,pc",
+            "--code-range=4..8",
+            "--pairs=skip",
+        ],
+        Order {
+            file: "f",
+            input: None,
+            suppressions: None,
+            task: Task::Sweep(SweepWords {
+                step: 1_048_576,
+                bytes: None,
+                byte_values: "all",
+                words: None,
+                word_values: "skip",
+                at: Some("3.."),
+                faults: Some("skip,pc"),
+                code: Some("4..8"),
+                pairs: Some("skip"),
+                part: "1/1",
+                with_output: false,
             }),
         },
     ),

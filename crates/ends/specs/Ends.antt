@@ -6,10 +6,13 @@ use Rattle.guest_elf.specs.declared.fault.ElfFault.{ElfFault}
 use Rattle.guest_elf.specs.declared.fault.ElfFault.TheVariants.{Memory}
 use Rattle.ends.specs.declared.ends.End.{End}
 use Rattle.ends.specs.declared.ends.End.TheVariants.{Done, CannotRead, CannotReadInput, CannotWrite, Usage, NotText}
-use Rattle.ends.specs.declared.ends.End.TheVariants.{BadText, BytesRefused, WordsRefused, Image, Suppressions}
+use Rattle.ends.specs.declared.ends.End.TheVariants.{BadText, Lone, BytesRefused, WordsRefused, StepsRefused, Image}
+use Rattle.ends.specs.declared.ends.End.TheVariants.{Suppressions}
 use Rattle.ends.specs.declared.ends.End.TheVariants.{SuppressionsTooLong, InputTooLarge, NoMemory, NotClean}
 use Rattle.ends.specs.declared.ends.SweepOption.{SweepOption}
 use Rattle.ends.specs.declared.ends.SweepOption.TheVariants as Sweep
+use Rattle.ends.specs.declared.ends.LoneOption.{LoneOption}
+use Rattle.ends.specs.declared.ends.LoneOption.TheVariants as Alone
 use Rattle.commands.specs.declared.fault.BeginFault.{BeginFault}
 use Rattle.commands.specs.declared.fault.BeginFault.TheVariants as Begin
 use Rattle.line_server.specs.declared.fault.ServeFault.{ServeFault}
@@ -26,8 +29,10 @@ status_of CannotWrite = 1
 status_of Usage = 2
 status_of NotText = 2
 status_of (BadText option text) = 2
+status_of (Lone option) = 2
 status_of BytesRefused = 3
 status_of WordsRefused = 3
+status_of StepsRefused = 3
 status_of (Image Memory) = 4
 status_of (Image fault) = 3
 status_of (Suppressions Supp.Memory) = 4
@@ -55,7 +60,18 @@ complaint Sweep.Bytes = codes "replaycheck: no range, list or part: --bytes "
 complaint Sweep.Values = codes "replaycheck: no range, list or part: --values "
 complaint Sweep.Words = codes "replaycheck: no range, list or part: --words "
 complaint Sweep.WordsValues = codes "replaycheck: no range, list or part: --words-values "
+complaint Sweep.At = codes "replaycheck: no range, list or part: --at "
+complaint Sweep.Faults = codes "replaycheck: no range, list or part: --faults "
+complaint Sweep.CodeRange = codes "replaycheck: no range, list or part: --code-range "
+complaint Sweep.Pairs = codes "replaycheck: no range, list or part: --pairs "
 complaint Sweep.Part = codes "replaycheck: no range, list or part: --part "
+
+-- and of one that needs another
+abbrev pub lone_text : LoneOption → List ℕ
+lone_text Alone.At = codes "replaycheck: --at needs --faults"
+lone_text Alone.Faults = codes "replaycheck: --faults needs --at"
+lone_text Alone.CodeRange = codes "replaycheck: --code-range needs --at"
+lone_text Alone.Pairs = codes "replaycheck: --pairs needs --at"
 
 -- the line on standard error: none if all is done, none for the command line, whose parser has written it, and none if
 -- the run isn't clean, as standard output says why
@@ -67,8 +83,10 @@ line_of CannotWrite = line_with (codes "replaycheck: cannot write") []
 line_of Usage = []
 line_of NotText = line_with (codes "error: invalid UTF-8 was detected in one or more arguments") []
 line_of (BadText option text) = line_with (complaint option) text.now
+line_of (Lone option) = line_with (lone_text option) []
 line_of BytesRefused = line_with (codes "replaycheck: bytes refused 3") []
 line_of WordsRefused = line_with (codes "replaycheck: words refused 4") []
+line_of StepsRefused = line_with (codes "replaycheck: steps refused 5") []
 line_of (Image fault) = image_line fault
 line_of (Suppressions Supp.Memory) = no_memory_line
 line_of (Suppressions (Supp.BadSuppression line)) =

@@ -1,7 +1,7 @@
 //! How the program ends: its error line and exit status.
 ghost use Rattle.std.specs.Prelude.{◌≡◌, [], IsTrue, MatchOption};
 ghost use Rattle.std.specs.Io.KnownBytes.{Appends};
-ghost use Rattle.ends.specs.Ends.{AppendsFront, complaint, end_of_begin, end_of_serve, line_of, line_with, status_of};
+ghost use Rattle.ends.specs.Ends.{AppendsFront, complaint, end_of_begin, end_of_serve, line_of, line_with, lone_text, status_of};
 ghost use Rattle.ends.specs.declared.ends.End.TheVariants.{Image, Suppressions};
 
 use crate::lines::send_line;
@@ -22,7 +22,20 @@ pub enum SweepOption {
     Values,
     Words,
     WordsValues,
+    At,
+    Faults,
+    CodeRange,
+    Pairs,
     Part,
+}
+
+/// An option of a sweep that was given without another one, which it needs.
+#[derive(Clone, Copy)]
+pub enum LoneOption {
+    At,
+    Faults,
+    CodeRange,
+    Pairs,
 }
 
 impl SweepOption {
@@ -35,7 +48,25 @@ impl SweepOption {
             SweepOption::Values => "replaycheck: no range, list or part: --values ",
             SweepOption::Words => "replaycheck: no range, list or part: --words ",
             SweepOption::WordsValues => "replaycheck: no range, list or part: --words-values ",
+            SweepOption::At => "replaycheck: no range, list or part: --at ",
+            SweepOption::Faults => "replaycheck: no range, list or part: --faults ",
+            SweepOption::CodeRange => "replaycheck: no range, list or part: --code-range ",
+            SweepOption::Pairs => "replaycheck: no range, list or part: --pairs ",
             SweepOption::Part => "replaycheck: no range, list or part: --part ",
+        }
+    }
+}
+
+impl LoneOption {
+    /// What the error line says.
+    fn line(self) -> &'static str
+        ensures { result.now ≡ lone_text self }
+    {
+        match self {
+            LoneOption::At => "replaycheck: --at needs --faults",
+            LoneOption::Faults => "replaycheck: --faults needs --at",
+            LoneOption::CodeRange => "replaycheck: --code-range needs --at",
+            LoneOption::Pairs => "replaycheck: --pairs needs --at",
         }
     }
 }
@@ -54,10 +85,14 @@ pub enum End<'a> {
     NotText,
     /// The text of an option of a sweep is no range, list or part.
     BadText { option: SweepOption, text: &'a str },
+    /// An option of a sweep needs another one.
+    Lone(LoneOption),
     /// The bytes of a sweep lie outside of the input.
     BytesRefused,
     /// None of the words of a sweep is loaded.
     WordsRefused,
+    /// The steps of a sweep don't lie below the step of its outcomes.
+    StepsRefused,
     Image(ElfFault),
     Suppressions(SuppFault),
     /// A text of more than 1,048,576 bytes.
@@ -117,14 +152,15 @@ pub fn tell<W: Write>(end: &End, writer: &mut W) -> u8
     match end {
         End::Done => 0,
         End::CannotRead(_) | End::CannotReadInput | End::CannotWrite => 1,
-        End::Usage | End::NotText | End::BadText { .. } => 2,
+        End::Usage | End::NotText | End::BadText { .. } | End::Lone(_) => 2,
         End::Image(ElfFault::Memory) | End::Suppressions(SuppFault::Memory) | End::NoMemory => 4,
         End::Image(_)
         | End::Suppressions(SuppFault::BadSuppression(_))
         | End::SuppressionsTooLong
         | End::InputTooLarge
         | End::BytesRefused
-        | End::WordsRefused => 3,
+        | End::WordsRefused
+        | End::StepsRefused => 3,
         End::NotClean => 5,
     }
 }
@@ -172,6 +208,8 @@ fn pieces_of<'a>(end: End<'a>, digits: &'a mut Buffer) -> Option<(&'a str, &'a [
         End::InputTooLarge => ("replaycheck: input refused 14", NOTHING),
         End::BytesRefused => ("replaycheck: bytes refused 3", NOTHING),
         End::WordsRefused => ("replaycheck: words refused 4", NOTHING),
+        End::StepsRefused => ("replaycheck: steps refused 5", NOTHING),
+        End::Lone(option) => (option.line(), NOTHING),
         End::BadText { option, text } => (option.complaint(), text.as_bytes()),
     };
     Some(pieces)

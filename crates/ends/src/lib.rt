@@ -1,7 +1,8 @@
 //! How the program ends: an [`End`], which [`tell`] writes as a line of standard error and returns as an exit status.
 //!
 //! [`tell`]: the exit status is that of the end (`status_of`), and what was written is its line (`line_of`), or a front of it. A
-//! [`SweepOption`] is an option whose text is read; the line names it if the text can't be read. Faults become ends by `From`.
+//! [`SweepOption`] is an option whose text is read; the line names it if the text can't be read. A [`LoneOption`] is one that needs another
+//! one. Faults become ends by `From`.
 //!
 //! The definitions are in `specs/Ends`.
 #![tactic(auto)]
@@ -10,5 +11,5 @@ mod ends;
 mod exec_ends;
 mod lines;
 
-pub use ends::{End, SweepOption, tell};
+pub use ends::{End, LoneOption, SweepOption, tell};
 pub use exec_ends::{Codes, ExecEnd, Outcome, tell_exec};

@@ -1,3 +1,4 @@
 pub mod ListSteps
+pub mod GlitchSteps
 pub mod PlaceSteps
 pub mod PartSteps

@@ -5,7 +5,8 @@ use Rattle.std.proofs.Common.{subst, inl, inr, arith}
 use Rattle.std.proofs.lemmas.Bool.{cases_lt}
 use Rattle.guest_elf.specs.declared.image.Image.{Image}
 use Rattle.guest_elf.specs.Images.{is_word}
-use Rattle.sweep_plans.specs.Plans.{any_word, below, byte_values, flips_below, is_wanted, word_values}
+use Rattle.sweep_plans.specs.Numbers.{below}
+use Rattle.sweep_plans.specs.Plans.{any_word, byte_values, flips_below, is_wanted, word_values}
 use Rattle.sweep_plans.specs.declared.plan.ByteValues.{ByteValues}
 
 filter-more : {A : Type 0} (p : A → Bool) (xs : List A) (x : A)
@@ -22,11 +23,11 @@ filter-more p (y ∷ ys) x = go (p y) (filter-more p ys x)
     go true rest = ap (λ zs. y ∷ zs) rest
     go false rest = rest
 
-map-more : {A B : Type 0} (f : A → B) (xs : List A) (x : A) → map f (xs ++ x ∷ []) ≡ map f xs ++ f x ∷ []
+pub map-more : {A B : Type 0} (f : A → B) (xs : List A) (x : A) → map f (xs ++ x ∷ []) ≡ map f xs ++ f x ∷ []
 map-more f [] x = refl
 map-more f (y ∷ ys) x = ap (λ zs. f y ∷ zs) (map-more f ys x)
 
-plus-one : (n : ℕ) → n + 1 ≡ suc n
+pub plus-one : (n : ℕ) → n + 1 ≡ suc n
 plus-one n = omega arith
 
 -- another value

@@ -7,7 +7,8 @@ use Rattle.std.proofs.lemmas.Nat.{le-div}
 use Rattle.std.proofs.Math.Nat.{div-mul-le_self, mul-div_cancel, mul-le-mul_left, zero-div}
 use Rattle.sweep_plans.specs.Laws.{PartsMakeTheWhole, numbers_from, places_of}
 use Rattle.sweep_plans.specs.Planned.{first_place}
-use Rattle.sweep_plans.specs.Plans.{below, place_count}
+use Rattle.sweep_plans.specs.Numbers.{below}
+use Rattle.sweep_plans.specs.Plans.{place_count}
 use Rattle.sweep_plans.specs.declared.plan.Plan.{Plan}
 
 -- numbers from one on, and those after them

@@ -2,7 +2,8 @@
 use Rattle.std.specs.Prelude.{◌≡◌, ℕ, zero, suc, ◌+◌, ◌-◌, ◌≤◌, List, [], ◌∷◌, ◌++◌}
 use Rattle.std.specs.List.{flat_map}
 use Rattle.sweep_plans.specs.Planned.{part_from, part_to}
-use Rattle.sweep_plans.specs.Plans.{below, place_count}
+use Rattle.sweep_plans.specs.Numbers.{below}
+use Rattle.sweep_plans.specs.Plans.{place_count}
 use Rattle.sweep_plans.specs.declared.plan.Plan.{Plan}
 use Rattle.sweep_plans.specs.declared.request.Part.{Part}
 

@@ -1,4 +1,9 @@
+pub mod Numbers
+pub mod Changes
+pub mod Glitches
 pub mod Plans
+pub mod Models
 pub mod Requests
+pub mod Steps
 pub mod Planned
 pub mod Laws

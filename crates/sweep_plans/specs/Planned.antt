@@ -1,5 +1,5 @@
 -- The places of a request, in a program with an input.
-use Rattle.std.specs.Prelude.{◌≡◌, ℕ, ◌+◌, ◌-◌, ◌*◌, ◌/◌, ◌≤◌, ◌⊎◌, ◌&&◌, nat_lt, nat_le, Bool, true, false}
+use Rattle.std.specs.Prelude.{◌≡◌, ℕ, ◌+◌, ◌-◌, ◌*◌, ◌/◌, ◌≤◌, ◌⊎◌, ◌&&◌, ◌||◌, nat_lt, nat_le, Bool, true, false}
 use Rattle.std.specs.Prelude.{if◌then◌else◌, List, Option, Some, None, is_some}
 use Rattle.guest_elf.specs.declared.image.Image.{Image}
 use Rattle.command_line.specs.declared.order.SweepWords.{SweepWords}
@@ -10,11 +10,14 @@ use Rattle.sweep_plans.specs.declared.plan.Places.{Places}
 use Rattle.sweep_plans.specs.declared.plan.WordValues.{WordValues}
 use Rattle.sweep_plans.specs.declared.plan.Plan.{Plan}
 use Rattle.sweep_plans.specs.Requests.{NamesByteValues, NamesNoByteValues, NamesNoWordValues, NamesWordValues}
-use Rattle.sweep_plans.specs.Requests.{NamesRange}
+use Rattle.sweep_plans.specs.Requests.{IsBadRange, NamesRange, NamesText}
 use Rattle.sweep_plans.specs.Requests.{closed_range_of, part_of, range_of}
+use Rattle.sweep_plans.specs.Models.{no_models}
+use Rattle.sweep_plans.specs.Steps.{AreNoSteps, AreSteps}
+use Rattle.sweep_plans.specs.declared.plan.FaultModels.{FaultModels}
+use Rattle.sweep_plans.specs.declared.steps.StepRequest.{StepRequest}
 use Rattle.ends.specs.declared.ends.End.{End}
-use Rattle.ends.specs.declared.ends.End.TheVariants.{BadText, BytesRefused, NoMemory, WordsRefused}
-use Rattle.ends.specs.declared.ends.SweepOption.{SweepOption}
+use Rattle.ends.specs.declared.ends.End.TheVariants.{BytesRefused, NoMemory, StepsRefused, WordsRefused}
 use Rattle.ends.specs.declared.ends.SweepOption.TheVariants.{Bytes, Values, Words, WordsValues, Part as ThePart}
 use Rattle.sweep_plans.specs.declared.request.Part.{Part}
 use Rattle.sweep_plans.specs.declared.request.Range.{Range}
@@ -26,18 +29,11 @@ pub record IsRequestOf (asked : SweepWords) (request : Request) : Type 0 where
   pub byte_values : NamesByteValues asked.byte_values.now request.byte_values
   pub words : NamesRange closed_range_of (text_of asked.words) request.words
   pub word_values : NamesWordValues asked.word_values.now request.word_values
+  pub steps : AreSteps (text_of asked.at) (text_of asked.faults) (text_of asked.code) (text_of asked.pairs)
+      request.steps
   pub part : part_of asked.part.now ≡ Some request.part
 
--- the sweep ends because of the text of an option
-abbrev pub NamesText : SweepOption → List ℕ → End → Type 0
-NamesText option text (BadText named given) = (named ≡ option) × (given.now ≡ text)
-NamesText option text end = ⊥
-
--- a text that is no range, no values or no part is how the sweep ends; or, if a list may be read, lack of memory
-abbrev pub IsBadRange : SweepOption → (List ℕ → Option Range) → Option (List ℕ) → End → Type 0
-IsBadRange option reading None end = ⊥
-IsBadRange option reading (Some text) end = (reading text ≡ None) × NamesText option text end
-
+-- a text that names no values or no part is how the sweep ends; or, if a list may be read, lack of memory
 abbrev pub AreBadByteValues : List ℕ → End → Type 0
 AreBadByteValues text end = (end ≡ NoMemory) ⊎ (NamesNoByteValues text × NamesText Values text end)
 
@@ -48,11 +44,18 @@ abbrev pub IsBadPart : List ℕ → End → Type 0
 IsBadPart text end = (part_of text ≡ None) × NamesText ThePart text end
 
 -- why the arguments of a sweep make no request. Its options are read in this order: `--bytes`, `--values`, `--words`,
--- `--words-values` and `--part`; the first whose text can't be read is how the sweep ends
+-- `--words-values`, those on steps, and `--part`; the first whose text can't be read is how the sweep ends
+abbrev pub NoSteps : SweepWords → End → Type 0
+NoSteps asked end =
+    AreNoSteps (text_of asked.at) (text_of asked.faults) (text_of asked.code) (text_of asked.pairs) end
+    ⊎ ((steps : Option StepRequest)
+    × AreSteps (text_of asked.at) (text_of asked.faults) (text_of asked.code) (text_of asked.pairs) steps
+    × IsBadPart asked.part.now end)
+
 abbrev pub NoWordValues : SweepWords → End → Type 0
 NoWordValues asked end =
     AreBadWordValues asked.word_values.now end
-    ⊎ ((values : WordValues) × NamesWordValues asked.word_values.now values × IsBadPart asked.part.now end)
+    ⊎ ((values : WordValues) × NamesWordValues asked.word_values.now values × NoSteps asked end)
 
 abbrev pub NoWords : SweepWords → End → Type 0
 NoWords asked end =
@@ -81,14 +84,14 @@ end_behind None all = all
 abbrev pub inside : ℕ → ℕ → ℕ → Option Places
 inside first end len = if nat_lt first end && nat_le end len then Some (record { first = first; end = end }) else None
 
--- the bytes to edit in an input of this length: those that are named, or all if no words are
+-- the bytes to edit in an input of this length: those that are named, or all if neither words nor steps are
 abbrev pub bytes_by : Option Range → Bool → ℕ → Option Places
-bytes_by (Some range) words len = inside range.first (end_behind range.last len) len
+bytes_by (Some range) others len = inside range.first (end_behind range.last len) len
 bytes_by None true len = Some nowhere
 bytes_by None false len = inside 0 len len
 
 unfoldable pub bytes_meant : Request → ℕ → Option Places
-bytes_meant request len = bytes_by request.bytes (is_some request.words) len
+bytes_meant request len = bytes_by request.bytes (is_some request.words || is_some request.steps) len
 
 -- the words to edit of a program, by a quarter of their addresses: those at the multiples of 4 from one address to
 -- another, if one of them is loaded whole
@@ -100,19 +103,45 @@ words_by image (Some range) =
     loaded_places image (record { first = (range.first + 3) / 4; end = (end_behind range.last 4294967296 + 3) / 4 })
 words_by image None = Some nowhere
 
--- why a request has no plan: its bytes are checked first, and then its words
-abbrev pub HasNoPlan : Request → Image → ℕ → End → Type 0
-HasNoPlan request image len end =
-    ((end ≡ BytesRefused) × (bytes_meant request len ≡ None))
-    ⊎ ((bytes : Places) × (bytes_meant request len ≡ Some bytes) × (end ≡ WordsRefused)
-    × (words_by image request.words ≡ None))
+-- the steps of a request, those below the step of the outcomes, and what is tried at them
+abbrev pub steps_by : Option StepRequest → ℕ → Option Places
+steps_by (Some steps) step = inside steps.at.first (end_behind steps.at.last step) step
+steps_by None step = Some nowhere
 
--- the plan of a request for a program and an input of this length
-pub record IsPlanOf (request : Request) (image : Image) (len : ℕ) (plan : Plan) : Type 0 where
+abbrev pub models_by : Option StepRequest → FaultModels
+models_by (Some steps) = steps.models
+models_by None = no_models
+
+abbrev pub code_by : Option StepRequest → Option Range
+code_by (Some steps) = steps.code
+code_by None = None
+
+abbrev pub pairs_by : Option StepRequest → Bool
+pairs_by (Some steps) = steps.pairs
+pairs_by None = false
+
+-- why a request has no plan: its bytes are checked first, then its words, then its steps
+abbrev pub NoPlanWords : Request → Image → ℕ → End → Type 0
+NoPlanWords request image step end =
+    ((end ≡ WordsRefused) × (words_by image request.words ≡ None))
+    ⊎ ((words : Places) × (words_by image request.words ≡ Some words) × (end ≡ StepsRefused)
+    × (steps_by request.steps step ≡ None))
+
+abbrev pub HasNoPlan : Request → Image → ℕ → ℕ → End → Type 0
+HasNoPlan request image len step end =
+    ((end ≡ BytesRefused) × (bytes_meant request len ≡ None))
+    ⊎ ((bytes : Places) × (bytes_meant request len ≡ Some bytes) × NoPlanWords request image step end)
+
+-- the plan of a request for a program, an input of this length, and outcomes at this step
+pub record IsPlanOf (request : Request) (image : Image) (len step : ℕ) (plan : Plan) : Type 0 where
   pub bytes : bytes_meant request len ≡ Some plan.bytes
   pub byte_values : plan.byte_values ≡ request.byte_values
   pub words : words_by image request.words ≡ Some plan.words
   pub word_values : plan.word_values ≡ request.word_values
+  pub steps : steps_by request.steps step ≡ Some plan.steps
+  pub models : plan.models ≡ models_by request.steps
+  pub code : plan.code ≡ code_by request.steps
+  pub pairs : plan.pairs ≡ pairs_by request.steps
 
 -- the first place of a part, given the number of places, of parts, and of parts that come before it
 abbrev pub first_place : ℕ → ℕ → ℕ → ℕ

@@ -1,15 +1,13 @@
--- Which edits a sweep tries: places of the input and of the program, in order, and at each place values other than its
--- own.
-use Rattle.std.specs.Prelude.{ℕ, zero, suc, ◌+◌, ◌-◌, ◌*◌, ◌%◌, ◌^◌, ◌==◌, ◌&&◌, ◌||◌, nat_lt, Bool, true, false, not}
-use Rattle.std.specs.Prelude.{if◌then◌else◌, List, [], ◌∷◌, ◌++◌, map, filter, bit_xor, Option}
+-- Which changes a sweep tries: places of the input, of the program and of the run, in order; at a byte or a word values
+-- other than its own, and at a step what the fault models do there.
+use Rattle.std.specs.Prelude.{ℕ, zero, suc, ◌+◌, ◌-◌, ◌*◌, ◌%◌, ◌^◌, ◌==◌, ◌&&◌, ◌||◌, ◌<◌, nat_lt, Bool, true, false}
+use Rattle.std.specs.Prelude.{not, if◌then◌else◌, List, [], ◌∷◌, ◌++◌, map, filter, bit_xor, Option}
 use Rattle.std.specs.Prelude.{Some, None}
 use Rattle.std.specs.List.{list_any}
 use Rattle.guest_elf.specs.declared.image.Image.{Image}
 use Rattle.guest_elf.specs.Images.{is_word}
-use Rattle.commands.specs.declared.edit.Edit.{Edit}
-use Rattle.commands.specs.declared.edit.Edit.TheVariants.{Input, Patch}
 use Rattle.sweep_plans.specs.declared.plan.Place.{Place}
-use Rattle.sweep_plans.specs.declared.plan.Place.TheVariants.{Byte as ByteAt, Word as WordAt, Nowhere}
+use Rattle.sweep_plans.specs.declared.plan.Place.TheVariants.{Byte as ByteAt, Word as WordAt, Step as StepAt, Nowhere}
 use Rattle.sweep_plans.specs.declared.plan.Places.{Places}
 use Rattle.sweep_plans.specs.declared.plan.Plan.{Plan}
 use Rattle.sweep_plans.specs.declared.plan.ByteValues.{ByteValues}
@@ -19,23 +17,17 @@ use Rattle.sweep_plans.specs.declared.plan.WordValues.{WordValues}
 use Rattle.sweep_plans.specs.declared.plan.WordValues.TheVariants.{Flips as FlippedWords, Listed as ListedWords}
 use Rattle.sweep_plans.specs.declared.change.Change.{Change}
 use Rattle.sweep_plans.specs.declared.change.Change.TheVariants.{Byte, Word}
-
--- the edit of a scenario that a change is
-abbrev pub edit_of : Change → Edit
-edit_of (Byte offset byte) = Input offset byte
-edit_of (Word addr word) = Patch addr word
-
--- the numbers below another, in order
-unfoldable pub below : ℕ → List ℕ
-below zero = []
-below (suc n) = below n ++ n ∷ []
+use Rattle.sweep_plans.specs.declared.standing.Standing.{Standing}
+use Rattle.sweep_plans.specs.declared.standing.Standing.TheVariants as At
+use Rattle.sweep_plans.specs.Glitches.{glitches_at}
+use Rattle.sweep_plans.specs.Numbers.{below}
 
 -- the number of places
 abbrev pub count : Places → ℕ
 count places = places.end - places.first
 
 abbrev pub place_count : Plan → ℕ
-place_count plan = count plan.bytes + count plan.words
+place_count plan = count plan.bytes + count plan.words + count plan.steps
 
 -- is one of some consecutive words loaded whole? They are given by a quarter of their addresses
 unfoldable pub any_word : Image → ℕ → ℕ → Bool
@@ -46,17 +38,21 @@ any_word image first (suc n) = is_word image (4 * (first + n)) || any_word image
 abbrev pub nth : Places → ℕ → Option ℕ
 nth places i = if nat_lt i (count places) then Some (places.first + i) else None
 
--- a place by its number: the bytes come first, then the words, each at a multiple of 4
-abbrev pub word_place : Option ℕ → Place
-word_place (Some word) = WordAt (4 * word)
-word_place None = Nowhere
+-- a place by its number: the bytes come first, then the words, each at a multiple of 4, then the steps
+abbrev pub step_place : Option ℕ → Place
+step_place (Some step) = StepAt step
+step_place None = Nowhere
 
-abbrev pub place_by : Option ℕ → Option ℕ → Place
-place_by (Some offset) word = ByteAt offset
-place_by None word = word_place word
+abbrev pub place_by : (ℕ → Place) → Option ℕ → Place → Place
+place_by at (Some n) other = at n
+place_by at None other = other
+
+unfoldable pub place_behind : Plan → ℕ → Place
+place_behind plan i =
+    place_by (λ word. WordAt (4 * word)) (nth plan.words i) (step_place (nth plan.steps (i - count plan.words)))
 
 unfoldable pub place_at : Plan → ℕ → Place
-place_at plan i = place_by (nth plan.bytes i) (nth plan.words (i - count plan.bytes))
+place_at plan i = place_by ByteAt (nth plan.bytes i) (place_behind plan (i - count plan.bytes))
 
 -- is a number one of these?
 abbrev pub is_among : List ℕ → ℕ → Bool
@@ -93,20 +89,21 @@ abbrev pub wanted_words : WordValues → ℕ → List ℕ
 wanted_words FlippedWords old = flips_below old 32
 wanted_words (ListedWords list) old = list.items
 
--- the values that a place gets instead of its own, in order
-unfoldable pub values_of : Plan → Change → List ℕ
-values_of plan (Byte offset old) = byte_values plan.byte_values old 256
-values_of plan (Word addr old) = word_values old (wanted_words plan.word_values old)
+-- the change of a byte to another value, of which it gets the low eight bits
+abbrev pub byte_to : ℕ → ℕ → Change
+byte_to offset value = Byte offset (value % 256)
 
--- the change at the same place to another value
-abbrev pub changed_to : Change → ℕ → Change
-changed_to (Byte offset old) new = Byte offset (new % 256)
-changed_to (Word addr old) new = Word addr new
+-- there is a number after that of a step
+abbrev pub HasNext : Standing → Type 0
+HasNext (At.Step step pc) = step + 1 < 2 ^ 32
+HasNext _ = Unit {0}
 
--- the changes at a place
-unfoldable pub changes_of : Plan → Change → List Change
-changes_of plan standing = map (changed_to standing) (values_of plan standing)
+-- the changes at a place, in order
+unfoldable pub changes_of : Plan → Standing → List Change
+changes_of plan (At.Byte offset old) = map (byte_to offset) (byte_values plan.byte_values old 256)
+changes_of plan (At.Word addr old) = map (Word addr) (word_values old (wanted_words plan.word_values old))
+changes_of plan (At.Step step pc) = glitches_at plan.models step pc
 
-abbrev pub changes_by : Plan → Option Change → List Change
+abbrev pub changes_by : Plan → Option Standing → List Change
 changes_by plan (Some standing) = changes_of plan standing
 changes_by plan None = []

@@ -5,6 +5,9 @@ use Rattle.std.specs.List.{list_any}
 use Rattle.std.specs.Str.{bytes_eq}
 use Rattle.commands.specs.Commands.{number}
 use Rattle.text_parts.specs.Parts.{parts}
+use Rattle.ends.specs.declared.ends.End.{End}
+use Rattle.ends.specs.declared.ends.End.TheVariants.{BadText}
+use Rattle.ends.specs.declared.ends.SweepOption.{SweepOption}
 use Rattle.sweep_plans.specs.declared.plan.ByteValues.{ByteValues}
 use Rattle.sweep_plans.specs.declared.plan.ByteValues.TheVariants.{All, Flips as FlippedBytes, Edges}
 use Rattle.sweep_plans.specs.declared.plan.ByteValues.TheVariants.{Listed as ListedBytes}
@@ -107,3 +110,13 @@ closed_range_of text = closed (range_of text)
 abbrev pub NamesRange : (List ℕ → Option Range) → Option (List ℕ) → Option Range → Type 0
 NamesRange reading None range = range ≡ None
 NamesRange reading (Some text) range = (reading text ≡ range) × (is_some range ≡ true)
+
+-- the sweep ends because of the text of an option
+abbrev pub NamesText : SweepOption → List ℕ → End → Type 0
+NamesText option text (BadText named given) = (named ≡ option) × (given.now ≡ text)
+NamesText option text end = ⊥
+
+-- a text that is no range is how the sweep ends
+abbrev pub IsBadRange : SweepOption → (List ℕ → Option Range) → Option (List ℕ) → End → Type 0
+IsBadRange option reading None end = ⊥
+IsBadRange option reading (Some text) end = (reading text ≡ None) × NamesText option text end

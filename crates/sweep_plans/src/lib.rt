@@ -4,26 +4,33 @@
 //! |---|---|
 //! | [`Request::of`] | reads the arguments of a sweep, or says which of them can't be read: a [`Request`], with [`Range`]s and a [`Part`] |
 //! | [`plan_of`] | returns the [`Plan`] of a request for a program and an input, or why its places are rejected |
-//! | [`Plan::places`], [`Plan::place`], [`Plan::values`] | return the number of [`Place`]s; one of them; the values that a place gets instead of its own |
-//! | [`Places::count`] | returns the number of consecutive bytes or words |
-//! | [`Change::edit`], [`Change::to`] | return the edit of a [`Change`], and the change at the same place to another value |
+//! | [`Plan::places`], [`Plan::place`] | return the number of [`Place`]s, and one of them |
+//! | [`Plan::changes`] | returns the [`Change`]s at a place, given its value, or pc before its step: a [`Standing`] |
+//! | [`Places::count`] | returns the number of consecutive bytes, words or steps |
+//! | [`Change::edit`] | returns the edit of a change; of two edits the first |
 //! | [`has_word`] | returns whether one of some words is loaded whole |
 //! | [`laws::parts_make_the_whole`] | does nothing; its contract says that the places of the parts 1 to N are all places, in order |
 //!
-//! In `specs/`: `Requests`, the request in some arguments; `Planned`, the places of a request; `Plans`, the places by their numbers and the
-//! values at each; `Laws`, the places of the parts.
+//! In `specs/`: `Requests`, `Steps` and `Models`, the request in some arguments; `Planned`, the places of a request; `Plans`, the places by
+//! their numbers and the changes at each; `Glitches`, those at a step; `Changes`, the edits of a change; `Laws`, the places of the parts.
 #![tactic(auto)]
 
 mod change;
+mod glitches;
 pub mod laws;
 mod loaded;
+mod models;
 mod plan;
 mod planning;
 mod request;
+mod standing;
+mod steps;
 mod values;
 
-pub use change::Change;
+pub use change::{Change, Glitch};
 pub use loaded::has_word;
-pub use plan::{ByteValues, Place, Places, Plan, WordValues};
+pub use plan::{ByteValues, FaultModels, Place, Places, Plan, WordValues};
 pub use planning::plan_of;
 pub use request::{Part, Range, Request};
+pub use standing::Standing;
+pub use steps::StepRequest;

@@ -1,12 +1,15 @@
-//! The changes of a sweep: the places, and the values at each.
+//! The changes of a sweep: the places, and the changes at each.
 ghost use Rattle.std.specs.Prelude.{◌≤◌, ◌^◌};
 
 use crate::change::Change;
-use crate::values::{byte_values, flips, others};
+use crate::glitches::glitches;
+use crate::request::Range;
+use crate::standing::Standing;
+use crate::values::{byte_changes, byte_values, flips, others, word_changes};
 use std::alloc::{AllocError, Global};
 
 /// Consecutive places from the first one up to an end. Bytes are numbered by their offsets in the input, words by a quarter of their
-/// addresses.
+/// addresses, and steps by their numbers.
 #[derive(Clone, Copy)]
 pub struct Places {
     /// The first place.
@@ -46,6 +49,8 @@ pub enum Place {
     Byte(u32),
     /// The word of the program at an address.
     Word(u32),
+    /// A step of the run.
+    Step(u32),
     /// No place.
     Nowhere,
 }
@@ -72,6 +77,23 @@ pub enum WordValues {
     Listed(Vec<u32>),
 }
 
+/// The fault models of a sweep: which changes it tries at a step.
+#[derive(Clone, Copy)]
+pub struct FaultModels {
+    /// The instruction is left out.
+    pub skip: bool,
+    /// Each bit of each of x1 to x31 is turned.
+    pub registers: bool,
+    /// Each bit of pc is turned.
+    pub pc: bool,
+    /// Each bit of the word at pc is turned, for this step only.
+    pub words: bool,
+    /// Each of x1 to x31 is set to 0.
+    pub zero: bool,
+    /// Each of x1 to x31 is set to 0xffffffff.
+    pub ones: bool,
+}
+
 /// The changes that a sweep tries.
 #[derive(Drop)]
 pub struct Plan {
@@ -83,48 +105,81 @@ pub struct Plan {
     pub words: Places,
     /// The values that each word gets.
     pub word_values: WordValues,
+    /// The steps of the run.
+    pub steps: Places,
+    /// The fault models that are tried at each step.
+    pub models: FaultModels,
+    /// The addresses to which pc is limited at these steps, both ends included; all if there are none.
+    pub code: Option<Range>,
+    /// Whether pairs of skips are tried, too.
+    pub pairs: bool,
     ghost addresses: { words.end ≤ 2 ^ 30 },
 }
 
 impl Plan {
     ghost use Rattle.std.specs.Prelude.{◌≡◌, ◌<◌, ◌^◌, IfOk};
-    ghost use Rattle.sweep_plans.specs.Plans.{place_at, place_count, values_of};
+    ghost use Rattle.sweep_plans.specs.Plans.{HasNext, changes_of, place_at, place_behind, place_count, wanted_words, word_values};
 
     /// Returns the number of places.
     pub fn places(&self) -> u64
         ensures number { result ≡ place_count self.now }
-        ensures few { result < 2 ^ 33 }
+        ensures few { result < 2 ^ 34 }
     {
-        u64::from(self.bytes.count()) + u64::from(self.words.count())
+        u64::from(self.bytes.count())
+            + u64::from(self.words.count())
+            + u64::from(self.steps.count())
     }
 
-    /// Returns the place of a number: the bytes come first, then the words.
+    /// Returns the place of a number: the bytes come first, then the words, then the steps.
     pub fn place(&self, i: u64) -> Place
         ensures { result ≡ place_at self.now i }
     {
         if let Some(offset) = self.bytes.at(i) {
             return Place::Byte(offset);
         }
+        self.place_behind(i.saturating_sub(u64::from(self.bytes.count())))
+    }
+
+    /// Returns the place of a number among those after the bytes.
+    fn place_behind(&self, i: u64) -> Place
+        ensures { result ≡ place_behind self.now i }
+    {
+        if let Some(word) = self.words.at(i) {
+            return Place::Word(4 * word);
+        }
         match self
-            .words
-            .at(i.saturating_sub(u64::from(self.bytes.count())))
+            .steps
+            .at(i.saturating_sub(u64::from(self.words.count())))
         {
-            Some(word) => Place::Word(4 * word),
+            Some(step) => Place::Step(step),
             None => Place::Nowhere,
         }
     }
 
-    /// Returns the values that a place gets instead of its own, in order.
-    #[tactic(auto, unfolding(crate::specs::Plans::values_of))]
-    pub fn values(&self, alloc: Global, standing: Change) -> Result<Vec<u32>, AllocError>
-        ensures { IfOk result (λ values. values.items ≡ values_of self.now standing) }
+    /// Returns the values that a word gets instead of its own, in order.
+    fn values_for(&self, alloc: Global, word: u32) -> Result<Vec<u32>, AllocError>
+        ensures { IfOk result (λ values. values.items ≡ word_values word (wanted_words self.now.word_values word)) }
+    {
+        match &self.word_values {
+            WordValues::Flips => others(alloc, &flips(alloc, word)?, word),
+            WordValues::Listed(list) => others(alloc, list, word),
+        }
+    }
+
+    /// Returns the changes at a place, in order.
+    #[tactic(auto, unfolding(crate::specs::Plans::changes_of))]
+    pub fn changes(&self, alloc: Global, standing: Standing) -> Result<Vec<Change>, AllocError>
+        requires { HasNext standing }
+        ensures { IfOk result (λ changes. changes.items ≡ changes_of self.now standing) }
     {
         match standing {
-            Change::Byte { byte, .. } => byte_values(alloc, &self.byte_values, byte),
-            Change::Word { word, .. } => match &self.word_values {
-                WordValues::Flips => others(alloc, &flips(alloc, word)?, word),
-                WordValues::Listed(list) => others(alloc, list, word),
-            },
+            Standing::Byte { offset, byte } => {
+                byte_changes(alloc, offset, &byte_values(alloc, &self.byte_values, byte)?)
+            }
+            Standing::Word { addr, word } => {
+                word_changes(alloc, addr, &self.values_for(alloc, word)?)
+            }
+            Standing::Step { step, pc } => glitches(alloc, self.models, step, pc),
         }
     }
 }

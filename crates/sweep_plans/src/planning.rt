@@ -1,11 +1,12 @@
 //! The places of a sweep of a program with an input.
 ghost use Rattle.std.specs.Prelude.{◌≡◌, ◌≤◌, ◌+◌, ◌/◌, ◌^◌, IfErr, IfOk, None, Some};
-ghost use Rattle.sweep_plans.specs.Planned.{HasNoPlan, IsPlanOf, bytes_by, bytes_meant, end_behind, words_by};
-ghost use Rattle.ends.specs.declared.ends.End.TheVariants.{BytesRefused, WordsRefused};
+ghost use Rattle.sweep_plans.specs.Planned.{HasNoPlan, IsPlanOf, bytes_by, bytes_meant, code_by, end_behind, inside, models_by, pairs_by, steps_by, words_by};
+ghost use Rattle.ends.specs.declared.ends.End.TheVariants.{BytesRefused, StepsRefused, WordsRefused};
 
 use crate::loaded::has_word;
-use crate::plan::{Places, Plan};
+use crate::plan::{FaultModels, Places, Plan};
 use crate::request::{Range, Request};
+use crate::steps::StepRequest;
 use ends::End;
 use guest_elf::Image;
 
@@ -25,14 +26,14 @@ fn end_behind(last: Option<u32>, all: u64) -> u64
     }
 }
 
-/// Returns the bytes to edit in an input of some length: those that are named, or all if no words are.
-fn bytes_of<'a>(named: Option<Range>, has_words: bool, len: u32) -> Result<Places, End<'a>>
-    ensures ok { IfOk result (λ places. bytes_by named has_words len ≡ Some places) }
-    ensures err { IfErr result (λ end. (end ≡ BytesRefused) × (bytes_by named has_words len ≡ None)) }
+/// Returns the bytes to edit in an input of some length: those that are named, or all if neither words nor steps are.
+fn bytes_of<'a>(named: Option<Range>, has_others: bool, len: u32) -> Result<Places, End<'a>>
+    ensures ok { IfOk result (λ places. bytes_by named has_others len ≡ Some places) }
+    ensures err { IfErr result (λ end. (end ≡ BytesRefused) × (bytes_by named has_others len ≡ None)) }
 {
     let (first, end) = match named {
         Some(range) => (range.first, end_behind(range.last, u64::from(len))),
-        None if has_words => return Ok(NOWHERE),
+        None if has_others => return Ok(NOWHERE),
         None => (0, u64::from(len)),
     };
     if u64::from(first) < end && end <= u64::from(len) {
@@ -74,18 +75,71 @@ fn words_of<'a>(named: Option<Range>, image: &Image) -> Result<Places, End<'a>>
     }
 }
 
-/// Returns the plan of a sweep of a program with an input of some length.
-#[tactic(auto, unfolding(crate::specs::Planned::bytes_meant))]
-pub fn plan_of<'a>(request: Request, image: &Image, len: u32) -> Result<Plan, End<'a>>
-    ensures ok { IfOk result (λ plan. IsPlanOf request image.now len plan) }
-    ensures err { IfErr result (HasNoPlan request image.now len) }
+/// Returns the steps at which faults strike: those below the step of the outcomes.
+fn steps_of<'a>(named: Option<StepRequest>, step: u32) -> Result<Places, End<'a>>
+    ensures ok { IfOk result (λ places. steps_by named step ≡ Some places) }
+    ensures err { IfErr result (λ end. (end ≡ StepsRefused) × (steps_by named step ≡ None)) }
 {
-    let bytes = bytes_of(request.bytes, request.words.is_some(), len)?;
+    let Some(steps) = named else {
+        return Ok(NOWHERE);
+    };
+    let first = steps.at.first;
+    let end = end_behind(steps.at.last, u64::from(step));
+    if u64::from(first) < end && end <= u64::from(step) {
+        Ok(Places {
+            first,
+            end: end as u32,
+        })
+    } else {
+        Err(End::StepsRefused)
+    }
+}
+
+/// Returns the fault models of the named steps.
+fn models_of(named: Option<StepRequest>) -> FaultModels
+    ensures { result ≡ models_by named }
+{
+    match named {
+        Some(steps) => steps.models,
+        None => FaultModels::none(),
+    }
+}
+
+/// Returns the range of code of the named steps, if one is named.
+fn code_of(named: Option<StepRequest>) -> Option<Range>
+    ensures { result ≡ code_by named }
+{
+    named?.code
+}
+
+/// Returns whether pairs are tried at the named steps.
+fn pairs_of(named: Option<StepRequest>) -> bool
+    ensures { result ≡ pairs_by named }
+{
+    match named {
+        Some(steps) => steps.pairs,
+        None => false,
+    }
+}
+
+/// Returns the plan of a sweep of a program with an input of some length, for outcomes at a step.
+#[tactic(auto, unfolding(crate::specs::Planned::bytes_meant))]
+pub fn plan_of<'a>(request: Request, image: &Image, len: u32, step: u32) -> Result<Plan, End<'a>>
+    ensures ok { IfOk result (λ plan. IsPlanOf request image.now len step plan) }
+    ensures err { IfErr result (HasNoPlan request image.now len step) }
+{
+    let has_others = request.words.is_some() || request.steps.is_some();
+    let bytes = bytes_of(request.bytes, has_others, len)?;
     let words = words_of(request.words, image)?;
+    let steps = steps_of(request.steps, step)?;
     Ok(Plan {
         bytes,
         byte_values: request.byte_values,
         words,
         word_values: request.word_values,
+        steps,
+        models: models_of(request.steps),
+        code: code_of(request.steps),
+        pairs: pairs_of(request.steps),
     })
 }

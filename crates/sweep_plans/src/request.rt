@@ -1,11 +1,12 @@
 //! Reads the arguments of a sweep.
 ghost use Rattle.std.specs.Prelude.{◌≡◌, IfErr, IfOk, IfSome, MatchOption, Some, option_map};
 ghost use Rattle.command_line.specs.Orders.{text_of};
-ghost use Rattle.sweep_plans.specs.Planned.{AreBadByteValues, AreBadWordValues, IsBadPart, IsBadRange, IsNoRequest, IsPart, IsRequestOf};
-ghost use Rattle.sweep_plans.specs.Requests.{NamesByteValues, NamesNoByteValues, NamesNoWordValues, NamesRange, NamesWordValues, closed_range_of, joined_by, list_of, listed_words, part_in, part_of, range_in, range_of, up_to};
+ghost use Rattle.sweep_plans.specs.Planned.{AreBadByteValues, AreBadWordValues, IsBadPart, IsNoRequest, IsPart, IsRequestOf};
+ghost use Rattle.sweep_plans.specs.Requests.{IsBadRange, NamesByteValues, NamesNoByteValues, NamesNoWordValues, NamesRange, NamesWordValues, closed_range_of, joined_by, list_of, listed_words, part_in, part_of, range_in, range_of, up_to};
 ghost use Rattle.ends.specs.declared.ends.SweepOption.TheVariants.{Bytes, Words};
 
 use crate::plan::{ByteValues, WordValues};
+use crate::steps::{StepRequest, named_steps};
 use command_line::SweepWords;
 use commands::number;
 use ends::{End, SweepOption};
@@ -54,6 +55,8 @@ pub struct Request {
     pub words: Option<Range>,
     /// The values that they get.
     pub word_values: WordValues,
+    /// The steps that faults strike, if some are named.
+    pub steps: Option<StepRequest>,
     /// The part of the places.
     pub part: Part,
 }
@@ -95,11 +98,18 @@ fn range_in(mut parts: Parts<'_>) -> Option<Range>
     range_to(number(first)?, end)
 }
 
+/// Returns a range.
+pub(crate) fn open_range(text: &[u8]) -> Option<Range>
+    ensures { result ≡ range_of text.now }
+{
+    range_in(Parts::new(text, b'.'))
+}
+
 /// Returns a range that has an end.
-fn closed_range(text: &[u8]) -> Option<Range>
+pub(crate) fn closed_range(text: &[u8]) -> Option<Range>
     ensures { result ≡ closed_range_of text.now }
 {
-    let range = range_in(Parts::new(text, b'.'))?;
+    let range = open_range(text)?;
     if range.last.is_some() {
         Some(range)
     } else {
@@ -210,7 +220,7 @@ fn named_bytes<'a>(text: Option<&'a str>) -> Result<Option<Range>, End<'a>>
     let Some(text) = text else {
         return Ok(None);
     };
-    match range_in(Parts::new(text.as_bytes(), b'.')) {
+    match open_range(text.as_bytes()) {
         Some(range) => Ok(Some(range)),
         None => Err(End::BadText {
             option: SweepOption::Bytes,
@@ -293,12 +303,14 @@ impl Request {
         let byte_values = named_byte_values(alloc, words.byte_values)?;
         let named = named_words(words.words)?;
         let word_values = named_word_values(alloc, words.word_values)?;
+        let steps = named_steps(words.at, words.faults, words.code, words.pairs)?;
         let part = named_part(words.part)?;
         Ok(Request {
             bytes,
             byte_values,
             words: named,
             word_values,
+            steps,
             part,
         })
     }

@@ -1,7 +1,9 @@
-//! The values that a place gets.
-ghost use Rattle.std.specs.Prelude.{◌≡◌, ◌++◌, ◌∷◌, ◌&&◌, ◌==◌, [], OnOk, IfOk, if◌then◌else◌, not};
-ghost use Rattle.sweep_plans.specs.Plans.{byte_values, flips_below, is_edge, is_flip, is_wanted, word_values};
+//! The values that a place gets, and the changes to them.
+ghost use Rattle.std.specs.Prelude.{◌≡◌, ◌++◌, ◌∷◌, ◌&&◌, ◌==◌, [], OnOk, IfOk, if◌then◌else◌, map, not};
+ghost use Rattle.sweep_plans.specs.Plans.{byte_to, byte_values, flips_below, is_edge, is_flip, is_wanted, word_values};
+ghost use Rattle.sweep_plans.specs.declared.change.Change.TheVariants.{Word};
 
+use crate::change::Change;
 use crate::plan::ByteValues;
 use std::alloc::{AllocError, Global};
 
@@ -88,4 +90,27 @@ pub fn others(alloc: Global, words: &[u32], old: u32) -> Result<Vec<u32>, AllocE
         push_if(&mut values, *word != old, *word)?;
     }
     Ok(values)
+}
+
+/// Returns the changes of the byte at an offset to some values, of each the low eight bits.
+pub fn byte_changes(alloc: Global, offset: u32, values: &[u32]) -> Result<Vec<Change>, AllocError>
+    ensures { IfOk result (λ changes. changes.items ≡ map (byte_to offset) values.now) }
+{
+    let mut changes = Vec::new(alloc);
+    for value in values {
+        let byte = (*value % 256) as u8;
+        changes.push(Change::Byte { offset, byte })?;
+    }
+    Ok(changes)
+}
+
+/// Returns the changes of the word at an address to some values.
+pub fn word_changes(alloc: Global, addr: u32, values: &[u32]) -> Result<Vec<Change>, AllocError>
+    ensures { IfOk result (λ changes. changes.items ≡ map (Word addr) values.now) }
+{
+    let mut changes = Vec::new(alloc);
+    for word in values {
+        changes.push(Change::Word { addr, word: *word })?;
+    }
+    Ok(changes)
 }

@@ -7,8 +7,7 @@ use Rattle.std.proofs.lemmas.List.{map-append}
 use Rattle.std.specs.Io.KnownBytes.{Appends}
 use Rattle.scenario.specs.Scenario.{Scenario, IsOutlineOf}
 use Rattle.sweeps.specs.Outcomes.{Met, AreMet}
-use Rattle.sweep_plans.specs.Plans.{changes_by}
-use Rattle.sweeps.specs.Standing.{changes_from, standing_at}
+use Rattle.sweeps.specs.Standing.{changes_at, changes_from}
 use Rattle.sweeps.specs.Sweeps.{HasMet, scenario_of, tells_output}
 use Rattle.sweeps.specs.Tables.{rows_text, table_text}
 use Rattle.sweep_plans.specs.declared.change.Change.{Change}
@@ -40,20 +39,20 @@ are-of with_output sc plan from n sweep first met same output has are = record {
 abbrev pub Visits : Plan → ℕ → Sweep → Sweep → List ℕ → Type 0
 Visits plan place old new out =
     (first : List ℕ) (met : List Met) → HasMet old first met
-    → (more : List Met) × (changes more ≡ changes_by plan (standing_at (scenario_of old) plan place))
+    → (more : List Met) × (changes more ≡ changes_at (scenario_of old) plan place)
     × HasMet new first (met ++ more)
     × (rows_text first (met ++ more) ≡ rows_text first met ++ out)
 
 changes-more : (case : Case) (n place : ℕ) (plan : Plan) (old : Sweep) (met more : List Met) → case.plan ≡ plan
     → place ≡ case.from + n → scenario_of old ≡ case.sc
     → changes met ≡ changes_from case.sc case.plan case.from n
-    → changes more ≡ changes_by plan (standing_at (scenario_of old) plan place)
+    → changes more ≡ changes_at (scenario_of old) plan place
     → changes (met ++ more) ≡ changes_from case.sc case.plan case.from (n + 1)
 unfolding changes_from
 changes-more case n place plan old met more is at same before here =
     let one : n + 1 ≡ suc n = omega arith in
     map-append (λ (m : Met). m.change) met more
-    ∙ ap₂ (λ xs ys. xs ++ ys) before (here ∙ (λ i. changes_by (sym is i) (standing_at (same i) (sym is i) (at i))))
+    ∙ ap₂ (λ xs ys. xs ++ ys) before (here ∙ (λ i. changes_at (same i) (sym is i) (at i)))
     ∙ ap (changes_from case.sc case.plan case.from) (sym one)
 
 text-more : (head rows out all : List ℕ) → all ≡ rows ++ out → (head ++ rows) ++ out ≡ head ++ all

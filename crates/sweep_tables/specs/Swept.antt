@@ -5,6 +5,7 @@ use Rattle.std.specs.Fmt.{decimal}
 use Rattle.std.specs.Io.KnownBytes.{Appends}
 use Rattle.hex.specs.Hex.{encode_lower}
 use Rattle.sha2.specs.Sha256.{sha256}
+use Rattle.command_line.specs.Orders.{text_of}
 use Rattle.command_line.specs.declared.order.SweepWords.{SweepWords}
 use Rattle.guest_elf.specs.declared.image.Image.{Image as ProgramImage}
 use Rattle.report_lines.specs.Text.{address_text, newline}
@@ -50,6 +51,31 @@ words_line (Some range) values =
     codes "words " ++ address_text range.first ++ codes ".." ++ address_text (unwrap_or range.last 4294967295)
     ++ codes " " ++ values ++ newline
 
+-- the format of the table: the second one has lines that the first doesn't have, those of faults at steps
+abbrev pub version_line : Places → List ℕ
+version_line steps = if nat_lt steps.first steps.end then codes "sweep 2\n" else codes "sweep 1\n"
+
+-- the steps at which faults strike, if there are any, the fault models as they were given, the code to which pc is
+-- limited, and whether pairs are tried
+abbrev pub fault_text : Option (List ℕ) → List ℕ
+fault_text (Some text) = text
+fault_text None = []
+
+abbrev pub code_text : Option Range → List ℕ
+code_text (Some range) =
+    codes " code " ++ address_text range.first ++ codes ".." ++ address_text (unwrap_or range.last 4294967295)
+code_text None = []
+
+abbrev pub pairs_text : Bool → List ℕ
+pairs_text pairs = if pairs then codes " pairs skip\n" else codes "\n"
+
+unfoldable pub steps_line : Places → List ℕ → Option Range → Bool → List ℕ
+steps_line steps faults code pairs =
+    if nat_lt steps.first steps.end
+    then codes "steps " ++ decimal steps.first ++ codes ".." ++ decimal (steps.end - 1) ++ codes " " ++ faults
+    ++ code_text code ++ pairs_text pairs
+    else []
+
 -- the step, whether outcomes have the output's length, and the part
 abbrev pub output_line : Bool → List ℕ
 output_line with_output = if with_output then codes "\noutput yes\npart " else codes "\noutput no\npart "
@@ -60,10 +86,11 @@ step_lines step with_output part =
     ++ newline
 
 -- the head of a table
-unfoldable pub head_text : List ℕ → List ℕ → List ℕ → SweepWords → Places → Option Range → Part → List ℕ
-head_text program input rules words bytes named part =
-    codes "sweep 1\n" ++ file_lines program input rules ++ bytes_line bytes words.byte_values.now
+unfoldable pub head_text : List ℕ → List ℕ → List ℕ → SweepWords → Plan → Option Range → Part → List ℕ
+head_text program input rules words plan named part =
+    version_line plan.steps ++ file_lines program input rules ++ bytes_line plan.bytes words.byte_values.now
     ++ words_line named words.word_values.now
+    ++ steps_line plan.steps (fault_text (text_of words.faults)) plan.code plan.pairs
     ++ step_lines words.step words.with_output part
 
 -- ---- how far it came
@@ -125,7 +152,7 @@ Reached case n old now sweep =
 abbrev pub case_with : List ℕ → List ℕ → ProgramImage → List ℕ → List Rule → SweepWords → Option Range → Part → Plan
     → Case
 case_with file text image input list words named part plan = record {
-  head = head_text file input text words plan.bytes named part;
+  head = head_text file input text words plan named part;
   with_output = words.with_output;
   sc = at_step (begun image input list) words.step;
   plan = plan;
@@ -137,12 +164,12 @@ abbrev pub case_of : List ℕ → List ℕ → ProgramImage → List ℕ → Lis
 case_of file text image input list words request plan =
     case_with file text image input list words request.words request.part plan
 
--- the places are rejected, the bytes before the words, and nothing is written; or the table of the places of the part
--- is written
+-- the places are rejected, the bytes before the words before the steps, and nothing is written; or the table of the
+-- places of the part is written
 abbrev pub Sweeps : List ℕ → List ℕ → ProgramImage → List ℕ → List Rule → SweepWords → Request → Option (List ℕ)
     → Option (List ℕ) → End → Type 0
 Sweeps file text image input list words request old new end =
-    (HasNoPlan request image (length input) end × Appends old new [])
-    ⊎ ((plan : Plan) × IsPlanOf request image (length input) plan
+    (HasNoPlan request image (length input) words.step end × Appends old new [])
+    ⊎ ((plan : Plan) × IsPlanOf request image (length input) words.step plan
     × Writes (case_of file text image input list words request plan)
     (part_to plan request.part - part_from plan request.part) old new end)

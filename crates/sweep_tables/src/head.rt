@@ -3,13 +3,14 @@ ghost use Rattle.std.specs.Prelude.{◌≡◌, ◌++◌, OnOk, codes};
 ghost use Rattle.hex.specs.Hex.{encode_lower};
 ghost use Rattle.sha2.specs.Sha256.{sha256};
 ghost use Rattle.report_lines.specs.Text.{newline};
-ghost use Rattle.sweep_tables.specs.Swept.{bytes_line, file_line, file_lines, head_text, output_line, step_lines, words_line};
+ghost use Rattle.command_line.specs.Orders.{text_of};
+ghost use Rattle.sweep_tables.specs.Swept.{bytes_line, code_text, fault_text, file_line, file_lines, head_text, output_line, pairs_text, step_lines, steps_line, version_line, words_line};
 
 use command_line::SweepWords;
 use report_lines::{push_address, push_number, push_text};
 use sha2::{Digest, Sha256};
 use std::alloc::{AllocError, Global};
-use sweep_plans::{Part, Places, Range};
+use sweep_plans::{Part, Places, Plan, Range};
 
 /// The files that were read, whole.
 #[derive(Clone, Copy)]
@@ -88,6 +89,72 @@ fn push_words(out: &mut Vec<u8>, words: Option<Range>, values: &str) -> Result<(
     push_values(out, values)
 }
 
+/// Returns the line of the table's format: the second one, if faults strike at steps.
+fn version_line(steps: Places) -> &'static [u8]
+    ensures { result.now ≡ version_line steps }
+{
+    if steps.first < steps.end {
+        b"sweep 2\n"
+    } else {
+        b"sweep 1\n"
+    }
+}
+
+/// Appends the range of code, if one is named.
+#[tactic(auto, using(std::proofs::Common::append_assoc))]
+fn push_code(out: &mut Vec<u8>, code: Option<Range>) -> Result<(), AllocError>
+    ensures { OnOk result (out.new.items ≡ out.old.items ++ code_text code) }
+{
+    let Some(Range { first, last }) = code else {
+        return Ok(());
+    };
+    push_text(out, b" code ")?;
+    push_address(out, first)?;
+    push_text(out, b"..")?;
+    push_address(out, last.unwrap_or(u32::MAX))
+}
+
+/// Returns the end of the line on steps.
+fn pairs_text(pairs: bool) -> &'static [u8]
+    ensures { result.now ≡ pairs_text pairs }
+{
+    if pairs { b" pairs skip\n" } else { b"\n" }
+}
+
+/// Appends the line on the steps at which faults strike, if there are any.
+#[tactic(auto, unfolding(crate::specs::Swept::steps_line), using(std::proofs::Common::append_assoc))]
+fn push_steps(
+    out: &mut Vec<u8>,
+    steps: Places,
+    faults: &str,
+    code: Option<Range>,
+    pairs: bool,
+) -> Result<(), AllocError>
+    ensures { OnOk result (out.new.items ≡ out.old.items ++ steps_line steps faults.now code pairs) }
+{
+    if steps.end <= steps.first {
+        return Ok(());
+    }
+    push_text(out, b"steps ")?;
+    push_number(out, u64::from(steps.first))?;
+    push_text(out, b"..")?;
+    push_number(out, u64::from(steps.end - 1))?;
+    push_text(out, b" ")?;
+    push_text(out, faults.as_bytes())?;
+    push_code(out, code)?;
+    push_text(out, pairs_text(pairs))
+}
+
+/// Returns the fault models as they were given, or nothing if none were.
+fn fault_text<'a>(faults: Option<&'a str>) -> &'a str
+    ensures { result.now ≡ fault_text (text_of faults.entry) }
+{
+    match faults {
+        Some(text) => text,
+        None => "",
+    }
+}
+
 /// Returns the line on what an outcome has.
 fn output_line(with_output: bool) -> &'static [u8]
     ensures { result.now ≡ output_line with_output }
@@ -120,16 +187,23 @@ pub(crate) fn push_head(
     out: &mut Vec<u8>,
     sources: &Sources,
     words: &SweepWords,
-    bytes: Places,
+    plan: &Plan,
     named: Option<Range>,
     part: Part,
 ) -> Result<(), AllocError>
     ensures { OnOk result (out.new.items ≡ out.old.items
-        ++ head_text sources.now.program.now sources.now.input.now sources.now.suppressions.now words.now bytes named part) }
+        ++ head_text sources.now.program.now sources.now.input.now sources.now.suppressions.now words.now plan.now named part) }
 {
-    push_text(out, b"sweep 1\n")?;
+    push_text(out, version_line(plan.steps))?;
     push_files(alloc, out, sources)?;
-    push_bytes(out, bytes, words.byte_values)?;
+    push_bytes(out, plan.bytes, words.byte_values)?;
     push_words(out, named, words.word_values)?;
+    push_steps(
+        out,
+        plan.steps,
+        fault_text(words.faults),
+        plan.code,
+        plan.pairs,
+    )?;
     push_rest(out, words.step, words.with_output, part)
 }

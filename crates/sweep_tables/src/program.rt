@@ -16,7 +16,7 @@ use guest_elf::Image;
 use std::alloc::{AllocError, Global};
 use std::io::Write;
 use suppressions::Suppression;
-use sweep_plans::{Part, Places, Plan, Range, Request, plan_of};
+use sweep_plans::{Part, Plan, Range, Request, plan_of};
 use sweeps::Sweep;
 
 /// Returns the head of a table with the unedited run's outcome after it, and the sweep that has met that run.
@@ -28,7 +28,7 @@ fn begin_table<'p>(
     input: Vec<u8>,
     suppressions: Vec<Suppression>,
     words: &SweepWords,
-    bytes: Places,
+    plan: &Plan,
     named: Option<Range>,
     part: Part,
     out: &mut Vec<u8>,
@@ -39,14 +39,14 @@ fn begin_table<'p>(
     ensures scenario { IfOk result (λ sweep. scenario_of sweep ≡ at_step (begun image.entry input.items suppressions.items) words.now.step) }
     ensures output { IfOk result (λ sweep. tells_output sweep ≡ words.now.with_output) }
     ensures met { IfOk result (λ sweep. (first : List ℕ) × HasMet sweep first []
-        × (out.new.items ≡ head_text file.now input.items text.now words.now bytes named part ++ rows_text first [])) }
+        × (out.new.items ≡ head_text file.now input.items text.now words.now plan.now named part ++ rows_text first [])) }
 {
     let sources = Sources {
         program: file,
         input: &input,
         suppressions: text,
     };
-    push_head(alloc, out, &sources, words, bytes, named, part)?;
+    push_head(alloc, out, &sources, words, plan, named, part)?;
     Sweep::begin(
         alloc,
         image,
@@ -109,7 +109,7 @@ fn sweep_part<'a, W: Write>(
         input,
         suppressions,
         words,
-        plan.bytes,
+        plan,
         named,
         part,
         &mut out,
@@ -138,7 +138,7 @@ pub fn sweep_program<'a, W: Write>(
 {
     let part = request.part;
     let named = request.words;
-    let plan = plan_of(request, &image, input.len() as u32)?;
+    let plan = plan_of(request, &image, input.len() as u32, words.step)?;
     sweep_part(
         alloc,
         file,

@@ -6,8 +6,7 @@ ghost use Rattle.sweep_plans.specs.Planned.{first_place};
 ghost use Rattle.sweep_tables.specs.Swept.{Case, Reached, Writes};
 ghost use Rattle.ends.specs.declared.ends.End.TheVariants.{CannotWrite};
 ghost use Rattle.sweeps.specs.Outcomes.{Met};
-ghost use Rattle.sweep_plans.specs.Plans.{changes_by};
-ghost use Rattle.sweeps.specs.Standing.{standing_at};
+ghost use Rattle.sweeps.specs.Standing.{changes_at};
 ghost use Rattle.sweeps.specs.Sweeps.{HasMet, scenario_of, tells_output};
 ghost use Rattle.sweeps.specs.Tables.{rows_text, table_text};
 
@@ -20,7 +19,7 @@ use sweeps::Sweep;
 
 /// Returns the first place of a part, given the number of parts and how many of them come before it.
 pub(crate) fn first_place(places: u64, before: u32, parts: u32) -> u64
-    requires few { places < 2 ^ 33 }
+    requires few { places < 2 ^ 34 }
     requires fewer { before ≤ 1000000 }
     requires some { 0 < parts }
     ensures { result ≡ first_place places before parts }
@@ -50,7 +49,7 @@ fn rows_of(
     ensures scenario { scenario_of sweep.new ≡ scenario_of sweep.old }
     ensures output { tells_output sweep.new ≡ tells_output sweep.old }
     ensures met { IfOk result (λ out. (first : List ℕ) (met : List Met) → HasMet sweep.old first met
-        → (more : List Met) × (map (λ (m : Met). m.change) more ≡ changes_by plan.now (standing_at (scenario_of sweep.old) plan.now place))
+        → (more : List Met) × (map (λ (m : Met). m.change) more ≡ changes_at (scenario_of sweep.old) plan.now place)
         × HasMet sweep.new first (met ++ more) × (rows_text first (met ++ more) ≡ rows_text first met ++ out.items)) }
 {
     let mut out = Vec::new(alloc);
@@ -58,7 +57,7 @@ fn rows_of(
     Ok(out)
 }
 
-/// Applies the edits of a place, and writes their rows.
+/// Applies the changes of a place, and writes their rows.
 fn write_place<'a, W: Write>(
     alloc: Global,
     sweep: &mut Sweep<'_>,
@@ -77,7 +76,7 @@ fn write_place<'a, W: Write>(
     write_all(writer, &out)
 }
 
-/// Applies the edits of the places from one on, up to another, and writes their rows.
+/// Applies the changes of the places from one on, up to another, and writes their rows.
 fn write_places<'a, W: Write>(
     alloc: Global,
     sweep: &mut Sweep<'_>,

@@ -1,95 +1,168 @@
--- A change of the value at a place is no rejected edit, and what takes it back leaves the scenario as it was.
-use Rattle.std.proofs.Common.{◌≡◌, ℕ, ◌-◌, ◌%◌, nat_lt, nat_le, Bool, true, false, not, if◌then◌else◌, length, take}
+-- A change at a place is no rejected edit, and what takes it back leaves the scenario as it was.
+use Rattle.std.proofs.Common.{◌≡◌, ℕ, zero, suc, ◌+◌, ◌-◌, ◌<◌, ◌≤◌, ◌&&◌, nat_lt, nat_le, Bool, true, false, not}
+use Rattle.std.proofs.Common.{if◌then◌else◌, length, take, remove, List, [], ◌∷◌, ◌++◌, Option}
 use Rattle.std.proofs.Common.{Some, None, unwrap_or, Result, Ok, Err, OnOk, OnErr, refl, ap, sym, ◌∙◌, subst, arith}
 use Rattle.std.proofs.Common.{slice_set, slice_index_or}
 use Rattle.std.proofs.lemmas.Bool.{false≢true}
 use Rattle.std.proofs.lemmas.Bool.Decides.{nat_tests}
-use Rattle.std.proofs.lemmas.List.{length-set}
+use Rattle.std.proofs.lemmas.List.{length-append, length-set}
 use Rattle.shadow_memory.specs.Ranges.{little_word, window}
 use Rattle.scenario.proofs.EditLaws.{cut-appended}
 use Rattle.guest_elf.specs.Images.{is_word}
-use Rattle.scenario.specs.Edits.{row, refused_if, IsTaken, TakesBack}
-use Rattle.scenario.specs.Scenario.{Scenario, first_state}
-use Rattle.commands.specs.declared.edit.Edit.{Edit}
+use Rattle.run_values.specs.declared.alteration.Alteration.{Alteration}
+use Rattle.scenario.specs.Edits.{row, refused_if, is_bad_range, mark_refusal, IsTaken, TakesBack}
+use Rattle.scenario.specs.Limits.{most_marks, most_steps}
+use Rattle.scenario.specs.Scenario.{Scenario, first_state, run_of}
+use Rattle.commands.specs.declared.edit.Edit.TheVariants.{Input}
 use Rattle.commands.specs.declared.refusal.Refusal.{Refusal}
 use Rattle.commands.specs.declared.refusal.Refusal.TheVariants.{OutsideInput, NotPatchable}
-use Rattle.sweep_plans.specs.Plans.{changed_to, edit_of}
-use Rattle.sweeps.specs.Standing.{stood, standing_byte, standing_in, standing_word}
+use Rattle.sweep_plans.specs.Changes.{IsFit, IsRight, act_of, edit_of, glitch_edit, second_of}
+use Rattle.checkpoints.specs.Effects.{word_effect}
+use Rattle.checkpoints.specs.Forks.{IsForkFor}
+use Rattle.checkpoints.specs.declared.effect.Effect.TheVariants.{After, Input as InputFrom}
+use Rattle.checkpoints.specs.declared.forks.Fork.{Fork}
+use Rattle.sweeps.specs.Spots.{Continues, IsFoundAt}
+use Rattle.sweeps.specs.declared.spots.Spot.{Spot}
+use Rattle.sweeps.specs.Standing.{GoesBack, IsAt, IsBelow, MayFollow, Stands, is_struck, standing_byte, standing_in}
+use Rattle.sweeps.specs.Standing.{standing_step}
+use Rattle.sweeps.specs.Standing.{standing_word, state_before}
 use Rattle.sweep_plans.specs.declared.plan.Place.{Place}
-use Rattle.sweep_plans.specs.declared.plan.Place.TheVariants.{Byte as ByteAt, Word as WordAt, Nowhere}
+use Rattle.sweep_plans.specs.declared.plan.Place.TheVariants.{Byte as ByteAt, Word as WordAt, Step as StepAt, Nowhere}
+use Rattle.sweep_plans.specs.declared.plan.Plan.{Plan}
+use Rattle.sweep_plans.specs.declared.request.Range.{Range}
 use Rattle.sweep_plans.specs.declared.change.Change.{Change}
-use Rattle.sweep_plans.specs.declared.change.Change.TheVariants.{Byte, Word}
+use Rattle.sweep_plans.specs.declared.change.Change.TheVariants.{Byte, Word, Once, Twice}
+use Rattle.sweep_plans.specs.declared.change.Glitch.{Glitch}
+use Rattle.sweep_plans.specs.declared.change.Glitch.TheVariants.{Turn}
+use Rattle.sweep_plans.specs.declared.standing.Standing.{Standing}
+use Rattle.sweep_plans.specs.declared.standing.Standing.TheVariants as At
 
 -- a value that is there if a test holds
 there : {A : Type 0} (b : Bool) (x y : A) → (if b then Some x else None) ≡ Some y → (b ≡ true) × (x ≡ y)
 there true x y h = (refl, ap (λ o. unwrap_or o x) h)
 there false x y h = cc
 
--- the value at a place is that at the place of its change
-pub stands-there : (sc : Scenario) (place : Place) (s : Change) → standing_in sc place ≡ Some s → stood sc s ≡ Some s
-unfolding standing_byte standing_word
-stands-there sc (ByteAt offset) s h =
-    let is = (there (nat_lt offset (length sc.setup.input)) (Byte offset (slice_index_or sc.setup.input offset 0)) s
-    h).1 in
-    subst (λ x. stood sc x ≡ Some x) is (h ∙ ap Some (sym is))
-stands-there sc (WordAt addr) s h =
-    let is = (there (is_word sc.image addr) (Word addr (little_word (window (first_state sc).bytes addr 4))) s h).1 in
-    subst (λ x. stood sc x ≡ Some x) is (h ∙ ap Some (sym is))
-stands-there sc Nowhere s h = cc
+-- what is at a place stands there, and at a step that is below the chosen one
+module _ (sc : Scenario) (plan : Plan) (near : sc.step ≤ most_steps) (none : sc.marks ≡ []) where
+  step-there : (code : Option Range) (step : ℕ) (s : Standing) → standing_step sc code step ≡ Some s
+      → (nat_lt step sc.step ≡ true) × (At.Step step (state_before sc step).core.pc ≡ s)
+  unfolding standing_step
+  step-there code step s h =
+      let is = there (nat_lt step sc.step && is_struck sc.setup.hooks code (state_before sc step).core) _ s h in
+      (first-test (nat_lt step sc.step) _ is.0, is.1)
+    where
+      first-test : (a b : Bool) → (a && b) ≡ true → a ≡ true
+      first-test true b h = refl
+      first-test false b h = cc
+
+  pub stands-there : (place : Place) (s : Standing) → standing_in sc plan place ≡ Some s
+      → Stands sc s × IsBelow sc.step s
+  unfolding standing_byte standing_word
+  stands-there (ByteAt offset) s h =
+      let is = (there (nat_lt offset (length sc.setup.input)) (At.Byte offset (slice_index_or sc.setup.input offset 0))
+      s h).1 in
+      subst (λ x. Stands sc x × IsBelow sc.step x) is (h ∙ ap Some (sym is), tt)
+  stands-there (WordAt addr) s h =
+      let is = (there (is_word sc.image addr) (At.Word addr (little_word (window (first_state sc).bytes addr 4))) s h).1
+      in
+      subst (λ x. Stands sc x × IsBelow sc.step x) is (h ∙ ap Some (sym is), tt)
+  stands-there (StepAt step) s h =
+      let is = step-there plan.code step s h in
+      let below : step < sc.step = let test = is.0 in grind (arith, nat_tests) in
+      let size : length sc.marks ≡ 0 = ap length none in
+      subst (λ x. Stands sc x × IsBelow sc.step x) is.1 ((omega arith, omega arith), below)
+  stands-there Nowhere s h = cc
 
 taken-where : (b : Bool) (refusal : Refusal) → b ≡ false → refused_if b refusal ≡ None
 taken-where b refusal e = ap (λ t. refused_if t refusal) e
 
-inside : (sc : Scenario) (offset : ℕ) (c : Change) → standing_byte sc offset ≡ Some c
+inside : (sc : Scenario) (offset : ℕ) (s : Standing) → standing_byte sc offset ≡ Some s
     → nat_le (length sc.setup.input) offset ≡ false
 unfolding standing_byte
-inside sc offset c h =
-    let within = (there (nat_lt offset (length sc.setup.input)) _ c h).0 in
+inside sc offset s h =
+    let within = (there (nat_lt offset (length sc.setup.input)) _ s h).0 in
     grind (arith, nat_tests)
 
-pub loaded : (sc : Scenario) (addr : ℕ) (c : Change) → standing_word sc addr ≡ Some c → is_word sc.image addr ≡ true
+pub loaded : (sc : Scenario) (addr : ℕ) (s : Standing) → standing_word sc addr ≡ Some s → is_word sc.image addr ≡ true
 unfolding standing_word
-loaded sc addr c h = (there (is_word sc.image addr) _ c h).0
+loaded sc addr s h = (there (is_word sc.image addr) _ s h).0
 
-pub taken : (sc : Scenario) (standing : Change) (value : ℕ) → stood sc standing ≡ Some standing
-    → IsTaken sc (edit_of (changed_to standing value))
-taken sc (Byte offset old) value h =
-    taken-where (nat_le (length sc.setup.input) offset) OutsideInput (inside sc offset (Byte offset old) h)
-taken sc (Word addr old) value h =
-    taken-where (not (is_word sc.image addr)) NotPatchable (ap not (loaded sc addr (Word addr old) h))
+-- ---- a change at a place isn't rejected
 
--- the edit that puts back the old value
-pub taken-back : (sc : Scenario) (standing : Change) (value : ℕ) → stood sc standing ≡ Some standing
-    → IsTaken (row sc (edit_of (changed_to standing value))).after (edit_of standing)
-taken-back sc (Byte offset old) value h =
-    taken-where (nat_le (length (slice_set sc.setup.input offset (value % 256))) offset) OutsideInput
-    (ap (λ n. nat_le n offset) (length-set sc.setup.input offset (value % 256)) ∙ inside sc offset (Byte offset old) h)
-taken-back sc (Word addr old) value h =
-    taken-where (not (is_word sc.image addr)) NotPatchable (ap not (loaded sc addr (Word addr old) h))
+pub fits : (sc : Scenario) (standing : Standing) (change : Change) → IsAt sc standing change → IsFit change
+fits sc (At.Byte offset old) (Byte at value) is = tt
+fits sc (At.Word addr old) (Word at value) is = tt
+fits sc (At.Step step pc) (Once at glitch) is = is.1
+fits sc (At.Step step pc) (Twice at glitch later other) is =
+    (is.1, is.2, subst (λ k. k ≤ later) (sym is.0) is.3.forward)
+fits sc _ _ is = absurd is
 
-abbrev byte-of : Change → ℕ → ℕ
-byte-of (Byte offset byte) d = byte
-byte-of (Word addr word) d = d
+good-range : (glitch : Glitch) → IsRight glitch → is_bad_range (act_of glitch) ≡ false
+unfolding is_bad_range
+good-range (Turn addr mask) right = grind (arith, nat_tests)
+good-range _ right = refl
 
-old-byte : (sc : Scenario) (offset old : ℕ) → standing_byte sc offset ≡ Some (Byte offset old)
+pub glitch-taken : (sc : Scenario) (step : ℕ) (glitch : Glitch) → step ≤ most_steps → length sc.marks < most_marks
+    → IsRight glitch → IsTaken sc (glitch_edit step glitch)
+unfolding mark_refusal
+glitch-taken sc step glitch near room right =
+    let early : nat_lt most_steps step ≡ false = grind (arith, nat_tests) in
+    let few : nat_le most_marks (length sc.marks) ≡ false = grind (arith, nat_tests) in
+    rw (early, good-range glitch right, few) refl
+
+pub taken : (sc : Scenario) (standing : Standing) (change : Change) → Stands sc standing → IsAt sc standing change
+    → IsTaken sc (edit_of change)
+taken sc (At.Byte offset old) (Byte at value) h is =
+    taken-where (nat_le (length sc.setup.input) at) OutsideInput
+    (ap (nat_le (length sc.setup.input)) is ∙ inside sc offset (At.Byte offset old) h)
+taken sc (At.Word addr old) (Word at value) h is =
+    taken-where (not (is_word sc.image at)) NotPatchable
+    (ap not (ap (is_word sc.image) is ∙ loaded sc addr (At.Word addr old) h))
+taken sc (At.Step step pc) (Once at glitch) h is =
+    glitch-taken sc at glitch (subst (λ k. k ≤ most_steps) (sym is.0) h.0) h.1 is.1
+taken sc (At.Step step pc) (Twice at glitch later other) h is =
+    glitch-taken sc at glitch (subst (λ k. k ≤ most_steps) (sym is.0) h.0) h.1 is.1
+taken sc _ _ h is = absurd is
+
+-- ---- what takes it back
+
+pub marks-more : (sc : Scenario) (step : ℕ) (glitch : Glitch)
+    → length (row sc (glitch_edit step glitch)).after.marks ≡ length sc.marks + 1
+marks-more sc step glitch = length-append sc.marks (record { step = step; act = act_of glitch } ∷ [])
+
+pub with-mark : (sc : Scenario) (step : ℕ) (glitch : Glitch) → length sc.marks < most_marks
+    → (1 ≤ length (row sc (glitch_edit step glitch)).after.marks)
+    × (length (row sc (glitch_edit step glitch)).after.marks ≤ most_marks)
+with-mark sc step glitch room =
+    let size = marks-more sc step glitch in (omega arith, omega arith)
+
+pub goes-back : (sc : Scenario) (standing : Standing) (change : Change) → Stands sc standing → IsAt sc standing change
+    → GoesBack (row sc (edit_of change)).after standing
+goes-back sc (At.Byte offset old) (Byte at value) h is =
+    taken-where (nat_le (length (slice_set sc.setup.input at value)) offset) OutsideInput
+    (ap (λ n. nat_le n offset) (length-set sc.setup.input at value) ∙ inside sc offset (At.Byte offset old) h)
+goes-back sc (At.Word addr old) (Word at value) h is = tt
+goes-back sc (At.Step step pc) (Once at glitch) h is = with-mark sc at glitch h.1
+goes-back sc (At.Step step pc) (Twice at glitch later other) h is = with-mark sc at glitch h.1
+goes-back sc _ _ h is = absurd is
+
+abbrev byte-of : Standing → ℕ → ℕ
+byte-of (At.Byte offset byte) d = byte
+byte-of _ d = d
+
+old-byte : (sc : Scenario) (offset old : ℕ) → standing_byte sc offset ≡ Some (At.Byte offset old)
     → slice_index_or sc.setup.input offset 0 ≡ old
 unfolding standing_byte
 old-byte sc offset old h =
-    ap (λ c. byte-of c 0) (there (nat_lt offset (length sc.setup.input))
-    (Byte offset (slice_index_or sc.setup.input offset 0)) (Byte offset old) h).1
+    ap (λ s. byte-of s 0) (there (nat_lt offset (length sc.setup.input))
+    (At.Byte offset (slice_index_or sc.setup.input offset 0)) (At.Byte offset old) h).1
 
-pub back-byte : TakesBack → (sc : Scenario) (offset old value : ℕ) → standing_byte sc offset ≡ Some (Byte offset old)
-    → (row (row sc (edit_of (changed_to (Byte offset old) value))).after (edit_of (Byte offset old))).after ≡ sc
+back-byte : TakesBack → (sc : Scenario) (offset old value : ℕ) → standing_byte sc offset ≡ Some (At.Byte offset old)
+    → (row (row sc (Input offset value)).after (Input offset old)).after ≡ sc
 back-byte law sc offset old value h =
-    law sc (edit_of (changed_to (Byte offset old) value)) (edit_of (Byte offset old))
-    (taken sc (Byte offset old) value h)
-    (ap (λ b. Some (edit_of (Byte offset b))) (old-byte sc offset old h))
-
-pub back-word : (sc : Scenario) (addr old value : ℕ)
-    → (let after = (row sc (edit_of (changed_to (Word addr old) value))).after in
-    record after { words = take (length after.words - 1) after.words }) ≡ sc
-back-word sc addr old value =
-    ap (λ words. record sc { words = words }) (cut-appended sc.words (record { addr = addr; word = value }))
+    law sc (Input offset value) (Input offset old)
+    (taken sc (At.Byte offset old) (Byte offset value) h refl)
+    (ap (λ b. Some (Input offset b)) (old-byte sc offset old h))
 
 -- an edit that needs no memory was applied
 pub made : {E : Type 0} (result : Result Unit E) (P : Type 0) (Q : Type 0) → OnOk result P
@@ -97,28 +170,136 @@ pub made : {E : Type 0} (result : Result Unit E) (P : Type 0) (Q : Type 0) → O
 made (Ok u) P Q ok err = ok
 made (Err e) P Q ok err = absurd (false≢true err.0)
 
--- the old value is there again
-pub put-back-byte : {E : Type 0} → TakesBack
-    → (sc now new : Scenario) (offset old value : ℕ) (standing : Change) (edit : Edit) (result : Result Unit E)
-    → standing ≡ Byte offset old → edit ≡ edit_of standing → stood sc standing ≡ Some standing
-    → now ≡ (row sc (edit_of (changed_to standing value))).after
-    → OnOk result (new ≡ (row now edit).after) → OnErr result (((row now edit).may_fail ≡ true) × (new ≡ now))
-    → new ≡ sc
-put-back-byte law sc now new offset old value standing edit result is by stands left ok err =
-    let e : edit ≡ edit_of (Byte offset old) = by ∙ ap edit_of is in
-    let at : now ≡ (row sc (edit_of (changed_to (Byte offset old) value))).after = left
-    ∙ ap (λ s. (row sc (edit_of (changed_to s value))).after) is in
-    let stood-there : stood sc (Byte offset old) ≡ Some (Byte offset old) = subst (λ s. stood sc s ≡ Some s) is
-    stands in
-    made result _ _ (subst (λ x. OnOk result (new ≡ (row now x).after)) e ok)
-    (subst (λ x. OnErr result (((row now x).may_fail ≡ true) × (new ≡ now))) e err)
-    ∙ ap (λ s. (row s (edit_of (Byte offset old))).after) at ∙ back-byte law sc offset old value stood-there
+-- the old byte is there again
+pub byte-back : TakesBack → (sc : Scenario) (offset old : ℕ) (change : Change)
+    → Stands sc (At.Byte offset old) → IsAt sc (At.Byte offset old) change
+    → (row (row sc (edit_of change)).after (Input offset old)).after ≡ sc
+byte-back law sc offset old (Byte at value) h is =
+    ap (λ k. (row (row sc (Input k value)).after (Input offset old)).after) is ∙ back-byte law sc offset old value h
+byte-back law sc offset old _ h is = absurd is
 
-pub put-back-word : (sc now new : Scenario) (addr old value : ℕ) (standing : Change) → standing ≡ Word addr old
-    → now ≡ (row sc (edit_of (changed_to standing value))).after
+pub put-back-byte : {E : Type 0} → TakesBack
+    → (sc now new : Scenario) (offset old : ℕ) (standing : Standing) (change : Change) (result : Result Unit E)
+    → standing ≡ At.Byte offset old → Stands sc standing → IsAt sc standing change
+    → now ≡ (row sc (edit_of change)).after
+    → OnOk result (new ≡ (row now (Input offset old)).after) → OnErr result ((false ≡ true) × (new ≡ now))
+    → new ≡ sc
+put-back-byte law sc now new offset old standing change result is stands at left ok err =
+    made result _ _ ok err
+    ∙ ap (λ s. (row s (Input offset old)).after) left
+    ∙ byte-back law sc offset old change (subst (Stands sc) is stands) (subst (λ s. IsAt sc s change) is at)
+
+-- the word is no longer written
+word-back : (sc : Scenario) (addr old : ℕ) (change : Change) → IsAt sc (At.Word addr old) change
+    → (let after = (row sc (edit_of change)).after in
+    record after { words = take (length after.words - 1) after.words }) ≡ sc
+word-back sc addr old (Word at value) is =
+    ap (λ words. record sc { words = words }) (cut-appended sc.words (record { addr = at; word = value }))
+word-back sc addr old _ is = absurd is
+
+pub put-back-word : (sc now new : Scenario) (addr old : ℕ) (standing : Standing) (change : Change)
+    → standing ≡ At.Word addr old → IsAt sc standing change → now ≡ (row sc (edit_of change)).after
     → new ≡ record now { words = take (length now.words - 1) now.words } → new ≡ sc
-put-back-word sc now new addr old value standing is left dropped =
-    let at : now ≡ (row sc (edit_of (changed_to (Word addr old) value))).after = left
-    ∙ ap (λ s. (row sc (edit_of (changed_to s value))).after) is in
-    dropped ∙ ap (λ (s : Scenario). record s { words = take (length s.words - 1) s.words }) at
-    ∙ back-word sc addr old value
+put-back-word sc now new addr old standing change is at left dropped =
+    dropped ∙ ap (λ (s : Scenario). record s { words = take (length s.words - 1) s.words }) left
+    ∙ word-back sc addr old change (subst (λ s. IsAt sc s change) is at)
+
+-- the last mark is taken out
+remove-last : (marks : List Alteration) (mark : Alteration) (n : ℕ) → n ≡ length marks
+    → remove (marks ++ mark ∷ []) n ≡ marks
+remove-last [] mark zero e = refl
+remove-last [] mark (suc n) e = absurd (omega arith)
+remove-last (m ∷ ms) mark zero e = absurd (omega arith)
+remove-last (m ∷ ms) mark (suc n) e = ap (λ rest. m ∷ rest) (remove-last ms mark n (omega arith))
+
+pub mark-back : (sc now new : Scenario) (step : ℕ) (glitch : Glitch) (last : ℕ)
+    → now ≡ (row sc (glitch_edit step glitch)).after → last ≡ length now.marks - 1
+    → new ≡ record now { marks = remove now.marks last } → new ≡ sc
+mark-back sc now new step glitch last left is removed =
+    let mark : Alteration = record { step = step; act = act_of glitch } in
+    let size = length-append sc.marks (mark ∷ []) in
+    let at : last ≡ length sc.marks = is ∙ ap (λ (s : Scenario). length s.marks - 1) left ∙ omega arith in
+    removed ∙ ap (λ (s : Scenario). record s { marks = remove s.marks last }) left
+    ∙ ap (λ (marks : List Alteration). record sc { marks = marks }) (remove-last sc.marks mark last at)
+
+pub put-back-step : (sc now new : Scenario) (step pc : ℕ) (standing : Standing) (change : Change)
+    → standing ≡ At.Step step pc → IsAt sc standing change → now ≡ (row sc (edit_of change)).after
+    → ((s : Scenario) (at : ℕ) (glitch : Glitch) → now ≡ (row s (glitch_edit at glitch)).after → new ≡ s) → new ≡ sc
+put-back-step sc now new step pc standing change is at left unmarked =
+    go change (subst (λ s. IsAt sc s change) is at) left
+  where
+    go : (change : Change) → IsAt sc (At.Step step pc) change → now ≡ (row sc (edit_of change)).after → new ≡ sc
+    go (Once at glitch) is left = unmarked sc at glitch left
+    go (Twice at glitch later other) is left = unmarked sc at glitch left
+    go _ is left = absurd is
+
+-- ---- changes of one edit and of two
+
+pub one-edit : (change : Change) → ((step : ℕ) (glitch : Glitch) (later : ℕ) (other : Glitch)
+    → change ≡ Twice step glitch later other → ⊥) → second_of change ≡ None
+one-edit (Twice step glitch later other) h = absurd (h step glitch later other refl)
+one-edit _ h = refl
+
+pub two-at : (sc : Scenario) (standing : Standing) (at : ℕ) (glitch : Glitch) (later : ℕ) (other : Glitch)
+    → IsAt sc standing (Twice at glitch later other) → IsRight glitch × IsRight other × MayFollow sc at later
+two-at sc (At.Step step pc) at glitch later other is =
+    (is.1, is.2, subst (λ k. MayFollow sc k later) (sym is.0) is.3)
+two-at sc _ at glitch later other is = absurd is
+
+-- no change at a step from the chosen one on
+pub no-step : (sc : Scenario) (code : Option Range) (step : ℕ) → sc.step ≤ step → standing_step sc code step ≡ None
+unfolding standing_step
+no-step sc code step past =
+    let test : nat_lt step sc.step ≡ false = grind (arith, nat_tests) in
+    rw test refl
+
+-- ---- where the runs continue
+
+pub byte-continues : (sc : Scenario) (offset : ℕ) (standing : Standing) (fork : Fork)
+    → standing_byte sc offset ≡ Some standing → IsForkFor (InputFrom offset) (run_of sc) sc.step fork
+    → Continues sc standing fork
+unfolding standing_byte
+byte-continues sc offset standing fork h is =
+    subst (λ (s : Standing). Continues sc s fork) (there (nat_lt offset (length sc.setup.input)) _ standing h).1
+    (go (slice_index_or sc.setup.input offset 0))
+  where
+    go : (old : ℕ) → Continues sc (At.Byte offset old) fork
+    go old (Byte at value) e = subst (λ k. IsForkFor (InputFrom k) (run_of sc) sc.step fork) (sym e) is
+    go old _ e = absurd e
+
+pub word-continues : (sc : Scenario) (addr : ℕ) (standing : Standing) (fork : Fork)
+    → standing_word sc addr ≡ Some standing
+    → ((word : ℕ) → IsForkFor (word_effect sc.marks addr word) (run_of sc) sc.step fork) → Continues sc standing fork
+unfolding standing_word
+word-continues sc addr standing fork h is =
+    subst (λ (s : Standing). Continues sc s fork) (there (is_word sc.image addr) _ standing h).1
+    (go (little_word (window (first_state sc).bytes addr 4)))
+  where
+    go : (old : ℕ) → Continues sc (At.Word addr old) fork
+    go old (Word at value) e =
+        subst (λ k. IsForkFor (word_effect sc.marks k value) (run_of sc) sc.step fork) (sym e) (is value)
+    go old _ e = absurd e
+
+pub step-continues : (sc : Scenario) (code : Option Range) (step : ℕ) (standing : Standing) (fork : Fork)
+    → standing_step sc code step ≡ Some standing → IsForkFor (After step) (run_of sc) sc.step fork
+    → Continues sc standing fork
+unfolding standing_step
+step-continues sc code step standing fork h is =
+    subst (λ (s : Standing). Continues sc s fork)
+    (there (nat_lt step sc.step && is_struck sc.setup.hooks code (state_before sc step).core) _ standing h).1
+    (go (state_before sc step).core.pc)
+  where
+    go : (pc : ℕ) → Continues sc (At.Step step pc) fork
+    go pc (Once at glitch) e = subst (λ k. IsForkFor (After k) (run_of sc) sc.step fork) (sym e.0) is
+    go pc (Twice at glitch later other) e = subst (λ k. IsForkFor (After k) (run_of sc) sc.step fork) (sym e.0) is
+    go pc _ e = absurd e
+
+-- what was found
+pub found-some : (sc : Scenario) (here : Option Standing) (found : Option Spot) (spot : Spot) → found ≡ Some spot
+    → IsFoundAt sc here found → (here ≡ Some spot.standing) × Continues sc spot.standing spot.fork
+found-some sc here found spot is h = subst (λ (f : Option Spot). IsFoundAt sc here f) is h
+
+pub found-none : (sc : Scenario) (here : Option Standing) (found : Option Spot)
+    → ((spot : Spot) → found ≡ Some spot → ⊥) → IsFoundAt sc here found → here ≡ None
+found-none sc here (Some spot) none h = absurd (none spot refl)
+found-none sc here None none h = h

@@ -1,5 +1,6 @@
 -- A fork of the run of a scenario, by what its setup and marks are equal to.
-use Rattle.std.proofs.Common.{◌≡◌, ℕ, List, sym}
+use Rattle.std.proofs.Common.{◌≡◌, ℕ, ◌+◌, ◌≤◌, List, inl, inr, refl, sym, arith}
+use Rattle.std.proofs.lemmas.Bool.{cases_lt}
 use Rattle.std.proofs.Math.Path.{transport}
 use Rattle.guest_machine.specs.Run.{post}
 use Rattle.guest_machine.specs.Shows.{Shows}
@@ -12,6 +13,7 @@ use Rattle.checkpoints.specs.Effects.{LeadsTo, Run}
 use Rattle.checkpoints.specs.Forks.{IsForkFor, ShowsEdited}
 use Rattle.checkpoints.specs.Trails.{IsRightFor}
 use Rattle.checkpoints.specs.declared.effect.Effect.{Effect}
+use Rattle.checkpoints.specs.declared.effect.Effect.TheVariants.{After}
 use Rattle.checkpoints.specs.declared.forks.Fork.{Fork}
 use Rattle.checkpoints.specs.declared.trail.Trail.{Trail}
 use Rattle.scenario.specs.Scenario.{Scenario, chosen_state, first_state, run_of}
@@ -25,6 +27,29 @@ fork-for effect sc setup marks step trail fork given marked chosen forks h =
     transport (λ i. IsForkFor (effect (marked i))
     (record { start = first_state sc; setup = given i; marks = marked i }) (chosen i) fork)
     (forks (first_state sc) (transport (λ i. IsRightFor trail (first_state sc) (sym given i) (sym marked i)) h))
+
+-- and a later one, of a scenario in which an earlier step was struck
+pub fork-later : (sc : Scenario) (setup : Setup) (marks : List Alteration) (s : ℕ) (one : Run) (fork next : Fork)
+    (later : ℕ) → setup ≡ sc.setup → marks ≡ sc.marks → later ≤ sc.step
+    → ((start : State) (last : ℕ) → later ≤ last
+    → LeadsTo (After s) one (record { start = start; setup = setup; marks = marks })
+    → IsForkFor (After s) one last fork
+    → IsForkFor (After later) (record { start = start; setup = setup; marks = marks }) last next)
+    → LeadsTo (After s) one (run_of sc) → IsForkFor (After s) one sc.step fork
+    → IsForkFor (After later) (run_of sc) sc.step next
+fork-later sc setup marks s one fork next later given marked within goes leads is =
+    transport (λ i. IsForkFor (After later)
+    (record { start = first_state sc; setup = given i; marks = marked i }) sc.step next)
+    (goes (first_state sc) sc.step within (transport
+    (λ i. LeadsTo (After s) one (record { start = first_state sc; setup = sym given i; marks = sym marked i })) leads)
+    is)
+
+-- a fork for a step is at that step or before it
+pub fork-before : (step last : ℕ) (run : Run) (fork : Fork) → IsForkFor (After step) run last fork → fork.step ≤ step
+fork-before step last run fork is = elim (cases_lt step fork.step) [
+  | inl past ↦ absurd (is.step.hidden (step + 1) (omega arith) refl)
+  | inr within ↦ omega arith
+]
 
 -- and of the edited one
 pub shown-edited : (effect : Effect) (one : Run) (fork : Fork) (sc : Scenario) (setup : Setup) (marks : List Alteration)

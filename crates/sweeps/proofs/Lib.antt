@@ -1,7 +1,9 @@
 pub mod Steps
 pub mod ChangeSteps
+pub mod PlaceSteps
 pub mod ForkSteps
 pub mod BeginSteps
 pub mod TallySteps
 pub mod OneMet
 pub mod PartSteps
+pub mod PairSteps

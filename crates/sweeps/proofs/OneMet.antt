@@ -8,8 +8,8 @@ use Rattle.replay_report.specs.Laws.{OutlineIsOne as TextIsOne}
 use Rattle.scenario.specs.Edits.{row}
 use Rattle.scenario.specs.Scenario.{Scenario, IsOutlineOf, chosen_state, run_of}
 use Rattle.sweeps.specs.Laws.{MetAreOne, OutlineIsOne, StepsAreOne}
-use Rattle.sweeps.specs.Outcomes.{Met, AreMet, IsOutcome, TakesSteps}
-use Rattle.sweep_plans.specs.Plans.{edit_of}
+use Rattle.sweeps.specs.Outcomes.{Met, AreMet, IsOutcome, TakesSteps, edited}
+use Rattle.sweep_plans.specs.Changes.{edit_of}
 
 -- of two such steps none is the lower one
 not-lower : (effect : Effect) (run : Run) (last a b : ℕ) → IsLastUnshown effect run last a
@@ -45,8 +45,8 @@ module _ (law : OutlineIsOne) (with_output : Bool) (sc : Scenario) where
       → m ≡ n
   unfolding IsOutcome
   one-met m n change g h takes take =
-      let outcome = law with_output (row sc (edit_of m.change)).after m.outcome n.outcome g
-      (subst (λ c. IsOutlineOf with_output (row sc (edit_of c)).after n.outcome) (sym change) h) in
+      let outcome = law with_output (edited sc m.change) m.outcome n.outcome g
+      (subst (λ c. IsOutlineOf with_output (edited sc c) n.outcome) (sym change) h) in
       let steps = steps-are-one sc m.change m.steps n.steps takes
       (subst (λ c. TakesSteps sc c n.steps) (sym change) take) in
       λ i. record { change = change i; outcome = outcome i; steps = steps i }

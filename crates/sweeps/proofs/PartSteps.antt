@@ -5,17 +5,18 @@ use Rattle.std.proofs.lemmas.List.Concat.{flat_map-append}
 use Rattle.scenario.specs.Scenario.{Scenario}
 use Rattle.sweep_plans.specs.Laws.{PartsMakeTheWhole, numbers_from, places_of}
 use Rattle.sweep_plans.specs.Planned.{part_from, part_to}
-use Rattle.sweep_plans.specs.Plans.{below, changes_by, place_count}
+use Rattle.sweep_plans.specs.Numbers.{below}
+use Rattle.sweep_plans.specs.Plans.{place_count}
 use Rattle.sweep_plans.specs.declared.change.Change.{Change}
 use Rattle.sweep_plans.specs.declared.plan.Plan.{Plan}
 use Rattle.sweep_plans.specs.declared.request.Part.{Part}
 use Rattle.sweeps.specs.Laws.{PartsHaveAllChanges, changes_in}
-use Rattle.sweeps.specs.Standing.{changes_from, standing_at}
+use Rattle.sweeps.specs.Standing.{changes_at as changes_of, changes_from}
 
 module _ (sc : Scenario) (plan : Plan) where
   -- the changes at a place
   abbrev changes_at : ℕ → List Change
-  changes_at place = changes_by plan (standing_at sc plan place)
+  changes_at place = changes_of sc plan place
 
   at-numbers : (from n : ℕ) → changes_from sc plan from n ≡ flat_map changes_at (numbers_from from n)
   unfolding changes_from numbers_from

@@ -1,12 +1,13 @@
 -- Another change that was met, and the rows of some changes after those of others.
-use Rattle.std.proofs.Common.{◌≡◌, ℕ, ◌+◌, Bool, List, [], ◌∷◌, ◌++◌, length, fold, refl, ap, sym, ◌∙◌, append_assoc}
-use Rattle.std.proofs.Common.{append-nil, arith, rules}
-use Rattle.std.proofs.lemmas.List.{length-append}
+use Rattle.std.proofs.Common.{◌≡◌, ℕ, ◌+◌, Bool, List, [], ◌∷◌, ◌++◌, length, fold, map, refl, ap, ap₂, sym, ◌∙◌}
+use Rattle.std.proofs.Common.{append_assoc, append-nil, arith, rules, subst}
+use Rattle.std.proofs.lemmas.List.{length-append, map-append}
 use Rattle.std.proofs.lemmas.List.Sums.{fold-append, sum_by_push}
 use Rattle.scenario.specs.Scenario.{Scenario}
 use Rattle.tallies.specs.Tallied.{entries_of, with_text}
 use Rattle.sweeps.specs.Outcomes.{Met, AreMet, IsOutcome, TakesSteps, standing, steps_of, tallied}
-use Rattle.sweeps.specs.Sweeps.{Counted}
+use Rattle.sweep_plans.specs.declared.change.Change.{Change}
+use Rattle.sweeps.specs.Sweeps.{Counted, CountsMore}
 use Rattle.sweeps.specs.Tables.{first_lines, met_text, rows_after, rows_text, tally_line, tally_lines}
 use Rattle.sweeps.specs.declared.counting.Counts.{Counts}
 
@@ -39,6 +40,13 @@ rows-more first met more =
     ap (λ rest. first_lines first ++ rest) (rows-on ((first, 0) ∷ []) met more)
     ∙ sym (append_assoc (first_lines first) (rows_after ((first, 0) ∷ []) met) _)
 
+-- the rows of some after those of others
+rows-chain : (first : List ℕ) (met more rest : List Met) → rows_after (tallied first met) (more ++ rest)
+    ≡ rows_after (tallied first met) more ++ rows_after (tallied first (met ++ more)) rest
+rows-chain first met more rest =
+    rows-on (tallied first met) more rest
+    ∙ ap (λ es. rows_after (tallied first met) more ++ rows_after es rest) (sym (tallied-more first met more))
+
 stands-on : (n k a : ℕ) → a ≡ standing n → standing (a + k) ≡ standing (n + k)
 stands-on n k a e = omega arith
 
@@ -58,16 +66,44 @@ counted-more with_output sc first met m old new h outcome takes entries edits st
       ∙ ap standing (sym (sum_by_push (λ (n : Met). n.steps) met m));
 }
 
--- and so are some and another, of which the row is written
-pub row-more : (first : List ℕ) (met more : List Met) (m : Met) → rows_after (tallied first met) (more ++ m ∷ [])
-    ≡ rows_after (tallied first met) more ++ met_text (tallied first (met ++ more)) m.change m.outcome
+-- none are counted
+pub counts-none : (counts : Counts) (with_output : Bool) (sc : Scenario) (out : List ℕ)
+    → CountsMore counts counts with_output sc [] out out
 unfolding rows_after
-row-more first met more m =
-    rows-on (tallied first met) more (m ∷ [])
-    ∙ ap (λ text. rows_after (tallied first met) more ++ text)
-    (append-nil (met_text (counted (tallied first met) more) m.change m.outcome))
-    ∙ ap (λ es. rows_after (tallied first met) more ++ met_text es m.change m.outcome)
-    (sym (tallied-more first met more))
+counts-none counts with_output sc out first met h =
+    ([], refl, subst (Counted counts with_output sc first) (sym (append-nil met)) h, sym (append-nil out))
+
+-- one is counted, and its row is written
+pub counts-one : (with_output : Bool) (sc : Scenario) (old new : Counts) (m : Met) (out after : List ℕ)
+    → ((first : List ℕ) (met : List Met) → Counted old with_output sc first met
+    → Counted new with_output sc first (met ++ m ∷ []))
+    → ((first : List ℕ) (met : List Met) → Counted old with_output sc first met
+    → after ≡ out ++ met_text (tallied first met) m.change m.outcome)
+    → CountsMore old new with_output sc (m.change ∷ []) out after
+unfolding rows_after
+counts-one with_output sc old new m out after counted text first met h = (
+  m ∷ [],
+  refl,
+  counted first met h,
+  text first met h
+      ∙ ap (λ row. out ++ row) (sym (append-nil (met_text (tallied first met) m.change m.outcome))),
+)
+
+-- some are counted, and then others
+pub counts-join : (with_output : Bool) (sc : Scenario) (old now new : Counts) (xs ys : List Change)
+    (out middle after : List ℕ) → CountsMore old now with_output sc xs out middle
+    → CountsMore now new with_output sc ys middle after → CountsMore old new with_output sc (xs ++ ys) out after
+counts-join with_output sc old now new xs ys out middle after some others first met h =
+    let one = some first met h in
+    let two = others first (met ++ one.0) one.2 in (
+      one.0 ++ two.0,
+      map-append (λ (m : Met). m.change) one.0 two.0 ∙ ap₂ (λ front back. front ++ back) one.1 two.1,
+      subst (Counted new with_output sc first) (append_assoc met one.0 two.0) two.2,
+      two.3
+          ∙ ap (λ text. text ++ rows_after (tallied first (met ++ one.0)) two.0) one.3
+          ∙ append_assoc out (rows_after (tallied first met) one.0) _
+          ∙ ap (λ text. out ++ text) (sym (rows-chain first met one.0 two.0)),
+    )
 
 -- another tally
 pub tally-more : (from : ℕ) (counts : List ℕ) (count : ℕ)
@@ -78,3 +114,18 @@ tally-more from (c ∷ cs) count =
     ap (λ rest. tally_line from c ++ rest) (tally-more (from + 1) cs count)
     ∙ sym (append_assoc (tally_line from c) (tally_lines (from + 1) cs) _)
     ∙ ap (λ n. (tally_line from c ++ tally_lines (from + 1) cs) ++ tally_line n count) (omega arith)
+
+-- what a sweep has met, from what is counted
+pub meets-from : (with_output : Bool) (sc now : Scenario) (old new : Counts) (changes : List Change)
+    (out after : List ℕ) → now ≡ sc → CountsMore old new with_output sc changes out after
+    → (first : List ℕ) (met : List Met) → Counted old with_output sc first met
+    → (more : List Met) × (map (λ (m : Met). m.change) more ≡ changes)
+    × Counted new with_output now first (met ++ more)
+    × ((text : List ℕ) × (after ≡ out ++ text) × (rows_text first (met ++ more) ≡ rows_text first met ++ text))
+meets-from with_output sc now old new changes out after same counts first met h =
+    let told = counts first met h in (
+      told.0,
+      told.1,
+      subst (λ (s : Scenario). Counted new with_output s first (met ++ told.0)) (sym same) told.2,
+      (rows_after (tallied first met) told.0, told.3, rows-more first met told.0),
+    )

@@ -10,7 +10,8 @@ use Rattle.sweeps.specs.Outcomes.{Met, AreMet, TakesSteps, standing, tallied}
 use Rattle.sweeps.specs.Standing.{changes_from}
 use Rattle.sweeps.specs.Tables.{met_text, rows_text}
 use Rattle.sweep_plans.specs.Planned.{part_from, part_to}
-use Rattle.sweep_plans.specs.Plans.{below, place_count}
+use Rattle.sweep_plans.specs.Numbers.{below}
+use Rattle.sweep_plans.specs.Plans.{place_count}
 use Rattle.sweep_plans.specs.declared.change.Change.{Change}
 use Rattle.sweep_plans.specs.declared.plan.Plan.{Plan}
 use Rattle.sweep_plans.specs.declared.request.Part.{Part}

@@ -1,4 +1,5 @@
 pub mod Standing
+pub mod Spots
 pub mod Outcomes
 pub mod Tables
 pub mod Sweeps

@@ -1,19 +1,28 @@
--- The outcome of an edit: the outcome of one run from step zero with only that edit, and the number of steps that the
--- edit needs.
-use Rattle.std.specs.Prelude.{◌≡◌, ℕ, ◌-◌, Bool, List, [], ◌∷◌, fold, min, sum_by}
+-- The outcome of a change: the outcome of one run from step zero with only that change, and the number of steps that
+-- the change needs.
+use Rattle.std.specs.Prelude.{◌≡◌, ℕ, ◌-◌, Bool, List, [], ◌∷◌, Option, Some, None, fold, min, sum_by}
 use Rattle.checkpoints.specs.Forks.{IsLastUnshown}
 use Rattle.scenario.specs.Edits.{row}
 use Rattle.scenario.specs.Scenario.{Scenario, IsOutlineOf, run_of}
 use Rattle.tallies.specs.Tallied.{with_text}
-use Rattle.sweep_plans.specs.Plans.{edit_of}
+use Rattle.commands.specs.declared.edit.Edit.{Edit}
+use Rattle.sweep_plans.specs.Changes.{edit_of, second_of}
 use Rattle.sweep_plans.specs.declared.change.Change.{Change}
 
--- a text is the outcome of a change: the outline of the scenario with that edit
-unfoldable pub IsOutcome : Bool → Scenario → Change → List ℕ → Type 0
-IsOutcome with_output sc change text = IsOutlineOf with_output (row sc (edit_of change)).after text
+-- a scenario with the edits of a change, the second after the first, if there are two
+abbrev pub with_second : Scenario → Option Edit → Scenario
+with_second sc (Some edit) = (row sc edit).after
+with_second sc None = sc
 
--- a change needs this number of steps: those from the last one at which it doesn't show yet, up to the chosen one. The
--- number follows from the run, and doesn't say how many steps a sweep executes, which may be fewer
+abbrev pub edited : Scenario → Change → Scenario
+edited sc change = with_second (row sc (edit_of change)).after (second_of change)
+
+-- a text is the outcome of a change: the outline of the scenario with its edits
+unfoldable pub IsOutcome : Bool → Scenario → Change → List ℕ → Type 0
+IsOutcome with_output sc change text = IsOutlineOf with_output (edited sc change) text
+
+-- a change needs this number of steps: those from the last one at which its first edit doesn't show yet, up to the
+-- chosen one. The number follows from the run, and doesn't say how many steps a sweep executes, which may be fewer
 unfoldable pub TakesSteps : Scenario → Change → ℕ → Type 0
 TakesSteps sc change steps =
     (from : ℕ) × IsLastUnshown (row sc (edit_of change)).effect (run_of sc) sc.step from × (steps ≡ sc.step - from)

@@ -1,41 +1,142 @@
--- The values at the places of a scenario, and the changes there.
-use Rattle.std.specs.Prelude.{ℕ, zero, suc, ◌+◌, nat_lt, if◌then◌else◌, List, [], ◌++◌, length, slice_index_or, Option}
-use Rattle.std.specs.Prelude.{Some, None}
+-- What is at the places of a scenario, and the changes there.
+use Rattle.std.specs.Prelude.{◌≡◌, ℕ, zero, suc, ◌+◌, ◌-◌, ◌<◌, ◌≤◌, min, ◌∷◌, ◌&&◌, nat_lt, nat_le, Bool, true}
+use Rattle.std.specs.Prelude.{if◌then◌else◌, List, [], ◌++◌, length, slice_index_or, Option, Some, None, is_none}
+use Rattle.std.specs.Prelude.{unwrap_or}
 use Rattle.shadow_memory.specs.Ranges.{little_word, window}
+use Rattle.guest_elf.specs.Hooks.{hook_at}
 use Rattle.guest_elf.specs.Images.{is_word}
+use Rattle.guest_elf.specs.declared.hook.Hook.{Hook}
+use Rattle.guest_machine.specs.Exec.{is_running}
+use Rattle.guest_machine.specs.Run.{pre}
+use Rattle.guest_machine.specs.State.{Core, State}
+use Rattle.scenario.specs.Edits.{IsTaken, row}
+use Rattle.scenario.specs.Limits.{most_marks, most_steps}
 use Rattle.scenario.specs.Scenario.{Scenario, first_state}
-use Rattle.sweep_plans.specs.Plans.{changes_by, place_at}
+use Rattle.commands.specs.declared.edit.Edit.TheVariants.{Input}
+use Rattle.sweep_plans.specs.Changes.{IsRight, glitch_edit}
+use Rattle.sweep_plans.specs.Plans.{changes_of, place_at}
 use Rattle.sweep_plans.specs.declared.change.Change.{Change}
-use Rattle.sweep_plans.specs.declared.change.Change.TheVariants.{Byte, Word}
+use Rattle.sweep_plans.specs.declared.change.Change.TheVariants.{Byte, Word, Once, Twice}
+use Rattle.sweep_plans.specs.declared.change.Glitch.TheVariants.{Skip}
 use Rattle.sweep_plans.specs.declared.plan.Place.{Place}
-use Rattle.sweep_plans.specs.declared.plan.Place.TheVariants.{Byte as ByteAt, Word as WordAt, Nowhere}
+use Rattle.sweep_plans.specs.declared.plan.Place.TheVariants.{Byte as ByteAt, Word as WordAt, Step as StepAt, Nowhere}
 use Rattle.sweep_plans.specs.declared.plan.Plan.{Plan}
+use Rattle.sweep_plans.specs.declared.request.Range.{Range}
+use Rattle.sweep_plans.specs.declared.standing.Standing.{Standing}
+use Rattle.sweep_plans.specs.declared.standing.Standing.TheVariants as At
+
+-- ---- what is at a place
 
 -- the value at a byte of the input, and at a word of the program; nothing if there is no such byte, or no word that is
 -- loaded whole
-unfoldable pub standing_byte : Scenario → ℕ → Option Change
+unfoldable pub standing_byte : Scenario → ℕ → Option Standing
 standing_byte sc offset =
-    if nat_lt offset (length sc.setup.input) then Some (Byte offset (slice_index_or sc.setup.input offset 0)) else None
+    if nat_lt offset (length sc.setup.input) then Some (At.Byte offset (slice_index_or sc.setup.input offset 0))
+    else None
 
-unfoldable pub standing_word : Scenario → ℕ → Option Change
+unfoldable pub standing_word : Scenario → ℕ → Option Standing
 standing_word sc addr =
-    if is_word sc.image addr then Some (Word addr (little_word (window (first_state sc).bytes addr 4))) else None
+    if is_word sc.image addr then Some (At.Word addr (little_word (window (first_state sc).bytes addr 4))) else None
 
--- the value at a place
-abbrev pub standing_in : Scenario → Place → Option Change
-standing_in sc (ByteAt offset) = standing_byte sc offset
-standing_in sc (WordAt addr) = standing_word sc addr
-standing_in sc Nowhere = None
+-- the state before a step of the run
+abbrev pub state_before : Scenario → ℕ → State
+state_before sc step = pre (first_state sc) sc.setup sc.marks step
 
-abbrev pub standing_at : Scenario → Plan → ℕ → Option Change
-standing_at sc plan i = standing_in sc (place_at plan i)
+-- is an address in the code that was named? All are if none was
+abbrev pub is_in_code : Option Range → ℕ → Bool
+is_in_code None pc = true
+is_in_code (Some range) pc = nat_le range.first pc && nat_le pc (unwrap_or range.last 4294967295)
 
--- the value at the place of a change
-abbrev pub stood : Scenario → Change → Option Change
-stood sc (Byte offset byte) = standing_byte sc offset
-stood sc (Word addr word) = standing_word sc addr
+-- may a fault strike the next step? The program runs, in this code, and not at a function of the heap, whose step is no
+-- instruction of the program
+abbrev pub is_struck : List (ℕ × Hook) → Option Range → Core → Bool
+is_struck hooks code core = is_running core.status && (is_in_code code core.pc && is_none (hook_at hooks core.pc))
+
+-- the value of pc before a step below the chosen one, if a fault may strike there
+unfoldable pub standing_step : Scenario → Option Range → ℕ → Option Standing
+standing_step sc code step =
+    if nat_lt step sc.step && is_struck sc.setup.hooks code (state_before sc step).core
+    then Some (At.Step step (state_before sc step).core.pc)
+    else None
+
+-- what is at a place of a plan
+abbrev pub standing_in : Scenario → Plan → Place → Option Standing
+standing_in sc plan (ByteAt offset) = standing_byte sc offset
+standing_in sc plan (WordAt addr) = standing_word sc addr
+standing_in sc plan (StepAt step) = standing_step sc plan.code step
+standing_in sc plan Nowhere = None
+
+-- ---- the changes there
+
+-- a scenario in which the instruction of a step is left out
+abbrev pub skipped : Scenario → ℕ → Scenario
+skipped sc step = (row sc (glitch_edit step Skip)).after
+
+-- two instructions are left out: that of a step, and that of a later step of the run without it, if a fault may strike
+-- there
+abbrev pub pair_by : ℕ → Option Standing → List Change
+pair_by step (Some (At.Step later pc)) = Twice step Skip later Skip ∷ []
+pair_by step _ = []
+
+-- for each of a number of later steps
+unfoldable pub pairs_from : Scenario → Option Range → ℕ → ℕ → List Change
+pairs_from sc code step zero = []
+pairs_from sc code step (suc n) =
+    pairs_from sc code step n ++ pair_by step (standing_step (skipped sc step) code (step + 1 + n))
+
+-- the pairs at a place, if they were asked for: with each later step of the plan below the chosen one
+unfoldable pub pairs_at : Scenario → Plan → Standing → List Change
+pairs_at sc plan (At.Step step pc) =
+    if plan.pairs then pairs_from sc plan.code step (min plan.steps.end sc.step - (step + 1)) else []
+pairs_at sc plan _ = []
+
+-- all changes at a place, and at the place of a number
+abbrev pub all_changes : Scenario → Plan → Option Standing → List Change
+all_changes sc plan (Some standing) = changes_of plan standing ++ pairs_at sc plan standing
+all_changes sc plan None = []
+
+abbrev pub place_changes : Scenario → Plan → Place → List Change
+place_changes sc plan place = all_changes sc plan (standing_in sc plan place)
+
+abbrev pub changes_at : Scenario → Plan → ℕ → List Change
+changes_at sc plan i = place_changes sc plan (place_at plan i)
 
 -- the changes at a number of places from one on
 unfoldable pub changes_from : Scenario → Plan → ℕ → ℕ → List Change
 changes_from sc plan from zero = []
-changes_from sc plan from (suc n) = changes_from sc plan from n ++ changes_by plan (standing_at sc plan (from + n))
+changes_from sc plan from (suc n) = changes_from sc plan from n ++ changes_at sc plan (from + n)
+
+-- ---- what a change there needs
+
+-- this is what is at a place; at a step, another mark may be made
+abbrev pub Stands : Scenario → Standing → Type 0
+Stands sc (At.Byte offset old) = standing_byte sc offset ≡ Some (At.Byte offset old)
+Stands sc (At.Word addr old) = standing_word sc addr ≡ Some (At.Word addr old)
+Stands sc (At.Step step pc) = (step ≤ most_steps) × (length sc.marks < most_marks)
+
+-- a second glitch may follow one at a step: at a step up to the chosen one, with room for its mark
+pub record MayFollow (sc : Scenario) (step later : ℕ) : Type 0 where
+  pub forward : step ≤ later
+  pub within : later ≤ sc.step
+  pub near : later ≤ most_steps
+  pub room : length sc.marks + 1 < most_marks
+
+-- a change is one at this place
+abbrev pub IsAt : Scenario → Standing → Change → Type 0
+IsAt sc (At.Byte offset old) (Byte at value) = at ≡ offset
+IsAt sc (At.Word addr old) (Word at value) = at ≡ addr
+IsAt sc (At.Step step pc) (Once at glitch) = (at ≡ step) × IsRight glitch
+IsAt sc (At.Step step pc) (Twice at glitch later other) =
+    (at ≡ step) × IsRight glitch × IsRight other × MayFollow sc step later
+IsAt sc _ _ = ⊥
+
+-- a step is below another
+abbrev pub IsBelow : ℕ → Standing → Type 0
+IsBelow last (At.Step step pc) = step < last
+IsBelow last _ = Unit {0}
+
+-- a scenario with a change at this place can be taken back
+abbrev pub GoesBack : Scenario → Standing → Type 0
+GoesBack sc (At.Byte offset old) = IsTaken sc (Input offset old)
+GoesBack sc (At.Word addr old) = Unit {0}
+GoesBack sc (At.Step step pc) = (1 ≤ length sc.marks) × (length sc.marks ≤ most_marks)

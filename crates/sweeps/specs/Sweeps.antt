@@ -1,8 +1,10 @@
 -- The scenario of a sweep, and what it has met.
-use Rattle.std.specs.Prelude.{◌≡◌, ℕ, Bool, List, length}
+use Rattle.std.specs.Prelude.{◌≡◌, ℕ, ◌++◌, Bool, List, length, map}
 use Rattle.scenario.specs.Scenario.{Scenario, IsOutlineOf}
 use Rattle.tallies.specs.Tallied.{entries_of}
 use Rattle.sweeps.specs.Outcomes.{Met, AreMet, standing, steps_of, tallied}
+use Rattle.sweeps.specs.Tables.{rows_after, rows_text}
+use Rattle.sweep_plans.specs.declared.change.Change.{Change}
 use Rattle.sweeps.specs.declared.counting.Counts.{Counts}
 use Rattle.sweeps.specs.declared.sweep.Sweep.{Sweep}
 
@@ -22,6 +24,20 @@ pub record Counted (counts : Counts) (with_output : Bool) (sc : Scenario) (first
     pub edits : counts.edits ≡ standing (length met)
     pub steps : counts.steps ≡ standing (steps_of met)
 
+-- what is counted after some more changes, whose rows are appended to a text
+abbrev pub CountsMore : Counts → Counts → Bool → Scenario → List Change → List ℕ → List ℕ → Type 0
+CountsMore old new with_output sc changes before after =
+    (first : List ℕ) (met : List Met) → Counted old with_output sc first met
+    → (more : List Met) × (map (λ (m : Met). m.change) more ≡ changes)
+    × Counted new with_output sc first (met ++ more) × (after ≡ before ++ rows_after (tallied first met) more)
+
 -- a sweep has met them
 unfoldable pub HasMet : Sweep → List ℕ → List Met → Type 0
 HasMet sweep first met = Counted sweep.counts (tells_output sweep) (scenario_of sweep) first met
+
+-- what a sweep has met after some more changes, whose rows are appended to a text
+abbrev pub MeetsMore : Sweep → Sweep → List Change → List ℕ → List ℕ → Type 0
+MeetsMore old new changes before after =
+    (first : List ℕ) (met : List Met) → HasMet old first met
+    → (more : List Met) × (map (λ (m : Met). m.change) more ≡ changes) × HasMet new first (met ++ more)
+    × ((text : List ℕ) × (after ≡ before ++ text) × (rows_text first (met ++ more) ≡ rows_text first met ++ text))

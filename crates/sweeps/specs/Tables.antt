@@ -7,12 +7,29 @@ use Rattle.tallies.specs.Tallied.{counts_of, is_met, number_of, with_text}
 use Rattle.tallies.specs.declared.Found.{Found}
 use Rattle.sweeps.specs.Outcomes.{Met, standing, steps_of, tallied}
 use Rattle.sweep_plans.specs.declared.change.Change.{Change}
-use Rattle.sweep_plans.specs.declared.change.Change.TheVariants.{Byte, Word}
+use Rattle.sweep_plans.specs.declared.change.Change.TheVariants.{Byte, Word, Once, Twice}
+use Rattle.sweep_plans.specs.declared.change.Glitch.{Glitch}
+use Rattle.sweep_plans.specs.declared.change.Glitch.TheVariants.{Skip, Flip, FlipPc, Set, Turn}
 
--- a change, as a line of a session that applies it: `input OFFSET BYTE` or `patch ADDR WORD`
+-- the line that has a glitch happen at a step, of a session whose run can be looked at: `skip STEP`,
+-- `flip STEP xR MASK`, `flip STEP pc MASK`, `set STEP xR VALUE` or `flip STEP ADDR MASK`
+unfoldable pub glitch_text : ℕ → Glitch → List ℕ
+glitch_text step Skip = codes "skip " ++ decimal step
+glitch_text step (Flip r mask) =
+    codes "flip " ++ decimal step ++ codes " x" ++ decimal r ++ codes " " ++ address_text mask
+glitch_text step (FlipPc mask) = codes "flip " ++ decimal step ++ codes " pc " ++ address_text mask
+glitch_text step (Set r value) =
+    codes "set " ++ decimal step ++ codes " x" ++ decimal r ++ codes " " ++ address_text value
+glitch_text step (Turn addr mask) =
+    codes "flip " ++ decimal step ++ codes " " ++ address_text addr ++ codes " " ++ address_text mask
+
+-- a change, as the line of a session that applies it, `input OFFSET BYTE` or `patch ADDR WORD`; or as one or two lines
+-- of a session whose run can be looked at
 unfoldable pub change_text : Change → List ℕ
 change_text (Byte offset byte) = codes "input " ++ decimal offset ++ codes " " ++ decimal byte
 change_text (Word addr word) = codes "patch " ++ address_text addr ++ codes " " ++ address_text word
+change_text (Once step glitch) = glitch_text step glitch
+change_text (Twice step glitch later other) = glitch_text step glitch ++ codes "; " ++ glitch_text later other
 
 -- the row of a change whose outcome has a number
 unfoldable pub change_row : Change → ℕ → List ℕ

@@ -1,28 +1,30 @@
-//! Every edit of a run, one at a time: the outcome of each changed byte of an input, and of each changed word of a program.
+//! Every change of a run, one at a time: the outcome of each changed byte of an input, of each changed word of a program, and of each fault
+//! at a step.
 //!
-//! A [`Sweep`] visits the places of a [`sweep_plans::Plan`] one after another. At each it applies every requested edit, one at a time, and
-//! appends the edit's row of the table: the line of a session that applies the edit, and the number of its outcome.
+//! A [`Sweep`] visits the places of a [`sweep_plans::Plan`] one after another. At each it applies every requested change, one at a time, and
+//! appends the change's row of the table: the lines of a session that apply the change, and the number of its outcome.
 //!
 //! # Public items
 //!
 //! | Call | What it does |
 //! |---|---|
 //! | [`Sweep::begin`] | executes the unedited run, and appends its outcome |
-//! | [`Sweep::visit`] | applies each edit of a place, and appends its row, after its outcome if that is new |
+//! | [`Sweep::visit`] | applies each change of a place, and appends its row, after its outcome if that is new |
 //! | [`Sweep::finish`] | appends the number of edits that lead to each outcome, and then the number of edits, of outcomes and of steps |
 //! | [`laws::outcomes_are_counted`], [`laws::steps_are_one`], [`laws::outcomes_are_one`], [`laws::parts_have_all_changes`] | do nothing; their contracts are laws of the table |
 //!
 //! # What a caller can rely on
 //!
-//! Each outcome is the outline of **one run from step zero of the scenario with only that edit** (`IsOutcome`); nothing of another edit or
-//! its outcome is in it. Outcomes are numbered in order of first occurrence. A sweep knows what it has met (`HasMet`): `visit` adds the
+//! Each outcome is the outline of **one run from step zero of the scenario with only that change** (`IsOutcome`); nothing of another change
+//! or its outcome is in it. Outcomes are numbered in order of first occurrence. A sweep knows what it has met (`HasMet`): `visit` adds the
 //! changes of its place (`changes_from`), in order. If memory runs out, neither what was appended nor the sweep may be used; the sweep's
 //! scenario is as it was.
 //!
 //! # Where the definitions are
 //!
-//! In `specs/`: `Standing` (the value at a place, and the changes there), `Outcomes` (the outcome of a change), `Tables` (the text),
-//! `Sweeps` (what a sweep has met), `Laws` (what the numbers of a table mean). The places of a plan are defined in the crate `sweep_plans`.
+//! In `specs/`: `Standing` (what is at a place, and the changes there), `Outcomes` (the outcome of a change), `Tables` (the text), `Spots`
+//! (where the runs of a place continue), `Sweeps` (what a sweep has met), `Laws` (what the numbers of a table mean). The places of a plan and
+//! the changes at each are defined in the crate `sweep_plans`.
 #![tactic(auto)]
 
 mod beginning;
@@ -30,7 +32,9 @@ mod counting;
 pub mod laws;
 mod meeting;
 mod outcomes;
+mod pairs;
 mod rows;
+mod spots;
 mod sweep;
 
 pub use sweep::Sweep;

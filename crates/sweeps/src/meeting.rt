@@ -1,67 +1,106 @@
-//! The edits of one place, one at a time.
-ghost use Rattle.std.specs.Prelude.{◌≡◌, ◌++◌, ◌∷◌, [], ℕ, List, Some, OnOk, map};
+//! The changes of one place, one at a time.
+ghost use Rattle.std.specs.Prelude.{◌≡◌, ◌≤◌, ◌∷◌, [], OnOk, Some};
+ghost use Rattle.std.specs.List.{All};
 ghost use Rattle.checkpoints.specs.Forks.{IsForkFor};
 ghost use Rattle.scenario.specs.Edits.{row};
+ghost use Rattle.scenario.specs.Limits.{most_steps};
 ghost use Rattle.scenario.specs.Scenario.{run_of};
-ghost use Rattle.sweeps.specs.Outcomes.{Met, tallied};
-ghost use Rattle.sweep_plans.specs.Plans.{changed_to, edit_of};
-ghost use Rattle.sweeps.specs.Standing.{stood};
-ghost use Rattle.sweeps.specs.Sweeps.{Counted};
-ghost use Rattle.sweeps.specs.Tables.{met_text, rows_after};
+ghost use Rattle.sweep_plans.specs.Changes.{edit_of};
+ghost use Rattle.sweep_plans.specs.Plans.{changes_of};
+ghost use Rattle.sweeps.specs.Spots.{Continues};
+ghost use Rattle.sweeps.specs.Standing.{IsAt, IsBelow, Stands, all_changes};
+ghost use Rattle.sweeps.specs.Sweeps.{CountsMore};
 
 use crate::counting::Counts;
 use crate::outcomes::outcome_of;
-use checkpoints::Fork;
+use crate::pairs::meet_pairs;
+use crate::spots::Spot;
 use scenario::Scenario;
-use std::alloc::AllocError;
-use sweep_plans::Change;
+use std::alloc::{AllocError, Global};
+use sweep_plans::{Change, Plan};
 
-/// The value at a place, and the machine from which each run continues that has another value there.
-#[derive(Clone, Copy)]
-pub(crate) struct Spot<'a> {
-    pub(crate) standing: Change,
-    pub(crate) fork: &'a Fork,
-    pub(crate) with_output: bool,
-}
-
-/// Puts another value there, and no other edit, counts the outcome, and appends its row. Afterwards the scenario is as it was.
+/// Applies a change at a spot, and no other edit, counts the outcome, and appends its row. Afterwards the scenario is as it was.
 fn meet(
     scenario: &mut Scenario,
     counts: &mut Counts,
-    spot: &Spot<'_>,
-    value: u32,
+    spot: &Spot,
+    change: Change,
+    with_output: bool,
     out: &mut Vec<u8>,
 ) -> Result<(), AllocError>
-    requires stands { stood scenario.old spot.now.standing ≡ Some spot.now.standing }
-    requires fork { IsForkFor (row scenario.old (edit_of (changed_to spot.now.standing value))).effect (run_of scenario.old) scenario.old.step spot.now.fork.now }
+    requires stands { Stands scenario.old spot.now.standing }
+    requires at { IsAt scenario.old spot.now.standing change }
+    requires fork { IsForkFor (row scenario.old (edit_of change)).effect (run_of scenario.old) scenario.old.step spot.now.fork }
     ensures same { scenario.new ≡ scenario.old }
-    ensures met { OnOk result ((first : List ℕ) (met : List Met) → Counted counts.old spot.now.with_output scenario.old first met
-        → (m : Met) × (m.change ≡ changed_to spot.now.standing value) × Counted counts.new spot.now.with_output scenario.old first (met ++ m ∷ [])
-        × (out.new.items ≡ out.old.items ++ met_text (tallied first met) m.change m.outcome)) }
+    ensures met { OnOk result (CountsMore counts.old counts.new with_output scenario.old (change ∷ []) out.old.items out.new.items) }
 {
-    let outcome = outcome_of(scenario, spot.fork, spot.standing, value, spot.with_output)?;
+    let outcome = outcome_of(scenario, &spot.fork, spot.standing, change, with_output)?;
     let steps = scenario.step() - spot.fork.step;
-    counts.count(spot.standing.to(value), &outcome, steps, out)?;
+    counts.count(change, &outcome, steps, out)?;
     Ok(())
 }
 
-/// Does the same for each of some values.
-pub(crate) fn meet_each(
+/// Does the same for each of some changes.
+fn meet_each(
     scenario: &mut Scenario,
     counts: &mut Counts,
-    spot: &Spot<'_>,
-    values: &[u32],
+    spot: &Spot,
+    changes: &[Change],
+    with_output: bool,
     out: &mut Vec<u8>,
 ) -> Result<(), AllocError>
-    requires stands { stood scenario.old spot.now.standing ≡ Some spot.now.standing }
-    requires fork { (value : ℕ) → IsForkFor (row scenario.old (edit_of (changed_to spot.now.standing value))).effect (run_of scenario.old) scenario.old.step spot.now.fork.now }
+    requires stands { Stands scenario.old spot.now.standing }
+    requires at { All (IsAt scenario.old spot.now.standing) changes.now }
+    requires fork { Continues scenario.old spot.now.standing spot.now.fork }
     ensures same { scenario.new ≡ scenario.old }
-    ensures met { OnOk result ((first : List ℕ) (met : List Met) → Counted counts.old spot.now.with_output scenario.old first met
-        → (more : List Met) × (map (λ (m : Met). m.change) more ≡ map (changed_to spot.now.standing) values.now)
-        × Counted counts.new spot.now.with_output scenario.old first (met ++ more) × (out.new.items ≡ out.old.items ++ rows_after (tallied first met) more)) }
+    ensures met { OnOk result (CountsMore counts.old counts.new with_output scenario.old changes.now out.old.items out.new.items) }
 {
-    for value in values {
-        meet(scenario, counts, spot, *value, out)?;
+    for change in changes {
+        meet(scenario, counts, spot, *change, with_output, out)?;
     }
     Ok(())
+}
+
+/// Does the same for each change of a plan there.
+fn meet_all(
+    alloc: Global,
+    scenario: &mut Scenario,
+    counts: &mut Counts,
+    plan: &Plan,
+    spot: &Spot,
+    with_output: bool,
+    out: &mut Vec<u8>,
+) -> Result<(), AllocError>
+    requires near { scenario.old.step ≤ most_steps }
+    requires unmarked { scenario.old.marks ≡ [] }
+    requires stands { Stands scenario.old spot.now.standing }
+    requires below { IsBelow scenario.old.step spot.now.standing }
+    requires fork { Continues scenario.old spot.now.standing spot.now.fork }
+    ensures same { scenario.new ≡ scenario.old }
+    ensures met { OnOk result (CountsMore counts.old counts.new with_output scenario.old (changes_of plan.now spot.now.standing) out.old.items out.new.items) }
+{
+    let changes = plan.changes(alloc, spot.standing)?;
+    meet_each(scenario, counts, spot, &changes, with_output, out)
+}
+
+/// Does the same, and then for the pairs there.
+pub(crate) fn meet_place(
+    alloc: Global,
+    scenario: &mut Scenario,
+    counts: &mut Counts,
+    plan: &Plan,
+    spot: &Spot,
+    with_output: bool,
+    out: &mut Vec<u8>,
+) -> Result<(), AllocError>
+    requires near { scenario.old.step ≤ most_steps }
+    requires unmarked { scenario.old.marks ≡ [] }
+    requires stands { Stands scenario.old spot.now.standing }
+    requires below { IsBelow scenario.old.step spot.now.standing }
+    requires fork { Continues scenario.old spot.now.standing spot.now.fork }
+    ensures same { scenario.new ≡ scenario.old }
+    ensures met { OnOk result (CountsMore counts.old counts.new with_output scenario.old (all_changes scenario.old plan.now (Some spot.now.standing)) out.old.items out.new.items) }
+{
+    meet_all(alloc, scenario, counts, plan, spot, with_output, out)?;
+    meet_pairs(scenario, counts, plan, spot, with_output, out)
 }

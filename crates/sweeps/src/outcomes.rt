@@ -1,48 +1,24 @@
-//! Where the runs of edits continue, and the outcome of each.
-ghost use Rattle.std.specs.Prelude.{◌≡◌, ◌≤◌, ℕ, IfOk, IfSome, Some};
+//! The outcome of each change.
+ghost use Rattle.std.specs.Prelude.{◌≡◌, ◌≤◌, ◌<◌, ◌+◌, ℕ, IfOk, None, length};
 ghost use Rattle.checkpoints.specs.Effects.{LeadsTo, Run};
-ghost use Rattle.checkpoints.specs.Edits.{IsRightForRun};
 ghost use Rattle.checkpoints.specs.Forks.{IsForkFor};
-ghost use Rattle.checkpoints.specs.Trails.{LoadsAs};
-ghost use Rattle.scenario.specs.Edits.{row, IsTaken};
-ghost use Rattle.scenario.specs.Limits.{most_steps};
+ghost use Rattle.checkpoints.specs.declared.effect.Effect.TheVariants.{After};
+ghost use Rattle.scenario.specs.Edits.{row};
+ghost use Rattle.scenario.specs.Limits.{most_marks, most_steps};
 ghost use Rattle.scenario.specs.Scenario.{Scenario as ScenarioOf, IsOutlineOf, run_of};
 ghost use Rattle.sweeps.specs.Outcomes.{IsOutcome};
-ghost use Rattle.sweep_plans.specs.Plans.{changed_to, edit_of};
-ghost use Rattle.sweeps.specs.Standing.{stood};
+ghost use Rattle.sweep_plans.specs.Changes.{IsRight, edit_of, glitch_edit, second_of};
+ghost use Rattle.sweep_plans.specs.declared.change.Change.{Change as ChangeOf};
+ghost use Rattle.sweep_plans.specs.declared.change.Glitch.{Glitch as GlitchOf};
+ghost use Rattle.sweep_plans.specs.declared.change.Change.TheVariants.{Once, Twice};
+ghost use Rattle.sweeps.specs.Standing.{GoesBack, IsAt, MayFollow, Stands};
 
-use checkpoints::{Effect, Fork, Trail};
+use checkpoints::{Effect, Fork};
 use guest_machine::Meter;
-use scenario::Scenario;
 use scenario::laws::{edits_follow, edits_go_back};
+use scenario::{Edit, Scenario};
 use std::alloc::AllocError;
-use sweep_plans::Change;
-
-/// Returns the machine from which each run continues that has another value at a place.
-pub(crate) fn fork_at(
-    trail: &mut Trail,
-    scenario: &Scenario,
-    standing: Change,
-) -> Result<Fork, AllocError>
-    requires near { scenario.now.step ≤ most_steps }
-    requires loads { LoadsAs trail.old scenario.now.image }
-    requires right { IsRightForRun trail.old (run_of scenario.now) }
-    requires stands { stood scenario.now standing ≡ Some standing }
-    ensures fork { IfOk result (λ fork. (value : ℕ) → IsForkFor (row scenario.now (edit_of (changed_to standing value))).effect
-        (run_of scenario.now) scenario.now.step fork) }
-    ensures loads { LoadsAs trail.new scenario.now.image }
-    ensures right { IsRightForRun trail.new (run_of scenario.now) }
-{
-    let step = scenario.step();
-    match standing {
-        Change::Byte { offset, .. } => {
-            trail.fork_at_byte(offset, step, scenario.setup(), scenario.marks())
-        }
-        Change::Word { addr, .. } => {
-            trail.fork_at_word(addr, step, scenario.setup(), scenario.marks())
-        }
-    }
-}
+use sweep_plans::{Change, Glitch, Standing};
 
 /// Returns the outline of an edited scenario, whose run continues from a fork. An effect leads to it from the run of the fork.
 fn outline_from(
@@ -65,38 +41,129 @@ fn outline_from(
     scenario.outline(&machine, with_output)
 }
 
-/// Takes a change back: the place gets its old value again.
-fn take_back(scenario: &mut Scenario, standing: Change)
-    requires { IsTaken scenario.old (edit_of standing) }
-    ensures { (sc : ScenarioOf) (value : ℕ) → stood sc standing ≡ Some standing → scenario.old ≡ (row sc (edit_of (changed_to standing value))).after → scenario.new ≡ sc }
+/// Takes the last mark out.
+pub(crate) fn unmark(scenario: &mut Scenario)
+    requires some { 1 ≤ length scenario.old.marks }
+    requires few { length scenario.old.marks ≤ most_marks }
+    ensures { (sc : ScenarioOf) (step : ℕ) (glitch : GlitchOf) → scenario.old ≡ (row sc (glitch_edit step glitch)).after → scenario.new ≡ sc }
+{
+    edits_go_back();
+    let last = (scenario.marks().len() - 1) as u32;
+    let _cannot_fail = scenario.edit(Edit::Unmark(last));
+}
+
+/// Takes a change back, which is one edit: the place is as it was.
+fn take_back(scenario: &mut Scenario, standing: Standing)
+    requires { GoesBack scenario.old standing }
+    ensures { (sc : ScenarioOf) (change : ChangeOf) → Stands sc standing → IsAt sc standing change → scenario.old ≡ (row sc (edit_of change)).after → scenario.new ≡ sc }
 {
     edits_go_back();
     match standing {
-        Change::Byte { .. } => {
-            let _cannot_fail = scenario.edit(standing.edit());
+        Standing::Byte { offset, byte } => {
+            let _cannot_fail = scenario.edit(Edit::Input { offset, byte });
         }
-        Change::Word { .. } => scenario.drop_word(),
+        Standing::Word { .. } => scenario.drop_word(),
+        Standing::Step { .. } => unmark(scenario),
     }
 }
 
-/// Returns the outcome of another value at a place, whose run continues from a fork. Afterwards the scenario is as it was.
-pub(crate) fn outcome_of(
+/// Returns the outcome of a change of one edit, whose run continues from a fork. Afterwards the scenario is as it was.
+pub(crate) fn outcome_of_one(
     scenario: &mut Scenario,
     fork: &Fork,
-    standing: Change,
-    value: u32,
+    standing: Standing,
+    change: Change,
     with_output: bool,
 ) -> Result<Vec<u8>, AllocError>
     requires before { fork.now.step ≤ scenario.old.step }
-    requires stands { stood scenario.old standing ≡ Some standing }
+    requires stands { Stands scenario.old standing }
+    requires at { IsAt scenario.old standing change }
+    requires one { second_of change ≡ None }
     ensures same { scenario.new ≡ scenario.old }
-    ensures outcome { IfOk result (λ text. (last : ℕ) → IsForkFor (row scenario.old (edit_of (changed_to standing value))).effect (run_of scenario.old) last fork.now
-        → IsOutcome with_output scenario.old (changed_to standing value) text.items) }
+    ensures outcome { IfOk result (λ text. (last : ℕ) → IsForkFor (row scenario.old (edit_of change)).effect (run_of scenario.old) last fork.now
+        → IsOutcome with_output scenario.old change text.items) }
 {
     edits_follow();
-    let effect = scenario.effect(&standing.to(value).edit());
-    scenario.edit(standing.to(value).edit())?;
+    let effect = scenario.effect(&change.edit());
+    scenario.edit(change.edit())?;
     let told = outline_from(scenario, fork, effect, with_output);
     take_back(scenario, standing);
     told
+}
+
+/// Returns the outcome of a glitch at a later step of a scenario in which an earlier step was struck, as whose run before that one a fork is.
+/// Afterwards the scenario is as it was.
+fn outcome_of_second(
+    scenario: &mut Scenario,
+    fork: &Fork,
+    later: u32,
+    other: Glitch,
+    with_output: bool,
+) -> Result<Vec<u8>, AllocError>
+    requires forward { fork.now.step ≤ later }
+    requires within { later ≤ scenario.old.step }
+    requires near { later ≤ most_steps }
+    requires room { length scenario.old.marks < most_marks }
+    requires right { IsRight other }
+    ensures same { scenario.new ≡ scenario.old }
+    ensures outcome { IfOk result (λ text. (s : ℕ) (one : Run) → LeadsTo (After s) one (run_of scenario.old) → IsForkFor (After s) one scenario.old.step fork.now
+        → IsOutcome with_output scenario.old (Once later other) text.items) }
+{
+    let next = fork.go_on(later, scenario.setup(), scenario.marks())?;
+    let standing = Standing::Step { step: later, pc: 0 };
+    let change = Change::Once {
+        step: later,
+        glitch: other,
+    };
+    outcome_of_one(scenario, &next, standing, change, with_output)
+}
+
+/// Returns the outcome of two glitches, the first of which strikes a step before which a fork is. Afterwards the scenario is as it was.
+fn outcome_of_two(
+    scenario: &mut Scenario,
+    fork: &Fork,
+    step: u32,
+    glitch: Glitch,
+    later: u32,
+    other: Glitch,
+    with_output: bool,
+) -> Result<Vec<u8>, AllocError>
+    requires fork { IsForkFor (After step) (run_of scenario.old) scenario.old.step fork.now }
+    requires may { MayFollow scenario.old step later }
+    requires first { IsRight glitch }
+    requires second { IsRight other }
+    ensures same { scenario.new ≡ scenario.old }
+    ensures outcome { IfOk result (λ text. IsOutcome with_output scenario.old (Twice step glitch later other) text.items) }
+{
+    edits_follow();
+    let first = Change::Once { step, glitch };
+    scenario.edit(first.edit())?;
+    let told = outcome_of_second(scenario, fork, later, other, with_output);
+    unmark(scenario);
+    told
+}
+
+/// Returns the outcome of a change at a place, whose run continues from a fork. Afterwards the scenario is as it was.
+pub(crate) fn outcome_of(
+    scenario: &mut Scenario,
+    fork: &Fork,
+    standing: Standing,
+    change: Change,
+    with_output: bool,
+) -> Result<Vec<u8>, AllocError>
+    requires stands { Stands scenario.old standing }
+    requires at { IsAt scenario.old standing change }
+    requires fork { IsForkFor (row scenario.old (edit_of change)).effect (run_of scenario.old) scenario.old.step fork.now }
+    ensures same { scenario.new ≡ scenario.old }
+    ensures outcome { IfOk result (λ text. IsOutcome with_output scenario.old change text.items) }
+{
+    match change {
+        Change::Twice {
+            step,
+            glitch,
+            later,
+            other,
+        } => outcome_of_two(scenario, fork, step, glitch, later, other, with_output),
+        _ => outcome_of_one(scenario, fork, standing, change, with_output),
+    }
 }

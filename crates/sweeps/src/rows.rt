@@ -1,12 +1,63 @@
 //! The lines of a table.
-ghost use Rattle.std.specs.Prelude.{◌≡◌, ◌++◌, [], OnOk, if◌then◌else◌, length};
-ghost use Rattle.sweeps.specs.Tables.{change_text, change_row, outcome_lines, first_lines, tally_line, tally_lines, end_line};
+ghost use Rattle.std.specs.Prelude.{◌≡◌, ◌++◌, [], OnOk, codes, if◌then◌else◌, length};
+ghost use Rattle.std.specs.Fmt.{decimal};
+ghost use Rattle.report_lines.specs.Text.{address_text};
+ghost use Rattle.sweeps.specs.Tables.{change_text, change_row, glitch_text, outcome_lines, first_lines, tally_line, tally_lines, end_line};
 
 use replay_report::{push_address, push_number, push_text};
 use std::alloc::AllocError;
-use sweep_plans::Change;
+use sweep_plans::{Change, Glitch};
 
-/// Appends a change, as the line of a session that applies it.
+/// Appends a word of a line, and the step after it.
+fn push_at(out: &mut Vec<u8>, word: &[u8], step: u32) -> Result<(), AllocError>
+    ensures { OnOk result (out.new.items ≡ out.old.items ++ word.now ++ decimal step) }
+{
+    push_text(out, word)?;
+    push_number(out, u64::from(step))
+}
+
+/// Appends the end of a line on a register: its number, and a mask or a value.
+#[tactic(auto, using(std::proofs::Common::append_assoc))]
+fn push_register(out: &mut Vec<u8>, register: u8, number: u32) -> Result<(), AllocError>
+    ensures { OnOk result (out.new.items ≡ out.old.items ++ codes " x" ++ decimal register ++ codes " " ++ address_text number) }
+{
+    push_text(out, b" x")?;
+    push_number(out, u64::from(register))?;
+    push_text(out, b" ")?;
+    push_address(out, number)
+}
+
+/// Appends a glitch, as the line that has it happen just before a step.
+#[tactic(auto, unfolding(crate::specs::Tables::glitch_text), using(std::proofs::Common::append_assoc))]
+fn push_glitch(out: &mut Vec<u8>, step: u32, glitch: Glitch) -> Result<(), AllocError>
+    ensures { OnOk result (out.new.items ≡ out.old.items ++ glitch_text step glitch) }
+{
+    match glitch {
+        Glitch::Skip => push_at(out, b"skip ", step),
+        Glitch::Flip { register, mask } => {
+            push_at(out, b"flip ", step)?;
+            push_register(out, register, mask)
+        }
+        Glitch::FlipPc { mask } => {
+            push_at(out, b"flip ", step)?;
+            push_text(out, b" pc ")?;
+            push_address(out, mask)
+        }
+        Glitch::Set { register, value } => {
+            push_at(out, b"set ", step)?;
+            push_register(out, register, value)
+        }
+        Glitch::Turn { addr, mask } => {
+            push_at(out, b"flip ", step)?;
+            push_text(out, b" ")?;
+            push_address(out, addr)?;
+            push_text(out, b" ")?;
+            push_address(out, mask)
+        }
+    }
+}
+
+/// Appends a change, as the line or the lines of a session that apply it.
 #[tactic(auto, unfolding(crate::specs::Tables::change_text), using(std::proofs::Common::append_assoc))]
 fn push_change(out: &mut Vec<u8>, change: Change) -> Result<(), AllocError>
     ensures { OnOk result (out.new.items ≡ out.old.items ++ change_text change) }
@@ -23,6 +74,17 @@ fn push_change(out: &mut Vec<u8>, change: Change) -> Result<(), AllocError>
             push_address(out, addr)?;
             push_text(out, b" ")?;
             push_address(out, word)
+        }
+        Change::Once { step, glitch } => push_glitch(out, step, glitch),
+        Change::Twice {
+            step,
+            glitch,
+            later,
+            other,
+        } => {
+            push_glitch(out, step, glitch)?;
+            push_text(out, b"; ")?;
+            push_glitch(out, later, other)
         }
     }
 }

@@ -1,5 +1,5 @@
 //! A sweep, and one place of it.
-ghost use Rattle.std.specs.Prelude.{◌≡◌, ◌≤◌};
+ghost use Rattle.std.specs.Prelude.{◌≡◌, ◌≤◌, []};
 ghost use Rattle.checkpoints.specs.Edits.{IsRightForRun};
 ghost use Rattle.checkpoints.specs.OneProof.{right-prop, shows-prop};
 ghost use Rattle.checkpoints.specs.Trails.{LoadsAs};
@@ -9,17 +9,17 @@ ghost use Rattle.scenario.specs.Scenario.{first_state, run_of};
 
 use crate::beginning::{scenario_at, unedited_run};
 use crate::counting::Counts;
-use crate::meeting::{Spot, meet_each};
-use crate::outcomes::fork_at;
+use crate::meeting::meet_place;
+use crate::spots::{Origin, find};
 use checkpoints::Trail;
 use guest_elf::Image;
 use guest_machine::Machine;
-use scenario::{Edit, Scenario};
+use scenario::Scenario;
 use std::alloc::{AllocError, Global};
 use suppressions::Suppression;
-use sweep_plans::{Change, Place, Plan};
+use sweep_plans::Plan;
 
-/// A run whose edits are tried individually, one after another; their outcomes so far; the number of edits; and the number of steps that
+/// A run whose changes are tried individually, one after another; their outcomes so far; the number of edits; and the number of steps that
 /// they need by definition.
 #[derive(Drop)]
 pub struct Sweep<'a> {
@@ -29,6 +29,7 @@ pub struct Sweep<'a> {
     ghost loads: { LoadsAs trail scenario.image },
     ghost right: { IsRightForRun trail (run_of scenario) } by { right-prop trail (run_of scenario) },
     ghost near: { scenario.step ≤ most_steps },
+    ghost unmarked: { scenario.marks ≡ [] },
     start: Machine,
     ghost starts: { Shows start (first_state scenario) } by { shows-prop start (first_state scenario) },
     input: Vec<u8>,
@@ -42,9 +43,8 @@ impl<'a> Sweep<'a> {
     ghost use Rattle.scenario.specs.Limits.{longest_input};
     ghost use Rattle.scenario.specs.Scenario.{at_step, begun};
     ghost use Rattle.sweeps.specs.Outcomes.{Met};
-    ghost use Rattle.sweep_plans.specs.Plans.{changes_by};
-    ghost use Rattle.sweeps.specs.Standing.{standing_at, standing_byte, standing_word};
-    ghost use Rattle.sweeps.specs.Sweeps.{HasMet, scenario_of, tells_output};
+    ghost use Rattle.sweeps.specs.Standing.{changes_at};
+    ghost use Rattle.sweeps.specs.Sweeps.{HasMet, MeetsMore, scenario_of, tells_output};
     ghost use Rattle.sweeps.specs.Tables.{rows_text, table_text};
 
     /// Returns a sweep of a program with an input and suppressions at a step. Executes the unedited run, and appends its outcome.
@@ -80,6 +80,7 @@ impl<'a> Sweep<'a> {
     ) -> Result<Self, AllocError>
         requires near { scenario.step ≤ most_steps }
         requires unedited { scenario.words ≡ [] }
+        requires unmarked { scenario.marks ≡ [] }
         requires copied { input.items ≡ scenario.setup.input }
         ensures scenario { IfOk result (λ sweep. scenario_of sweep ≡ scenario.entry) }
         ensures output { IfOk result (λ sweep. tells_output sweep ≡ with_output) }
@@ -97,60 +98,31 @@ impl<'a> Sweep<'a> {
         })
     }
 
-    /// Returns the value at a byte of the input, if there is one.
-    #[tactic(auto, unfolding(crate::specs::Sweeps::scenario_of, crate::specs::Standing::standing_byte))]
-    fn standing_byte(&self, offset: u32) -> Option<Change>
-        ensures { result ≡ standing_byte (scenario_of self.now) offset }
-    {
-        let byte = *self.input.get(offset as usize)?;
-        Some(Change::Byte { offset, byte })
-    }
-
-    /// Returns the value at a word of the program, if it is loaded whole.
-    #[tactic(auto, unfolding(crate::specs::Sweeps::scenario_of, crate::specs::Standing::standing_word))]
-    fn standing_word(&self, addr: u32) -> Option<Change>
-        ensures { result ≡ standing_word (scenario_of self.now) addr }
-    {
-        let nothing = Edit::Patch { addr, word: 0 };
-        if self.scenario.refusal(&nothing).is_some() {
-            return None;
-        }
-        let word = self.start.memory().load(addr, 4).value;
-        Some(Change::Word { addr, word })
-    }
-
-    /// Returns the value at a place, if there is one.
-    fn standing_at(&self, plan: &Plan, place: u64) -> Option<Change>
-        ensures { result ≡ standing_at (scenario_of self.now) plan.now place }
-    {
-        match plan.place(place) {
-            Place::Byte(offset) => self.standing_byte(offset),
-            Place::Word(addr) => self.standing_word(addr),
-            Place::Nowhere => None,
-        }
-    }
-
-    /// Applies each edit of a place, one at a time, and appends its row, after its outcome if that is new.
+    /// Applies each change of a place, one at a time, and appends its row, after its outcome if that is new.
     #[tactic(auto, unfolding(crate::specs::Sweeps::scenario_of, crate::specs::Sweeps::tells_output))]
     pub fn visit(&mut self, plan: &Plan, place: u64, out: &mut Vec<u8>) -> Result<(), AllocError>
         ensures scenario { scenario_of self.new ≡ scenario_of self.old }
         ensures output { tells_output self.new ≡ tells_output self.old }
-        ensures met { OnOk result ((first : List ℕ) (met : List Met) → HasMet self.old first met
-            → (more : List Met) × (map (λ (m : Met). m.change) more ≡ changes_by plan.now (standing_at (scenario_of self.old) plan.now place))
-            × HasMet self.new first (met ++ more)
-            × ((text : List ℕ) × (out.new.items ≡ out.old.items ++ text) × (rows_text first (met ++ more) ≡ rows_text first met ++ text))) }
+        ensures met { OnOk result (MeetsMore self.old self.new (changes_at (scenario_of self.old) plan.now place) out.old.items out.new.items) }
     {
-        let Some(standing) = self.standing_at(plan, place) else {
+        let origin = Origin {
+            input: &self.input,
+            start: &self.start,
+        };
+        let place = plan.place(place);
+        let found = find(&mut self.trail, &self.scenario, &origin, plan, place)?;
+        let Some(spot) = found else {
             return Ok(());
         };
-        let values = plan.values(self.alloc, standing)?;
-        let fork = fork_at(&mut self.trail, &self.scenario, standing)?;
-        let spot = Spot {
-            standing,
-            fork: &fork,
-            with_output: self.with_output,
-        };
-        meet_each(&mut self.scenario, &mut self.counts, &spot, &values, out)
+        meet_place(
+            self.alloc,
+            &mut self.scenario,
+            &mut self.counts,
+            plan,
+            &spot,
+            self.with_output,
+            out,
+        )
     }
 
     /// Appends the number of edits that lead to each outcome, and then the number of edits, of outcomes and of steps. The steps are those

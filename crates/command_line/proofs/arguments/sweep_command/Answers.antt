@@ -5,19 +5,14 @@ use Rattle.command_line.proofs.arguments.sweep_command.Goals as goal
 
 pub returns-clause-shape : goal.returns-clause-shape
 returns-clause-shape c =
-    IfOk-weaker c.arg-4.result _ _ (λ command added. added.shape c.default_option.ensures.local
-    ∙ ap₂ with_rule (c.in_ok-command-2.ensures.shape c.output_flag.ensures.local
-    ∙ ap₂ with_rule (c.in_ok-arg.ensures.shape c.default_option-values.ensures.local
-    ∙ ap₂ with_rule (c.in_ok-command.ensures.shape c.option.ensures.local
-    ∙ ap₂ with_rule c.in_ok-sweep_of_bytes.ensures.shape c.option.ensures.rule) c.default_option-values.ensures.rule)
-    c.output_flag.ensures.rule)
-    c.default_option.ensures.rule) c.arg-4.ensures
+    IfOk-weaker c.arg-2.result _ _ (λ command added. added.shape c.default_option.ensures.local
+    ∙ ap₂ with_rule (c.in_ok-command.ensures.shape c.output_flag.ensures.local
+    ∙ ap₂ with_rule c.in_ok-sweep_of_steps.ensures.shape c.output_flag.ensures.rule)
+    c.default_option.ensures.rule) c.arg-2.ensures
 
 pub returns-clause-globals : goal.returns-clause-globals
 returns-clause-globals c =
-    IfOk-weaker c.arg-4.result _ _ (λ command added. added.globals
-    ∙ ap₂ ◌||◌ (c.in_ok-command-2.ensures.globals
-    ∙ ap₂ ◌||◌ (c.in_ok-arg.ensures.globals ∙ ap₂ ◌||◌ (c.in_ok-command.ensures.globals
-    ∙ ap₂ ◌||◌ c.in_ok-sweep_of_bytes.ensures.globals c.option.ensures.local) c.default_option-values.ensures.local)
-    c.output_flag.ensures.local)
-    c.default_option.ensures.local) c.arg-4.ensures
+    IfOk-weaker c.arg-2.result _ _ (λ command added. added.globals
+    ∙ ap₂ ◌||◌ (c.in_ok-command.ensures.globals
+    ∙ ap₂ ◌||◌ c.in_ok-sweep_of_steps.ensures.globals c.output_flag.ensures.local)
+    c.default_option.ensures.local) c.arg-2.ensures

@@ -1,5 +1,6 @@
 use Rattle.std.proofs.Common.{◌++◌, ◌∷◌, [], if◌then◌else◌, sym, ◌∙◌}
-use Rattle.sweep_plans.specs.Plans.{below, byte_values}
+use Rattle.sweep_plans.specs.Numbers.{below}
+use Rattle.sweep_plans.specs.Plans.{byte_values}
 use Rattle.sweep_plans.proofs.ListSteps.{byte-more}
 use Rattle.sweep_plans.proofs.values.byte_values.Goals as goal
 

@@ -1,6 +1,7 @@
 use Rattle.std.proofs.Common.{◌++◌, ◌∷◌, [], bit_xor, refl, sym, ◌∙◌, arith}
 use Rattle.std.proofs.lemmas.Grind.{one_shifted}
-use Rattle.sweep_plans.specs.Plans.{below, flips_below}
+use Rattle.sweep_plans.specs.Numbers.{below}
+use Rattle.sweep_plans.specs.Plans.{flips_below}
 use Rattle.sweep_plans.proofs.ListSteps.{flip-more}
 use Rattle.sweep_plans.proofs.values.flips.Goals as goal
 

@@ -3,9 +3,9 @@ use Rattle.checkpoints.specs.Trails.{machines_of, last_held}
 use Rattle.checkpoints.proofs.HeldSteps.{copy-at}
 use Rattle.checkpoints.proofs.trail.Trail.fork_at.Goals as goal
 
-pub returns : goal.returns
+pub returns-clause-fork : goal.returns-clause-fork
 unfolding machines_of last_held
-returns c effect last aligned is start h =
+returns-clause-fork c effect last aligned is start h =
     let place = c.args.step / 1024 in
     let below-last = c.requires in
     let within : place < length c.args.self.now.held.items = omega arith in

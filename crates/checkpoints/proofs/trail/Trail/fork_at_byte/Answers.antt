@@ -6,4 +6,4 @@ pub returns-clause-fork : goal.returns-clause-fork
 returns-clause-fork c =
     IfOk-weaker c.fork_at.result _ _
     (λ fork is start h. is (Input c.args.offset) c.args.last tt c.in_ok-step.ensures.step start
-    (c.in_ok-reach.ensures.right start h)) c.fork_at.ensures
+    (c.in_ok-reach.ensures.right start h)) c.fork_at.ensures.fork

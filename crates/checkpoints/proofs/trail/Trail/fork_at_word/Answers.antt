@@ -11,4 +11,4 @@ returns-clause-fork c =
     (word-aligned (write_word c.args.marks.now c.args.addr) c.args.addr word c.requires.word.aligned
     c.requires.word.small)
     (c.last_without-step.ensures.step word c.args.setup.now) start
-    (c.in_ok-reach.ensures.right start h)) c.fork_at.ensures
+    (c.in_ok-reach.ensures.right start h)) c.fork_at.ensures.fork

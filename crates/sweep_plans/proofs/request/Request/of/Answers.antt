@@ -34,6 +34,23 @@ returns-in_err-word_values-clause-err c =
       ),
     ))
 
+pub returns-in_err-steps-clause-err : goal.returns-in_err-steps-clause-err
+returns-in_err-steps-clause-err c =
+    same-error c.from_residual-in_err-steps.result _ _ c.from_residual-in_err-steps.ensures.1
+    (inr (
+      c.in_ok-bytes.bytes,
+      c.in_ok-bytes.ensures.ok,
+      inr (
+        c.in_ok-byte_values.byte_values,
+        c.in_ok-byte_values.ensures.ok,
+        inr (
+          c.in_ok-named.named,
+          c.in_ok-named.ensures.ok,
+          inr (c.in_ok-word_values.word_values, c.in_ok-word_values.ensures.ok, inl c.in_err-steps.ensures.err),
+        ),
+      ),
+    ))
+
 pub returns-in_err-part-clause-err : goal.returns-in_err-part-clause-err
 returns-in_err-part-clause-err c =
     same-error c.from_residual-in_err-part.result _ _ c.from_residual-in_err-part.ensures.1
@@ -46,7 +63,11 @@ returns-in_err-part-clause-err c =
         inr (
           c.in_ok-named.named,
           c.in_ok-named.ensures.ok,
-          inr (c.in_ok-word_values.word_values, c.in_ok-word_values.ensures.ok, c.in_err-part.ensures.err),
+          inr (
+            c.in_ok-word_values.word_values,
+            c.in_ok-word_values.ensures.ok,
+            inr (c.in_ok-steps.steps, c.in_ok-steps.ensures.ok, c.in_err-part.ensures.err),
+          ),
         ),
       ),
     ))

@@ -6,6 +6,7 @@ invariant_of-result c = record {
   loads = c.in_ok-start.ensures.loads;
   right = c.in_ok-start.ensures.right;
   near = c.requires.near;
+  unmarked = c.requires.unmarked;
   starts = c.in_ok-start.ensures.starts;
   copied = c.requires.copied;
 }

@@ -1,39 +1,58 @@
-use Rattle.std.proofs.Common.{◌≡◌, Some, ap, sym, ◌∙◌, subst, map, ◌++◌}
+use Rattle.std.proofs.Common.{◌≡◌, Some, ap, sym, ◌∙◌, subst, List, refl}
 use Rattle.std.proofs.lemmas.Result.{on_ok_weaker}
-use Rattle.scenario.specs.Scenario.{Scenario}
-use Rattle.sweeps.specs.Outcomes.{tallied}
-use Rattle.sweep_plans.specs.Plans.{changed_to, changes_by, changes_of, place_at}
-use Rattle.sweeps.specs.Standing.{standing_at}
-use Rattle.sweeps.specs.Sweeps.{Counted, HasMet, scenario_of, tells_output}
-use Rattle.sweeps.specs.Tables.{rows_after}
-use Rattle.sweeps.proofs.ChangeSteps.{stands-there}
-use Rattle.sweeps.proofs.Steps.{rows-more}
+use Rattle.sweep_plans.specs.declared.change.Change.{Change}
+use Rattle.sweeps.specs.Standing.{all_changes, standing_in}
+use Rattle.sweeps.specs.Sweeps.{CountsMore, HasMet, scenario_of, tells_output}
+use Rattle.sweeps.proofs.ChangeSteps.{found-none, found-some, stands-there}
+use Rattle.sweeps.proofs.Steps.{counts-none, meets-from}
 use Rattle.sweeps.proofs.sweep.Sweep.visit.Goals as goal
 
-pub fork_at-requires-clause-stands : goal.fork_at-requires-clause-stands
-unfolding scenario_of
-fork_at-requires-clause-stands c =
-    stands-there c.args.self.now.scenario (place_at c.args.plan.now c.args.place) c.in-Some.standing
-    (sym c.standing_at.ensures ∙ c.in-Some.is)
+pub meet_place-requires-clause-stands : goal.meet_place-requires-clause-stands
+meet_place-requires-clause-stands c =
+    let self = c.args.self.now in
+    let there = found-some self.scenario _ c.in_ok-found.found c.in-Some.spot c.in-Some.is c.in_ok-found.ensures.found
+    in
+    (stands-there self.scenario c.args.plan.now self.near self.unmarked c.place-place.result c.in-Some.spot.standing
+    there.0).0
 
-pub meet_each-requires-clause-stands : goal.meet_each-requires-clause-stands
-unfolding scenario_of
-meet_each-requires-clause-stands c =
-    stands-there c.args.self.now.scenario (place_at c.args.plan.now c.args.place) c.in-Some.standing
-    (sym c.standing_at.ensures ∙ c.in-Some.is)
+pub meet_place-requires-clause-below : goal.meet_place-requires-clause-below
+meet_place-requires-clause-below c =
+    let self = c.args.self.now in
+    let there = found-some self.scenario _ c.in_ok-found.found c.in-Some.spot c.in-Some.is c.in_ok-found.ensures.found
+    in
+    (stands-there self.scenario c.args.plan.now self.near self.unmarked c.place-place.result c.in-Some.spot.standing
+    there.0).1
+
+pub meet_place-requires-clause-fork : goal.meet_place-requires-clause-fork
+meet_place-requires-clause-fork c =
+    let self = c.args.self.now in
+    (found-some self.scenario _ c.in_ok-found.found c.in-Some.spot c.in-Some.is c.in_ok-found.ensures.found).1
+
+pub returns-in_default-clause-met : goal.returns-in_default-clause-met
+unfolding HasMet scenario_of tells_output
+returns-in_default-clause-met c =
+    let self = c.args.self.now in
+    let plan = c.args.plan.now in
+    let none = found-none self.scenario _ c.in_ok-found.found c.in_default.not-Some c.in_ok-found.ensures.found in
+    let nothing = ap (all_changes self.scenario plan) (ap (standing_in self.scenario plan) (sym c.place-place.ensures)
+    ∙ none) in
+    meets-from self.with_output self.scenario self.scenario self.counts self.counts _ c.args.out.now.items
+    c.args.out.now.items refl
+    (subst (λ (xs : List Change). CountsMore self.counts self.counts self.with_output self.scenario xs
+    c.args.out.now.items c.args.out.now.items) (sym nothing)
+    (counts-none self.counts self.with_output self.scenario c.args.out.now.items))
 
 pub returns-clause-met : goal.returns-clause-met
-unfolding HasMet scenario_of tells_output changes_of
+unfolding HasMet scenario_of tells_output
 returns-clause-met c =
+    let self = c.args.self.now in
     let plan = c.args.plan.now in
-    let stands : standing_at c.args.self.now.scenario plan c.args.place
-    ≡ Some c.in-Some.standing = sym c.standing_at.ensures ∙ c.in-Some.is in
-    let values = c.deref.ensures.value ∙ c.in_ok-values.ensures in
-    on_ok_weaker c.meet_each.result (λ meets first met h.
-    let told = meets first met h in (
-      told.0,
-      told.1 ∙ ap (map (changed_to c.in-Some.standing)) values ∙ ap (changes_by plan) (sym stands),
-      subst (λ (s : Scenario). Counted c.meet_each.new.counts c.args.self.now.with_output s first (met ++ told.0))
-          (sym c.meet_each.ensures.same) told.2,
-      (rows_after (tallied first met) told.0, told.3, rows-more first met told.0),
-    )) c.meet_each.ensures.met
+    let there = found-some self.scenario _ c.in_ok-found.found c.in-Some.spot c.in-Some.is c.in_ok-found.ensures.found
+    in
+    let all = ap (all_changes self.scenario plan) (ap (standing_in self.scenario plan) (sym c.place-place.ensures)
+    ∙ there.0) in
+    on_ok_weaker c.meet_place.result (λ met.
+    meets-from self.with_output self.scenario c.meet_place.new.scenario self.counts c.meet_place.new.counts _
+    c.args.out.now.items c.meet_place.new.out.items c.meet_place.ensures.same
+    (subst (λ (xs : List Change). CountsMore self.counts c.meet_place.new.counts self.with_output self.scenario xs
+    c.args.out.now.items c.meet_place.new.out.items) (sym all) met)) c.meet_place.ensures.met

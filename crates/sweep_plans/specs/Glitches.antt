@@ -1,0 +1,50 @@
+-- The changes at a step of the run: one for each way in which a fault model strikes it.
+use Rattle.std.specs.Prelude.{ℕ, ◌+◌, ◌^◌, nat_le, Bool, if◌then◌else◌, List, [], ◌∷◌, ◌++◌, map}
+use Rattle.std.specs.List.{flat_map}
+use Rattle.sweep_plans.specs.Numbers.{below}
+use Rattle.sweep_plans.specs.declared.change.Change.{Change}
+use Rattle.sweep_plans.specs.declared.change.Change.TheVariants.{Once, Twice}
+use Rattle.sweep_plans.specs.declared.change.Glitch.TheVariants.{Skip, Flip, FlipPc, Set, Turn}
+use Rattle.sweep_plans.specs.declared.glitches.Target.{Target}
+use Rattle.sweep_plans.specs.declared.glitches.Target.TheVariants.{Register, Pc, Word}
+use Rattle.sweep_plans.specs.declared.plan.FaultModels.{FaultModels}
+
+-- these, if a test holds
+abbrev pub when : {A : Type 0} → Bool → List A → List A
+when test xs = if test then xs else []
+
+-- the instruction is left out
+abbrev pub skip_at : ℕ → List Change
+skip_at step = Once step Skip ∷ []
+
+-- the bits of a mask are turned in a register, in pc, or in a word; the word gets its bits back before the next step
+abbrev pub flip_of : ℕ → Target → ℕ → Change
+flip_of step (Register r) mask = Once step (Flip r mask)
+flip_of step Pc mask = Once step (FlipPc mask)
+flip_of step (Word addr) mask = Twice step (Turn addr mask) (step + 1) (Turn addr mask)
+
+-- each of its 32 bits is turned, from bit 0 on
+unfoldable pub flips_at : ℕ → Target → List Change
+flips_at step target = map (λ bit. flip_of step target (2 ^ bit)) (below 32)
+
+-- each bit of each of x1 to x31
+unfoldable pub register_flips : ℕ → List Change
+register_flips step = flat_map (λ r. flips_at step (Register (r + 1))) (below 31)
+
+-- each bit of the word at pc, if that word ends at the last address or before
+unfoldable pub word_flips : ℕ → ℕ → List Change
+word_flips step pc = if nat_le pc 4294967292 then flips_at step (Word pc) else []
+
+-- each of x1 to x31 is set to a value
+unfoldable pub register_sets : ℕ → ℕ → List Change
+register_sets step value = map (λ r. Once step (Set (r + 1) value)) (below 31)
+
+-- the changes at a step before which pc has this value, in the order of the fault models
+unfoldable pub glitches_at : FaultModels → ℕ → ℕ → List Change
+glitches_at models step pc =
+    when models.skip (skip_at step)
+    ++ when models.registers (register_flips step)
+    ++ when models.pc (flips_at step Pc)
+    ++ when models.words (word_flips step pc)
+    ++ when models.zero (register_sets step 0)
+    ++ when models.ones (register_sets step 4294967295)

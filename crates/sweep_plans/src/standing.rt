@@ -1,0 +1,12 @@
+//! What is at a place of the unedited run.
+
+/// What is at a place.
+#[derive(Clone, Copy)]
+pub enum Standing {
+    /// A byte of the input.
+    Byte { offset: u32, byte: u8 },
+    /// A word of the program, at a multiple of 4.
+    Word { addr: u32, word: u32 },
+    /// A step of the run, before which pc has this value.
+    Step { step: u32, pc: u32 },
+}

@@ -1,0 +1,26 @@
+use Rattle.std.proofs.Common.{◌≡◌, ◌∙◌, sym, subst, List}
+use Rattle.std.proofs.lemmas.Result.{on_ok_weaker}
+use Rattle.std.specs.List.{All}
+use Rattle.sweep_plans.specs.Plans.{changes_of}
+use Rattle.sweep_plans.specs.declared.change.Change.{Change}
+use Rattle.sweeps.specs.Standing.{IsAt}
+use Rattle.sweeps.specs.Sweeps.{CountsMore}
+use Rattle.sweeps.proofs.PlaceSteps.{all-at, next-below}
+use Rattle.sweeps.proofs.meeting.meet_all.Goals as goal
+
+pub changes-requires : goal.changes-requires
+changes-requires c = next-below c.args.scenario.now.step c.args.spot.now.standing c.requires.near c.requires.below
+
+pub meet_each-requires-clause-at : goal.meet_each-requires-clause-at
+meet_each-requires-clause-at c =
+    subst (All (IsAt c.args.scenario.now c.args.spot.now.standing)) (sym (c.deref.ensures.value
+    ∙ c.in_ok-changes.ensures))
+    (all-at c.args.scenario.now c.args.plan.now c.args.spot.now.standing c.requires.near c.requires.unmarked
+    c.requires.below)
+
+pub returns-clause-met : goal.returns-clause-met
+returns-clause-met c =
+    on_ok_weaker c.meet_each.result (λ met.
+    subst (λ (xs : List Change). CountsMore c.args.counts.now c.meet_each.new.counts c.args.with_output
+    c.args.scenario.now xs c.args.out.now.items c.meet_each.new.out.items) (c.deref.ensures.value
+    ∙ c.in_ok-changes.ensures) met) c.meet_each.ensures.met

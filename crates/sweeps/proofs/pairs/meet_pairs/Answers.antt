@@ -1,0 +1,74 @@
+use Rattle.std.proofs.Common.{◌≡◌, ◌+◌, ◌-◌, ◌≤◌, min, List, ap, refl, sym, ◌∙◌, subst, arith}
+use Rattle.std.proofs.lemmas.Result.{on_ok_weaker}
+use Rattle.sweep_plans.specs.declared.change.Change.{Change}
+use Rattle.sweep_plans.specs.declared.change.Change.TheVariants.{Once}
+use Rattle.sweep_plans.specs.declared.change.Glitch.TheVariants.{Skip}
+use Rattle.sweep_plans.specs.declared.standing.Standing.{Standing}
+use Rattle.sweeps.specs.Outcomes.{TakesSteps}
+use Rattle.sweeps.specs.Standing.{IsAt, pairs_from}
+use Rattle.sweeps.specs.Sweeps.{CountsMore}
+use Rattle.sweeps.proofs.PairSteps.{no-pairs, pairs-off, pairs-on, pairs-short}
+use Rattle.sweeps.proofs.Steps.{counts-none}
+use Rattle.sweeps.proofs.pairs.meet_pairs.Goals as goal
+
+pub returns-in_default : goal.returns-in_default
+returns-in_default c =
+    let sc = c.args.scenario.now in
+    record {
+      same = refl;
+      met = subst (λ (xs : List Change). CountsMore c.args.counts.now c.args.counts.now c.args.with_output sc xs
+          c.args.out.now.items c.args.out.now.items)
+          (sym (no-pairs sc c.args.plan.now c.args.spot.now.standing c.in_default.not-Step))
+          (counts-none c.args.counts.now c.args.with_output sc c.args.out.now.items);
+    }
+
+pub meet_after-requires-clause-fork : goal.meet_after-requires-clause-fork
+meet_after-requires-clause-fork c =
+    c.requires.fork (Once c.in-Step.step Skip)
+    (subst (λ (s : Standing). IsAt c.args.scenario.now s (Once c.in-Step.step Skip)) (sym c.in-Step.is) (refl, tt))
+
+pub meet_after-requires-clause-steps : goal.meet_after-requires-clause-steps
+unfolding TakesSteps
+meet_after-requires-clause-steps c =
+    let fork = c.requires.fork (Once c.in-Step.step Skip)
+    (subst (λ (s : Standing). IsAt c.args.scenario.now s (Once c.in-Step.step Skip)) (sym c.in-Step.is) (refl, tt)) in
+    (c.args.spot.now.fork.step, fork.step, ap (λ n. n - c.args.spot.now.fork.step) c.step-last.ensures)
+
+pub overflow_sub-first : goal.overflow_sub-first
+overflow_sub-first c =
+    let fork = c.requires.fork (Once c.in-Step.step Skip)
+    (subst (λ (s : Standing). IsAt c.args.scenario.now s (Once c.in-Step.step Skip)) (sym c.in-Step.is) (refl, tt)) in
+    subst (λ n. c.args.spot.now.fork.step ≤ n) (sym c.step-last.ensures) fork.step.within
+
+pub returns-then-not-plan-clause-met : goal.returns-then-not-plan-clause-met
+returns-then-not-plan-clause-met c =
+    let sc = c.args.scenario.now in
+    subst (λ (xs : List Change). CountsMore c.args.counts.now c.args.counts.now c.args.with_output sc xs
+    c.args.out.now.items c.args.out.now.items)
+    (sym (pairs-off sc c.args.plan.now c.args.spot.now.standing c.in-Step.step c.in-Step.pc c.in-Step.is
+    c.if-not-plan.true))
+    (counts-none c.args.counts.now c.args.with_output sc c.args.out.now.items)
+
+pub returns-then-end-step-clause-met : goal.returns-then-end-step-clause-met
+returns-then-end-step-clause-met c =
+    let sc = c.args.scenario.now in
+    let end : c.lesser-end.result ≡ min c.args.plan.now.steps.end sc.step = c.lesser-end.ensures
+    ∙ ap (min c.args.plan.now.steps.end) c.step-last.ensures in
+    subst (λ (xs : List Change). CountsMore c.args.counts.now c.args.counts.now c.args.with_output sc xs
+    c.args.out.now.items c.args.out.now.items)
+    (sym (pairs-short sc c.args.plan.now c.args.spot.now.standing c.in-Step.step c.in-Step.pc c.in-Step.is
+    (subst (λ n. n ≤ c.in-Step.step) end c.if-end-step.true)))
+    (counts-none c.args.counts.now c.args.with_output sc c.args.out.now.items)
+
+pub returns-clause-met : goal.returns-clause-met
+returns-clause-met c =
+    let sc = c.args.scenario.now in
+    let end : c.lesser-end.result ≡ min c.args.plan.now.steps.end sc.step = c.lesser-end.ensures
+    ∙ ap (min c.args.plan.now.steps.end) c.step-last.ensures in
+    let all = pairs-on sc c.args.plan.now c.args.spot.now.standing c.in-Step.step c.in-Step.pc c.in-Step.is
+    c.if-not-plan.false in
+    on_ok_weaker c.meet_after.result (λ met.
+    subst (λ (xs : List Change). CountsMore c.args.counts.now c.meet_after.new.counts c.args.with_output sc xs
+    c.args.out.now.items c.meet_after.new.out.items)
+    (ap (λ n. pairs_from sc c.args.plan.now.code c.in-Step.step (n - (c.in-Step.step + 1))) end ∙ sym all) met)
+    c.meet_after.ensures.met

@@ -1,0 +1,61 @@
+use Rattle.std.proofs.Common.{◌≡◌, ◌+◌, ◌-◌, ◌≤◌, List, ap, sym, ◌∙◌, subst, arith, refl}
+use Rattle.checkpoints.specs.Forks.{IsForkFor}
+use Rattle.checkpoints.specs.declared.effect.Effect.TheVariants.{After}
+use Rattle.scenario.specs.Scenario.{Scenario, run_of}
+use Rattle.sweep_plans.specs.declared.change.Change.{Change}
+use Rattle.sweeps.specs.Standing.{pair_by, pairs_from, standing_step}
+use Rattle.sweeps.specs.Sweeps.{CountsMore}
+use Rattle.sweeps.proofs.ForkSteps.{fork-later}
+use Rattle.sweeps.proofs.PairSteps.{pairs-next, pairs-none}
+use Rattle.sweeps.proofs.Steps.{counts-join, counts-none}
+use Rattle.sweeps.proofs.pairs.meet_until.Goals as goal
+
+pub loop-later-init : goal.loop-later-init
+loop-later-init c =
+    let now = c.args.scenario.now in
+    let first = c.args.first in
+    let led = c.requires.led in
+    let within : first.step ≤ now.step = let below = c.requires.below in omega (arith, below) in
+    record {
+      same = refl;
+      past = omega arith;
+      scout = (
+        first.step,
+        refl,
+        fork-later now c.setup.result.now c.marks.result.now first.step led.0 c.args.fork.now c.in_ok-scout.scout
+            first.step c.setup.ensures c.marks.ensures within (c.in_ok-scout.ensures.fork first.step led.0) led.1
+            led.2,
+      );
+      met = λ sc left takes.
+          subst (λ (xs : List Change). CountsMore c.args.counts.now c.args.counts.now first.with_output sc xs
+          c.args.out.now.items c.args.out.now.items)
+          (sym (pairs-none sc first.code first.step (first.step + 1 - (first.step + 1)) (omega arith)))
+          (counts-none c.args.counts.now first.with_output sc c.args.out.now.items);
+    }
+
+pub loop-later-preserved : goal.loop-later-preserved
+loop-later-preserved c =
+    let old = c.args.scenario.now in
+    let first = c.args.first in
+    let inv = c.loop-later.invariant in
+    let later = c.loop-later.later in
+    record {
+      same = c.meet_later.ensures.same ∙ inv.same;
+      past = let past = inv.past in omega (arith, past);
+      scout = (
+        later,
+        refl,
+        subst (λ (s : Scenario). IsForkFor (After later) (run_of s) s.step c.in_ok-scout-2.scout) inv.same
+            c.in_ok-scout-2.ensures.fork,
+      );
+      met = λ sc left takes.
+          let now-left = inv.same ∙ left in
+          subst (λ (xs : List Change). CountsMore c.args.counts.now c.meet_later.new.counts first.with_output sc xs
+          c.args.out.now.items c.meet_later.new.out.items)
+          (sym (pairs-next sc c.loop-later.scenario first.code first.step later now-left inv.past))
+          (counts-join first.with_output sc c.args.counts.now c.loop-later.counts c.meet_later.new.counts
+          (pairs_from sc first.code first.step (later - (first.step + 1)))
+          (pair_by first.step (standing_step c.loop-later.scenario first.code later))
+          c.args.out.now.items c.loop-later.out.items c.meet_later.new.out.items (inv.met sc left takes)
+          (c.in_ok-scout-2.ensures.met sc now-left takes));
+    }

@@ -1,0 +1,13 @@
+use Rattle.std.proofs.Common.{sym, ◌∙◌}
+use Rattle.sweeps.proofs.ChangeSteps.{loaded, word-continues}
+use Rattle.sweeps.proofs.spots.find_word.Goals as goal
+
+pub word_fork-requires-clause-word : goal.word_fork-requires-clause-word
+word_fork-requires-clause-word c =
+    loaded c.args.scenario.now c.args.addr c.in-Some.standing (sym c.standing_word.ensures ∙ c.in-Some.is)
+
+pub returns-clause-found : goal.returns-clause-found
+returns-clause-found c =
+    let is = sym c.standing_word.ensures ∙ c.in-Some.is in
+    (is, word-continues c.args.scenario.now c.args.addr c.in-Some.standing c.in_ok-fork.fork is
+    c.in_ok-fork.ensures.fork)

@@ -1,0 +1,29 @@
+-- What a sweep finds at a place: what is there, and the machine from which each run continues that is changed there.
+use Rattle.std.specs.Prelude.{◌≡◌, ℕ, Option, Some, None}
+use Rattle.checkpoints.specs.Effects.{LeadsTo, Run}
+use Rattle.checkpoints.specs.Forks.{IsForkFor}
+use Rattle.checkpoints.specs.declared.effect.Effect.TheVariants.{After}
+use Rattle.checkpoints.specs.declared.forks.Fork.{Fork}
+use Rattle.scenario.specs.Edits.{row}
+use Rattle.scenario.specs.Scenario.{Scenario, run_of}
+use Rattle.sweep_plans.specs.Changes.{edit_of}
+use Rattle.sweep_plans.specs.declared.change.Change.{Change}
+use Rattle.sweep_plans.specs.declared.standing.Standing.{Standing}
+use Rattle.sweeps.specs.Standing.{IsAt}
+use Rattle.sweeps.specs.declared.spots.Spot.{Spot}
+
+-- each run that is changed at this place continues from a fork
+abbrev pub Continues : Scenario → Standing → Fork → Type 0
+Continues sc standing fork =
+    (change : Change) → IsAt sc standing change
+    → IsForkFor (row sc (edit_of change)).effect (run_of sc) sc.step fork
+
+-- this is found where something is, and nothing else
+abbrev pub IsFoundAt : Scenario → Option Standing → Option Spot → Type 0
+IsFoundAt sc there None = there ≡ None
+IsFoundAt sc there (Some spot) = (there ≡ Some spot.standing) × Continues sc spot.standing spot.fork
+
+-- a fork is one for a run from which other marks of a step lead to that of a scenario
+abbrev pub IsLed : ℕ → Scenario → Fork → Type 0
+IsLed step sc fork =
+    (one : Run) × LeadsTo (After step) one (run_of sc) × IsForkFor (After step) one sc.step fork

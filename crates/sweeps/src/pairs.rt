@@ -1,0 +1,193 @@
+//! Pairs of instructions that are left out.
+ghost use Rattle.std.specs.Prelude.{◌≡◌, ◌≤◌, ◌<◌, ◌+◌, ◌-◌, ◌∷◌, [], ℕ, IfOk, OnOk, Some, length, min};
+ghost use Rattle.checkpoints.specs.Forks.{IsForkFor};
+ghost use Rattle.checkpoints.specs.declared.effect.Effect.TheVariants.{After};
+ghost use Rattle.scenario.specs.Limits.{most_marks, most_steps};
+ghost use Rattle.scenario.specs.Scenario.{Scenario as ScenarioOf, run_of};
+ghost use Rattle.sweep_plans.specs.declared.change.Change.TheVariants.{Once, Twice};
+ghost use Rattle.sweep_plans.specs.declared.change.Glitch.TheVariants.{Skip};
+ghost use Rattle.sweeps.specs.Outcomes.{TakesSteps};
+ghost use Rattle.sweeps.specs.Spots.{Continues, IsLed};
+ghost use Rattle.sweeps.specs.Standing.{IsBelow, pair_by, pairs_at, pairs_from, skipped, standing_step};
+ghost use Rattle.sweeps.specs.Sweeps.{CountsMore};
+
+use crate::counting::Counts;
+use crate::outcomes::{outcome_of_one, unmark};
+use crate::spots::{Spot, standing_step};
+use checkpoints::Fork;
+use scenario::Scenario;
+use scenario::laws::edits_follow;
+use std::alloc::AllocError;
+use sweep_plans::{Change, Glitch, Plan, Range, Standing};
+
+/// The first instruction of some pairs.
+#[derive(Clone, Copy)]
+pub(crate) struct First {
+    /// Its step.
+    pub(crate) step: u32,
+    /// The number of steps that each of the pairs needs by definition.
+    pub(crate) steps: u32,
+    /// The addresses to which pc is limited at the second one.
+    pub(crate) code: Option<Range>,
+    pub(crate) with_output: bool,
+}
+
+/// Leaves out the instruction of a later step, too, counts the outcome, and appends the row of the pair. Afterwards the scenario is as it was.
+fn meet_pair(
+    scenario: &mut Scenario,
+    counts: &mut Counts,
+    fork: &Fork,
+    first: First,
+    later: u32,
+    out: &mut Vec<u8>,
+) -> Result<(), AllocError>
+    requires near { later ≤ most_steps }
+    requires room { length scenario.old.marks < most_marks }
+    requires fork { IsForkFor (After later) (run_of scenario.old) scenario.old.step fork.now }
+    ensures same { scenario.new ≡ scenario.old }
+    ensures met { OnOk result ((sc : ScenarioOf) → scenario.old ≡ skipped sc first.step → TakesSteps sc (Once first.step Skip) first.steps
+        → CountsMore counts.old counts.new first.with_output sc (Twice first.step Skip later Skip ∷ []) out.old.items out.new.items) }
+{
+    let standing = Standing::Step { step: later, pc: 0 };
+    let second = Change::Once {
+        step: later,
+        glitch: Glitch::Skip,
+    };
+    let pair = Change::Twice {
+        step: first.step,
+        glitch: Glitch::Skip,
+        later,
+        other: Glitch::Skip,
+    };
+    let outcome = outcome_of_one(scenario, fork, standing, second, first.with_output)?;
+    counts.count(pair, &outcome, first.steps, out)?;
+    Ok(())
+}
+
+/// Does the same if a fault may strike the later step. Returns the fork before it, given one before the step before it.
+fn meet_later(
+    scenario: &mut Scenario,
+    counts: &mut Counts,
+    scout: &Fork,
+    first: First,
+    later: u32,
+    out: &mut Vec<u8>,
+) -> Result<Fork, AllocError>
+    requires near { scenario.old.step ≤ most_steps }
+    requires below { later < scenario.old.step }
+    requires room { length scenario.old.marks < most_marks }
+    requires scout { (before : ℕ) × (later ≡ before + 1) × IsForkFor (After before) (run_of scenario.old) scenario.old.step scout.now }
+    ensures same { scenario.new ≡ scenario.old }
+    ensures fork { IfOk result (λ fork. IsForkFor (After later) (run_of scenario.old) scenario.old.step fork) }
+    ensures met { OnOk result ((sc : ScenarioOf) → scenario.old ≡ skipped sc first.step → TakesSteps sc (Once first.step Skip) first.steps
+        → CountsMore counts.old counts.new first.with_output sc (pair_by first.step (standing_step scenario.old first.code later)) out.old.items out.new.items) }
+{
+    let fork = scout.go_on(later, scenario.setup(), scenario.marks())?;
+    if standing_step(scenario, &fork.machine, first.code, later).is_some() {
+        meet_pair(scenario, counts, &fork, first, later, out)?;
+        return Ok(fork);
+    }
+    Ok(fork)
+}
+
+/// Does the same for each later step below another.
+fn meet_until(
+    scenario: &mut Scenario,
+    counts: &mut Counts,
+    fork: &Fork,
+    first: First,
+    end: u32,
+    out: &mut Vec<u8>,
+) -> Result<(), AllocError>
+    requires near { scenario.old.step ≤ most_steps }
+    requires below { first.step < scenario.old.step }
+    requires forward { first.step + 1 ≤ end }
+    requires within { end ≤ scenario.old.step }
+    requires room { length scenario.old.marks < most_marks }
+    requires before { fork.now.step ≤ first.step }
+    requires led { IsLed first.step scenario.old fork.now }
+    ensures same { scenario.new ≡ scenario.old }
+    ensures met { OnOk result ((sc : ScenarioOf) → scenario.old ≡ skipped sc first.step → TakesSteps sc (Once first.step Skip) first.steps
+        → CountsMore counts.old counts.new first.with_output sc (pairs_from sc first.code first.step (end - (first.step + 1))) out.old.items out.new.items) }
+{
+    let mut scout = fork.go_on(first.step, scenario.setup(), scenario.marks())?;
+    for later in first.step + 1..end {
+        scout = meet_later(scenario, counts, &scout, first, later, out)?;
+    }
+    Ok(())
+}
+
+/// Leaves out the first instruction of pairs, and then each later one. Afterwards the scenario is as it was.
+fn meet_after(
+    scenario: &mut Scenario,
+    counts: &mut Counts,
+    fork: &Fork,
+    first: First,
+    end: u32,
+    out: &mut Vec<u8>,
+) -> Result<(), AllocError>
+    requires near { scenario.old.step ≤ most_steps }
+    requires unmarked { scenario.old.marks ≡ [] }
+    requires below { first.step < scenario.old.step }
+    requires forward { first.step + 1 ≤ end }
+    requires within { end ≤ scenario.old.step }
+    requires fork { IsForkFor (After first.step) (run_of scenario.old) scenario.old.step fork.now }
+    requires steps { TakesSteps scenario.old (Once first.step Skip) first.steps }
+    ensures same { scenario.new ≡ scenario.old }
+    ensures met { OnOk result (CountsMore counts.old counts.new first.with_output scenario.old
+        (pairs_from scenario.old first.code first.step (end - (first.step + 1))) out.old.items out.new.items) }
+{
+    edits_follow();
+    let change = Change::Once {
+        step: first.step,
+        glitch: Glitch::Skip,
+    };
+    scenario.edit(change.edit())?;
+    let met = meet_until(scenario, counts, fork, first, end, out);
+    unmark(scenario);
+    met
+}
+
+/// Returns the lesser of two numbers.
+fn lesser(x: u32, y: u32) -> u32
+    ensures { result ≡ min x y }
+{
+    if x < y { x } else { y }
+}
+
+/// Tries the pairs at a spot, if they were asked for.
+#[tactic(auto, unfolding(crate::specs::Standing::pairs_at))]
+pub(crate) fn meet_pairs(
+    scenario: &mut Scenario,
+    counts: &mut Counts,
+    plan: &Plan,
+    spot: &Spot,
+    with_output: bool,
+    out: &mut Vec<u8>,
+) -> Result<(), AllocError>
+    requires near { scenario.old.step ≤ most_steps }
+    requires unmarked { scenario.old.marks ≡ [] }
+    requires below { IsBelow scenario.old.step spot.now.standing }
+    requires fork { Continues scenario.old spot.now.standing spot.now.fork }
+    ensures same { scenario.new ≡ scenario.old }
+    ensures met { OnOk result (CountsMore counts.old counts.new with_output scenario.old (pairs_at scenario.old plan.now spot.now.standing) out.old.items out.new.items) }
+{
+    let Standing::Step { step, .. } = spot.standing else {
+        return Ok(());
+    };
+    let last = scenario.step();
+    let end = lesser(plan.steps.end, last);
+    if !plan.pairs {
+        return Ok(());
+    }
+    if end <= step {
+        return Ok(());
+    }
+    let first = First {
+        step,
+        steps: last - spot.fork.step,
+        code: plan.code,
+        with_output,
+    };
+    meet_after(scenario, counts, &spot.fork, first, end, out)
+}

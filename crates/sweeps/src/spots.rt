@@ -1,0 +1,220 @@
+//! What is at a place, and where the runs continue that are changed there.
+ghost use Rattle.std.specs.Prelude.{◌≡◌, ◌≤◌, ◌<◌, ◌+◌, ◌^◌, ℕ, IfOk, MatchOption, None, Some, length, true};
+ghost use Rattle.checkpoints.specs.Edits.{IsRightForRun};
+ghost use Rattle.checkpoints.specs.Forks.{IsForkFor};
+ghost use Rattle.checkpoints.specs.Effects.{word_effect};
+ghost use Rattle.checkpoints.specs.Trails.{LoadsAs};
+ghost use Rattle.checkpoints.specs.declared.effect.Effect.TheVariants.{After, Input};
+ghost use Rattle.guest_elf.specs.Images.{is_word};
+ghost use Rattle.guest_machine.specs.Shows.{Shows};
+ghost use Rattle.scenario.specs.Limits.{most_steps};
+ghost use Rattle.scenario.specs.Scenario.{first_state, run_of};
+ghost use Rattle.sweeps.specs.Spots.{Continues, IsFoundAt};
+ghost use Rattle.sweeps.specs.Standing.{is_in_code, standing_byte, standing_in, standing_step, standing_word, state_before};
+
+use checkpoints::{Fork, Trail};
+use guest_machine::{Machine, Status};
+use scenario::{Edit, Scenario};
+use std::alloc::AllocError;
+use sweep_plans::{Place, Plan, Range, Standing};
+
+/// What is at a place, and the machine from which each run continues that is changed there.
+#[derive(Drop)]
+pub(crate) struct Spot {
+    pub(crate) standing: Standing,
+    pub(crate) fork: Fork,
+}
+
+/// What is known of the unedited run before it is executed: its input, and the machine before step 0.
+#[derive(Clone, Copy)]
+pub(crate) struct Origin<'a> {
+    pub(crate) input: &'a [u8],
+    pub(crate) start: &'a Machine,
+}
+
+/// Returns the value at a byte of an input, if there is one.
+#[tactic(auto, unfolding(crate::specs::Standing::standing_byte))]
+fn standing_byte(scenario: &Scenario, input: &[u8], offset: u32) -> Option<Standing>
+    requires { input.now ≡ scenario.now.setup.input }
+    ensures { result ≡ standing_byte scenario.now offset }
+{
+    let byte = *input.get(offset as usize)?;
+    Some(Standing::Byte { offset, byte })
+}
+
+/// Returns the value at a word of the program, if it is loaded whole.
+#[tactic(auto, unfolding(crate::specs::Standing::standing_word))]
+fn standing_word(scenario: &Scenario, start: &Machine, addr: u32) -> Option<Standing>
+    requires { Shows start.now (first_state scenario.now) }
+    ensures { result ≡ standing_word scenario.now addr }
+{
+    let nothing = Edit::Patch { addr, word: 0 };
+    if scenario.refusal(&nothing).is_some() {
+        return None;
+    }
+    let word = start.memory().load(addr, 4).value;
+    Some(Standing::Word { addr, word })
+}
+
+/// Returns whether an address is in the code that was named.
+fn is_in_code(code: Option<Range>, pc: u32) -> bool
+    ensures { result ≡ is_in_code code pc }
+{
+    match code {
+        None => true,
+        Some(range) => range.first <= pc && pc <= range.last.unwrap_or(u32::MAX),
+    }
+}
+
+/// Returns what is at a step below the chosen one, if a fault may strike the machine before it.
+#[tactic(auto, unfolding(crate::specs::Standing::standing_step))]
+pub(crate) fn standing_step(
+    scenario: &Scenario,
+    machine: &Machine,
+    code: Option<Range>,
+    step: u32,
+) -> Option<Standing>
+    requires below { step < scenario.now.step }
+    requires shows { Shows machine.now (state_before scenario.now step) }
+    ensures { result ≡ standing_step scenario.now code step }
+{
+    let pc = machine.pc();
+    let is_running = matches!(machine.status(), Status::Running);
+    if is_running && is_in_code(code, pc) && scenario.setup().hooks.at(pc).is_none() {
+        Some(Standing::Step { step, pc })
+    } else {
+        None
+    }
+}
+
+/// Returns the machine from which each run continues that has another byte at an offset.
+fn byte_fork(trail: &mut Trail, scenario: &Scenario, offset: u32) -> Result<Fork, AllocError>
+    requires near { scenario.now.step ≤ most_steps }
+    requires loads { LoadsAs trail.old scenario.now.image }
+    requires right { IsRightForRun trail.old (run_of scenario.now) }
+    ensures fork { IfOk result (λ fork. IsForkFor (Input offset) (run_of scenario.now) scenario.now.step fork) }
+    ensures loads { LoadsAs trail.new scenario.now.image }
+    ensures right { IsRightForRun trail.new (run_of scenario.now) }
+{
+    trail.fork_at_byte(offset, scenario.step(), scenario.setup(), scenario.marks())
+}
+
+/// Returns the machine from which each run continues that has another word at an address.
+fn word_fork(trail: &mut Trail, scenario: &Scenario, addr: u32) -> Result<Fork, AllocError>
+    requires near { scenario.now.step ≤ most_steps }
+    requires loads { LoadsAs trail.old scenario.now.image }
+    requires right { IsRightForRun trail.old (run_of scenario.now) }
+    requires word { is_word scenario.now.image addr ≡ true }
+    ensures fork { IfOk result (λ fork. (word : ℕ) → IsForkFor (word_effect scenario.now.marks addr word) (run_of scenario.now) scenario.now.step fork) }
+    ensures loads { LoadsAs trail.new scenario.now.image }
+    ensures right { IsRightForRun trail.new (run_of scenario.now) }
+{
+    trail.fork_at_word(addr, scenario.step(), scenario.setup(), scenario.marks())
+}
+
+/// Returns the machine from which each run continues that is struck at a step.
+fn step_fork(trail: &mut Trail, scenario: &Scenario, step: u32) -> Result<Fork, AllocError>
+    requires near { scenario.now.step ≤ most_steps }
+    requires within { step ≤ scenario.now.step }
+    requires loads { LoadsAs trail.old scenario.now.image }
+    requires right { IsRightForRun trail.old (run_of scenario.now) }
+    ensures fork { IfOk result (λ fork. IsForkFor (After step) (run_of scenario.now) scenario.now.step fork) }
+    ensures step { IfOk result (λ fork. fork.step ≡ step) }
+    ensures loads { LoadsAs trail.new scenario.now.image }
+    ensures right { IsRightForRun trail.new (run_of scenario.now) }
+{
+    trail.fork_at_step(step, scenario.step(), scenario.setup(), scenario.marks())
+}
+
+/// Finds a byte.
+fn find_byte(
+    trail: &mut Trail,
+    scenario: &Scenario,
+    input: &[u8],
+    offset: u32,
+) -> Result<Option<Spot>, AllocError>
+    requires near { scenario.now.step ≤ most_steps }
+    requires input { input.now ≡ scenario.now.setup.input }
+    requires loads { LoadsAs trail.old scenario.now.image }
+    requires right { IsRightForRun trail.old (run_of scenario.now) }
+    ensures found { IfOk result (IsFoundAt scenario.now (standing_byte scenario.now offset)) }
+    ensures loads { LoadsAs trail.new scenario.now.image }
+    ensures right { IsRightForRun trail.new (run_of scenario.now) }
+{
+    let Some(standing) = standing_byte(scenario, input, offset) else {
+        return Ok(None);
+    };
+    let fork = byte_fork(trail, scenario, offset)?;
+    Ok(Some(Spot { standing, fork }))
+}
+
+/// Finds a word.
+fn find_word(
+    trail: &mut Trail,
+    scenario: &Scenario,
+    start: &Machine,
+    addr: u32,
+) -> Result<Option<Spot>, AllocError>
+    requires near { scenario.now.step ≤ most_steps }
+    requires starts { Shows start.now (first_state scenario.now) }
+    requires loads { LoadsAs trail.old scenario.now.image }
+    requires right { IsRightForRun trail.old (run_of scenario.now) }
+    ensures found { IfOk result (IsFoundAt scenario.now (standing_word scenario.now addr)) }
+    ensures loads { LoadsAs trail.new scenario.now.image }
+    ensures right { IsRightForRun trail.new (run_of scenario.now) }
+{
+    let Some(standing) = standing_word(scenario, start, addr) else {
+        return Ok(None);
+    };
+    let fork = word_fork(trail, scenario, addr)?;
+    Ok(Some(Spot { standing, fork }))
+}
+
+/// Finds a step.
+fn find_step(
+    trail: &mut Trail,
+    scenario: &Scenario,
+    code: Option<Range>,
+    step: u32,
+) -> Result<Option<Spot>, AllocError>
+    requires near { scenario.now.step ≤ most_steps }
+    requires loads { LoadsAs trail.old scenario.now.image }
+    requires right { IsRightForRun trail.old (run_of scenario.now) }
+    ensures found { IfOk result (IsFoundAt scenario.now (standing_step scenario.now code step)) }
+    ensures loads { LoadsAs trail.new scenario.now.image }
+    ensures right { IsRightForRun trail.new (run_of scenario.now) }
+{
+    if step >= scenario.step() {
+        return Ok(None);
+    }
+    let fork = step_fork(trail, scenario, step)?;
+    let Some(standing) = standing_step(scenario, &fork.machine, code, step) else {
+        return Ok(None);
+    };
+    Ok(Some(Spot { standing, fork }))
+}
+
+/// Returns what is at a place, with the machine from which each run continues that is changed there, if there is something.
+pub(crate) fn find(
+    trail: &mut Trail,
+    scenario: &Scenario,
+    origin: &Origin<'_>,
+    plan: &Plan,
+    place: Place,
+) -> Result<Option<Spot>, AllocError>
+    requires near { scenario.now.step ≤ most_steps }
+    requires input { origin.now.input.now ≡ scenario.now.setup.input }
+    requires starts { Shows origin.now.start.now (first_state scenario.now) }
+    requires loads { LoadsAs trail.old scenario.now.image }
+    requires right { IsRightForRun trail.old (run_of scenario.now) }
+    ensures found { IfOk result (IsFoundAt scenario.now (standing_in scenario.now plan.now place)) }
+    ensures loads { LoadsAs trail.new scenario.now.image }
+    ensures right { IsRightForRun trail.new (run_of scenario.now) }
+{
+    match place {
+        Place::Byte(offset) => find_byte(trail, scenario, origin.input, offset),
+        Place::Word(addr) => find_word(trail, scenario, origin.start, addr),
+        Place::Step(step) => find_step(trail, scenario, plan.code, step),
+        Place::Nowhere => Ok(None),
+    }
+}
