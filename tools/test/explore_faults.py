@@ -1,5 +1,4 @@
-"""Sweeps of alterations at steps, by `replaycheck explore --at A..B --faults LIST`, for tools/test/test-explore. The twin stands in for a
-program that doesn't have them."""
+"""Sweeps of alterations at steps, by `replaycheck explore --at A..B --faults LIST`, for tools/test/test-explore."""
 import random
 import re
 import shutil
@@ -9,7 +8,6 @@ from explore_pictures import test_swept_steps
 from explore_room import EXAMPLES
 from replaycheck.disassembly import PROGRAMS
 from replaycheck.exploring.steps import MODELS
-from twin import with_steps
 
 BOOT = ["boot.elf", "--input=boot.input"]
 TWICE = ["boot-twice.elf", "--input=boot.input"]
@@ -144,14 +142,5 @@ def test_fault_summary(tests):
 
 def test_faults(tests):
     furnish_firmware(tests.room)
-    usual, program = tests.program, with_steps(tests.program, tests.room, "test-explore")
-    if program is None:
-        return tests.left_out("steps", "program that has them, nor cargo for the twin")
-    if program != usual:
-        tests.left_out("steps by the program: the twin stands in", "program that has them")
-    tests.program = program
-    try:
-        for test in (test_fault_tables, test_fault_parts, test_fault_summary, test_swept_steps):
-            test(tests)
-    finally:
-        tests.program = usual
+    for test in (test_fault_tables, test_fault_parts, test_fault_summary, test_swept_steps):
+        test(tests)
