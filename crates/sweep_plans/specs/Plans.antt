@@ -1,7 +1,7 @@
 -- Which changes a sweep tries: places of the input, of the program and of the run, in order; at a byte or a word values
 -- other than its own, and at a step what the fault models do there.
 use Rattle.std.specs.Prelude.{ℕ, zero, suc, ◌+◌, ◌-◌, ◌*◌, ◌%◌, ◌^◌, ◌==◌, ◌&&◌, ◌||◌, ◌<◌, nat_lt, Bool, true, false}
-use Rattle.std.specs.Prelude.{not, if◌then◌else◌, List, [], ◌∷◌, ◌++◌, map, filter, bit_xor, Option}
+use Rattle.std.specs.Prelude.{not, if◌then◌else◌, List, [], ◌∷◌, map, filter, bit_xor, Option}
 use Rattle.std.specs.Prelude.{Some, None}
 use Rattle.std.specs.List.{list_any}
 use Rattle.guest_elf.specs.declared.image.Image.{Image}

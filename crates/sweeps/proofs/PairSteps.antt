@@ -1,10 +1,9 @@
 -- Pairs of skips.
 use Rattle.std.proofs.Common.{◌≡◌, ℕ, zero, suc, ◌+◌, ◌-◌, ◌≤◌, ◌&&◌, nat_lt, min, Bool, true, false, if◌then◌else◌}
-use Rattle.std.proofs.Common.{List, [], ◌∷◌, ◌++◌, Option, Some, None, is_some, refl, ap, ap₂, sym, ◌∙◌, subst, arith}
+use Rattle.std.proofs.Common.{[], ◌∷◌, ◌++◌, Option, Some, None, is_some, refl, ap, ap₂, sym, ◌∙◌, arith}
 use Rattle.checkpoints.specs.Effects.{LeadsTo, Run}
 use Rattle.checkpoints.specs.declared.effect.Effect.TheVariants.{After}
 use Rattle.scenario.specs.Scenario.{Scenario}
-use Rattle.sweep_plans.specs.declared.change.Change.{Change}
 use Rattle.sweep_plans.specs.declared.change.Change.TheVariants.{Twice}
 use Rattle.sweep_plans.specs.declared.change.Glitch.TheVariants.{Skip}
 use Rattle.sweep_plans.specs.declared.plan.Plan.{Plan}

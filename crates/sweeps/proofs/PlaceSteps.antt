@@ -1,13 +1,12 @@
 -- The changes of a plan at a place are changes of that place.
 use Rattle.std.proofs.Common.{◌≡◌, ℕ, zero, suc, ◌+◌, ◌^◌, ◌<◌, ◌≤◌, nat_le, Bool, true, false, List, [], ◌∷◌, ◌++◌}
-use Rattle.std.proofs.Common.{length, map, refl, ap, arith, get_or, if◌then◌else◌}
+use Rattle.std.proofs.Common.{length, refl, ap, arith, if◌then◌else◌}
 use Rattle.std.specs.List.{All, flat_map}
 use Rattle.std.proofs.lemmas.Bool.Decides.{nat_tests}
 use Rattle.std.proofs.lemmas.List.Elements.{All-append, All-cons, All-head, All-map, All-nil, All-push, All-tail}
 use Rattle.std.proofs.lemmas.List.Elements.{All-weaker}
 use Rattle.scenario.specs.Limits.{most_steps}
 use Rattle.scenario.specs.Scenario.{Scenario}
-use Rattle.sweep_plans.specs.Changes.{IsRight}
 use Rattle.sweep_plans.specs.Glitches.{flip_of, flips_at, glitches_at, register_flips, register_sets, skip_at, when}
 use Rattle.sweep_plans.specs.Glitches.{word_flips}
 use Rattle.sweep_plans.specs.Numbers.{below}

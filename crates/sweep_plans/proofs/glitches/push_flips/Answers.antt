@@ -1,4 +1,4 @@
-use Rattle.std.proofs.Common.{◌≡◌, ◌+◌, ◌^◌, ◌++◌, ◌∷◌, [], append-nil, refl, ap, sym, ◌∙◌, arith}
+use Rattle.std.proofs.Common.{◌≡◌, ◌++◌, ◌∷◌, [], append-nil, refl, ap, sym, ◌∙◌, arith}
 use Rattle.std.proofs.lemmas.Grind.{one_shifted}
 use Rattle.sweep_plans.specs.Glitches.{flip_of}
 use Rattle.sweep_plans.proofs.GlitchSteps.{all-flips, flip-next, flips_to, more, no-flips}

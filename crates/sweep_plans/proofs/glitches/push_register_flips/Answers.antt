@@ -1,4 +1,4 @@
-use Rattle.std.proofs.Common.{◌≡◌, ◌+◌, ◌++◌, append-nil, ap, sym, ◌∙◌, arith}
+use Rattle.std.proofs.Common.{◌≡◌, ◌++◌, append-nil, ap, sym, ◌∙◌, arith}
 use Rattle.sweep_plans.proofs.GlitchSteps.{all-registers, more, no-registers, register-next, register_flips_to}
 use Rattle.sweep_plans.proofs.glitches.push_register_flips.Goals as goal
 

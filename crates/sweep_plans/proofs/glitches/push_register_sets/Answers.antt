@@ -1,4 +1,4 @@
-use Rattle.std.proofs.Common.{◌≡◌, ◌+◌, ◌++◌, append-nil, ap, sym, ◌∙◌, arith}
+use Rattle.std.proofs.Common.{◌≡◌, ◌++◌, append-nil, ap, sym, ◌∙◌, arith}
 use Rattle.sweep_plans.proofs.GlitchSteps.{all-sets, more, no-sets, register_sets_to, set-next}
 use Rattle.sweep_plans.proofs.glitches.push_register_sets.Goals as goal
 

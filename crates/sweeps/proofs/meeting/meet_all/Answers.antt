@@ -1,7 +1,6 @@
-use Rattle.std.proofs.Common.{◌≡◌, ◌∙◌, sym, subst, List}
+use Rattle.std.proofs.Common.{◌∙◌, sym, subst, List}
 use Rattle.std.proofs.lemmas.Result.{on_ok_weaker}
 use Rattle.std.specs.List.{All}
-use Rattle.sweep_plans.specs.Plans.{changes_of}
 use Rattle.sweep_plans.specs.declared.change.Change.{Change}
 use Rattle.sweeps.specs.Standing.{IsAt}
 use Rattle.sweeps.specs.Sweeps.{CountsMore}

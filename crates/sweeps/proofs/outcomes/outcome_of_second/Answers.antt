@@ -1,5 +1,3 @@
-use Rattle.std.proofs.Common.{◌≡◌, sym}
-use Rattle.std.proofs.Math.Path.{transport}
 use Rattle.std.proofs.lemmas.Result.{IfOk-weaker}
 use Rattle.sweeps.proofs.ForkSteps.{fork-later}
 use Rattle.sweeps.proofs.outcomes.outcome_of_second.Goals as goal

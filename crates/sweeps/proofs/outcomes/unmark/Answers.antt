@@ -1,4 +1,4 @@
-use Rattle.std.proofs.Common.{◌≡◌, ◌-◌, List, length, ap}
+use Rattle.std.proofs.Common.{◌-◌, List, length, ap}
 use Rattle.run_values.specs.declared.alteration.Alteration.{Alteration}
 use Rattle.sweeps.proofs.ChangeSteps.{made, mark-back}
 use Rattle.sweeps.proofs.outcomes.unmark.Goals as goal

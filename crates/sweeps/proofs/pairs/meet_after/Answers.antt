@@ -1,4 +1,4 @@
-use Rattle.std.proofs.Common.{◌≡◌, ◌+◌, ◌<◌, ◌≤◌, length, ap, sym, ◌∙◌, subst, arith}
+use Rattle.std.proofs.Common.{◌≡◌, ◌<◌, ◌≤◌, length, ap, sym, ◌∙◌, subst, arith}
 use Rattle.std.proofs.lemmas.Result.{on_ok_weaker}
 use Rattle.checkpoints.specs.Effects.{LeadsTo}
 use Rattle.checkpoints.specs.Forks.{IsForkFor}
@@ -8,8 +8,7 @@ use Rattle.scenario.specs.Limits.{most_marks, most_steps}
 use Rattle.scenario.specs.Scenario.{Scenario, run_of}
 use Rattle.sweep_plans.specs.Changes.{glitch_edit}
 use Rattle.sweep_plans.specs.declared.change.Glitch.TheVariants.{Skip}
-use Rattle.sweeps.specs.Spots.{IsLed}
-use Rattle.sweeps.proofs.ChangeSteps.{glitch-taken, marks-more, with-mark}
+use Rattle.sweeps.proofs.ChangeSteps.{glitch-taken}
 use Rattle.sweeps.proofs.ForkSteps.{fork-before}
 use Rattle.sweeps.proofs.pairs.meet_after.Goals as goal
 

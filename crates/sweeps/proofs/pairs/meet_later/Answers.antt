@@ -1,10 +1,8 @@
-use Rattle.std.proofs.Common.{◌≡◌, ◌+◌, ◌≤◌, [], true, false, is_some, List, ap, sym, ◌∙◌, subst, arith, refl}
+use Rattle.std.proofs.Common.{◌≡◌, ◌≤◌, true, false, is_some, List, ap, sym, ◌∙◌, subst, arith}
 use Rattle.guest_machine.specs.Shows.{Shows}
-use Rattle.checkpoints.specs.Forks.{IsForkFor}
-use Rattle.checkpoints.specs.declared.effect.Effect.TheVariants.{After}
-use Rattle.scenario.specs.Scenario.{Scenario, run_of}
+use Rattle.scenario.specs.Scenario.{run_of}
 use Rattle.sweep_plans.specs.declared.change.Change.{Change}
-use Rattle.sweeps.specs.Standing.{pair_by, standing_step, state_before}
+use Rattle.sweeps.specs.Standing.{standing_step, state_before}
 use Rattle.sweeps.specs.Sweeps.{CountsMore}
 use Rattle.sweeps.proofs.ForkSteps.{fork-before, fork-later}
 use Rattle.sweeps.proofs.PairSteps.{leads-same, pair-absent, pair-there}

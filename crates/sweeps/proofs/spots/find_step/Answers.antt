@@ -1,4 +1,4 @@
-use Rattle.std.proofs.Common.{◌≡◌, ◌≤◌, sym, ◌∙◌, subst, arith}
+use Rattle.std.proofs.Common.{sym, ◌∙◌, subst, arith}
 use Rattle.guest_machine.specs.Shows.{Shows}
 use Rattle.sweeps.specs.Standing.{state_before}
 use Rattle.sweeps.proofs.ChangeSteps.{no-step, step-continues}

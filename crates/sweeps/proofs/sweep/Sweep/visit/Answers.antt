@@ -1,4 +1,4 @@
-use Rattle.std.proofs.Common.{◌≡◌, Some, ap, sym, ◌∙◌, subst, List, refl}
+use Rattle.std.proofs.Common.{ap, sym, ◌∙◌, subst, List, refl}
 use Rattle.std.proofs.lemmas.Result.{on_ok_weaker}
 use Rattle.sweep_plans.specs.declared.change.Change.{Change}
 use Rattle.sweeps.specs.Standing.{all_changes, standing_in}
