@@ -8,6 +8,8 @@ word_fork-requires-clause-word c =
 
 pub returns-clause-found : goal.returns-clause-found
 returns-clause-found c =
-    let is = sym c.standing_word.ensures ∙ c.in-Some.is in
-    (is, word-continues c.args.scenario.now c.args.addr c.in-Some.standing c.in_ok-fork.fork is
-    c.in_ok-fork.ensures.fork)
+    let is = sym c.standing_word.ensures ∙ c.in-Some.is in (
+      is,
+      word-continues c.args.scenario.now c.args.addr c.in-Some.standing c.in_ok-fork.fork is
+          c.in_ok-fork.ensures.fork,
+    )
