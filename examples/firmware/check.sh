@@ -39,7 +39,7 @@ explored() {
   ../../tools/bin/replaycheck-explore station.elf --input station.input --svg "$room/station.svg" | sed -E 's/ \([^()]+:[0-9]+\)//'
 }
 
-# The picture of faults at steps, with source lines.
+# The picture of faults at steps, with source lines and instructions.
 glitches() {
   ../../tools/bin/replaycheck-explore boot-twice.elf --input boot.input --at 0.. --code verify --faults skip,registers --pairs skip \
     --goal 'exited 0' --svg "$room/boot-twice.svg" >"$room/told"
@@ -73,9 +73,13 @@ check 'which runs are clean' same clean verdicts ../*.elf *.elf
 check 'each byte of station.input' same sweep explored
 if command -v riscv64-unknown-elf-addr2line riscv64-linux-gnu-addr2line addr2line >"$room/found"; then
   check 'its picture' cmp station.svg "$room/station.svg"
+else
+  left_out 'its picture' 'there is no addr2line'
+fi
+if command -v riscv64-unknown-elf-objdump >"$room/found"; then
   check 'the picture of boot-twice.elf' glitches
 else
-  left_out 'its picture, and that of boot-twice.elf' 'there is no addr2line'
+  left_out 'the picture of boot-twice.elf' 'there is no riscv64-unknown-elf-objdump'
 fi
 check 'heap calls by number' same_by_number
 

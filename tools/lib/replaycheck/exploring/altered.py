@@ -18,7 +18,7 @@ class Instructions:
     def __init__(self, request, lines):
         self.request, self.lines = request, lines
         self.addresses: Dict[Tuple[int, Optional[int]], Optional[int]] = {}
-        self.texts: Dict[int, str] = {}
+        self.texts: Dict[int, Optional[str]] = {}
         self.asked = 0  # lines of the session
 
     def learn(self, edits: Iterable[str]) -> None:
@@ -32,10 +32,7 @@ class Instructions:
             if pair:
                 pairs.setdefault(int(pair[1]), set()).add(int(pair[2]))
         self.learn_runs([(None, steps), *sorted(pairs.items())])
-        found = {it for it in self.addresses.values() if it is not None}
-        self.lines.learn([f"0x{it:08x}" for it in found])
-        if self.request.program.path:
-            self.texts.update(texts_at(self.request.program.path, found - self.texts.keys()))
+        self.lines.learn([f"0x{it:08x}" for it in self.addresses.values() if it is not None])
 
     def learn_runs(self, runs: Iterable[Tuple[Optional[int], Set[int]]]) -> None:
         """Looks at steps of the unedited run, which is that without a skip, and of runs with a skip, that weren't looked at before."""
@@ -88,8 +85,16 @@ class Instructions:
         if symbol:
             away = address - symbol.value
             name = shown_name(elf.name(symbol)) + (f"+0x{away:x}" if away else "")
-        text = self.texts.get(address)
+        text = self.text(address)
         return f"{name}{self.lines.behind(f'0x{address:08x}')}" + (f", {text}" if text else "")
+
+    def text(self, address: int) -> Optional[str]:
+        """The text of an instruction; those of all that are known are asked for together."""
+        if address not in self.texts:
+            new = {address, *(it for it in self.addresses.values() if it is not None)} - self.texts.keys()
+            self.texts.update(dict.fromkeys(new))
+            self.texts.update(texts_at(self.request.program.path, new) if self.request.program.path else {})
+        return self.texts[address]
 
     def told(self, edit: str) -> List[Tuple[int, str]]:
         """The instructions of an edit, each after its step. One that is taken with a bit inverted is altered back a step later, and told
