@@ -1,0 +1,3 @@
+pub mod Replaced
+pub mod RowSteps
+pub mod StepLaw

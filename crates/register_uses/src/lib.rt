@@ -1,0 +1,7 @@
+//! Which registers a step looks at.
+#![tactic(auto)]
+
+pub mod laws;
+mod passing;
+
+pub use passing::Passing;
