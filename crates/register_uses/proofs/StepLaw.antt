@@ -40,26 +40,24 @@ pub record IsReplaced (core : Core) (row : Option Instruction) (r : ℕ) : Type 
   pub other : (r == 2) ≡ false
 
 kept-by : (read two whole write : Bool)
-    → cond (read || (two && write)) Looks (cond (whole && write) Overwrites Keeps) ≡ Keeps
+    → cond (read || (write && two)) Looks (cond (whole && write) Overwrites Keeps) ≡ Keeps
     → (read ≡ false) × (whole && write ≡ false) × (two ≡ true → write ≡ false)
 kept-by true two whole write h = cc
+kept-by false two true false h = (refl, refl, λ e. refl)
+kept-by false two false false h = (refl, refl, λ e. refl)
 kept-by false true whole true h = cc
-kept-by false true true false h = (refl, refl, λ e. refl)
-kept-by false true false false h = (refl, refl, λ e. refl)
 kept-by false false true true h = cc
-kept-by false false true false h = (refl, refl, λ e. refl)
-kept-by false false false write h = (refl, refl, λ e. cc)
+kept-by false false false true h = (refl, refl, λ e. cc)
 
 replaced-by : (read two whole write : Bool)
-    → cond (read || (two && write)) Looks (cond (whole && write) Overwrites Keeps) ≡ Overwrites
+    → cond (read || (write && two)) Looks (cond (whole && write) Overwrites Keeps) ≡ Overwrites
     → (read ≡ false) × (whole && write ≡ true) × (two ≡ false)
 replaced-by true two whole write h = cc
+replaced-by false two true false h = cc
+replaced-by false two false false h = cc
 replaced-by false true whole true h = cc
-replaced-by false true true false h = cc
-replaced-by false true false false h = cc
 replaced-by false false true true h = (refl, refl, refl)
-replaced-by false false true false h = cc
-replaced-by false false false write h = cc
+replaced-by false false false true h = cc
 
 kept : (core : Core) (row : Option Instruction) (r : ℕ) → passing_row core row r ≡ Keeps → IsKept core row r
 unfolding passing_row

@@ -48,7 +48,7 @@ completes core _ = true
 -- an instruction looks at its operands. One whose destination is x2 looks at x2, as the stack pointer rule compares the
 -- value before with the value after
 abbrev pub looks_at : Option Instruction → ℕ → Bool
-looks_at row r = reads row r || ((r == 2) && writes row r)
+looks_at row r = reads row r || (writes row r && (r == 2))
 
 -- what a register is to an instruction
 unfoldable pub passing_row : Core → Option Instruction → ℕ → Passing

@@ -4,4 +4,4 @@
 pub mod laws;
 mod passing;
 
-pub use passing::Passing;
+pub use passing::{Passing, passing_of};
