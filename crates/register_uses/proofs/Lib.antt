@@ -1,3 +1,4 @@
 pub mod Replaced
 pub mod RowSteps
 pub mod StepLaw
+pub mod RunLaw
