@@ -226,16 +226,37 @@ module _ (start : State) (setup : Setup) (marks : List Alteration) (k r : ℕ) (
       split : (k j : ℕ) → k < suc j → (k ≡ j) ⊎ (k < j)
       split k j h = grind arith
 
+module _ (start : State) (setup : Setup) (marks : List Alteration) (k r : ℕ) (act : Act) (one : 1 ≤ r)
+    (is : IsOf act r) (h : passing (post start setup marks k) setup r ≡ Keeps)
+    (now : is_running (post start setup marks k).core.status ≡ true)
+    (then : is_running (pre start setup marks (k + 1)).core.status ≡ true) (none : marks_at (k + 1) marks ≡ []) where
+  kept-post : (j : ℕ) → k < j → post start setup (also marks k act) j ≡ post start setup (also marks (k + 1) act) j
+  kept-post j later =
+      let n = next k in
+      subst (λ m. post start setup (also marks k act) j ≡ post start setup (also marks m act) j) (sym n)
+      (alike start setup (also marks k act) (also marks (suc k) act) (suc k)
+      (alike-later start setup marks k r act one is)
+      (kept-there start setup marks k r act one is h now
+      (subst (λ m. is_running (pre start setup marks m).core.status ≡ true) n then)
+      (subst (λ m. marks_at m marks ≡ []) n none))
+      (j - suc k) j (omega arith))
+
+  kept-pre : (j : ℕ) → k + 1 < j → pre start setup (also marks k act) j ≡ pre start setup (also marks (k + 1) act) j
+  unfolding post pre
+  kept-pre zero later = absurd (omega arith)
+  kept-pre (suc j) later = ap (λ s. exec s setup) (kept-post j (omega arith))
+
 pub runs-keep : RunsKeep
-runs-keep start setup marks k r act one is h now then none j later =
-    let n = next k in
-    subst (λ m. post start setup (also marks k act) j ≡ post start setup (also marks m act) j) (sym n)
-    (alike start setup (also marks k act) (also marks (suc k) act) (suc k)
-    (alike-later start setup marks k r act one is)
-    (kept-there start setup marks k r act one is h now
-    (subst (λ m. is_running (pre start setup marks m).core.status ≡ true) n then)
-    (subst (λ m. marks_at m marks ≡ []) n none))
-    (j - suc k) j (omega arith))
+runs-keep start setup marks k r act one is h now then none = (
+  kept-post start setup marks k r act one is h now then none,
+  kept-pre start setup marks k r act one is h now then none,
+)
 
 pub runs-overwrite : RunsOverwrite
-runs-overwrite start setup marks k r act one is h j later = gone-before start setup marks k r act one is h j later
+unfolding post
+runs-overwrite start setup marks k r act one is h j later =
+    let same = gone-before start setup marks k r act one is h j later in (
+      same,
+      also-elsewhere j k marks act (pre start setup (also marks k act) j) (differs k j later)
+          ∙ ap (after_marks j marks) same,
+    )

@@ -40,7 +40,8 @@ abbrev pub also : List Alteration → ℕ → Act → List Alteration
 also marks k act = marks ++ record { step = k; act = act } ∷ []
 
 -- an alteration of a register that step k keeps may as well be made before step k + 1, if the machine runs at both and
--- nothing else is altered before step k + 1: each later step starts from the same state
+-- nothing else is altered before step k + 1: from there on each step starts from the same state, and each later step
+-- comes after the same state
 abbrev pub RunsKeep : Type 0
 RunsKeep =
     (start : State) (setup : Setup) (marks : List Alteration) (k r : ℕ) (act : Act) → 1 ≤ r → IsOf act r
@@ -48,11 +49,14 @@ RunsKeep =
     → is_running (post start setup marks k).core.status ≡ true
     → is_running (pre start setup marks (k + 1)).core.status ≡ true
     → marks_at (k + 1) marks ≡ []
-    → (j : ℕ) → k < j → post start setup (also marks k act) j ≡ post start setup (also marks (k + 1) act) j
+    → ((j : ℕ) → k < j → post start setup (also marks k act) j ≡ post start setup (also marks (k + 1) act) j)
+    × ((j : ℕ) → k + 1 < j → pre start setup (also marks k act) j ≡ pre start setup (also marks (k + 1) act) j)
 
 -- an alteration of a register that step k overwrites is as none: after step k the run is the same
 abbrev pub RunsOverwrite : Type 0
 RunsOverwrite =
     (start : State) (setup : Setup) (marks : List Alteration) (k r : ℕ) (act : Act) → 1 ≤ r → IsOf act r
     → passing (post start setup marks k) setup r ≡ Overwrites
-    → (j : ℕ) → k < j → pre start setup (also marks k act) j ≡ pre start setup marks j
+    → (j : ℕ) → k < j
+    → (pre start setup (also marks k act) j ≡ pre start setup marks j)
+    × (post start setup (also marks k act) j ≡ post start setup marks j)
