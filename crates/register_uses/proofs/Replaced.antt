@@ -1,5 +1,5 @@
 -- A core with other bits in one register: tests and changes of other registers, of pc and of the shadow are the same.
-use Rattle.std.proofs.Common.{◌≡◌, ◌≢◌, ℕ, zero, suc, ◌+◌, ◌-◌, ◌*◌, ◌/◌, ◌%◌, ◌^◌, ◌≤◌, ◌==◌, ◌&&◌, nat_lt, nat_le}
+use Rattle.std.proofs.Common.{◌≡◌, ◌≢◌, ℕ, ◌+◌, ◌-◌, ◌%◌, ◌^◌, ◌≤◌, ◌==◌, ◌&&◌, nat_lt}
 use Rattle.std.proofs.Common.{Bool, true, false, cond, refl, ap, ap₂, sym, ◌∙◌, arith, List, slice_set}
 use Rattle.std.proofs.Common.{slice_index_or}
 use Rattle.std.proofs.lemmas.Bool.Decides.{nat_tests}
@@ -10,7 +10,7 @@ use Rattle.instructions.specs.declared.instruction.Comparison.{Comparison}
 use Rattle.instructions.specs.Alu.{is_undecided}
 use Rattle.guest_machine.specs.State.{Core}
 use Rattle.guest_machine.specs.Registers.{known, register, set_register, defined, tested}
-use Rattle.guest_machine.specs.Effects.{advanced, branched, branch_tested, followed, jumped, linked_jump, moved_to}
+use Rattle.guest_machine.specs.Effects.{branched, branch_tested, followed, jumped, linked_jump, moved_to}
 use Rattle.guest_machine.specs.Effects.{stopped, target}
 use Rattle.guest_machine.specs.StackPointer.{framed, is_stack_pointer, ranged, stack_moved, stack_ruled}
 use Rattle.run_values.specs.declared.status.Stop.TheVariants.{Misaligned}
@@ -49,6 +49,7 @@ set-other core r q bits new h = go (q == 0)
   where
     xs : List Bits
     xs = core.registers
+
     go : (t : Bool) → record core { registers = cond t (slice_set xs r bits) (slice_set (slice_set xs r bits) q new) }
         ≡ record core { registers = slice_set (cond t xs (slice_set xs q new)) r bits }
     go true = refl
@@ -73,6 +74,7 @@ set-stays core r q new h = ap (λ x. cond (r == 0) (known 0) x) (go (q == 0))
   where
     xs : List Bits
     xs = core.registers
+
     go : (t : Bool) → slice_index_or (cond t xs (slice_set xs q new)) r (known 0) ≡ slice_index_or xs r (known 0)
     go true = refl
     go false = get_or-set_other xs q r new (known 0) (apart r q h)
@@ -94,6 +96,7 @@ tested-other core r q bits h =
   where
     new : Bits
     new = known (register core q).value
+
     go : (t : Bool) → cond t (re core r bits) (set_register (re core r bits) q new)
         ≡ re (cond t core (set_register core q new)) r bits
     go true = refl
@@ -105,6 +108,7 @@ tested-stays core r q h = go ((register core q).undef == 0)
   where
     new : Bits
     new = known (register core q).value
+
     go : (t : Bool) → register (cond t core (set_register core q new)) r ≡ register core r
     go true = refl
     go false = set-stays core r q new h
@@ -124,6 +128,7 @@ linked-other core hint r rd to bits = go (to % 4 == 0)
   where
     link : Bits
     link = known ((core.pc + 4) % 2 ^ 32)
+
     go : (t : Bool) → t && (r == rd) ≡ false
         → cond t (moved_to (set_register (followed (re core r bits) hint to) rd link) to)
         (stopped (re core r bits) Misaligned)
@@ -138,6 +143,7 @@ linked-stays core hint r rd to = go (to % 4 == 0)
   where
     link : Bits
     link = known ((core.pc + 4) % 2 ^ 32)
+
     go : (t : Bool) → t && (r == rd) ≡ false
         → register (cond t (moved_to (set_register (followed core hint to) rd link) to) (stopped core Misaligned)) r
         ≡ register core r
@@ -209,6 +215,7 @@ framed-other core r low high kind bits = go _
   where
     n : ℕ
     n = high - low
+
     go : (t : Bool) → cond t (ranged (re core r bits) low n kind) (re core r bits)
         ≡ re (cond t (ranged core low n kind) core) r bits
     go true = refl
@@ -256,6 +263,7 @@ ruled-other old core r bits h =
   where
     new : Bits
     new = register core 2
+
     go : (t : Bool) → cond t (stack_moved (re core r bits) old.value new.value) (re core r bits)
         ≡ re (cond t (stack_moved core old.value new.value) core) r bits
     go true = moved-other core r old.value new.value bits
@@ -267,6 +275,7 @@ ruled-stays old core r = go _
   where
     new : Bits
     new = register core 2
+
     go : (t : Bool) → register (cond t (stack_moved core old.value new.value) core) r ≡ register core r
     go true = moved-stays core r old.value new.value
     go false = refl

@@ -1,6 +1,6 @@
 -- What an instruction leaves, where a register that it doesn't look at holds other bits.
 use Rattle.std.proofs.Common.{◌≡◌, ℕ, ◌+◌, ◌*◌, ◌/◌, ◌%◌, ◌^◌, ◌≤◌, ◌==◌, ◌&&◌, ◌||◌, ◌++◌, Bool, true, false}
-use Rattle.std.proofs.Common.{List, [], not, Option, Some, None, refl, ap, ap₂, sym, subst, ◌∙◌, arith}
+use Rattle.std.proofs.Common.{List, [], not, Option, Some, None, refl, ap, ap₂, subst, ◌∙◌, arith}
 use Rattle.std.proofs.lemmas.Bool.Decides.{nat_tests}
 use Rattle.definedness.specs.declared.Bits.{Bits}
 use Rattle.error_events.specs.declared.event.Event.{Event}
@@ -11,19 +11,19 @@ use Rattle.instructions.specs.Widths.{width_len}
 use Rattle.instructions.specs.declared.hint.StackHint.{StackHint}
 use Rattle.instructions.specs.declared.width.Width.{Width}
 use Rattle.instructions.specs.declared.instruction.Comparison.{Comparison}
-use Rattle.instructions.specs.declared.instruction.Operation.{Operation}
 use Rattle.instructions.specs.declared.instruction.Instruction.{Instruction}
 use Rattle.instructions.specs.declared.instruction.Instruction.TheVariants.{LoadUpper, AddUpper, Jump, JumpRegister}
 use Rattle.instructions.specs.declared.instruction.Instruction.TheVariants.{Branch, Load, Store, Immediate, Registers}
 use Rattle.instructions.specs.declared.instruction.Instruction.TheVariants.{Fence, CallEnvironment, Breakpoint}
 use Rattle.shadow_memory.specs.Ranges.{byte_of, little_word}
 use Rattle.guest_machine.specs.State.{Core}
-use Rattle.guest_machine.specs.Registers.{known, register, set_register, defined, tested}
-use Rattle.guest_machine.specs.Effects.{Effect, advanced, branch, branch_errors, branch_tested, branched, jump}
-use Rattle.guest_machine.specs.Effects.{jump_register, linked_jump, load, quiet, raising, results_in, store, stored_core}
+use Rattle.guest_machine.specs.Registers.{known, register, set_register, tested}
+use Rattle.guest_machine.specs.Effects.{Effect, advanced, branch, branch_errors, branch_tested, branched}
+use Rattle.guest_machine.specs.Effects.{jump_register, linked_jump, load, quiet, raising, results_in, store}
+use Rattle.guest_machine.specs.Effects.{stored_core}
 use Rattle.guest_machine.specs.Effects.{target}
 use Rattle.guest_machine.specs.Errors.{access_errors, event_unless, here, taken_undef, value_errors}
-use Rattle.guest_machine.specs.Exec.{Terms, Uses, accessed, calls_heap, reading, row_asks, row_effect, row_uses, writing}
+use Rattle.guest_machine.specs.Exec.{Terms, calls_heap, reading, row_asks, row_effect, row_uses, writing}
 use Rattle.guest_machine.specs.Spans.{span_at}
 use Rattle.register_uses.specs.Passing.{completes, reads, writes}
 use Rattle.register_uses.proofs.Replaced.{re, register-other, set-other, set-again, set-stays, tested-other}

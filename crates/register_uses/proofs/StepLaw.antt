@@ -1,5 +1,4 @@
--- A register that a step doesn't look at may hold anything, and is after the step what it was, or what the step makes of
--- it.
+-- A register that a step doesn't look at may hold anything: it doesn't matter, or only to the register itself.
 use Rattle.std.proofs.Common.{◌≡◌, ℕ, ◌+◌, ◌≤◌, ◌==◌, ◌&&◌, ◌||◌, ◌++◌, Bool, true, false, cond, List, length, Option}
 use Rattle.std.proofs.Common.{Some, None, refl, ap, ap₂, sym, subst, ◌∙◌, arith}
 use Rattle.std.proofs.lemmas.Bool.Decides.{nat_tests}
@@ -8,7 +7,7 @@ use Rattle.instructions.specs.Instructions.{row_of}
 use Rattle.instructions.specs.declared.instruction.Instruction.{Instruction}
 use Rattle.run_values.specs.declared.status.Stop.TheVariants.{Misaligned}
 use Rattle.guest_machine.specs.State.{Core, State}
-use Rattle.guest_machine.specs.Registers.{register, set_register}
+use Rattle.guest_machine.specs.Registers.{register}
 use Rattle.guest_machine.specs.Effects.{Effect, quiet, stops}
 use Rattle.guest_machine.specs.Errors.{event_about}
 use Rattle.guest_machine.specs.StackPointer.{stack_ruled}
@@ -18,9 +17,8 @@ use Rattle.guest_machine.specs.Exec.{given_at, intake_at, intake_of, is_aligned,
 use Rattle.guest_machine.specs.Exec.{left_at, outcome, plan, rounded, row_asks, row_effect, row_uses, seen_also}
 use Rattle.guest_machine.specs.Exec.{taken_from, terms_of, unfetched, uses_at, written_to}
 use Rattle.guest_machine.specs.declared.setup.Setup.{Setup}
-use Rattle.register_uses.specs.declared.passing.Passing.{Passing}
 use Rattle.register_uses.specs.declared.passing.Passing.TheVariants.{Looks, Keeps, Overwrites}
-use Rattle.register_uses.specs.Passing.{completes, looks_at, passing, passing_deed, passing_row, reads, with_register}
+use Rattle.register_uses.specs.Passing.{completes, passing, passing_deed, passing_row, reads, with_register}
 use Rattle.register_uses.specs.Passing.{writes}
 use Rattle.register_uses.specs.Laws.{KeepsRegisters, OverwritesRegisters}
 use Rattle.register_uses.proofs.Replaced.{re, set-is, register-other, ruled-other, ruled-stays, stack-stands}
@@ -90,11 +88,13 @@ module _ (core : Core) (row : Option Instruction) (r : ℕ) (bits : Bits) (terms
     where
       e : row_effect (re core r bits) row terms given taken ≡ over before r bits
       e = row-other core row r bits terms given taken k.unread k.unwritten
+
       two : (r == 2) ≡ true → r ≡ 2
       two h = number r h
         where
           number : (m : ℕ) → (m == 2) ≡ true → m ≡ 2
           number m h = grind (arith, nat_tests)
+
       go : (t : Bool) → (r == 2) ≡ t
           → stack_ruled (register (re core r bits) 2) (re before.core r bits)
           ≡ re (stack_ruled (register core 2) before.core) r bits
@@ -178,64 +178,65 @@ by-row s setup row heap asks =
     }
 
 module _ (s : State) (setup : Setup) (row : Option Instruction) (r : ℕ) (bits : Bits) (asks : Option ℕ) (heap : Bool)
-    where
-  abbrev terms : Terms
-  terms = terms_of heap asks s.position (length s.output) setup
+  where
+    abbrev terms : Terms
+    terms = terms_of heap asks s.position (length s.output) setup
 
-  abbrev given : List ℕ
-  given = given_at s.position terms.intake.count setup
+    abbrev given : List ℕ
+    given = given_at s.position terms.intake.count setup
 
-  abbrev uses : Uses
-  uses = row_uses s.core row terms
+    abbrev uses : Uses
+    uses = row_uses s.core row terms
 
-  abbrev effect : Effect
-  effect = rounded s.core (row_effect s.core row terms given (taken_from s.bytes uses.reads))
+    abbrev effect : Effect
+    effect = rounded s.core (row_effect s.core row terms given (taken_from s.bytes uses.reads))
 
-  abbrev other : Effect
-  other =
-      rounded (re s.core r bits) (row_effect (re s.core r bits) row terms given
-      (taken_from s.bytes (row_uses (re s.core r bits) row terms).reads))
+    abbrev other : Effect
+    other =
+        rounded (re s.core r bits) (row_effect (re s.core r bits) row terms given
+        (taken_from s.bytes (row_uses (re s.core r bits) row terms).reads))
 
-  -- with the other bits, as far as the ranges read
-  under : reads row r ≡ false → other ≡ rounded (re s.core r bits)
-      (row_effect (re s.core r bits) row terms given (taken_from s.bytes uses.reads))
-  under h =
-      ap (λ u. rounded (re s.core r bits) (row_effect (re s.core r bits) row terms given (taken_from s.bytes u.reads)))
-      (uses-other s.core row r bits terms h)
+    -- with the other bits, as far as the ranges read
+    under : reads row r ≡ false → other ≡ rounded (re s.core r bits)
+        (row_effect (re s.core r bits) row terms given (taken_from s.bytes uses.reads))
+    under h =
+        let far = re s.core r bits in
+        ap (λ u. rounded far (row_effect far row terms given (taken_from s.bytes u.reads)))
+        (uses-other s.core row r bits terms h)
 
-  row-kept : IsKept s.core row r
-      → by-row (swapped s r bits) setup row heap asks ≡ swapped (by-row s setup row heap asks) r bits
-  unfolding by-row swapped
-  row-kept k =
-      let u = uses-other s.core row r bits terms k.unread in
-      let e = under k.unread ∙ rounded-kept s.core row r bits terms given (taken_from s.bytes uses.reads) k in
-      let intake = intake_of asks (left_at s.position setup) in
-      λ i. record {
-        bytes = written_to s.bytes (u i).writes (e i).made;
-        core = (e i).core;
-        position = s.position + intake.count;
-        end_seen = seen_also s.end_seen intake.ends;
-        output = s.output ++ (e i).output;
-        heap_calls = counted s.heap_calls heap;
-        events = s.events ++ (e i).raised;
-      }
+    row-kept : IsKept s.core row r
+        → by-row (swapped s r bits) setup row heap asks ≡ swapped (by-row s setup row heap asks) r bits
+    unfolding by-row swapped
+    row-kept k =
+        let u = uses-other s.core row r bits terms k.unread in
+        let e = under k.unread ∙ rounded-kept s.core row r bits terms given (taken_from s.bytes uses.reads) k in
+        let intake = intake_of asks (left_at s.position setup) in
+        λ i. record {
+          bytes = written_to s.bytes (u i).writes (e i).made;
+          core = (e i).core;
+          position = s.position + intake.count;
+          end_seen = seen_also s.end_seen intake.ends;
+          output = s.output ++ (e i).output;
+          heap_calls = counted s.heap_calls heap;
+          events = s.events ++ (e i).raised;
+        }
 
-  row-replaced : 1 ≤ r → IsReplaced s.core row r
-      → by-row (swapped s r bits) setup row heap asks ≡ by-row s setup row heap asks
-  unfolding by-row swapped
-  row-replaced one k =
-      let u = uses-other s.core row r bits terms k.unread in
-      let e = under k.unread ∙ rounded-replaced s.core row r bits terms given (taken_from s.bytes uses.reads) one k in
-      let intake = intake_of asks (left_at s.position setup) in
-      λ i. record {
-        bytes = written_to s.bytes (u i).writes (e i).made;
-        core = (e i).core;
-        position = s.position + intake.count;
-        end_seen = seen_also s.end_seen intake.ends;
-        output = s.output ++ (e i).output;
-        heap_calls = counted s.heap_calls heap;
-        events = s.events ++ (e i).raised;
-      }
+    row-replaced : 1 ≤ r → IsReplaced s.core row r
+        → by-row (swapped s r bits) setup row heap asks ≡ by-row s setup row heap asks
+    unfolding by-row swapped
+    row-replaced one k =
+        let u = uses-other s.core row r bits terms k.unread in
+        let e = under k.unread ∙ rounded-replaced s.core row r bits terms given (taken_from s.bytes uses.reads) one k in
+        let intake = intake_of asks (left_at s.position setup) in
+        λ i. record {
+          bytes = written_to s.bytes (u i).writes (e i).made;
+          core = (e i).core;
+          position = s.position + intake.count;
+          end_seen = seen_also s.end_seen intake.ends;
+          output = s.output ++ (e i).output;
+          heap_calls = counted s.heap_calls heap;
+          events = s.events ++ (e i).raised;
+        }
 
 -- neither asks for input nor calls the heap
 plain : (s : State) (setup : Setup) (row : Option Instruction) (r : ℕ) → reads row r ≡ false
@@ -250,6 +251,7 @@ unfetched-other core r bits = go (is_running core.status) (is_aligned core.pc) (
   where
     changed : Core
     changed = re core r bits
+
     go : (t u : Bool) (fault : Option ℕ)
         → cond t (cond u (jump_fault changed fault) (stops changed Misaligned)) (quiet changed)
         ≡ over (cond t (cond u (jump_fault core fault) (stops core Misaligned)) (quiet core)) r bits

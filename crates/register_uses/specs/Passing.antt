@@ -1,7 +1,7 @@
 -- What a register is to one step: the step looks at it, keeps it, or overwrites it without a look (RISC-V Unprivileged
 -- ISA 20191213, chapters 2 and 7; the stack pointer rule of the Valgrind user manual, section 4.5.2).
 use Rattle.std.specs.Prelude.{ℕ, ◌+◌, ◌*◌, ◌/◌, ◌%◌, ◌^◌, ◌==◌, ◌&&◌, ◌||◌, Bool, true, false, if◌then◌else◌}
-use Rattle.std.specs.Prelude.{Option, Some, None}
+use Rattle.std.specs.Prelude.{Option, Some}
 use Rattle.definedness.specs.declared.Bits.{Bits}
 use Rattle.instructions.specs.Instructions.{row_of}
 use Rattle.instructions.specs.declared.instruction.Instruction.{Instruction}

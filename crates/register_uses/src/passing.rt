@@ -66,7 +66,10 @@ fn completes(machine: &Machine, row: &Instruction) -> bool
 {
     match *row {
         Instruction::Jump { imm, .. } => machine.pc().wrapping_add(imm) % 4 == 0,
-        Instruction::JumpRegister { rs1, imm, .. } => machine.register(rs1).value.wrapping_add(imm) / 2 * 2 % 4 == 0,
+        Instruction::JumpRegister { rs1, imm, .. } => {
+            let target = machine.register(rs1).value.wrapping_add(imm);
+            target / 2 * 2 % 4 == 0
+        }
         _ => true,
     }
 }
@@ -83,7 +86,11 @@ fn is_ready(machine: &Machine) -> bool
 fn called_here(machine: &Machine, hooks: &Hooks) -> Option<Hook>
     ensures { (s : State) → Shows machine.now s → result ≡ called_here s.core hooks.now }
 {
-    if is_ready(machine) { hooks.at(machine.pc()) } else { None }
+    if is_ready(machine) {
+        hooks.at(machine.pc())
+    } else {
+        None
+    }
 }
 
 /// The word at pc, if it may be fetched.
