@@ -17,13 +17,13 @@ use Rattle.run_values.specs.declared.status.Stop.TheVariants.{Misaligned}
 use Rattle.shadow_memory.specs.declared.cells.RangeKind.{RangeKind}
 use Rattle.shadow_memory.specs.declared.cells.RangeKind.TheVariants.{NoAccess, Undefined}
 
-abbrev pub re : Core → ℕ → Bits → Core
-re core r bits = record core { registers = slice_set core.registers r bits }
+abbrev pub put : Core → ℕ → Bits → Core
+put core r bits = record core { registers = slice_set core.registers r bits }
 
 nonzero : (r : ℕ) → 1 ≤ r → (r == 0) ≡ false
 nonzero r one = grind (arith, nat_tests)
 
-pub set-is : (core : Core) (r : ℕ) (bits : Bits) → 1 ≤ r → set_register core r bits ≡ re core r bits
+pub set-is : (core : Core) (r : ℕ) (bits : Bits) → 1 ≤ r → set_register core r bits ≡ put core r bits
 unfolding set_register
 set-is core r bits one =
     ap (λ t. record core { registers = cond t core.registers (slice_set core.registers r bits) }) (nonzero r one)
@@ -37,13 +37,13 @@ apart-back r q h = λ e. grind (arith, nat_tests)
 -- ---- one register
 
 pub register-other : (core : Core) (r q : ℕ) (bits : Bits) → (r == q) ≡ false
-    → register (re core r bits) q ≡ register core q
+    → register (put core r bits) q ≡ register core q
 unfolding register
 register-other core r q bits h =
     ap (λ x. cond (q == 0) (known 0) x) (get_or-set_other core.registers r q bits (known 0) (apart-back r q h))
 
 pub set-other : (core : Core) (r q : ℕ) (bits new : Bits) → (r == q) ≡ false
-    → set_register (re core r bits) q new ≡ re (set_register core q new) r bits
+    → set_register (put core r bits) q new ≡ put (set_register core q new) r bits
 unfolding set_register
 set-other core r q bits new h = go (q == 0)
   where
@@ -56,7 +56,7 @@ set-other core r q bits new h = go (q == 0)
     go false = ap (λ ys. record core { registers = ys }) (set_comm xs r q bits new (apart r q h))
 
 pub set-again : (core : Core) (r : ℕ) (bits new : Bits) → 1 ≤ r
-    → set_register (re core r bits) r new ≡ set_register core r new
+    → set_register (put core r bits) r new ≡ set_register core r new
 unfolding set_register
 set-again core r bits new one =
     let xs = core.registers in
@@ -82,23 +82,23 @@ set-stays core r q new h = ap (λ x. cond (r == 0) (known 0) x) (go (q == 0))
 -- ---- tests
 
 pub defined-other : (core : Core) (r q : ℕ) (bits : Bits) → (r == q) ≡ false
-    → defined (re core r bits) q ≡ re (defined core q) r bits
+    → defined (put core r bits) q ≡ put (defined core q) r bits
 defined-other core r q bits h =
-    ap (λ (x : Bits). set_register (re core r bits) q (known x.value)) (register-other core r q bits h)
+    ap (λ (x : Bits). set_register (put core r bits) q (known x.value)) (register-other core r q bits h)
     ∙ set-other core r q bits (known (register core q).value) h
 
 pub tested-other : (core : Core) (r q : ℕ) (bits : Bits) → (r == q) ≡ false
-    → tested (re core r bits) q ≡ re (tested core q) r bits
+    → tested (put core r bits) q ≡ put (tested core q) r bits
 unfolding tested
 tested-other core r q bits h =
-    ap (λ (x : Bits). cond (x.undef == 0) (re core r bits) (set_register (re core r bits) q (known x.value)))
+    ap (λ (x : Bits). cond (x.undef == 0) (put core r bits) (set_register (put core r bits) q (known x.value)))
     (register-other core r q bits h) ∙ go ((register core q).undef == 0)
   where
     new : Bits
     new = known (register core q).value
 
-    go : (t : Bool) → cond t (re core r bits) (set_register (re core r bits) q new)
-        ≡ re (cond t core (set_register core q new)) r bits
+    go : (t : Bool) → cond t (put core r bits) (set_register (put core r bits) q new)
+        ≡ put (cond t core (set_register core q new)) r bits
     go true = refl
     go false = set-other core r q bits new h
 
@@ -114,7 +114,7 @@ tested-stays core r q h = go ((register core q).undef == 0)
     go false = set-stays core r q new h
 
 pub target-other : (core : Core) (r q : ℕ) (bits : Bits) (imm : ℕ) → (r == q) ≡ false
-    → target (re core r bits) q imm ≡ target core q imm
+    → target (put core r bits) q imm ≡ target core q imm
 unfolding target
 target-other core r q bits imm h = ap (λ (x : Bits). (x.value + imm) % 2 ^ 32) (register-other core r q bits h)
 
@@ -122,7 +122,7 @@ target-other core r q bits imm h = ap (λ (x : Bits). (x.value + imm) % 2 ^ 32) 
 
 pub linked-other : (core : Core) (hint : StackHint) (r rd to : ℕ) (bits : Bits)
     → (to % 4 == 0) && (r == rd) ≡ false
-    → linked_jump (re core r bits) hint rd to ≡ re (linked_jump core hint rd to) r bits
+    → linked_jump (put core r bits) hint rd to ≡ put (linked_jump core hint rd to) r bits
 unfolding linked_jump
 linked-other core hint r rd to bits = go (to % 4 == 0)
   where
@@ -130,9 +130,9 @@ linked-other core hint r rd to bits = go (to % 4 == 0)
     link = known ((core.pc + 4) % 2 ^ 32)
 
     go : (t : Bool) → t && (r == rd) ≡ false
-        → cond t (moved_to (set_register (followed (re core r bits) hint to) rd link) to)
-        (stopped (re core r bits) Misaligned)
-        ≡ re (cond t (moved_to (set_register (followed core hint to) rd link) to) (stopped core Misaligned)) r bits
+        → cond t (moved_to (set_register (followed (put core r bits) hint to) rd link) to)
+        (stopped (put core r bits) Misaligned)
+        ≡ put (cond t (moved_to (set_register (followed core hint to) rd link) to) (stopped core Misaligned)) r bits
     go true h = ap (λ k. moved_to k to) (set-other (followed core hint to) r rd bits link h)
     go false h = refl
 
@@ -151,12 +151,12 @@ linked-stays core hint r rd to = go (to % 4 == 0)
     go false h = refl
 
 pub linked-again : (core : Core) (hint : StackHint) (r to : ℕ) (bits : Bits) → 1 ≤ r → (to % 4 == 0) ≡ true
-    → linked_jump (re core r bits) hint r to ≡ linked_jump core hint r to
+    → linked_jump (put core r bits) hint r to ≡ linked_jump core hint r to
 unfolding linked_jump
 linked-again core hint r to bits one h =
     let link = known ((core.pc + 4) % 2 ^ 32) in
-    ap (λ t. cond t (moved_to (set_register (followed (re core r bits) hint to) r link) to)
-    (stopped (re core r bits) Misaligned)) h
+    ap (λ t. cond t (moved_to (set_register (followed (put core r bits) hint to) r link) to)
+    (stopped (put core r bits) Misaligned)) h
     ∙ ap (λ k. moved_to k to) (set-again (followed core hint to) r bits link one)
     ∙ ap (λ t. cond t (moved_to (set_register (followed core hint to) r link) to) (stopped core Misaligned)) (sym h)
 
@@ -164,15 +164,15 @@ linked-again core hint r to bits one h =
 
 pub branch-other : (core : Core) (test : Comparison) (r rs1 rs2 : ℕ) (bits : Bits)
     → (r == rs1) ≡ false → (r == rs2) ≡ false
-    → branch_tested (re core r bits) test rs1 rs2 ≡ re (branch_tested core test rs1 rs2) r bits
+    → branch_tested (put core r bits) test rs1 rs2 ≡ put (branch_tested core test rs1 rs2) r bits
 unfolding branch_tested
 branch-other core test r rs1 rs2 bits one two =
-    ap₂ (λ x y. cond (is_undecided test x y) (defined (defined (re core r bits) rs1) rs2) (re core r bits))
+    ap₂ (λ x y. cond (is_undecided test x y) (defined (defined (put core r bits) rs1) rs2) (put core r bits))
     (register-other core r rs1 bits one) (register-other core r rs2 bits two)
     ∙ go (is_undecided test (register core rs1) (register core rs2))
   where
-    go : (t : Bool) → cond t (defined (defined (re core r bits) rs1) rs2) (re core r bits)
-        ≡ re (cond t (defined (defined core rs1) rs2) core) r bits
+    go : (t : Bool) → cond t (defined (defined (put core r bits) rs1) rs2) (put core r bits)
+        ≡ put (cond t (defined (defined core rs1) rs2) core) r bits
     go true =
         ap (λ k. defined k rs2) (defined-other core r rs1 bits one) ∙ defined-other (defined core rs1) r rs2 bits two
     go false = refl
@@ -187,12 +187,12 @@ branch-stays core test r rs1 rs2 one two = go (is_undecided test (register core 
     go false = refl
 
 pub branched-other : (t : Bool) (core : Core) (r to : ℕ) (bits : Bits)
-    → branched t (re core r bits) to ≡ re (branched t core to) r bits
+    → branched t (put core r bits) to ≡ put (branched t core to) r bits
 unfolding branched jumped
 branched-other true core r to bits = go (to % 4 == 0)
   where
-    go : (t : Bool) → cond t (moved_to (re core r bits) to) (stopped (re core r bits) Misaligned)
-        ≡ re (cond t (moved_to core to) (stopped core Misaligned)) r bits
+    go : (t : Bool) → cond t (moved_to (put core r bits) to) (stopped (put core r bits) Misaligned)
+        ≡ put (cond t (moved_to core to) (stopped core Misaligned)) r bits
     go true = refl
     go false = refl
 branched-other false core r to bits = refl
@@ -209,15 +209,15 @@ branched-stays false core r to = refl
 -- ---- the stack pointer rule
 
 framed-other : (core : Core) (r low high : ℕ) (kind : RangeKind) (bits : Bits)
-    → framed (re core r bits) low high kind ≡ re (framed core low high kind) r bits
+    → framed (put core r bits) low high kind ≡ put (framed core low high kind) r bits
 unfolding framed
 framed-other core r low high kind bits = go _
   where
     n : ℕ
     n = high - low
 
-    go : (t : Bool) → cond t (ranged (re core r bits) low n kind) (re core r bits)
-        ≡ re (cond t (ranged core low n kind) core) r bits
+    go : (t : Bool) → cond t (ranged (put core r bits) low n kind) (put core r bits)
+        ≡ put (cond t (ranged core low n kind) core) r bits
     go true = refl
     go false = refl
 
@@ -231,14 +231,14 @@ framed-stays core r low high kind = go _
     go false = refl
 
 moved-other : (core : Core) (r old new : ℕ) (bits : Bits)
-    → stack_moved (re core r bits) old new ≡ re (stack_moved core old new) r bits
+    → stack_moved (put core r bits) old new ≡ put (stack_moved core old new) r bits
 unfolding stack_moved
 moved-other core r old new bits = go (nat_lt new old) (nat_lt old new)
   where
     go : (t u : Bool)
-        → cond t (framed (re core r bits) new old Undefined)
-        (cond u (framed (re core r bits) old new NoAccess) (re core r bits))
-        ≡ re (cond t (framed core new old Undefined) (cond u (framed core old new NoAccess) core)) r bits
+        → cond t (framed (put core r bits) new old Undefined)
+        (cond u (framed (put core r bits) old new NoAccess) (put core r bits))
+        ≡ put (cond t (framed core new old Undefined) (cond u (framed core old new NoAccess) core)) r bits
     go true u = framed-other core r new old Undefined bits
     go false true = framed-other core r old new NoAccess bits
     go false false = refl
@@ -255,17 +255,18 @@ moved-stays core r old new = go (nat_lt new old) (nat_lt old new)
     go false false = refl
 
 pub ruled-other : (old : Bits) (core : Core) (r : ℕ) (bits : Bits) → (r == 2) ≡ false
-    → stack_ruled old (re core r bits) ≡ re (stack_ruled old core) r bits
+    → stack_ruled old (put core r bits) ≡ put (stack_ruled old core) r bits
 unfolding stack_ruled
 ruled-other old core r bits h =
-    ap (λ (x : Bits). cond (is_stack_pointer old && is_stack_pointer x) (stack_moved (re core r bits) old.value x.value)
-    (re core r bits)) (register-other core r 2 bits h) ∙ go _
+    let far = put core r bits in
+    ap (λ (x : Bits). cond (is_stack_pointer old && is_stack_pointer x) (stack_moved far old.value x.value) far)
+    (register-other core r 2 bits h) ∙ go _
   where
     new : Bits
     new = register core 2
 
-    go : (t : Bool) → cond t (stack_moved (re core r bits) old.value new.value) (re core r bits)
-        ≡ re (cond t (stack_moved core old.value new.value) core) r bits
+    go : (t : Bool) → cond t (stack_moved (put core r bits) old.value new.value) (put core r bits)
+        ≡ put (cond t (stack_moved core old.value new.value) core) r bits
     go true = moved-other core r old.value new.value bits
     go false = refl
 

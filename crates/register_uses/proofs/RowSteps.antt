@@ -26,13 +26,13 @@ use Rattle.guest_machine.specs.Errors.{access_errors, event_unless, here, taken_
 use Rattle.guest_machine.specs.Exec.{Terms, calls_heap, reading, row_asks, row_effect, row_uses, writing}
 use Rattle.guest_machine.specs.Spans.{span_at}
 use Rattle.register_uses.specs.Passing.{completes, reads, writes}
-use Rattle.register_uses.proofs.Replaced.{re, register-other, set-other, set-again, set-stays, tested-other}
+use Rattle.register_uses.proofs.Replaced.{put, register-other, set-other, set-again, set-stays, tested-other}
 use Rattle.register_uses.proofs.Replaced.{tested-stays, target-other, linked-other, linked-stays, linked-again}
 use Rattle.register_uses.proofs.Replaced.{branch-other, branch-stays, branched-other, branched-stays}
 
 -- an effect whose core has other bits in a register
 abbrev pub over : Effect → ℕ → Bits → Effect
-over e r bits = record { core = re e.core r bits; raised = e.raised; made = e.made; output = e.output }
+over e r bits = record { core = put e.core r bits; raised = e.raised; made = e.made; output = e.output }
 
 first : (p q : Bool) → p || q ≡ false → p ≡ false
 first true q h = h
@@ -56,13 +56,13 @@ number m n h = grind (arith, nat_tests)
 -- ---- the parts of an effect, with the operands as values
 
 result-other : (core : Core) (r rd : ℕ) (bits new : Bits) → (r == rd) ≡ false
-    → results_in (re core r bits) rd new ≡ over (results_in core rd new) r bits
+    → results_in (put core r bits) rd new ≡ over (results_in core rd new) r bits
 result-other core r rd bits new h = ap (λ k. quiet (advanced k)) (set-other core r rd bits new h)
 
 result-again : (core : Core) (r rd : ℕ) (bits new : Bits) → 1 ≤ r → (r == rd) ≡ true
-    → results_in (re core r bits) rd new ≡ results_in core rd new
+    → results_in (put core r bits) rd new ≡ results_in core rd new
 result-again core r rd bits new one h =
-    subst (λ q. results_in (re core r bits) q new ≡ results_in core q new) (number r rd h)
+    subst (λ q. results_in (put core r bits) q new ≡ results_in core q new) (number r rd h)
     (ap (λ k. quiet (advanced k)) (set-again core r bits new one))
 
 result-stays : (core : Core) (r rd : ℕ) (new : Bits) → (r == rd) ≡ false
@@ -71,7 +71,7 @@ unfolding register
 result-stays core r rd new h = set-stays core r rd new h
 
 errors-other : (core : Core) (r q : ℕ) (bits : Bits) → (r == q) ≡ false
-    → value_errors (re core r bits) q ≡ value_errors core q
+    → value_errors (put core r bits) q ≡ value_errors core q
 errors-other core r q bits h =
     ap (λ (x : Bits). event_unless (x.undef == 0) (here core) Value) (register-other core r q bits h)
 
@@ -87,8 +87,8 @@ loaded now start errors width signed rd taken =
 
 loaded-at : (core : Core) (r rs1 imm : ℕ) (bits : Bits) (width : Width) (signed : Bool) (rd : ℕ) (taken : ℕ → ℕ)
     → (r == rs1) ≡ false
-    → load (re core r bits) width signed rd rs1 imm taken
-    ≡ loaded (re (tested core rs1) r bits) (target core rs1 imm) (value_errors core rs1) width signed rd taken
+    → load (put core r bits) width signed rd rs1 imm taken
+    ≡ loaded (put (tested core rs1) r bits) (target core rs1 imm) (value_errors core rs1) width signed rd taken
 unfolding loaded
 loaded-at core r rs1 imm bits width signed rd taken h =
     λ i. loaded (tested-other core r rs1 bits h i) (target-other core r rs1 bits imm h i)
@@ -107,7 +107,7 @@ load-raised now start errors width =
 
 load-other : (core : Core) (r rs1 imm : ℕ) (bits : Bits) (width : Width) (signed : Bool) (rd : ℕ) (taken : ℕ → ℕ)
     → (r == rs1) ≡ false → (r == rd) ≡ false
-    → load (re core r bits) width signed rd rs1 imm taken ≡ over (load core width signed rd rs1 imm taken) r bits
+    → load (put core r bits) width signed rd rs1 imm taken ≡ over (load core width signed rd rs1 imm taken) r bits
 unfolding loaded load-bits load-raised
 load-other core r rs1 imm bits width signed rd taken h g =
     let now = tested core rs1 in
@@ -118,14 +118,14 @@ load-other core r rs1 imm bits width signed rd taken h g =
 
 load-again : (core : Core) (r rs1 imm : ℕ) (bits : Bits) (width : Width) (signed : Bool) (rd : ℕ) (taken : ℕ → ℕ)
     → 1 ≤ r → (r == rs1) ≡ false → (r == rd) ≡ true
-    → load (re core r bits) width signed rd rs1 imm taken ≡ load core width signed rd rs1 imm taken
+    → load (put core r bits) width signed rd rs1 imm taken ≡ load core width signed rd rs1 imm taken
 unfolding loaded load-bits load-raised
 load-again core r rs1 imm bits width signed rd taken one h g =
     let now = tested core rs1 in
     let start = target core rs1 imm in
     let new = load-bits now start width signed taken in
-    let same : set_register (re now r bits) rd new ≡ set_register now rd new =
-    subst (λ q. set_register (re now r bits) q new ≡ set_register now q new) (number r rd g)
+    let same : set_register (put now r bits) rd new ≡ set_register now rd new =
+    subst (λ q. set_register (put now r bits) q new ≡ set_register now q new) (number r rd g)
     (set-again now r bits new one) in
     loaded-at core r rs1 imm bits width signed rd taken h
     ∙ ap (λ k. raising (advanced k) (load-raised now start (value_errors core rs1) width)) same
@@ -142,17 +142,17 @@ stored now start second errors width =
 
 store-other : (core : Core) (r rs1 rs2 imm : ℕ) (bits : Bits) (width : Width)
     → (r == rs1) ≡ false → (r == rs2) ≡ false
-    → store (re core r bits) width rs1 rs2 imm ≡ over (store core width rs1 rs2 imm) r bits
+    → store (put core r bits) width rs1 rs2 imm ≡ over (store core width rs1 rs2 imm) r bits
 unfolding stored
 store-other core r rs1 rs2 imm bits width h g =
-    let moved : register (tested (re core r bits) rs1) rs2 ≡ register (tested core rs1) rs2 =
+    let moved : register (tested (put core r bits) rs1) rs2 ≡ register (tested core rs1) rs2 =
     ap (λ k. register k rs2) (tested-other core r rs1 bits h) ∙ register-other (tested core rs1) r rs2 bits g in
     λ i. stored (tested-other core r rs1 bits h i) (target-other core r rs1 bits imm h i) (moved i)
     (errors-other core r rs1 bits h i) width
 
 branch-same : (core : Core) (test : Comparison) (r rs1 rs2 imm : ℕ) (bits : Bits)
     → (r == rs1) ≡ false → (r == rs2) ≡ false
-    → branch (re core r bits) test rs1 rs2 imm ≡ over (branch core test rs1 rs2 imm) r bits
+    → branch (put core r bits) test rs1 rs2 imm ≡ over (branch core test rs1 rs2 imm) r bits
 branch-same core test r rs1 rs2 imm bits h g =
     let to = (core.pc + imm) % 2 ^ 32 in
     let one = register-other core r rs1 bits h in
@@ -166,7 +166,7 @@ branch-same core test r rs1 rs2 imm bits h g =
 
 jump-other : (core : Core) (r rd rs1 imm : ℕ) (bits : Bits) → (r == rs1) ≡ false
     → (target core rs1 imm / 2 * 2 % 4 == 0) && (r == rd) ≡ false
-    → jump_register (re core r bits) rd rs1 imm ≡ over (jump_register core rd rs1 imm) r bits
+    → jump_register (put core r bits) rd rs1 imm ≡ over (jump_register core rd rs1 imm) r bits
 jump-other core r rd rs1 imm bits h g =
     let hint = jalr_hint rd rs1 in
     let to = target core rs1 imm / 2 * 2 in
@@ -175,15 +175,15 @@ jump-other core r rd rs1 imm bits h g =
     ∙ ap (λ k. raising k (value_errors core rs1)) (linked-other (tested core rs1) hint r rd to bits g)
 
 linked-over : (core : Core) (hint : StackHint) (r rd to : ℕ) (bits : Bits) → 1 ≤ r → (to % 4 == 0) && (r == rd) ≡ true
-    → linked_jump (re core r bits) hint rd to ≡ linked_jump core hint rd to
+    → linked_jump (put core r bits) hint rd to ≡ linked_jump core hint rd to
 linked-over core hint r rd to bits one g =
-    subst (λ q. linked_jump (re core r bits) hint q to ≡ linked_jump core hint q to)
+    subst (λ q. linked_jump (put core r bits) hint q to ≡ linked_jump core hint q to)
     (number r rd (right (to % 4 == 0) (r == rd) g))
     (linked-again core hint r to bits one (left (to % 4 == 0) (r == rd) g))
 
 jump-again : (core : Core) (r rd rs1 imm : ℕ) (bits : Bits) → 1 ≤ r → (r == rs1) ≡ false
     → (target core rs1 imm / 2 * 2 % 4 == 0) && (r == rd) ≡ true
-    → jump_register (re core r bits) rd rs1 imm ≡ jump_register core rd rs1 imm
+    → jump_register (put core r bits) rd rs1 imm ≡ jump_register core rd rs1 imm
 jump-again core r rd rs1 imm bits one h g =
     let hint = jalr_hint rd rs1 in
     let to = target core rs1 imm / 2 * 2 in
@@ -196,7 +196,7 @@ jump-again core r rd rs1 imm bits one h g =
 -- one that keeps the register
 pub row-other : (core : Core) (row : Option Instruction) (r : ℕ) (bits : Bits) (terms : Terms) (given : List ℕ)
     (taken : ℕ → ℕ) → reads row r ≡ false → completes core row && writes row r ≡ false
-    → row_effect (re core r bits) row terms given taken ≡ over (row_effect core row terms given taken) r bits
+    → row_effect (put core r bits) row terms given taken ≡ over (row_effect core row terms given taken) r bits
 unfolding row_effect reads writes completes
 row-other core None r bits terms given taken h w = refl
 row-other core (Some (LoadUpper rd imm)) r bits terms given taken h w = result-other core r rd bits _ w
@@ -211,10 +211,10 @@ row-other core (Some (Load width signed rd rs1 imm)) r bits terms given taken h 
 row-other core (Some (Store width rs1 rs2 imm)) r bits terms given taken h w =
     store-other core r rs1 rs2 imm bits width (first _ _ h) (second _ _ h)
 row-other core (Some (Immediate operation rd rs1 imm)) r bits terms given taken h w =
-    ap (λ x. results_in (re core r bits) rd (computed operation x (known imm))) (register-other core r rs1 bits h)
+    ap (λ x. results_in (put core r bits) rd (computed operation x (known imm))) (register-other core r rs1 bits h)
     ∙ result-other core r rd bits _ w
 row-other core (Some (Registers operation rd rs1 rs2)) r bits terms given taken h w =
-    ap₂ (λ x y. results_in (re core r bits) rd (computed operation x y))
+    ap₂ (λ x y. results_in (put core r bits) rd (computed operation x y))
     (register-other core r rs1 bits (first _ _ h)) (register-other core r rs2 bits (second _ _ h))
     ∙ result-other core r rd bits _ w
 row-other core (Some Fence) r bits terms given taken h w = refl
@@ -249,7 +249,7 @@ row-stays core (Some Breakpoint) r terms given taken h w = refl
 -- one that overwrites it
 pub row-again : (core : Core) (row : Option Instruction) (r : ℕ) (bits : Bits) (terms : Terms) (given : List ℕ)
     (taken : ℕ → ℕ) → 1 ≤ r → reads row r ≡ false → completes core row && writes row r ≡ true
-    → row_effect (re core r bits) row terms given taken ≡ row_effect core row terms given taken
+    → row_effect (put core r bits) row terms given taken ≡ row_effect core row terms given taken
 unfolding row_effect reads writes completes
 row-again core None r bits terms given taken one h w = cc
 row-again core (Some (LoadUpper rd imm)) r bits terms given taken one h w = result-again core r rd bits _ one w
@@ -263,10 +263,10 @@ row-again core (Some (Load width signed rd rs1 imm)) r bits terms given taken on
     load-again core r rs1 imm bits width signed rd taken one h w
 row-again core (Some (Store width rs1 rs2 imm)) r bits terms given taken one h w = cc
 row-again core (Some (Immediate operation rd rs1 imm)) r bits terms given taken one h w =
-    ap (λ x. results_in (re core r bits) rd (computed operation x (known imm))) (register-other core r rs1 bits h)
+    ap (λ x. results_in (put core r bits) rd (computed operation x (known imm))) (register-other core r rs1 bits h)
     ∙ result-again core r rd bits _ one w
 row-again core (Some (Registers operation rd rs1 rs2)) r bits terms given taken one h w =
-    ap₂ (λ x y. results_in (re core r bits) rd (computed operation x y))
+    ap₂ (λ x y. results_in (put core r bits) rd (computed operation x y))
     (register-other core r rs1 bits (first _ _ h)) (register-other core r rs2 bits (second _ _ h))
     ∙ result-again core r rd bits _ one w
 row-again core (Some Fence) r bits terms given taken one h w = cc
@@ -275,7 +275,7 @@ row-again core (Some Breakpoint) r bits terms given taken one h w = cc
 
 -- and what it reads and writes of memory is the same
 pub uses-other : (core : Core) (row : Option Instruction) (r : ℕ) (bits : Bits) (terms : Terms) → reads row r ≡ false
-    → row_uses (re core r bits) row terms ≡ row_uses core row terms
+    → row_uses (put core r bits) row terms ≡ row_uses core row terms
 unfolding row_uses reads
 uses-other core None r bits terms h = refl
 uses-other core (Some (LoadUpper rd imm)) r bits terms h = refl

@@ -16,7 +16,7 @@ use Rattle.run_values.specs.declared.alteration.Alteration.{Alteration}
 use Rattle.register_uses.specs.declared.passing.Passing.TheVariants.{Keeps, Overwrites}
 use Rattle.register_uses.specs.Passing.{passing, with_register}
 use Rattle.register_uses.specs.Laws.{IsOf, also, RunsKeep, RunsOverwrite}
-use Rattle.register_uses.proofs.StepLaw.{keeps-registers, overwrites-registers}
+use Rattle.register_uses.proofs.StepLaw.{keeps-registers, overwrites-registers, runs-before}
 
 same : (k : ℕ) → (k == k) ≡ true
 same k = grind (arith, nat_tests)
@@ -155,9 +155,10 @@ next k = omega arith
 
 -- the step from the altered state
 stepped-kept : (setup : Setup) (k r : ℕ) (act : Act) (s : State) → 1 ≤ r → IsOf act r → passing s setup r ≡ Keeps
-    → is_running s.core.status ≡ true → is_running (exec s setup).core.status ≡ true
+    → is_running (exec s setup).core.status ≡ true
     → exec (by-act k act s) setup ≡ by-act (suc k) act (exec s setup)
-stepped-kept setup k r act s one is h now then =
+stepped-kept setup k r act s one is h then =
+    let now = runs-before s setup then in
     let bits = bits-by act (register s.core r) in
     let law = keeps-registers s setup r bits one h in
     ap (λ t. exec t setup) (acts k act r s is now) ∙ law.0
@@ -181,15 +182,14 @@ module _ (start : State) (setup : Setup) (marks : List Alteration) (k r : ℕ) (
   came-next = ap (λ s. exec s setup) (at-step start setup marks k act)
 
   kept-there : passing (post start setup marks k) setup r ≡ Keeps
-      → is_running (post start setup marks k).core.status ≡ true
       → is_running (pre start setup marks (suc k)).core.status ≡ true → marks_at (suc k) marks ≡ []
       → post start setup (also marks k act) (suc k) ≡ post start setup (also marks (suc k) act) (suc k)
   unfolding post pre after_marks
-  kept-there h now then none =
+  kept-there h then none =
       let quiet : (s : State) → after_marks (suc k) marks s ≡ s = λ s. ap (λ ms. fold altered s ms) none in
       let left = also-elsewhere (suc k) k marks act (pre start setup (also marks k act) (suc k))
       (differs k (suc k) (omega arith)) ∙ quiet (pre start setup (also marks k act) (suc k)) in
-      left ∙ came-next ∙ stepped-kept setup k r act (post start setup marks k) one is h now then
+      left ∙ came-next ∙ stepped-kept setup k r act (post start setup marks k) one is h then
       ∙ ap (by-act (suc k) act) (sym (quiet (pre start setup marks (suc k))))
       ∙ sym (at-step start setup marks (suc k) act)
 
@@ -228,7 +228,6 @@ module _ (start : State) (setup : Setup) (marks : List Alteration) (k r : ℕ) (
 
 module _ (start : State) (setup : Setup) (marks : List Alteration) (k r : ℕ) (act : Act) (one : 1 ≤ r)
     (is : IsOf act r) (h : passing (post start setup marks k) setup r ≡ Keeps)
-    (now : is_running (post start setup marks k).core.status ≡ true)
     (then : is_running (pre start setup marks (k + 1)).core.status ≡ true) (none : marks_at (k + 1) marks ≡ []) where
   kept-post : (j : ℕ) → k < j → post start setup (also marks k act) j ≡ post start setup (also marks (k + 1) act) j
   kept-post j later =
@@ -236,7 +235,7 @@ module _ (start : State) (setup : Setup) (marks : List Alteration) (k r : ℕ) (
       subst (λ m. post start setup (also marks k act) j ≡ post start setup (also marks m act) j) (sym n)
       (alike start setup (also marks k act) (also marks (suc k) act) (suc k)
       (alike-later start setup marks k r act one is)
-      (kept-there start setup marks k r act one is h now
+      (kept-there start setup marks k r act one is h
       (subst (λ m. is_running (pre start setup marks m).core.status ≡ true) n then)
       (subst (λ m. marks_at m marks ≡ []) n none))
       (j - suc k) j (omega arith))
@@ -247,9 +246,9 @@ module _ (start : State) (setup : Setup) (marks : List Alteration) (k r : ℕ) (
   kept-pre (suc j) later = ap (λ s. exec s setup) (kept-post j (omega arith))
 
 pub runs-keep : RunsKeep
-runs-keep start setup marks k r act one is h now then none = (
-  kept-post start setup marks k r act one is h now then none,
-  kept-pre start setup marks k r act one is h now then none,
+runs-keep start setup marks k r act one is h then none = (
+  kept-post start setup marks k r act one is h then none,
+  kept-pre start setup marks k r act one is h then none,
 )
 
 pub runs-overwrite : RunsOverwrite

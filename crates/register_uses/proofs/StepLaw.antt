@@ -6,6 +6,11 @@ use Rattle.definedness.specs.declared.Bits.{Bits}
 use Rattle.instructions.specs.Instructions.{row_of}
 use Rattle.instructions.specs.declared.instruction.Instruction.{Instruction}
 use Rattle.run_values.specs.declared.status.Stop.TheVariants.{Misaligned}
+use Rattle.std.specs.Prelude.{is_none}
+use Rattle.guest_elf.specs.declared.hook.Hook.{Hook}
+use Rattle.guest_elf.specs.Hooks.{hook_at}
+use Rattle.shadow_memory.specs.Ranges.{window, little_word}
+use Rattle.guest_machine.specs.Exec.{deed_by}
 use Rattle.guest_machine.specs.State.{Core, State}
 use Rattle.guest_machine.specs.Registers.{register}
 use Rattle.guest_machine.specs.Effects.{Effect, quiet, stops}
@@ -21,7 +26,7 @@ use Rattle.register_uses.specs.declared.passing.Passing.TheVariants.{Looks, Keep
 use Rattle.register_uses.specs.Passing.{completes, passing, passing_deed, passing_row, reads, with_register}
 use Rattle.register_uses.specs.Passing.{writes}
 use Rattle.register_uses.specs.Laws.{KeepsRegisters, OverwritesRegisters}
-use Rattle.register_uses.proofs.Replaced.{re, set-is, register-other, ruled-other, ruled-stays, stack-stands}
+use Rattle.register_uses.proofs.Replaced.{put, set-is, register-other, ruled-other, ruled-stays, stack-stands}
 use Rattle.register_uses.proofs.RowSteps.{over, row-other, row-stays, row-again, uses-other, no-heap, asks-none}
 
 -- ---- what a passing says
@@ -82,11 +87,11 @@ module _ (core : Core) (row : Option Instruction) (r : ℕ) (bits : Bits) (terms
   before = row_effect core row terms given taken
 
   ruled-kept : IsKept core row r
-      → stack_ruled (register (re core r bits) 2) (re before.core r bits)
-      ≡ re (stack_ruled (register core 2) before.core) r bits
+      → stack_ruled (register (put core r bits) 2) (put before.core r bits)
+      ≡ put (stack_ruled (register core 2) before.core) r bits
   ruled-kept k = go (r == 2) refl
     where
-      e : row_effect (re core r bits) row terms given taken ≡ over before r bits
+      e : row_effect (put core r bits) row terms given taken ≡ over before r bits
       e = row-other core row r bits terms given taken k.unread k.unwritten
 
       two : (r == 2) ≡ true → r ≡ 2
@@ -96,35 +101,36 @@ module _ (core : Core) (row : Option Instruction) (r : ℕ) (bits : Bits) (terms
           number m h = grind (arith, nat_tests)
 
       go : (t : Bool) → (r == 2) ≡ t
-          → stack_ruled (register (re core r bits) 2) (re before.core r bits)
-          ≡ re (stack_ruled (register core 2) before.core) r bits
+          → stack_ruled (register (put core r bits) 2) (put before.core r bits)
+          ≡ put (stack_ruled (register core 2) before.core) r bits
       go true h =
           let quiet = k.pointer h in
           let here : register before.core 2 ≡ register core 2 =
           subst (λ q. register before.core q ≡ register core q) (two h)
           (row-stays core row r terms given taken k.unread k.unwritten) in
-          let there : register (re before.core r bits) 2 ≡ register (re core r bits) 2 =
-          subst (λ q. register (re before.core r bits) q ≡ register (re core r bits) q) (two h)
+          let there : register (put before.core r bits) 2 ≡ register (put core r bits) 2 =
+          subst (λ q. register (put before.core r bits) q ≡ register (put core r bits) q) (two h)
           (ap (λ x. register x.core r) (sym e)
-          ∙ row-stays (re core r bits) row r terms given taken k.unread
-          (none-of (completes (re core r bits) row) (writes row r) quiet)) in
-          ap (λ x. stack_ruled x (re before.core r bits)) (sym there) ∙ stack-stands (re before.core r bits)
-          ∙ ap (λ c. re c r bits) (sym (ap (λ x. stack_ruled x before.core) (sym here) ∙ stack-stands before.core))
+          ∙ row-stays (put core r bits) row r terms given taken k.unread
+          (none-of (completes (put core r bits) row) (writes row r) quiet)) in
+          ap (λ x. stack_ruled x (put before.core r bits)) (sym there) ∙ stack-stands (put before.core r bits)
+          ∙ ap (λ c. put c r bits) (sym (ap (λ x. stack_ruled x before.core) (sym here) ∙ stack-stands before.core))
       go false h =
-          ap (λ x. stack_ruled x (re before.core r bits)) (register-other core r 2 bits h)
+          ap (λ x. stack_ruled x (put before.core r bits)) (register-other core r 2 bits h)
           ∙ ruled-other (register core 2) before.core r bits h
 
   rounded-kept : IsKept core row r
-      → rounded (re core r bits) (row_effect (re core r bits) row terms given taken) ≡ over (rounded core before) r bits
+      → rounded (put core r bits) (row_effect (put core r bits) row terms given taken)
+      ≡ over (rounded core before) r bits
   rounded-kept k =
-      ap (λ e. rounded (re core r bits) e) (row-other core row r bits terms given taken k.unread k.unwritten)
+      ap (λ e. rounded (put core r bits) e) (row-other core row r bits terms given taken k.unread k.unwritten)
       ∙ ap (λ c. record { core = c; raised = (rounded core before).raised; made = before.made; output = before.output })
       (ruled-kept k)
 
   rounded-replaced : 1 ≤ r → IsReplaced core row r
-      → rounded (re core r bits) (row_effect (re core r bits) row terms given taken) ≡ rounded core before
+      → rounded (put core r bits) (row_effect (put core r bits) row terms given taken) ≡ rounded core before
   rounded-replaced one k =
-      ap (λ e. rounded (re core r bits) e) (row-again core row r bits terms given taken one k.unread k.written)
+      ap (λ e. rounded (put core r bits) e) (row-again core row r bits terms given taken one k.unread k.written)
       ∙ ap (λ x. record {
         core = stack_ruled x before.core;
         raised = (rounded core before).raised;
@@ -139,7 +145,7 @@ module _ (core : Core) (row : Option Instruction) (r : ℕ) (bits : Bits) (terms
 -- ---- the step
 
 swapped : State → ℕ → Bits → State
-swapped s r bits = record s { core = re s.core r bits }
+swapped s r bits = record s { core = put s.core r bits }
 
 -- by what is done
 by : State → Setup → Deed → State
@@ -193,14 +199,14 @@ module _ (s : State) (setup : Setup) (row : Option Instruction) (r : ℕ) (bits 
 
     abbrev other : Effect
     other =
-        rounded (re s.core r bits) (row_effect (re s.core r bits) row terms given
-        (taken_from s.bytes (row_uses (re s.core r bits) row terms).reads))
+        rounded (put s.core r bits) (row_effect (put s.core r bits) row terms given
+        (taken_from s.bytes (row_uses (put s.core r bits) row terms).reads))
 
     -- with the other bits, as far as the ranges read
-    under : reads row r ≡ false → other ≡ rounded (re s.core r bits)
-        (row_effect (re s.core r bits) row terms given (taken_from s.bytes uses.reads))
+    under : reads row r ≡ false → other ≡ rounded (put s.core r bits)
+        (row_effect (put s.core r bits) row terms given (taken_from s.bytes uses.reads))
     under h =
-        let far = re s.core r bits in
+        let far = put s.core r bits in
         ap (λ u. rounded far (row_effect far row terms given (taken_from s.bytes u.reads)))
         (uses-other s.core row r bits terms h)
 
@@ -245,12 +251,12 @@ plain s setup row r h = ap₂ (by-row s setup row) (no-heap s.core row r h) (ask
 
 -- ---- a step that takes no word
 
-unfetched-other : (core : Core) (r : ℕ) (bits : Bits) → unfetched (re core r bits) ≡ over (unfetched core) r bits
+unfetched-other : (core : Core) (r : ℕ) (bits : Bits) → unfetched (put core r bits) ≡ over (unfetched core) r bits
 unfolding unfetched event_about
 unfetched-other core r bits = go (is_running core.status) (is_aligned core.pc) (fetch_fault core)
   where
     changed : Core
-    changed = re core r bits
+    changed = put core r bits
 
     go : (t u : Bool) (fault : Option ℕ)
         → cond t (cond u (jump_fault changed fault) (stops changed Misaligned)) (quiet changed)
@@ -317,6 +323,33 @@ by-replaced s setup r bits (Takes word) one h =
     ∙ sym (plain s setup row r k.unread)
 by-replaced s setup r bits (CallsByName function) one h = cc
 by-replaced s setup r bits Halts one h = cc
+
+-- ---- a machine that runs after a step ran before it
+
+deed-halts : (core : Core) (bytes : ℕ → ℕ) (hooks : List (ℕ × Hook)) → is_running core.status ≡ false
+    → deed_at core bytes hooks ≡ Halts
+unfolding called_here fetched fetches
+deed-halts core bytes hooks h =
+    let word = little_word (window bytes core.pc 4) in
+    ap (λ b. deed_by (cond (b && is_aligned core.pc) (hook_at hooks core.pc) None)
+    (cond (b && (is_aligned core.pc && is_none (fetch_fault core))) (Some word) None)) h
+
+halted-core : (core : Core) → is_running core.status ≡ false → (unfetched core).core ≡ core
+unfolding unfetched
+halted-core core h =
+    ap (λ b. (cond b (cond (is_aligned core.pc) (jump_fault core (fetch_fault core)) (stops core Misaligned))
+    (quiet core)).core) h
+
+pub runs-before : (s : State) (setup : Setup) → is_running (exec s setup).core.status ≡ true
+    → is_running s.core.status ≡ true
+unfolding exec intake_at uses_at effect_at by
+runs-before s setup then = go (is_running s.core.status) refl
+  where
+    go : (b : Bool) → is_running s.core.status ≡ b → b ≡ true
+    go true e = refl
+    go false e =
+        sym (ap (λ deed. is_running (by s setup deed).core.status) (deed-halts s.core s.bytes setup.hooks e)
+        ∙ ap (λ (core : Core). is_running core.status) (halted-core s.core e) ∙ e) ∙ then
 
 -- ---- the step of a state
 

@@ -39,14 +39,13 @@ IsOf _ r = ⊥
 abbrev pub also : List Alteration → ℕ → Act → List Alteration
 also marks k act = marks ++ record { step = k; act = act } ∷ []
 
--- an alteration of a register that step k keeps may as well be made before step k + 1, if the machine runs at both and
--- nothing else is altered before step k + 1: from there on each step starts from the same state, and each later step
--- comes after the same state
+-- an alteration of a register that step k keeps may as well be made before step k + 1, if the machine still runs there
+-- and nothing else is altered there: that step and each later one then start from the same state, and the states before
+-- the alterations of the later ones are the same too
 abbrev pub RunsKeep : Type 0
 RunsKeep =
     (start : State) (setup : Setup) (marks : List Alteration) (k r : ℕ) (act : Act) → 1 ≤ r → IsOf act r
     → passing (post start setup marks k) setup r ≡ Keeps
-    → is_running (post start setup marks k).core.status ≡ true
     → is_running (pre start setup marks (k + 1)).core.status ≡ true
     → marks_at (k + 1) marks ≡ []
     → ((j : ℕ) → k < j → post start setup (also marks k act) j ≡ post start setup (also marks (k + 1) act) j)

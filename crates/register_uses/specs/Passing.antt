@@ -57,8 +57,8 @@ passing_row core row r =
     else if completes core row && writes row r then Overwrites
     else Keeps
 
--- and to a step, by what this does. A heap call by name looks at its arguments, at the return address and, for errors,
--- at more of them: each register counts as looked at. A step that takes no word and calls nothing keeps them all
+-- and to a step, by what this does. A heap call by name looks at the return address and at its parameters: like an
+-- environment call, it counts as one that looks at each register. A step that does neither keeps them all
 unfoldable pub passing_deed : Core → Deed → ℕ → Passing
 passing_deed core (Takes word) r = passing_row core (row_of word) r
 passing_deed core (CallsByName function) r = Looks

@@ -21,8 +21,8 @@
 //!   register holds.
 //! - [`laws::overwrites_registers`]: if it is `Overwrites`, the step leaves one and the same state whatever the register holds.
 //! - [`laws::runs_keep`]: if step k keeps the register, a run in which the register is set or has bits turned before step k, after the other
-//!   alterations there, is the run with that before step k + 1. The machine has to run before both, and nothing else may be altered before
-//!   step k + 1.
+//!   alterations there, is the run with that before step k + 1. The machine must still run before step k + 1, and nothing else be altered
+//!   there.
 //! - [`laws::runs_overwrite`]: if step k overwrites it, the run is the one without the alteration after step k.
 //!
 //! The laws are of x1 to x31. `Looks` promises nothing: an ECALL and a heap call by name look at every register here, as the values of some
