@@ -5,6 +5,8 @@ from replaycheck.refusals import Ended, Refused
 
 # How many lines are sent before their replies are read: those fit into a pipe, so that neither side waits for the other one.
 AT_ONCE = 1000
+# The first words of lines that append to the list of marks, in which `unmark` counts.
+MARKS = ("mark", "set", "write", "flip", "skip")
 # How many lines the reply to a look has, by the look's first word; to any other one it has one.
 LONG_LOOKS = {"registers": 32, "memory": 2}
 

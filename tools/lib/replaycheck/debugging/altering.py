@@ -4,10 +4,10 @@ from typing import List
 
 from replaycheck.endings import Fault
 from replaycheck.looking import Seen, TOP
+from replaycheck.sessions import MARKS
 
 from .registers import NAMES, PC, SHADOWS, STEP, value_of
 
-LISTED = ("mark", "set", "write", "flip", "skip")  # words of lines that `unmark` counts
 SIZES = (4, 2, 1)  # bytes that one line writes
 ENDED = "the program has ended: nothing changes any more"
 NO_ZERO = "zero stays 0"
@@ -42,7 +42,7 @@ class Alterer:
             if word == "unmark":
                 del listed[int(more[0], 16 if more[0].startswith("0x") else 10)]
             else:
-                (listed if word in LISTED else others).append(line)
+                (listed if word in MARKS else others).append(line)
         return listed, others
 
     def alter(self, lines):
@@ -56,7 +56,7 @@ class Alterer:
                 raise Unaltered(reply)
 
     def take_back(self, count):
-        """Takes back the last alterations, so many."""
+        """Takes back a number of alterations, the last ones."""
         last = len(self.standing()[0])
         for index in reversed(range(last - count, last)):
             self.run.edit(f"unmark {index}")
@@ -89,12 +89,12 @@ class Alterer:
         before = next((it for call in reversed(self.calls) if call.step < step for it in reversed(call.seen)
                        if it.pc == value and it.values == seen.values), None)
         lines = [f"set {step} pc 0x{value:08x}"]
-        if before is None:
-            self.calls.append(self.stop)
-        else:
+        if before is not None:
             lines += [set_bits(step, number, seen.values[number], bits) for number, bits in enumerate(before.undefined)
                       if bits != seen.undefined[number]]
         self.alter(lines)
+        if before is None:
+            self.calls.append(self.stop)
 
     def write(self, address, data):
         """Writes memory, in pieces of four bytes, two and one."""

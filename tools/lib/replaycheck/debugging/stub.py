@@ -135,7 +135,7 @@ class Stub:
         return "OK"
 
     def write(self, text):
-        """Writes memory. gdb asks without bytes whether it may; it tells no reason why it mayn't, but shows what comes on standard
+        """Writes memory. gdb asks without bytes whether it may; it tells no reason why it may not, but shows what comes on standard
         error."""
         where, _, digits = text.partition(":")
         address, length = numbers(where, 2)
@@ -165,7 +165,7 @@ class Stub:
 
 
 def bytes_of(digits, length):
-    """So many bytes, written in hexadecimal."""
+    """A number of bytes, written in hexadecimal."""
     try:
         data = bytes.fromhex(digits)
     except ValueError:
@@ -176,7 +176,7 @@ def bytes_of(digits, length):
 
 
 def words_of(digits, count):
-    """So many registers, each with its lowest byte first."""
+    """A number of registers, each with its lowest byte first."""
     data = bytes_of(digits, WORD * count)
     return [int.from_bytes(data[i:i + WORD], "little") for i in range(0, len(data), WORD)]
 

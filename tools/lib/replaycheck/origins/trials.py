@@ -4,10 +4,10 @@ import time
 
 from replaycheck.endings import Fault
 from replaycheck.reports import kind_of
-from replaycheck.sessions import Session
+from replaycheck.sessions import MARKS, Session
 
 MOST_LINES, MOST_MARKS = 100000, 4096
-MARKING = {"mark": 1, "set": 1, "write": 1, "flip": 1, "skip": 1, "unmark": -1}  # how a line changes the number of marks
+MARKING = {**dict.fromkeys(MARKS, 1), "unmark": -1}  # how a line changes the number of marks
 AT_ONCE = 200  # so many questions fit into a pipe
 
 

@@ -4,7 +4,8 @@ from __future__ import annotations
 
 from typing import Dict, FrozenSet, Iterator, List, NamedTuple, Tuple
 
-MARKS = ("mark", "set", "write", "flip", "skip")  # each makes a mark, of a range or of what is altered at a step
+from replaycheck.sessions import MARKS
+
 EDITS = ("input", "patch", *MARKS, "unmark", "option", "supp")
 # The values of options that no line has changed.
 USUAL = {"redzone": "16", "queue": "20000000", "callers": "12", "show": "definite,possible"}
