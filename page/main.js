@@ -367,7 +367,8 @@ class App {
     try {
       await this.machine.show(shown);
     } catch (fault) {
-      if (turn === this.turn && shown === this.shown) this.notice(sentence(fault, LIMIT));
+      const isWanted = shown === this.shown && shown.scenario === this.scenario && shown.step === this.step;
+      if (turn === this.turn && isWanted) this.notice(sentence(fault, LIMIT));
     }
   }
 
