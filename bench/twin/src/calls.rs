@@ -96,6 +96,7 @@ impl Machine {
             self.raise_at(Kind::Parameter("read(buf)", Wrong::Inaccessible), bad);
         }
         let given = self.given();
+        self.note(Access::Write, self.argument(A1), given as u32);
         for (addr, byte) in places.zip(&self.input[self.position..self.position + given]) {
             self.memory.store::<1>(addr, (*byte).into(), 0);
         }
@@ -119,6 +120,7 @@ impl Machine {
         if self.output + count > MOST_WRITTEN {
             return self.answer(NO_ROOM);
         }
+        self.note(Access::Read, self.argument(A1), count);
         let byte = |addr| (addr, self.memory.load::<1>(addr));
         let bad = self.buffer().map(byte).find(|(_, loaded)| loaded.bad.is_some() || loaded.undef != 0);
         if let Some((addr, loaded)) = bad {
@@ -168,6 +170,7 @@ impl Machine {
     fn allocate_zeros(&mut self, size: u64) -> u32 {
         let start = self.allocate(size, RangeKind::Defined);
         if start != 0 {
+            self.note(Access::Write, start, size as u32);
             for i in 0..size as u32 {
                 self.memory.store::<1>(start + i, 0, 0);
             }
@@ -197,6 +200,8 @@ impl Machine {
         }
         let new = self.allocate(size.into(), RangeKind::Undefined);
         if new != 0 {
+            self.note(Access::Read, old, len.min(size));
+            self.note(Access::Write, new, len.min(size));
             for i in 0..len.min(size) {
                 let loaded = self.memory.load::<1>(old + i);
                 self.memory.store::<1>(new + i, loaded.value, loaded.undef);

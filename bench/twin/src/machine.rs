@@ -46,6 +46,8 @@ pub struct Machine {
     pub position: usize,
     /// How many bytes it has written.
     pub output: u32,
+    /// Where wanted, the bytes that steps read and write beside taking words, in the order of the accesses: the first and how many.
+    pub accesses: Option<Vec<(Access, u32, u32)>>,
 }
 
 /// Where the stack pointer points at the start, at sixteen bytes that may be used.
@@ -204,6 +206,15 @@ impl Machine {
             input,
             position: 0,
             output: 0,
+            accesses: None,
+        }
+    }
+
+    /// Writes an access down, where that is wanted.
+    #[inline(always)]
+    pub fn note(&mut self, access: Access, start: u32, len: u32) {
+        if let Some(accesses) = &mut self.accesses {
+            accesses.push((access, start, len));
         }
     }
 
@@ -281,6 +292,7 @@ impl Machine {
         let rs1 = field(word, 19, 15);
         let start = self.register(rs1).value.wrapping_add(imm_i(word));
         self.test(rs1, Kind::Value);
+        self.note(Access::Read, start, N as u32);
         let loaded = self.memory.load::<N>(start);
         if let Some(bad) = loaded.bad {
             self.raise_at(Kind::Read(N as u8), bad);
@@ -296,6 +308,7 @@ impl Machine {
         let rs1 = field(word, 19, 15);
         let start = self.register(rs1).value.wrapping_add(imm_s(word));
         self.test(rs1, Kind::Value);
+        self.note(Access::Write, start, N as u32);
         let stored = self.register(field(word, 24, 20));
         if let Some(bad) = self.memory.store::<N>(start, stored.value, stored.undef) {
             self.raise_at(Kind::Write(N as u8), bad);

@@ -21,15 +21,18 @@ pub enum Model {
     Zero,
     /// A register is all ones.
     Ones,
+    /// A bit of a byte is turned that this or a later step reads, and that none overwrites before.
+    Memory,
 }
 
-pub const MODELS: [(&str, Model); 6] = [
+pub const MODELS: [(&str, Model); 7] = [
     ("skip", Model::Skip),
     ("registers", Model::Registers),
     ("pc", Model::Pc),
     ("words", Model::Words),
     ("zero", Model::Zero),
     ("ones", Model::Ones),
+    ("memory", Model::Memory),
 ];
 
 /// Changes of a run, each just before a step, in the order of the steps.
@@ -39,8 +42,14 @@ fn bits() -> impl Iterator<Item = u32> {
     (0..32).map(|bit| 1 << bit)
 }
 
-/// The edits of a model at a step at which the machine has this pc.
-pub fn edits(model: Model, step: u32, pc: u32) -> Vec<Edit> {
+/// Turns each bit of a byte before a step, in the word that has the byte.
+fn byte_edits(step: u32, addr: u32) -> impl Iterator<Item = Edit> {
+    let place = addr % 4;
+    (0..8).map(move |bit| vec![(step, Change::FlipBytes { start: addr - place, mask: 1 << (8 * place + bit) })])
+}
+
+/// The edits of a model at a step at which the machine has this pc, and after which these bytes are read.
+pub fn edits(model: Model, step: u32, pc: u32, read: &[u32]) -> Vec<Edit> {
     let once = |change| vec![(step, change)];
     let set = |r, value| once(Change::Set { place: Place::Register(r), bits: crate::machine::known(value) });
     match model {
@@ -55,6 +64,7 @@ pub fn edits(model: Model, step: u32, pc: u32) -> Vec<Edit> {
         }
         Model::Zero => REGISTERS.map(|r| set(r, 0)).collect(),
         Model::Ones => REGISTERS.map(|r| set(r, u32::MAX)).collect(),
+        Model::Memory => read.iter().flat_map(|addr| byte_edits(step, *addr)).collect(),
     }
 }
 

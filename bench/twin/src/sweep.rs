@@ -3,8 +3,9 @@
 use crate::changes::Change;
 use crate::elf::Image;
 use crate::hash::sha256;
+use crate::looks::Access;
 use crate::machine::{Machine, Status};
-use crate::models::{self, Edit};
+use crate::models::{self, Edit, Model};
 use crate::outline::Writer;
 use crate::request::Request;
 use crate::suppressions;
@@ -89,10 +90,28 @@ impl<W: Write> Sweep<'_, W> {
         self.writer.outline(&self.run)
     }
 
+    /// The bytes that steps from one on read, and that none before that one writes, in ascending order. A step that does both reads first.
+    fn read_later(&mut self, before: &Machine, from: u32) -> Vec<u32> {
+        let mut firsts = BTreeMap::new();
+        self.run.become_copy_of(before);
+        for _ in from..self.request.step {
+            self.run.accesses = Some(Vec::new());
+            step(&mut self.run);
+            for (access, start, len) in self.run.accesses.take().into_iter().flatten() {
+                for i in 0..len {
+                    firsts.entry(start.wrapping_add(i)).or_insert(access);
+                }
+            }
+        }
+        firsts.into_iter().filter(|it| it.1 == Access::Read).map(|it| it.0).collect()
+    }
+
     /// All edits at a step, from the machine before it on.
     fn place(&mut self, before: &Machine, now: u32) -> io::Result<()> {
+        let has_memory = self.request.models.contains(&Model::Memory);
+        let read = if has_memory { self.read_later(before, now) } else { Vec::new() };
         for model in &self.request.models {
-            for edit in models::edits(*model, now, before.pc) {
+            for edit in models::edits(*model, now, before.pc, &read) {
                 let outcome = self.outcome(before, now, &edit);
                 self.table.row(&edit, outcome, self.request.step - now)?;
             }

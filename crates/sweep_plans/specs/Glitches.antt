@@ -1,5 +1,5 @@
 -- The changes at a step of the run: one for each way in which a fault model strikes it.
-use Rattle.std.specs.Prelude.{ℕ, ◌+◌, ◌^◌, nat_le, Bool, if◌then◌else◌, List, [], ◌∷◌, ◌++◌, map}
+use Rattle.std.specs.Prelude.{ℕ, ◌+◌, ◌-◌, ◌*◌, ◌%◌, ◌^◌, nat_le, Bool, if◌then◌else◌, List, [], ◌∷◌, ◌++◌, map}
 use Rattle.std.specs.List.{flat_map}
 use Rattle.sweep_plans.specs.Numbers.{below}
 use Rattle.sweep_plans.specs.declared.change.Change.{Change}
@@ -39,7 +39,13 @@ word_flips step pc = if nat_le pc 4294967292 then flips_at step (Word pc) else [
 unfoldable pub register_sets : ℕ → ℕ → List Change
 register_sets step value = map (λ r. Once step (Set (r + 1) value)) (below 31)
 
--- the changes at a step before which pc has this value, in the order of the fault models
+-- each bit of the byte at an address, from bit 0 on, is turned in the word that has the byte, which is at a multiple
+-- of 4
+unfoldable pub byte_flips : ℕ → ℕ → List Change
+byte_flips step addr = map (λ bit. Once step (Turn (addr - addr % 4) (2 ^ (8 * (addr % 4) + bit)))) (below 8)
+
+-- the changes at a step before which pc has this value, in the order of the fault models. Those of the model `memory`
+-- depend on later steps, and come after them
 unfoldable pub glitches_at : FaultModels → ℕ → ℕ → List Change
 glitches_at models step pc =
     when models.skip (skip_at step)

@@ -3,7 +3,8 @@ use Rattle.std.specs.Prelude.{ℕ, Bool, true, false, if◌then◌else◌, List,
 use Rattle.std.specs.Str.{bytes_eq}
 use Rattle.text_parts.specs.Parts.{parts}
 use Rattle.sweep_plans.specs.declared.models.FaultModel.{FaultModel}
-use Rattle.sweep_plans.specs.declared.models.FaultModel.TheVariants.{Skip, Registers, Pc, Words, Zero, Ones}
+use Rattle.sweep_plans.specs.declared.models.FaultModel.TheVariants.{Skip, Registers, Pc, Words, Memory}
+use Rattle.sweep_plans.specs.declared.models.FaultModel.TheVariants.{Zero, Ones}
 use Rattle.sweep_plans.specs.declared.plan.FaultModels.{FaultModels}
 
 -- the model of a name
@@ -13,6 +14,7 @@ model_of name =
     else if bytes_eq name (codes "registers") then Some Registers
     else if bytes_eq name (codes "pc") then Some Pc
     else if bytes_eq name (codes "words") then Some Words
+    else if bytes_eq name (codes "memory") then Some Memory
     else if bytes_eq name (codes "zero") then Some Zero
     else if bytes_eq name (codes "ones") then Some Ones
     else None
@@ -20,7 +22,15 @@ model_of name =
 -- no models
 abbrev pub no_models : FaultModels
 no_models =
-    record { skip = false; registers = false; pc = false; words = false; zero = false; ones = false }
+    record {
+      skip = false;
+      registers = false;
+      pc = false;
+      words = false;
+      memory = false;
+      zero = false;
+      ones = false;
+    }
 
 -- is a model one of these?
 abbrev pub has : FaultModels → FaultModel → Bool
@@ -28,6 +38,7 @@ has models Skip = models.skip
 has models Registers = models.registers
 has models Pc = models.pc
 has models Words = models.words
+has models Memory = models.memory
 has models Zero = models.zero
 has models Ones = models.ones
 
@@ -37,6 +48,7 @@ with_model models Skip = record models { skip = true }
 with_model models Registers = record models { registers = true }
 with_model models Pc = record models { pc = true }
 with_model models Words = record models { words = true }
+with_model models Memory = record models { memory = true }
 with_model models Zero = record models { zero = true }
 with_model models Ones = record models { ones = true }
 

@@ -1,6 +1,6 @@
 //! The changes at a step.
 ghost use Rattle.std.specs.Prelude.{◌≡◌, ◌+◌, ◌^◌, ◌<◌, ◌++◌, IfOk, OnOk};
-ghost use Rattle.sweep_plans.specs.Glitches.{flip_of, flips_at, glitches_at, register_flips, register_sets, skip_at, when, word_flips};
+ghost use Rattle.sweep_plans.specs.Glitches.{byte_flips, flip_of, flips_at, glitches_at, register_flips, register_sets, skip_at, when, word_flips};
 ghost use Rattle.sweep_plans.specs.declared.glitches.Target.TheVariants.{Pc};
 
 use crate::change::{Change, Glitch};
@@ -20,6 +20,9 @@ pub enum Target {
 
 /// The number of registers that may be changed: x1 to x31.
 const REGISTERS: u8 = 31;
+
+/// The number of bits of a byte.
+const BYTE_BITS: u32 = 8;
 
 /// The last address from which there are four bytes.
 const LAST_WORD: u32 = u32::MAX - 3;
@@ -153,7 +156,24 @@ fn push_sets(
     Ok(())
 }
 
-/// Returns the changes at a step before which pc has a value.
+/// Returns the changes at a step that turn each bit of the byte at an address, from bit 0 on.
+pub fn byte_flips(alloc: Global, step: u32, addr: u32) -> Result<Vec<Change>, AllocError>
+    ensures { IfOk result (λ changes. changes.items ≡ byte_flips step addr) }
+{
+    let mut changes = Vec::new(alloc);
+    let place = addr % 4;
+    let word = addr - place;
+    for bit in 0..BYTE_BITS {
+        let mask = 1 << (8 * place + bit);
+        changes.push(Change::Once {
+            step,
+            glitch: Glitch::Turn { addr: word, mask },
+        })?;
+    }
+    Ok(changes)
+}
+
+/// Returns the changes at a step before which pc has a value, except for those of the model `memory`, which depend on later steps.
 #[tactic(auto, unfolding(crate::specs::Glitches::glitches_at), using(std::proofs::Common::append_assoc))]
 pub fn glitches(
     alloc: Global,

@@ -6,6 +6,7 @@
 //! | [`plan_of`] | returns the [`Plan`] of a request for a program and an input, or why its places are rejected |
 //! | [`Plan::places`], [`Plan::place`] | return the number of [`Place`]s, and one of them |
 //! | [`Plan::changes`] | returns the [`Change`]s at a place, given its value, or pc before its step: a [`Standing`] |
+//! | [`byte_flips`] | returns the changes at a step that turn the bits of a byte |
 //! | [`Places::count`] | returns the number of consecutive bytes, words or steps |
 //! | [`Change::edit`] | returns the edit of a change; of two edits the first |
 //! | [`has_word`] | returns whether one of some words is loaded whole |
@@ -28,6 +29,7 @@ mod steps;
 mod values;
 
 pub use change::{Change, Glitch};
+pub use glitches::byte_flips;
 pub use loaded::has_word;
 pub use plan::{ByteValues, FaultModels, Place, Places, Plan, WordValues};
 pub use planning::plan_of;

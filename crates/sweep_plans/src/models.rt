@@ -13,6 +13,8 @@ const PC: &[u8] = b"pc";
 
 const WORDS: &[u8] = b"words";
 
+const MEMORY: &[u8] = b"memory";
+
 const ZERO: &[u8] = b"zero";
 
 const ONES: &[u8] = b"ones";
@@ -24,6 +26,7 @@ pub enum FaultModel {
     Registers,
     Pc,
     Words,
+    Memory,
     Zero,
     Ones,
 }
@@ -41,6 +44,8 @@ fn model_of(name: &[u8]) -> Option<FaultModel>
         Some(FaultModel::Pc)
     } else if name == WORDS {
         Some(FaultModel::Words)
+    } else if name == MEMORY {
+        Some(FaultModel::Memory)
     } else if name == ZERO {
         Some(FaultModel::Zero)
     } else if name == ONES {
@@ -60,6 +65,7 @@ impl FaultModels {
             registers: false,
             pc: false,
             words: false,
+            memory: false,
             zero: false,
             ones: false,
         }
@@ -74,6 +80,7 @@ impl FaultModels {
             FaultModel::Registers => self.registers,
             FaultModel::Pc => self.pc,
             FaultModel::Words => self.words,
+            FaultModel::Memory => self.memory,
             FaultModel::Zero => self.zero,
             FaultModel::Ones => self.ones,
         }
@@ -88,6 +95,7 @@ impl FaultModels {
             FaultModel::Registers => self.registers = true,
             FaultModel::Pc => self.pc = true,
             FaultModel::Words => self.words = true,
+            FaultModel::Memory => self.memory = true,
             FaultModel::Zero => self.zero = true,
             FaultModel::Ones => self.ones = true,
         }

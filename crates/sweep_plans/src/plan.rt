@@ -88,6 +88,8 @@ pub struct FaultModels {
     pub pc: bool,
     /// Each bit of the word at pc is turned, for this step only.
     pub words: bool,
+    /// Each bit of each byte that this or a later step reads before one overwrites it is turned.
+    pub memory: bool,
     /// Each of x1 to x31 is set to 0.
     pub zero: bool,
     /// Each of x1 to x31 is set to 0xffffffff.

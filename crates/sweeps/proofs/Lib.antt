@@ -7,3 +7,5 @@ pub mod TallySteps
 pub mod OneMet
 pub mod PartSteps
 pub mod PairSteps
+pub mod AccessSteps
+pub mod MemorySteps

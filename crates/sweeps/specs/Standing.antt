@@ -24,6 +24,7 @@ use Rattle.sweep_plans.specs.declared.plan.Plan.{Plan}
 use Rattle.sweep_plans.specs.declared.request.Range.{Range}
 use Rattle.sweep_plans.specs.declared.standing.Standing.{Standing}
 use Rattle.sweep_plans.specs.declared.standing.Standing.TheVariants as At
+use Rattle.sweeps.specs.Memory.{memory_at}
 
 -- ---- what is at a place
 
@@ -90,9 +91,11 @@ pairs_at sc plan (At.Step step pc) =
     if plan.pairs then pairs_from sc plan.code step (min plan.steps.end sc.step - (step + 1)) else []
 pairs_at sc plan _ = []
 
--- all changes at a place, and at the place of a number
+-- all changes at a place, and at the place of a number: those of the fault models, of which `memory` is the last, and
+-- then the pairs
 abbrev pub all_changes : Scenario → Plan → Option Standing → List Change
-all_changes sc plan (Some standing) = changes_of plan standing ++ pairs_at sc plan standing
+all_changes sc plan (Some standing) =
+    changes_of plan standing ++ (memory_at sc plan standing ++ pairs_at sc plan standing)
 all_changes sc plan None = []
 
 abbrev pub place_changes : Scenario → Plan → Place → List Change

@@ -22,15 +22,18 @@
 //!
 //! # Where the definitions are
 //!
-//! In `specs/`: `Standing` (what is at a place, and the changes there), `Outcomes` (the outcome of a change), `Tables` (the text), `Spots`
-//! (where the runs of a place continue), `Sweeps` (what a sweep has met), `Laws` (what the numbers of a table mean). The places of a plan and
-//! the changes at each are defined in the crate `sweep_plans`.
+//! In `specs/`: `Standing` (what is at a place, and the changes there), `Memory` (those of bytes that are read later), `Outcomes` (the
+//! outcome of a change), `Tables` (the text), `Spots` (where the runs of a place continue), `Sweeps` (what a sweep has met), `Accesses` (the
+//! table of what steps do first with each byte), `Laws` (what the numbers of a table mean). The places of a plan and the changes at each are
+//! defined in the crate `sweep_plans`.
 #![tactic(auto)]
 
+mod accesses;
 mod beginning;
 mod counting;
 pub mod laws;
 mod meeting;
+mod memory;
 mod outcomes;
 mod pairs;
 mod rows;

@@ -12,6 +12,7 @@ ghost use Rattle.sweeps.specs.Standing.{IsAt, IsBelow, Stands, all_changes};
 ghost use Rattle.sweeps.specs.Sweeps.{CountsMore};
 
 use crate::counting::Counts;
+use crate::memory::meet_memory;
 use crate::outcomes::outcome_of;
 use crate::pairs::meet_pairs;
 use crate::spots::Spot;
@@ -41,7 +42,7 @@ fn meet(
 }
 
 /// Does the same for each of some changes.
-fn meet_each(
+pub(crate) fn meet_each(
     scenario: &mut Scenario,
     counts: &mut Counts,
     spot: &Spot,
@@ -83,7 +84,7 @@ fn meet_all(
     meet_each(scenario, counts, spot, &changes, with_output, out)
 }
 
-/// Does the same, and then for the pairs there.
+/// Does the same, and then for the bytes that the run reads later, and for the pairs there.
 pub(crate) fn meet_place(
     alloc: Global,
     scenario: &mut Scenario,
@@ -102,5 +103,6 @@ pub(crate) fn meet_place(
     ensures met { OnOk result (CountsMore counts.old counts.new with_output scenario.old (all_changes scenario.old plan.now (Some spot.now.standing)) out.old.items out.new.items) }
 {
     meet_all(alloc, scenario, counts, plan, spot, with_output, out)?;
+    meet_memory(alloc, scenario, counts, plan, spot, with_output, out)?;
     meet_pairs(scenario, counts, plan, spot, with_output, out)
 }

@@ -226,7 +226,7 @@ class Request:
     def edits(self):
         """How many edits there are, as far as that is told without a look at each place, or 0; for progress alone."""
         count = 0
-        if any(it.kind == "steps" and (it.code or it.has_pairs) for it in self.ranges):
+        if any(it.kind == "steps" and (it.code or it.has_pairs or it.has_memory) for it in self.ranges):
             return 0
         for it in self.ranges:
             if it.kind == "bytes" and it.values == "edges":

@@ -2,10 +2,11 @@
 than can be seen, several share one, and the worst outcome of them is seen."""
 from array import array
 from dataclasses import dataclass
+from itertools import takewhile
 
 from replaycheck.assembly import NAMES
 
-from .steps import LAST_REGISTER, SIZES, TURNED, edits_of
+from .steps import BIT, BYTE_BITS, LAST_REGISTER, SIZES, TURNED, bit_of, byte_edits, edits_of
 
 MOST_COLUMNS, MOST_ROWS, WIDTH, WIDEST = 320, 160, 960, 24
 MANY = 40  # so many rows are tall enough for a text
@@ -246,6 +247,48 @@ class Skips(OverSteps):
         return f"{count} of 0x{low:08x}" + (f" to 0x{high:08x}" if high > low else "")
 
 
+class Bytes(OverSteps):
+    """A column for each step, and a row for each byte that some step's run reads later; white where it doesn't."""
+
+    caption = "memory: a row for each byte that is read later, the worst of its 8 bits, each inverted by itself"
+    row_word = "byte"
+
+    def __init__(self):
+        super().__init__()
+        self.columns_at, self.addresses, self.outcomes, self.bits = array("I"), array("I"), array("I"), array("B")
+
+    def add(self, step, edits, outcomes, rank):
+        """Takes the edits of a step: of each byte the worst."""
+        for begin in range(0, len(edits), BYTE_BITS):
+            found = outcomes[begin:begin + BYTE_BITS]
+            worst = max(range(len(found)), key=lambda it: rank(found[it]))
+            self.columns_at.append(len(self.steps))
+            self.addresses.append(bit_of(edits[begin])[0])
+            self.outcomes.append(found[worst])
+            self.bits.append(worst)
+        self.steps.append(step)
+
+    def finish(self, rank, _):
+        self.rows_at = sorted(set(self.addresses))
+        self.of_rows, self.of_columns = len(self.rows_at), len(self.steps)
+        self.settle()
+        rows = {it: row for row, it in enumerate(self.rows_at)}
+        for column, address, outcome, bit in zip(self.columns_at, self.addresses, self.outcomes, self.bits):
+            self.put(column, rows[address], rank(outcome), outcome, (self.steps[column], address, bit))
+
+    @staticmethod
+    def edit(cell):
+        step, address, bit = cell.edit
+        return list(byte_edits(step, address))[bit]
+
+    def row_names(self):
+        return self.every([f"0x{it:08x}" for it in self.rows_at], self.of_rows, self.rows, self.tall, 12)
+
+    def where(self, row, first, last):
+        low, high = self.span(self.rows_at, row, row, self.of_rows, self.rows)
+        return f"{self.places(first, last)}, 0x{low:08x}" + (f" to 0x{high:08x}" if high > low else "")
+
+
 class Pairs(Grid):
     """A column for the step of the first skip, a row for that of the second."""
 
@@ -292,8 +335,8 @@ class StepPanels:
 
     def __init__(self, it):
         self.range = it
-        self.models = {model: Skips() if model == "skip" else OfModel(model) for model in it.models}
-        self.pairs = Pairs()
+        self.models = {model: Skips() if model == "skip" else OfModel(model) for model in it.models if model in SIZES}
+        self.bytes, self.pairs = Bytes(), Pairs()
 
     def add(self, place, rank):
         """Takes the edits of a place."""
@@ -304,12 +347,16 @@ class StepPanels:
             if size:
                 panel.add(place.at, outcomes[begin:begin + size], rank, address)
             begin += size
+        turned = list(takewhile(BIT.fullmatch, texts[begin:]))
+        if turned:
+            self.bytes.add(place.at, turned, outcomes[begin:begin + len(turned)], rank)
+        begin += len(turned)
         for text, outcome in zip(texts[begin:], outcomes[begin:]):
             self.pairs.add(place.at, int(text.rpartition(" ")[2]), outcome)
 
     def grids(self, rank, instructions):
         """The panels that have edits, when all are there."""
-        found = [it for it in self.models.values() if it.steps] + [self.pairs] * bool(self.pairs.firsts)
+        found = [it for it in (*self.models.values(), self.bytes) if it.steps] + [self.pairs] * bool(self.pairs.firsts)
         for it in found:
             it.finish(rank, instructions)
         return found

@@ -1,23 +1,27 @@
 """Steps at which the machine is altered: the fault models, and the edits of each step in the order of a table."""
 import re
 from dataclasses import dataclass
+from itertools import takewhile
 from typing import Iterator, List, Optional, Tuple
 
-LAST_REGISTER, BITS, ONES = 31, 32, 0xFFFFFFFF
-# The fault models, in the order of a place's edits, each with what it does.
+LAST_REGISTER, BITS, ONES, BYTE_BITS, ADDRESSES = 31, 32, 0xFFFFFFFF, 8, 1 << 32
+# The fault models, each with what it does: in the order of a place's edits, but that those of `memory` come after the others.
 MODELS = {
     "skip": "an instruction left out",
     "registers": "a bit of a register inverted",
     "pc": "a bit of pc inverted",
     "words": "an instruction with one bit inverted",
+    "memory": "a bit of a byte inverted that is read later",
     "zero": "a register set to 0",
     "ones": "a register set to all ones",
 }
+# How many edits a place has; of bytes of memory as many as the run reads later.
 SIZES = {"skip": 1, "registers": LAST_REGISTER * BITS, "pc": BITS, "words": BITS, "zero": LAST_REGISTER, "ones": LAST_REGISTER}
 SETTING = {"zero", "ones"}  # the models that make bits defined
 REGISTERS = [f"x{number}" for number in range(1, LAST_REGISTER + 1)]
 MASKS = [f"0x{1 << bit:08x}" for bit in range(BITS)]
-TURNED = re.compile(r"flip [0-9]+ (0x[0-9a-f]{8}) ")  # a word of the program
+TURNED = re.compile(r"flip [0-9]+ (0x[0-9a-f]{8}) [^ ]+; ")  # a word of the program, for one step
+BIT = re.compile(r"flip [0-9]+ (0x[0-9a-f]{8}) (0x[0-9a-f]{8})")  # a bit of a word, from there on
 PAIR = re.compile(r"skip ([0-9]+); skip ([0-9]+)")
 
 
@@ -42,6 +46,10 @@ class Steps:
         return [it for it in MODELS if it in given]
 
     @property
+    def has_memory(self):
+        return "memory" in self.models
+
+    @property
     def sets(self):
         """Whether registers are set, which makes their bits defined."""
         return bool(SETTING & set(self.models))
@@ -56,13 +64,14 @@ class Steps:
 
     @property
     def single(self):
-        """How many edits a place has at most, without pairs."""
-        return sum(SIZES[it] for it in self.models)
+        """How many edits a place has at most, without those of memory and without pairs."""
+        return sum(SIZES.get(it, 0) for it in self.models)
 
     @property
     def most(self):
         """How many edits a place has at most."""
-        return self.single + (self.last - self.first if self.has_pairs else 0)
+        return (self.single + (BYTE_BITS * ADDRESSES if self.has_memory else 0)
+                + (self.last - self.first if self.has_pairs else 0))
 
     def place(self, index):
         return self.first + index
@@ -95,16 +104,21 @@ class Steps:
     # ---- the edits of a place
 
     def singles(self, step: int, address: Optional[str]) -> Iterator[str]:
-        """The edits of a step but for pairs. `address` is that of the word at its pc, if it is known."""
+        """The edits of a step but for those of memory and pairs. `address` is that of the word at its pc, if it is known."""
         for model in self.models:
             yield from edits_of(model, step, address)
 
     def has_all(self, step: int, edits: List[str]) -> bool:
-        """Whether these are all edits of a step, in order. Which second steps pairs have depends on the run with the first skip."""
+        """Whether these are all edits of a step, in order. Which bytes are read later depends on the run, and which second steps pairs
+        have on the run with the first skip."""
         found = next((it[1] for it in map(TURNED.match, edits) if it), None)
         wanted = list(self.singles(step, found))
-        pairs = edits[len(wanted):]
-        if edits[:len(wanted)] != wanted or pairs and not self.has_pairs:
+        rest = edits[len(wanted):]
+        turned = list(takewhile(BIT.fullmatch, rest))
+        pairs = rest[len(turned):]
+        if edits[:len(wanted)] != wanted or turned and not self.has_memory or pairs and not self.has_pairs:
+            return False
+        if turned_bytes(step, turned) is None:
             return False
         last = step
         for it in map(PAIR.fullmatch, pairs):
@@ -112,6 +126,30 @@ class Steps:
                 return False
             last = int(it[2])
         return not (found and self.code) or self.code[0] <= int(found, 16) <= self.code[1]
+
+
+def byte_edits(step: int, address: int) -> Iterator[str]:
+    """The edits of a byte at a step: each of its bits, inverted in the word that has it."""
+    word, place = address & ~3, address % 4
+    return (f"flip {step} 0x{word:08x} 0x{1 << BYTE_BITS * place + bit:08x}" for bit in range(BYTE_BITS))
+
+
+def bit_of(edit: str) -> Tuple[int, int]:
+    """The address of the byte, and the number of the bit in it, of an edit of memory; of a mask of several bits the highest."""
+    found = BIT.fullmatch(edit)
+    place = max(int(found[2], 16).bit_length() - 1, 0)
+    return int(found[1], 16) + place // BYTE_BITS, place % BYTE_BITS
+
+
+def turned_bytes(step: int, edits: List[str]) -> Optional[List[int]]:
+    """The addresses of the bytes that edits of memory at a step are of; None where they aren't whole bytes in ascending order."""
+    found: List[int] = []
+    for begin in range(0, len(edits), BYTE_BITS):
+        address = bit_of(edits[begin])[0]
+        if found and address <= found[-1] or edits[begin:begin + BYTE_BITS] != list(byte_edits(step, address)):
+            return None
+        found.append(address)
+    return found
 
 
 def edits_of(model: str, step: int, address: Optional[str]) -> Iterator[str]:

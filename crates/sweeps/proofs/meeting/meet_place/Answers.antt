@@ -1,7 +1,8 @@
-use Rattle.std.proofs.Common.{subst}
+use Rattle.std.proofs.Common.{◌++◌, ◌∙◌, subst}
 use Rattle.std.proofs.lemmas.Result.{on_ok_weaker}
 use Rattle.scenario.specs.Scenario.{Scenario}
 use Rattle.sweep_plans.specs.Plans.{changes_of}
+use Rattle.sweeps.specs.Memory.{memory_at}
 use Rattle.sweeps.specs.Standing.{pairs_at}
 use Rattle.sweeps.specs.Sweeps.{CountsMore}
 use Rattle.sweeps.proofs.Steps.{counts-join}
@@ -10,11 +11,19 @@ use Rattle.sweeps.proofs.meeting.meet_place.Goals as goal
 pub returns-clause-met : goal.returns-clause-met
 returns-clause-met c =
     let sc = c.args.scenario.now in
+    let wo = c.args.with_output in
+    let plan = c.args.plan.now in
     let standing = c.args.spot.now.standing in
-    on_ok_weaker c.meet_pairs.result (λ pairs.
-    counts-join c.args.with_output sc c.args.counts.now c.meet_all.new.counts c.meet_pairs.new.counts
-    (changes_of c.args.plan.now standing) (pairs_at sc c.args.plan.now standing) c.args.out.now.items
-    c.meet_all.new.out.items c.meet_pairs.new.out.items c.in_ok-meet_all.ensures.met
-    (subst (λ (s : Scenario). CountsMore c.meet_all.new.counts c.meet_pairs.new.counts c.args.with_output s
-    (pairs_at s c.args.plan.now standing) c.meet_all.new.out.items c.meet_pairs.new.out.items) c.meet_all.ensures.same
-    pairs)) c.meet_pairs.ensures.met
+    let memory = subst (λ (s : Scenario). CountsMore c.meet_all.new.counts c.meet_memory.new.counts wo s
+    (memory_at s plan standing) c.meet_all.new.out.items c.meet_memory.new.out.items) c.meet_all.ensures.same
+    c.in_ok-meet_memory.ensures.met in
+    on_ok_weaker c.meet_pairs.result (λ met.
+    let pairs = subst (λ (s : Scenario). CountsMore c.meet_memory.new.counts c.meet_pairs.new.counts wo s
+    (pairs_at s plan standing) c.meet_memory.new.out.items c.meet_pairs.new.out.items)
+    (c.meet_memory.ensures.same ∙ c.meet_all.ensures.same) met in
+    counts-join wo sc c.args.counts.now c.meet_all.new.counts c.meet_pairs.new.counts (changes_of plan standing)
+    (memory_at sc plan standing ++ pairs_at sc plan standing) c.args.out.now.items c.meet_all.new.out.items
+    c.meet_pairs.new.out.items c.in_ok-meet_all.ensures.met
+    (counts-join wo sc c.meet_all.new.counts c.meet_memory.new.counts c.meet_pairs.new.counts
+    (memory_at sc plan standing) (pairs_at sc plan standing) c.meet_all.new.out.items c.meet_memory.new.out.items
+    c.meet_pairs.new.out.items memory pairs)) c.meet_pairs.ensures.met
