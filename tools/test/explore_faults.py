@@ -19,7 +19,7 @@ SHORT = [*BOOT, "--at=1270..1276", "--faults=skip,pc", "--step=2000"]
 # What becomes of a good table of SHORT, and what is said of it.
 WRONG = [
     ("no steps", lambda it: re.sub(rb"\nsteps .*", b"", it), "`steps A..B MODELS`, as in each table of `sweep 2`, comes here"),
-    ("an unknown model", changed(b"skip,pc", b"skip,memory"), "an unknown fault model: 'memory'"),
+    ("an unknown model", changed(b"skip,pc", b"skip,heap"), "an unknown fault model: 'heap'"),
     ("a model twice", changed(b"skip,pc", b"skip,skip"), "a fault model twice"),
     ("steps the wrong way round", changed(b"1270..1276", b"1276..1270"), "ends before it begins"),
     ("steps beyond the runs", changed(b"step 2000", b"step 1276"), "steps up to 1276, and runs that are compared at step 1276"),
@@ -74,6 +74,17 @@ def test_fault_tables(tests):
     words = tests.sweep(*BOOT, "--at=1270..1271", "--faults=words", "--step=2000")
     tests.file("wrong-words", re.sub(rb"flip 1271 (0x\w+) 0x00000002; flip 1272", rb"flip 1271 \1 0x00000002; flip 1273", words))
     tests.refuses("wrong table of words", ["--from", "wrong-words"], "those of step 1271 aren't all")
+    memory = tests.sweep(*BOOT, "--at=1270..1271", "--faults=memory,pc", "--step=2000")
+    tests.file("good-memory", memory)
+    tests.check("steps: a good table of memory", tests.run(["--from", "good-memory"])[2])
+    first = re.search(rb"\nflip 1271 0x(\w+) 0x00000001 \d+", memory)
+    for label, change in (
+            ("a bit that is missing", lambda it: it.replace(first[0], b"", 1)),
+            ("bits of two bytes", lambda it: re.sub(rb"\n(flip 1271 0x\w+) 0x00000001 ", rb"\n\1 0x01000000 ", it, count=1)),
+            ("bytes out of turn", lambda it: it.replace(b"flip 1271 0x" + first[1], b"flip 1271 0xfffffffc")),
+            ("no model of memory", changed(b"memory,pc", b"pc"))):
+        tests.file("wrong-memory", change(memory))
+        tests.refuses(f"wrong table of memory: {label}", ["--from", "wrong-memory"], "those of step 127")
 
 
 def test_fault_parts(tests):
@@ -131,7 +142,7 @@ def test_fault_summary(tests):
     tests.check("steps: a goal, pairs", "" if named and "reached by 24 of 348 edits" in out else (status, out, err))
     check_text(tests, "steps: words", [*BOOT, "--at=1274", "--faults=words", "--goal=exited 0", "--step=2000"],
                ("flip 1274 0x0001023c 0x00000004; flip 1275 0x0001023c 0x00000004: verify+0x20",))
-    for models, says in (("skip,registers,pc,words", ": nothing that"), ("zero", "\n"), ("skip,ones", "\n")):
+    for models, says in (("skip,registers,pc,words,memory", ": nothing that"), ("zero", "\n"), ("skip,ones", "\n")):
         check_text(tests, f"steps: what no error says of {models}", [*TWICE, "--at=60..61", f"--faults={models}"],
                    (f" edits and the unedited run{says}",))
     check_text(tests, "steps: to the end of the run", [*BOOT, "--at=1300..", "--faults=skip"], ("6 edits, steps 1300..1305, faults skip,",))

@@ -176,7 +176,7 @@ fn sweep_of_steps<'a>(alloc: Global) -> Result<Command<'a>, AllocError>
 {
     let at = "Steps A to B, at which faults strike; A.. up to the last before --step";
     let command = sweep_of_words(alloc)?.arg(option(alloc, "at", "A..B", at))?;
-    let faults = "Their models, with commas: skip, registers, pc, words, zero, ones";
+    let faults = "Their models, with commas: skip, registers, pc, words, memory, zero, ones";
     let command = command.arg(option(alloc, "faults", "MODELS", faults))?;
     let code = "Only at steps with pc from address A to address B";
     let command = command.arg(option(alloc, "code-range", "A..B", code))?;
