@@ -5,4 +5,5 @@ pub mod Decimals
 pub mod Hexadecimals
 pub mod LineFields
 pub mod RowLines
+pub mod FaultLines
 pub mod VerdictSteps
