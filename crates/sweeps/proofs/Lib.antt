@@ -9,3 +9,4 @@ pub mod PartSteps
 pub mod PairSteps
 pub mod AccessSteps
 pub mod MemorySteps
+pub mod ReadSteps

@@ -1,11 +1,16 @@
 -- What a sweep's table says about its edits: how its outcomes are numbered and counted; that each edit has one outcome
--- and one number of steps; and that the parts of a sweep have the edits of the whole.
-use Rattle.std.specs.Prelude.{◌≡◌, ℕ, ◌+◌, ◌-◌, ◌≤◌, Bool, List, [], ◌∷◌, ◌++◌, Some, count_by, map, slice_get}
+-- and one number of steps; that the parts of a sweep have the edits of the whole; and which bytes are read later.
+use Rattle.std.specs.Prelude.{◌≡◌, ℕ, ◌+◌, ◌-◌, ◌^◌, ◌<◌, ◌≤◌, Bool, List, [], ◌∷◌, ◌++◌, Some, count_by, Decides, map}
+use Rattle.std.specs.Prelude.{slice_get}
 use Rattle.std.specs.List.{flat_map}
 use Rattle.std.specs.Str.{bytes_eq}
-use Rattle.scenario.specs.Scenario.{Scenario, IsOutlineOf}
+use Rattle.checkpoints.specs.Searches.{Hits}
+use Rattle.checkpoints.specs.declared.searches.Watch.{Watch}
+use Rattle.checkpoints.specs.declared.searches.Watch.TheVariants.{Read, Write}
+use Rattle.scenario.specs.Scenario.{Scenario, IsOutlineOf, first_state}
 use Rattle.tallies.specs.Distinct.{distinct}
 use Rattle.tallies.specs.Tallied.{number_of}
+use Rattle.sweeps.specs.Memory.{is_read}
 use Rattle.sweeps.specs.Outcomes.{Met, AreMet, TakesSteps, standing, tallied}
 use Rattle.sweeps.specs.Standing.{changes_from}
 use Rattle.sweeps.specs.Tables.{met_text, rows_text}
@@ -60,3 +65,21 @@ abbrev pub PartsHaveAllChanges : Type 0
 PartsHaveAllChanges = (sc : Scenario) (plan : Plan) (parts : ℕ) → 1 ≤ parts
     → flat_map (λ before. changes_in sc plan (record { index = before + 1; count = parts })) (below parts)
     ≡ changes_from sc plan 0 (place_count plan)
+
+-- ---- bytes that are read later
+
+-- a step of the run does this with the byte at an address, as a look at the run finds it
+abbrev pub DoesWith : Watch → Scenario → ℕ → ℕ → Type 0
+DoesWith watch sc a step =
+    Hits (record { watch = watch; range = record { start = a; len = 1 } }) (first_state sc) sc.setup sc.marks step
+
+-- one of n steps from a first one on reads the byte, and none before that one writes it
+abbrev pub IsReadFirst : Scenario → ℕ → ℕ → ℕ → Type 0
+IsReadFirst sc first n a =
+    (k : ℕ) × (first ≤ k) × (k < first + n) × DoesWith Read sc a k
+    × ((j : ℕ) → first ≤ j → j < k → DoesWith Write sc a j → ⊥)
+
+-- the test of the model `memory` says just that
+abbrev pub ReadsAreLooks : Type 0
+ReadsAreLooks =
+    (sc : Scenario) (first n a : ℕ) → a < 2 ^ 32 → Decides (is_read sc first n a) (IsReadFirst sc first n a)

@@ -1,5 +1,5 @@
 //! Laws of a sweep's table. Each law is the contract of a function that does nothing; a caller has it after the call.
-ghost use Rattle.sweeps.specs.Laws.{MetAreOne, NumbersArePlaces, OutlineIsOne, PartsHaveAllChanges, RowsHaveNumbers, StepsAreOne, TalliesCount};
+ghost use Rattle.sweeps.specs.Laws.{MetAreOne, NumbersArePlaces, OutlineIsOne, PartsHaveAllChanges, ReadsAreLooks, RowsHaveNumbers, StepsAreOne, TalliesCount};
 
 use sweep_plans::laws::parts_make_the_whole;
 use tallies::laws::texts_are_counted;
@@ -33,3 +33,9 @@ pub fn parts_have_all_changes()
 {
     parts_make_the_whole();
 }
+
+/// A byte of the fault model `memory` is one that a step reads, from the struck one on and below the chosen one, as a look at the run finds
+/// it, and that no step in between writes.
+pub fn reads_are_looks()
+    ensures { ReadsAreLooks }
+{}

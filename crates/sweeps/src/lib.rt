@@ -11,7 +11,7 @@
 //! | [`Sweep::begin`] | executes the unedited run, and appends its outcome |
 //! | [`Sweep::visit`] | applies each change of a place, and appends its row, after its outcome if that is new |
 //! | [`Sweep::finish`] | appends the number of edits that lead to each outcome, and then the number of edits, of outcomes and of steps |
-//! | [`laws::outcomes_are_counted`], [`laws::steps_are_one`], [`laws::outcomes_are_one`], [`laws::parts_have_all_changes`] | do nothing; their contracts are laws of the table |
+//! | [`laws::outcomes_are_counted`], [`laws::steps_are_one`], [`laws::outcomes_are_one`], [`laws::parts_have_all_changes`], [`laws::reads_are_looks`] | do nothing; their contracts are laws of the table |
 //!
 //! # What a caller can rely on
 //!
