@@ -4,7 +4,7 @@ import time
 import xml.etree.ElementTree
 
 from explore_cases import ERROR, SUM, Made, changed
-from replaycheck.exploring.steps import edits_of
+from replaycheck.exploring.steps import byte_edits, edits_of
 
 
 def drawn(tests, made, words=()):
@@ -59,9 +59,9 @@ def test_picture(tests):
 # ---- pictures of steps
 
 
-def made_steps(count, bad=(), outcome=ERROR, model="skip"):
-    """The table of a sweep of so many steps, of which some have an outcome of their own."""
-    edits = [edit for at in range(count) for edit in edits_of(model, at, None)]
+def made_steps(count, bad=(), outcome=ERROR, model="skip", edits=None):
+    """The table of a sweep of so many steps, of which some have an outcome of their own; with these edits, or those of a model."""
+    edits = edits or [edit for at in range(count) for edit in edits_of(model, at, None)]
     is_bad = [int(it.split(" ")[1]) in bad and not it.endswith("x5 0xffffffff") for it in edits]
     lines = ["sweep 2", f"program 9 {SUM}", f"input 0 {SUM}", f"supp 0 {SUM}", f"steps 0..{count - 1} {model}", f"step {count}",
              "output no", "part 1/1", "outcome 0", "exited 0", "unedited 0"]
@@ -106,6 +106,19 @@ def test_made_steps(tests):
     tests.check("picture of steps: registers, their names", "" if all(names) else text[:300])
     first = f"steps {-(-137 * 700 // 320)} to "
     tests.check("picture of steps: registers, the title", "" if marks and marks[0][5].startswith(first) else marks[:1])
+    for count, size, every in ((1, 1, 1), (40, 30, 1), (330, 170, 3), (100000, 1, 8)):  # bytes of so many addresses, at each Nth step
+        edits = [edit for at in range(0, count, every) for address in range(0x20003, 0x20003 + size)
+                 if count == 1 or address % 7 != at % 7 for edit in byte_edits(at, address)]
+        rects, text = drawn(tests, made_steps(count, {count // 2}, model="memory", edits=edits))
+        marks, rows = [it for it in rects if it[0].startswith("n")], {it[2] for it in rects}
+        is_seen = marks and min(it[3] for it in rects) >= 3 and ">0x00020003<" in text
+        is_well = is_seen and len(rows) == min(160, size) and not overlaps(rects)
+        tests.check(f"picture of steps: {size} bytes at {count} steps", "" if is_well else (len(rows), len(marks), len(rects), text[:300]))
+        shared = f"{size} bytes share 160 rows, and the worst is seen" in text
+        tests.check(f"picture of steps: {size} bytes at {count} steps, what shares a row", shared != (size > 160))
+        named = f": flip {count // 2} 0x00020000 0x01000000\n1: exited 0; Invalid read of size 1"
+        tests.check(f"picture of steps: {size} bytes at {count} steps, the title",
+                    "" if size > 160 or 0x20003 % 7 == count // 2 % 7 or any(named in it[5] for it in marks) else marks[:3])
     rects, text = drawn(tests, made_steps(40, {3, 4, 20}), ["--goal=Invalid read"])
     reached = [it for it in rects if it[0] == "g"]
     tests.check("picture of steps: a goal", "" if len(reached) == 2 and "reaches the goal: a line that begins with `Invalid read`" in text
@@ -138,6 +151,10 @@ def test_swept_steps(tests):
     cells = sum(int(round(it[3] / 24 + 0.5)) for it in pairs)
     wanted = table.count(b"\nskip ") - len(re.findall(rb"\nskip \d+ \d", table))
     tests.check("picture of steps: pairs", "" if cells == wanted > 50 and not overlaps(pairs) else (cells, wanted))
+    table = tests.sweep("boot.elf", "--input=boot.input", "--at=1270..1280", "--faults=memory,pc", "--step=2000")
+    rects, text = drawn(tests, table, ["boot.elf", "--input=boot.input", "--goal=exited 0"])
+    for label, wanted in (("bytes", "memory: a row for each byte"), ("a byte's row", ">0x7fffff"), ("a function", "<title>verify</title>")):
+        tests.check(f"picture of steps: {label}", "" if wanted in text else text[:600])
     tests.check("picture of steps: a pair", "" if "first step 2497, second step 2505: skip 2497; skip 2505" in text else text[:300])
 
 
