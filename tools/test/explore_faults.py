@@ -148,7 +148,7 @@ def test_fault_summary(tests):
     check_text(tests, "steps: to the end of the run", [*BOOT, "--at=1300..", "--faults=skip"], ("6 edits, steps 1300..1305, faults skip,",))
     check_text(tests, "steps: to the step of the sweep", [*BOOT, "--at=15..", "--faults=skip", "--step=20"], ("5 edits, steps 15..19, ",))
     check_text(tests, "steps: each model", [*BOOT, "--at=1274", f"--faults={','.join(MODELS)}", "--step=2000"],
-               ("1119 edits, steps 1274..1274, ",))
+               ("1215 edits, steps 1274..1274, ",))
 
 
 def test_faults(tests):
