@@ -78,13 +78,17 @@ def test_fault_tables(tests):
     tests.file("good-memory", memory)
     tests.check("steps: a good table of memory", tests.run(["--from", "good-memory"])[2])
     first = re.search(rb"\nflip 1271 0x(\w+) 0x00000001 \d+", memory)
-    for label, change in (
-            ("a bit that is missing", lambda it: it.replace(first[0], b"", 1)),
-            ("bits of two bytes", lambda it: re.sub(rb"\n(flip 1271 0x\w+) 0x00000001 ", rb"\n\1 0x01000000 ", it, count=1)),
-            ("bytes out of turn", lambda it: it.replace(b"flip 1271 0x" + first[1], b"flip 1271 0xfffffffc")),
-            ("no model of memory", changed(b"memory,pc", b"pc"))):
+    for label, change, text in (
+            ("a bit that is missing", lambda it: it.replace(first[0], b"", 1), "those of step 1271 aren't all"),
+            ("two bits at once", lambda it: re.sub(rb"\n(flip 1271 0x\w+) 0x00000001 ", rb"\n\1 0x00000003 ", it, count=1),
+             "those of step 1271 aren't all"),
+            ("a bit twice", lambda it: re.sub(rb"\n(flip 1271 0x\w+) 0x00000001 ", rb"\n\1 0x00000002 ", it, count=1),
+             "stands there twice"),
+            ("bytes out of turn", lambda it: it.replace(b"flip 1271 0x" + first[1], b"flip 1271 0xfffffffc"),
+             "those of step 1271 aren't all"),
+            ("no model of memory", changed(b"memory,pc", b"pc"), "more edits of a place than 32")):
         tests.file("wrong-memory", change(memory))
-        tests.refuses(f"wrong table of memory: {label}", ["--from", "wrong-memory"], "those of step 127")
+        tests.refuses(f"wrong table of memory: {label}", ["--from", "wrong-memory"], text)
 
 
 def test_fault_parts(tests):
