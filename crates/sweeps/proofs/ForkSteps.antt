@@ -1,5 +1,5 @@
 -- A fork of the run of a scenario, by what its setup and marks are equal to.
-use Rattle.std.proofs.Common.{◌≡◌, ℕ, ◌+◌, ◌≤◌, List, inl, inr, refl, sym, arith}
+use Rattle.std.proofs.Common.{◌≡◌, ℕ, ◌+◌, ◌≤◌, List, Some, inl, inr, refl, sym, arith}
 use Rattle.std.proofs.lemmas.Bool.{cases_lt}
 use Rattle.std.proofs.Math.Path.{transport}
 use Rattle.guest_machine.specs.Run.{post}
@@ -17,6 +17,7 @@ use Rattle.checkpoints.specs.declared.effect.Effect.TheVariants.{After}
 use Rattle.checkpoints.specs.declared.forks.Fork.{Fork}
 use Rattle.checkpoints.specs.declared.trail.Trail.{Trail}
 use Rattle.scenario.specs.Scenario.{Scenario, chosen_state, first_state, run_of}
+use Rattle.sweeps.specs.Spots.{IsScout}
 
 pub fork-for : (effect : List Alteration → Effect) (sc : Scenario) (setup : Setup) (marks : List Alteration) (step : ℕ)
     (trail : Trail) (fork : Fork) → setup ≡ sc.setup → marks ≡ sc.marks → step ≡ sc.step
@@ -50,6 +51,24 @@ fork-before step last run fork is = elim (cases_lt step fork.step) [
   | inl past ↦ absurd (is.step.hidden (step + 1) (omega arith) refl)
   | inr within ↦ omega arith
 ]
+
+-- a fork of the run is one for its step
+pub scout-for : (sc : Scenario) (fork : Fork) → IsScout sc (Some fork)
+    → IsForkFor (After fork.step) (run_of sc) sc.step fork
+scout-for sc fork is = record {
+  aligned = tt;
+  shows = is.1;
+  step = record {
+    within = is.0;
+    hidden = λ j l e. omega (arith, l, e);
+    next = λ l h. h (fork.step + 1) (omega arith) refl;
+  };
+}
+
+-- and the other way round
+pub for-scout : (sc : Scenario) (step : ℕ) (fork : Fork) → IsForkFor (After step) (run_of sc) sc.step fork
+    → IsScout sc (Some fork)
+for-scout sc step fork is = (is.step.within, is.shows)
 
 -- and of the edited one
 pub shown-edited : (effect : Effect) (one : Run) (fork : Fork) (sc : Scenario) (setup : Setup) (marks : List Alteration)

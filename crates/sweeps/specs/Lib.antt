@@ -1,6 +1,7 @@
 pub mod Memory
 pub mod Standing
 pub mod Spots
+pub mod Scouts
 pub mod Outcomes
 pub mod Tables
 pub mod Sweeps

@@ -1,15 +1,16 @@
 -- What a sweep finds at a place: what is there, and the machine from which each run continues that is changed there.
-use Rattle.std.specs.Prelude.{◌≡◌, ℕ, Option, Some, None}
+use Rattle.std.specs.Prelude.{◌≡◌, ℕ, ◌≤◌, Option, Some, None}
 use Rattle.checkpoints.specs.Effects.{LeadsTo, Run}
 use Rattle.checkpoints.specs.Forks.{IsForkFor}
 use Rattle.checkpoints.specs.declared.effect.Effect.TheVariants.{After}
 use Rattle.checkpoints.specs.declared.forks.Fork.{Fork}
+use Rattle.guest_machine.specs.Shows.{Shows}
 use Rattle.scenario.specs.Edits.{row}
 use Rattle.scenario.specs.Scenario.{Scenario, run_of}
 use Rattle.sweep_plans.specs.Changes.{edit_of}
 use Rattle.sweep_plans.specs.declared.change.Change.{Change}
 use Rattle.sweep_plans.specs.declared.standing.Standing.{Standing}
-use Rattle.sweeps.specs.Standing.{IsAt}
+use Rattle.sweeps.specs.Standing.{IsAt, state_before}
 use Rattle.sweeps.specs.declared.spots.Spot.{Spot}
 
 -- each run that is changed at this place continues from a fork
@@ -27,3 +28,8 @@ IsFoundAt sc there (Some spot) = (there ≡ Some spot.standing) × Continues sc 
 abbrev pub IsLed : ℕ → Scenario → Fork → Type 0
 IsLed step sc fork =
     (one : Run) × LeadsTo (After step) one (run_of sc) × IsForkFor (After step) one sc.step fork
+
+-- a fork of the unedited run, if there is one, is before a step up to the chosen one
+abbrev pub IsScout : Scenario → Option Fork → Type 0
+IsScout sc None = Unit {0}
+IsScout sc (Some fork) = (fork.step ≤ sc.step) × Shows fork.machine (state_before sc fork.step)

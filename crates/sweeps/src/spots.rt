@@ -9,7 +9,7 @@ ghost use Rattle.guest_elf.specs.Images.{is_word};
 ghost use Rattle.guest_machine.specs.Shows.{Shows};
 ghost use Rattle.scenario.specs.Limits.{most_steps};
 ghost use Rattle.scenario.specs.Scenario.{first_state, run_of};
-ghost use Rattle.sweeps.specs.Spots.{Continues, IsFoundAt};
+ghost use Rattle.sweeps.specs.Spots.{Continues, IsFoundAt, IsScout};
 ghost use Rattle.sweeps.specs.Standing.{is_in_code, standing_byte, standing_in, standing_step, standing_word, state_before};
 
 use checkpoints::{Fork, Trail};
@@ -112,8 +112,19 @@ fn word_fork(trail: &mut Trail, scenario: &Scenario, addr: u32) -> Result<Fork, 
     trail.fork_at_word(addr, scenario.step(), scenario.setup(), scenario.marks())
 }
 
-/// Returns the machine from which each run continues that is struck at a step.
-fn step_fork(trail: &mut Trail, scenario: &Scenario, step: u32) -> Result<Fork, AllocError>
+/// Returns the fork before a step, given one before that step or the step before it.
+fn next_fork(scenario: &Scenario, scout: &Fork, step: u32) -> Result<Fork, AllocError>
+    requires within { step ≤ scenario.now.step }
+    requires before { scout.now.step ≤ step }
+    requires scout { IsScout scenario.now (Some scout.now) }
+    ensures fork { IfOk result (λ fork. IsForkFor (After step) (run_of scenario.now) scenario.now.step fork) }
+    ensures step { IfOk result (λ fork. fork.step ≡ step) }
+{
+    scout.go_on(step, scenario.setup(), scenario.marks())
+}
+
+/// Returns the fork before a step, from the trail.
+fn trail_fork(trail: &mut Trail, scenario: &Scenario, step: u32) -> Result<Fork, AllocError>
     requires near { scenario.now.step ≤ most_steps }
     requires within { step ≤ scenario.now.step }
     requires loads { LoadsAs trail.old scenario.now.image }
@@ -124,6 +135,33 @@ fn step_fork(trail: &mut Trail, scenario: &Scenario, step: u32) -> Result<Fork, 
     ensures right { IsRightForRun trail.new (run_of scenario.now) }
 {
     trail.fork_at_step(step, scenario.step(), scenario.setup(), scenario.marks())
+}
+
+/// Returns the machine from which each run continues that is struck at a step: from the last fork, if that is before this step or the step
+/// before it, and else from the trail.
+fn step_fork(
+    trail: &mut Trail,
+    scenario: &Scenario,
+    scout: &Option<Fork>,
+    step: u32,
+) -> Result<Fork, AllocError>
+    requires near { scenario.now.step ≤ most_steps }
+    requires within { step ≤ scenario.now.step }
+    requires loads { LoadsAs trail.old scenario.now.image }
+    requires right { IsRightForRun trail.old (run_of scenario.now) }
+    requires scout { IsScout scenario.now scout.now }
+    ensures fork { IfOk result (λ fork. IsForkFor (After step) (run_of scenario.now) scenario.now.step fork) }
+    ensures step { IfOk result (λ fork. fork.step ≡ step) }
+    ensures loads { LoadsAs trail.new scenario.now.image }
+    ensures right { IsRightForRun trail.new (run_of scenario.now) }
+{
+    if let Some(last) = scout
+        && last.step <= step
+        && step - last.step <= 1
+    {
+        return next_fork(scenario, last, step);
+    }
+    trail_fork(trail, scenario, step)
 }
 
 /// Finds a byte.
@@ -170,34 +208,52 @@ fn find_word(
     Ok(Some(Spot { standing, fork }))
 }
 
-/// Finds a step.
+/// Finds a step. If it isn't struck, its fork is the last one then.
 fn find_step(
     trail: &mut Trail,
     scenario: &Scenario,
+    scout: &mut Option<Fork>,
     code: Option<Range>,
     step: u32,
 ) -> Result<Option<Spot>, AllocError>
     requires near { scenario.now.step ≤ most_steps }
     requires loads { LoadsAs trail.old scenario.now.image }
     requires right { IsRightForRun trail.old (run_of scenario.now) }
+    requires scout { IsScout scenario.now scout.old }
     ensures found { IfOk result (IsFoundAt scenario.now (standing_step scenario.now code step)) }
     ensures loads { LoadsAs trail.new scenario.now.image }
     ensures right { IsRightForRun trail.new (run_of scenario.now) }
+    ensures scout { IsScout scenario.now scout.new }
 {
     if step >= scenario.step() {
         return Ok(None);
     }
-    let fork = step_fork(trail, scenario, step)?;
+    let fork = step_fork(trail, scenario, scout, step)?;
     let Some(standing) = standing_step(scenario, &fork.machine, code, step) else {
+        *scout = Some(fork);
         return Ok(None);
     };
     Ok(Some(Spot { standing, fork }))
 }
 
-/// Returns what is at a place, with the machine from which each run continues that is changed there, if there is something.
+/// Has the fork of a spot at a step be the last one.
+pub(crate) fn keep_scout(scenario: &Scenario, scout: &mut Option<Fork>, spot: Spot)
+    requires scout { IsScout scenario.now scout.old }
+    requires fork { Continues scenario.now spot.standing spot.fork }
+    ensures { IsScout scenario.now scout.new }
+{
+    let _step = scenario.step();
+    if let Standing::Step { .. } = spot.standing {
+        *scout = Some(spot.fork);
+    }
+}
+
+/// Returns what is at a place, with the machine from which each run continues that is changed there, if there is something. The fork of the
+/// last step, if there is one, may save steps.
 pub(crate) fn find(
     trail: &mut Trail,
     scenario: &Scenario,
+    scout: &mut Option<Fork>,
     origin: &Origin<'_>,
     plan: &Plan,
     place: Place,
@@ -207,14 +263,16 @@ pub(crate) fn find(
     requires starts { Shows origin.now.start.now (first_state scenario.now) }
     requires loads { LoadsAs trail.old scenario.now.image }
     requires right { IsRightForRun trail.old (run_of scenario.now) }
+    requires scout { IsScout scenario.now scout.old }
     ensures found { IfOk result (IsFoundAt scenario.now (standing_in scenario.now plan.now place)) }
     ensures loads { LoadsAs trail.new scenario.now.image }
     ensures right { IsRightForRun trail.new (run_of scenario.now) }
+    ensures scout { IsScout scenario.now scout.new }
 {
     match place {
         Place::Byte(offset) => find_byte(trail, scenario, origin.input, offset),
         Place::Word(addr) => find_word(trail, scenario, origin.start, addr),
-        Place::Step(step) => find_step(trail, scenario, plan.code, step),
+        Place::Step(step) => find_step(trail, scenario, scout, plan.code, step),
         Place::Nowhere => Ok(None),
     }
 }

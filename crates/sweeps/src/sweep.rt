@@ -6,12 +6,14 @@ ghost use Rattle.checkpoints.specs.Trails.{LoadsAs};
 ghost use Rattle.guest_machine.specs.Shows.{Shows};
 ghost use Rattle.scenario.specs.Limits.{most_steps};
 ghost use Rattle.scenario.specs.Scenario.{first_state, run_of};
+ghost use Rattle.sweeps.specs.Scouts.{scout-prop};
+ghost use Rattle.sweeps.specs.Spots.{IsScout};
 
 use crate::beginning::{scenario_at, unedited_run};
 use crate::counting::Counts;
 use crate::meeting::meet_place;
-use crate::spots::{Origin, find};
-use checkpoints::Trail;
+use crate::spots::{Origin, find, keep_scout};
+use checkpoints::{Fork, Trail};
 use guest_elf::Image;
 use guest_machine::Machine;
 use scenario::Scenario;
@@ -30,6 +32,8 @@ pub struct Sweep<'a> {
     ghost right: { IsRightForRun trail (run_of scenario) } by { right-prop trail (run_of scenario) },
     ghost near: { scenario.step ≤ most_steps },
     ghost unmarked: { scenario.marks ≡ [] },
+    scout: Option<Fork>,
+    ghost scouted: { IsScout scenario scout } by { scout-prop scenario scout },
     start: Machine,
     ghost starts: { Shows start (first_state scenario) } by { shows-prop start (first_state scenario) },
     input: Vec<u8>,
@@ -91,6 +95,7 @@ impl<'a> Sweep<'a> {
             alloc,
             scenario,
             trail,
+            scout: None,
             start,
             input,
             with_output,
@@ -110,7 +115,14 @@ impl<'a> Sweep<'a> {
             start: &self.start,
         };
         let place = plan.place(place);
-        let found = find(&mut self.trail, &self.scenario, &origin, plan, place)?;
+        let found = find(
+            &mut self.trail,
+            &self.scenario,
+            &mut self.scout,
+            &origin,
+            plan,
+            place,
+        )?;
         let Some(spot) = found else {
             return Ok(());
         };
@@ -122,7 +134,9 @@ impl<'a> Sweep<'a> {
             &spot,
             self.with_output,
             out,
-        )
+        )?;
+        keep_scout(&self.scenario, &mut self.scout, spot);
+        Ok(())
     }
 
     /// Appends the number of edits that lead to each outcome, and then the number of edits, of outcomes and of steps. The steps are those

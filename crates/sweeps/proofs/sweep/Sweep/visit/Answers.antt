@@ -1,5 +1,4 @@
 use Rattle.std.proofs.Common.{ap, sym, ◌∙◌, subst, List, refl}
-use Rattle.std.proofs.lemmas.Result.{on_ok_weaker}
 use Rattle.sweep_plans.specs.declared.change.Change.{Change}
 use Rattle.sweeps.specs.Standing.{all_changes, standing_in}
 use Rattle.sweeps.specs.Sweeps.{CountsMore, HasMet, scenario_of, tells_output}
@@ -51,8 +50,7 @@ returns-clause-met c =
     in
     let all = ap (all_changes self.scenario plan) (ap (standing_in self.scenario plan) (sym c.place-place.ensures)
     ∙ there.0) in
-    on_ok_weaker c.meet_place.result (λ met.
     meets-from self.with_output self.scenario c.meet_place.new.scenario self.counts c.meet_place.new.counts _
     c.args.out.now.items c.meet_place.new.out.items c.meet_place.ensures.same
     (subst (λ (xs : List Change). CountsMore self.counts c.meet_place.new.counts self.with_output self.scenario xs
-    c.args.out.now.items c.meet_place.new.out.items) (sym all) met)) c.meet_place.ensures.met
+    c.args.out.now.items c.meet_place.new.out.items) (sym all) c.in_ok-meet_place.ensures.met)

@@ -2,7 +2,7 @@ use Rattle.std.proofs.lemmas.Result.{IfOk-weaker}
 use Rattle.checkpoints.specs.declared.effect.Effect.TheVariants.{After}
 use Rattle.scenario.proofs.TrailFacts.{moved}
 use Rattle.sweeps.proofs.ForkSteps.{fork-for}
-use Rattle.sweeps.proofs.spots.step_fork.Goals as goal
+use Rattle.sweeps.proofs.spots.trail_fork.Goals as goal
 
 pub returns-clause-fork : goal.returns-clause-fork
 returns-clause-fork c =
