@@ -7,7 +7,7 @@ use instructions::Register;
 use run_values::{Act, Alteration};
 
 /// What a fault of one moment does to a machine that runs.
-#[derive(Clone, Copy)]
+#[derive(Clone, Copy, PartialEq, Eq)]
 pub enum Glitch {
     /// Leaves out the instruction at pc.
     Skip,

@@ -9,7 +9,9 @@ use Rattle.sweeps.specs.Outcomes.{Met, AreMet, IsOutcome, TakesSteps, standing, 
 use Rattle.sweep_plans.specs.declared.change.Change.{Change}
 use Rattle.sweeps.specs.Sweeps.{Counted, CountsMore}
 use Rattle.sweeps.specs.Tables.{first_lines, met_text, rows_after, rows_text, tally_line, tally_lines}
+use Rattle.sweeps.specs.Recall.{Recalls}
 use Rattle.sweeps.specs.declared.counting.Counts.{Counts}
+use Rattle.sweeps.specs.declared.recall.Recall.{Recall}
 
 -- the texts with those of some changes counted
 abbrev counted : List (List ℕ × ℕ) → List Met → List (List ℕ × ℕ)
@@ -55,16 +57,37 @@ pub counted-more : (with_output : Bool) (sc : Scenario) (first : List ℕ) (met 
     → Counted old with_output sc first met
     → IsOutcome with_output sc m.change m.outcome → TakesSteps sc m.change m.steps
     → entries_of new.tallies ≡ with_text (entries_of old.tallies) m.outcome
-    → new.edits ≡ standing (old.edits + 1) → new.steps ≡ standing (old.steps + m.steps)
+    → new.edits ≡ standing (old.edits + 1) → new.steps ≡ standing (old.steps + m.steps) → new.recall ≡ old.recall
     → Counted new with_output sc first (met ++ m ∷ [])
-counted-more with_output sc first met m old new h outcome takes entries edits steps = record {
+counted-more with_output sc first met m old new h outcome takes entries edits steps recall = record {
   unedited = h.unedited;
   right = met-more with_output sc met m h.right outcome takes;
   tallies = entries ∙ ap (λ es. with_text es m.outcome) h.tallies ∙ sym (tallied-more first met (m ∷ []));
   edits = edits ∙ stands-on (length met) 1 old.edits h.edits ∙ ap standing (sym (length-append met (m ∷ [])));
   steps = steps ∙ stands-on (steps_of met) m.steps old.steps h.steps
       ∙ ap standing (sym (sum_by_push (λ (n : Met). n.steps) met m));
+  recalled = subst (Recalls with_output sc) (sym recall) h.recalled;
 }
+
+-- none are counted, but something else is recalled
+pub counts-recalled : (with_output : Bool) (sc : Scenario) (old : Counts) (recall : Recall) (out : List ℕ)
+    → (Recalls with_output sc old.recall → Recalls with_output sc recall)
+    → CountsMore old (record old { recall = recall }) with_output sc [] out out
+unfolding rows_after
+counts-recalled with_output sc old recall out so first met h =
+    let now : Counted (record old { recall = recall }) with_output sc first met = record {
+      unedited = h.unedited;
+      right = h.right;
+      tallies = h.tallies;
+      edits = h.edits;
+      steps = h.steps;
+      recalled = so h.recalled;
+    } in (
+      [],
+      refl,
+      subst (Counted (record old { recall = recall }) with_output sc first) (sym (append-nil met)) now,
+      sym (append-nil out),
+    )
 
 -- none are counted
 pub counts-none : (counts : Counts) (with_output : Bool) (sc : Scenario) (out : List ℕ)

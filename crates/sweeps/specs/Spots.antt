@@ -1,5 +1,5 @@
 -- What a sweep finds at a place: what is there, and the machine from which each run continues that is changed there.
-use Rattle.std.specs.Prelude.{◌≡◌, ℕ, ◌≤◌, Option, Some, None}
+use Rattle.std.specs.Prelude.{◌≡◌, ℕ, ◌<◌, ◌≤◌, [], Option, Some, None}
 use Rattle.checkpoints.specs.Effects.{LeadsTo, Run}
 use Rattle.checkpoints.specs.Forks.{IsForkFor}
 use Rattle.checkpoints.specs.declared.effect.Effect.TheVariants.{After}
@@ -10,7 +10,10 @@ use Rattle.scenario.specs.Scenario.{Scenario, run_of}
 use Rattle.sweep_plans.specs.Changes.{edit_of}
 use Rattle.sweep_plans.specs.declared.change.Change.{Change}
 use Rattle.sweep_plans.specs.declared.standing.Standing.{Standing}
-use Rattle.sweeps.specs.Standing.{IsAt, state_before}
+use Rattle.sweep_plans.specs.declared.standing.Standing.TheVariants as At
+use Rattle.sweeps.specs.Standing.{IsAt, Stands, state_before}
+use Rattle.sweeps.specs.Recall.{IsTouched}
+use Rattle.sweeps.specs.declared.memory.Turning.{Turning}
 use Rattle.sweeps.specs.declared.spots.Spot.{Spot}
 
 -- each run that is changed at this place continues from a fork
@@ -33,3 +36,17 @@ IsLed step sc fork =
 abbrev pub IsScout : Scenario → Option Fork → Type 0
 IsScout sc None = Unit {0}
 IsScout sc (Some fork) = (fork.step ≤ sc.step) × Shows fork.machine (state_before sc fork.step)
+
+-- a spot is just before a step of the run, which has no marks and goes on behind it
+pub record IsBefore (sc : Scenario) (step : ℕ) (spot : Spot) : Type 0 where
+  pub unmarked : sc.marks ≡ []
+  pub below : step < sc.step
+  pub standing : (pc : ℕ) × (spot.standing ≡ At.Step step pc)
+  pub stands : Stands sc spot.standing
+  pub continues : Continues sc spot.standing spot.fork
+  pub shows : Shows spot.fork.machine (state_before sc step)
+
+-- and the ranges that the step touches are these
+pub record MayTurn (sc : Scenario) (spot : Spot) (turning : Turning) : Type 0 where
+  pub before : IsBefore sc turning.step spot
+  pub touched : IsTouched spot.fork.machine sc.setup turning.touched

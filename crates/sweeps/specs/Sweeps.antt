@@ -2,6 +2,7 @@
 use Rattle.std.specs.Prelude.{◌≡◌, ℕ, ◌++◌, Bool, List, length, map}
 use Rattle.scenario.specs.Scenario.{Scenario, IsOutlineOf}
 use Rattle.tallies.specs.Tallied.{entries_of}
+use Rattle.sweeps.specs.Recall.{Recalls}
 use Rattle.sweeps.specs.Outcomes.{Met, AreMet, standing, steps_of, tallied}
 use Rattle.sweeps.specs.Tables.{rows_after, rows_text}
 use Rattle.sweep_plans.specs.declared.change.Change.{Change}
@@ -15,7 +16,7 @@ scenario_of sweep = sweep.scenario
 unfoldable pub tells_output : Sweep → Bool
 tells_output sweep = sweep.with_output
 
--- counts of these changes, each with its outcome, after the unedited run with its own
+-- counts of these changes, each with its outcome, after the unedited run with its own; what is recalled is so
 pub record Counted (counts : Counts) (with_output : Bool) (sc : Scenario) (first : List ℕ) (met : List Met) : Type 0
   where
     pub unedited : IsOutlineOf with_output sc first
@@ -23,6 +24,7 @@ pub record Counted (counts : Counts) (with_output : Bool) (sc : Scenario) (first
     pub tallies : entries_of counts.tallies ≡ tallied first met
     pub edits : counts.edits ≡ standing (length met)
     pub steps : counts.steps ≡ standing (steps_of met)
+    pub recalled : Recalls with_output sc counts.recall
 
 -- what is counted after some more changes, whose rows are appended to a text
 abbrev pub CountsMore : Counts → Counts → Bool → Scenario → List Change → List ℕ → List ℕ → Type 0

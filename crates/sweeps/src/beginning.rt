@@ -9,6 +9,7 @@ ghost use Rattle.sweeps.specs.Sweeps.{Counted};
 ghost use Rattle.sweeps.specs.Tables.{rows_text};
 
 use crate::counting::Counts;
+use crate::recall::{Outcome, Recall};
 use crate::rows::push_first;
 use checkpoints::Trail;
 use guest_elf::Image;
@@ -67,11 +68,14 @@ fn count_unedited(
 {
     let first = unedited_outcome(trail, scenario, with_output)?;
     push_first(out, &first)?;
+    let copy = Vec::from_slice(alloc, &first)?;
+    let unedited = Outcome::new(alloc, copy)?;
     let tallies = Tallies::begin(alloc, first)?;
     Ok(Counts {
         tallies,
         edits: 0,
         steps: 0,
+        recall: Recall::begin(alloc, unedited),
     })
 }
 

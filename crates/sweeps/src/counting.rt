@@ -1,10 +1,11 @@
 //! What a sweep has met so far: the number of edits that lead to each outcome, the number of edits, and the number of steps that they need
-//! by definition.
+//! by definition; and the outcomes that it recalls.
 ghost use Rattle.std.specs.Prelude.{◌≡◌, ◌+◌, ◌++◌, OnOk};
 ghost use Rattle.tallies.specs.Tallied.{entries_of, with_text};
 ghost use Rattle.sweeps.specs.Outcomes.{standing};
 ghost use Rattle.sweeps.specs.Tables.{found_text, met_text, total_lines};
 
+use crate::recall::Recall;
 use crate::rows::{push_end, push_outcome, push_row, push_tallies};
 use std::alloc::{AllocError, Global};
 use sweep_plans::Change;
@@ -17,6 +18,7 @@ pub(crate) struct Counts {
     pub(crate) tallies: Tallies,
     pub(crate) edits: u64,
     pub(crate) steps: u64,
+    pub(crate) recall: Recall,
 }
 
 /// Appends an outcome, if it is new, and the row of the change that has it.
@@ -48,6 +50,7 @@ impl Counts {
         ensures entries { OnOk result (entries_of self.new.tallies ≡ with_text (entries_of self.old.tallies) outcome.now) }
         ensures edits { OnOk result (self.new.edits ≡ standing (self.old.edits + 1)) }
         ensures steps { OnOk result (self.new.steps ≡ standing (self.old.steps + steps)) }
+        ensures recall { OnOk result (self.new.recall ≡ self.old.recall) }
         ensures text { OnOk result (out.new.items ≡ out.old.items ++ met_text (entries_of self.old.tallies) change outcome.now) }
     {
         let found = self.tallies.meet(outcome)?;

@@ -1,7 +1,10 @@
 //! The changes of one place, one at a time.
-ghost use Rattle.std.specs.Prelude.{◌≡◌, ◌≤◌, ◌∷◌, [], OnOk, Some};
+ghost use Rattle.std.specs.Prelude.{◌≡◌, ◌≤◌, ◌∷◌, [], IsTrue, OnOk, Some, true};
 ghost use Rattle.std.specs.List.{All};
 ghost use Rattle.checkpoints.specs.Forks.{IsForkFor};
+ghost use Rattle.guest_machine.specs.Exec.{is_running};
+ghost use Rattle.guest_machine.specs.Shows.{Shows};
+ghost use Rattle.guest_machine.specs.State.{State};
 ghost use Rattle.scenario.specs.Edits.{row};
 ghost use Rattle.scenario.specs.Limits.{most_steps};
 ghost use Rattle.scenario.specs.Scenario.{run_of};
@@ -16,12 +19,14 @@ use crate::memory::meet_memory;
 use crate::outcomes::outcome_of;
 use crate::pairs::meet_pairs;
 use crate::spots::Spot;
+use crate::striking::meet_step;
+use guest_machine::{Machine, Status};
 use scenario::Scenario;
 use std::alloc::{AllocError, Global};
-use sweep_plans::{Change, Plan};
+use sweep_plans::{Change, Plan, Standing};
 
 /// Applies a change at a spot, and no other edit, counts the outcome, and appends its row. Afterwards the scenario is as it was.
-fn meet(
+pub(crate) fn meet(
     scenario: &mut Scenario,
     counts: &mut Counts,
     spot: &Spot,
@@ -33,6 +38,7 @@ fn meet(
     requires at { IsAt scenario.old spot.now.standing change }
     requires fork { IsForkFor (row scenario.old (edit_of change)).effect (run_of scenario.old) scenario.old.step spot.now.fork }
     ensures same { scenario.new ≡ scenario.old }
+    ensures recall { OnOk result (counts.new.recall ≡ counts.old.recall) }
     ensures met { OnOk result (CountsMore counts.old counts.new with_output scenario.old (change ∷ []) out.old.items out.new.items) }
 {
     let outcome = outcome_of(scenario, &spot.fork, spot.standing, change, with_output)?;
@@ -62,6 +68,48 @@ pub(crate) fn meet_each(
     Ok(())
 }
 
+/// Returns whether a machine runs.
+fn runs(machine: &Machine) -> bool
+    ensures { IsTrue result → (s : State) → Shows machine.now s → is_running s.core.status ≡ true }
+{
+    matches!(machine.status(), Status::Running)
+}
+
+/// Does the same at the place of a spot; at a step, outcomes that are recalled come without a run.
+fn meet_there(
+    alloc: Global,
+    scenario: &mut Scenario,
+    counts: &mut Counts,
+    spot: &Spot,
+    changes: &[Change],
+    with_output: bool,
+    out: &mut Vec<u8>,
+) -> Result<(), AllocError>
+    requires unmarked { scenario.old.marks ≡ [] }
+    requires stands { Stands scenario.old spot.now.standing }
+    requires below { IsBelow scenario.old.step spot.now.standing }
+    requires at { All (IsAt scenario.old spot.now.standing) changes.now }
+    requires fork { Continues scenario.old spot.now.standing spot.now.fork }
+    ensures same { scenario.new ≡ scenario.old }
+    ensures met { OnOk result (CountsMore counts.old counts.new with_output scenario.old changes.now out.old.items out.new.items) }
+{
+    if let Standing::Step { step, .. } = spot.standing {
+        if runs(&spot.fork.machine) {
+            return meet_step(
+                alloc,
+                scenario,
+                counts,
+                spot,
+                step,
+                changes,
+                with_output,
+                out,
+            );
+        }
+    }
+    meet_each(scenario, counts, spot, changes, with_output, out)
+}
+
 /// Does the same for each change of a plan there.
 fn meet_all(
     alloc: Global,
@@ -81,7 +129,7 @@ fn meet_all(
     ensures met { OnOk result (CountsMore counts.old counts.new with_output scenario.old (changes_of plan.now spot.now.standing) out.old.items out.new.items) }
 {
     let changes = plan.changes(alloc, spot.standing)?;
-    meet_each(scenario, counts, spot, &changes, with_output, out)
+    meet_there(alloc, scenario, counts, spot, &changes, with_output, out)
 }
 
 /// Does the same, and then for the bytes that the run reads later, and for the pairs there.

@@ -1,28 +1,71 @@
 //! The flips of the bytes that the run reads later.
-ghost use Rattle.std.specs.Prelude.{◌≡◌, ◌≤◌, ◌+◌, ◌-◌, ◌^◌, ◌%◌, ◌<◌, [], ℕ, OnOk};
+ghost use Rattle.std.specs.Prelude.{◌≡◌, ◌≤◌, ◌+◌, ◌-◌, ◌^◌, ◌%◌, [], IfOk, OnOk};
+ghost use Rattle.std.specs.List.{All};
 ghost use Rattle.scenario.specs.Limits.{most_steps};
-ghost use Rattle.sweep_plans.specs.declared.standing.Standing.TheVariants.{Step};
 ghost use Rattle.sweeps.specs.Accesses.{IsTable, TurnsOn};
 ghost use Rattle.sweeps.specs.Memory.{memory_at};
-ghost use Rattle.sweeps.specs.Spots.{Continues};
-ghost use Rattle.sweeps.specs.Standing.{IsBelow, Stands};
+ghost use Rattle.sweeps.specs.Recall.{IsTouched};
+ghost use Rattle.sweeps.specs.Spots.{Continues, MayTurn};
+ghost use Rattle.sweeps.specs.Standing.{IsAt, IsBelow, Stands};
 ghost use Rattle.sweeps.specs.Sweeps.{CountsMore};
 
 use crate::accesses::{READ, first_accesses};
 use crate::counting::Counts;
 use crate::meeting::meet_each;
 use crate::spots::Spot;
+use crate::striking::meet_changes;
+use guest_machine::{Machine, Setup, Touched};
 use scenario::Scenario;
 use shadow_memory::Memory;
 use std::alloc::{AllocError, Global};
-use sweep_plans::{Plan, Standing, byte_flips};
+use sweep_plans::{Change, Plan, Standing, byte_flips};
 
 /// What the flips at a step need.
 #[derive(Clone, Copy)]
 struct Turning {
     alloc: Global,
     step: u32,
+    /// The ranges that the step touches.
+    touched: Touched,
     with_output: bool,
+}
+
+/// Returns the ranges that the next step of a machine touches.
+fn touched_by(machine: &Machine, setup: &Setup) -> Result<Touched, AllocError>
+    ensures { IfOk result (IsTouched machine.now setup.now) }
+{
+    let (_stepped, touched) = machine.share_ready()?.step_on(setup)?;
+    Ok(touched)
+}
+
+/// Makes some changes just before the step, one at a time. An outcome that is recalled comes without a run.
+fn meet_turned(
+    scenario: &mut Scenario,
+    counts: &mut Counts,
+    spot: &Spot,
+    turning: Turning,
+    changes: &[Change],
+    out: &mut Vec<u8>,
+) -> Result<(), AllocError>
+    requires turning { MayTurn scenario.old spot.now turning }
+    requires at { All (IsAt scenario.old spot.now.standing) changes.now }
+    ensures same { scenario.new ≡ scenario.old }
+    ensures met { OnOk result (CountsMore counts.old counts.new turning.with_output scenario.old changes.now out.old.items out.new.items) }
+{
+    if counts.recall.step != turning.step {
+        return meet_each(scenario, counts, spot, changes, turning.with_output, out);
+    }
+    meet_changes(
+        turning.alloc,
+        scenario,
+        counts,
+        spot,
+        turning.step,
+        Some(turning.touched),
+        changes,
+        turning.with_output,
+        out,
+    )
 }
 
 /// Turns each bit of a byte, one at a time, if the run reads the byte later.
@@ -35,9 +78,7 @@ fn meet_byte(
     addr: u32,
     out: &mut Vec<u8>,
 ) -> Result<(), AllocError>
-    requires stands { Stands scenario.old spot.now.standing }
-    requires at { (pc : ℕ) × (spot.now.standing ≡ Step turning.step pc) }
-    requires fork { Continues scenario.old spot.now.standing spot.now.fork }
+    requires turning { MayTurn scenario.old spot.now turning }
     requires table { IsTable scenario.old turning.step (scenario.old.step - turning.step) table.now }
     ensures same { scenario.new ≡ scenario.old }
     ensures met { OnOk result (TurnsOn scenario.old turning.step turning.with_output addr (addr + 1) counts.old out.old.items counts.new out.new.items) }
@@ -46,7 +87,7 @@ fn meet_byte(
         return Ok(());
     }
     let changes = byte_flips(turning.alloc, turning.step, addr)?;
-    meet_each(scenario, counts, spot, &changes, turning.with_output, out)
+    meet_turned(scenario, counts, spot, turning, &changes, out)
 }
 
 /// Does the same for the four bytes of a word.
@@ -60,9 +101,7 @@ fn meet_word(
     out: &mut Vec<u8>,
 ) -> Result<(), AllocError>
     requires aligned { word % 4 ≡ 0 }
-    requires stands { Stands scenario.old spot.now.standing }
-    requires at { (pc : ℕ) × (spot.now.standing ≡ Step turning.step pc) }
-    requires fork { Continues scenario.old spot.now.standing spot.now.fork }
+    requires turning { MayTurn scenario.old spot.now turning }
     requires table { IsTable scenario.old turning.step (scenario.old.step - turning.step) table.now }
     ensures same { scenario.new ≡ scenario.old }
     ensures met { OnOk result (TurnsOn scenario.old turning.step turning.with_output word (word + 4) counts.old out.old.items counts.new out.new.items) }
@@ -82,9 +121,7 @@ fn meet_bytes(
     turning: Turning,
     out: &mut Vec<u8>,
 ) -> Result<(), AllocError>
-    requires stands { Stands scenario.old spot.now.standing }
-    requires at { (pc : ℕ) × (spot.now.standing ≡ Step turning.step pc) }
-    requires fork { Continues scenario.old spot.now.standing spot.now.fork }
+    requires turning { MayTurn scenario.old spot.now turning }
     requires table { IsTable scenario.old turning.step (scenario.old.step - turning.step) table.now }
     ensures same { scenario.new ≡ scenario.old }
     ensures met { OnOk result (TurnsOn scenario.old turning.step turning.with_output 0 (2 ^ 32) counts.old out.old.items counts.new out.new.items) }
@@ -127,9 +164,11 @@ pub(crate) fn meet_memory(
         return Ok(());
     }
     let table = first_accesses(alloc, scenario, &spot.fork.machine, step)?;
+    let touched = touched_by(&spot.fork.machine, scenario.setup())?;
     let turning = Turning {
         alloc,
         step,
+        touched,
         with_output,
     };
     meet_bytes(scenario, counts, &table, spot, turning, out)

@@ -1,4 +1,6 @@
-use Rattle.std.proofs.Common.{◌++◌, refl, ap, sym, ◌∙◌, append-nil}
+use Rattle.std.proofs.Common.{◌++◌, refl, ap, sym, ◌∙◌, subst, append-nil}
+use Rattle.scenario.specs.Scenario.{IsOutlineOf}
+use Rattle.sweeps.proofs.RecallSteps.{begun-recall}
 use Rattle.sweeps.specs.Outcomes.{tallied}
 use Rattle.sweeps.specs.Tables.{first_lines, rows_after, rows_text}
 use Rattle.sweeps.proofs.beginning.count_unedited.Goals as goal
@@ -14,6 +16,10 @@ returns-clause-counted c =
         tallies = c.in_ok-tallies.ensures;
         edits = refl;
         steps = refl;
+        recalled = begun-recall c.args.with_output c.args.scenario.now c.begin-2.result
+            (subst (IsOutlineOf c.args.with_output c.args.scenario.now) (sym (c.begin-2.ensures.unedited
+            ∙ c.in_ok-unedited.ensures ∙ c.in_ok-copy.ensures.items ∙ c.deref-2.ensures.value))
+            c.in_ok-first.ensures.outcome) c.begin-2.ensures.here c.begin-2.ensures.next;
       },
       c.in_ok-push_first.ensures ∙ ap (λ text. c.args.out.now.items ++ text) (ap first_lines c.deref.ensures.value
           ∙ sym (append-nil (first_lines first))),

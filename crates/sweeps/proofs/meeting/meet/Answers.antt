@@ -22,6 +22,6 @@ returns-clause-met c =
     c.in_ok-outcome.ensures.outcome
     (fork.step, c.requires.fork.step, refl) (c.in_ok-count.ensures.entries
     ∙ ap (with_text (entries_of c.args.counts.now.tallies)) c.deref.ensures.value) c.in_ok-count.ensures.edits
-    (c.in_ok-count.ensures.steps ∙ ap (λ n. standing (c.args.counts.now.steps + n)) steps))
+    (c.in_ok-count.ensures.steps ∙ ap (λ n. standing (c.args.counts.now.steps + n)) steps) c.in_ok-count.ensures.recall)
     (λ first met h. c.in_ok-count.ensures.text ∙ (λ i. c.args.out.now.items
     ++ met_text (h.tallies i) c.args.change (c.deref.ensures.value i)))

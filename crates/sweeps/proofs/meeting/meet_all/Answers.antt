@@ -10,8 +10,8 @@ use Rattle.sweeps.proofs.meeting.meet_all.Goals as goal
 pub changes-requires : goal.changes-requires
 changes-requires c = next-below c.args.scenario.now.step c.args.spot.now.standing c.requires.near c.requires.below
 
-pub meet_each-requires-clause-at : goal.meet_each-requires-clause-at
-meet_each-requires-clause-at c =
+pub meet_there-requires-clause-at : goal.meet_there-requires-clause-at
+meet_there-requires-clause-at c =
     subst (All (IsAt c.args.scenario.now c.args.spot.now.standing)) (sym (c.deref.ensures.value
     ∙ c.in_ok-changes.ensures))
     (all-at c.args.scenario.now c.args.plan.now c.args.spot.now.standing c.requires.near c.requires.unmarked
@@ -19,7 +19,7 @@ meet_each-requires-clause-at c =
 
 pub returns-clause-met : goal.returns-clause-met
 returns-clause-met c =
-    on_ok_weaker c.meet_each.result (λ met.
-    subst (λ (xs : List Change). CountsMore c.args.counts.now c.meet_each.new.counts c.args.with_output
-    c.args.scenario.now xs c.args.out.now.items c.meet_each.new.out.items) (c.deref.ensures.value
-    ∙ c.in_ok-changes.ensures) met) c.meet_each.ensures.met
+    on_ok_weaker c.meet_there.result (λ met.
+    subst (λ (xs : List Change). CountsMore c.args.counts.now c.meet_there.new.counts c.args.with_output
+    c.args.scenario.now xs c.args.out.now.items c.meet_there.new.out.items) (c.deref.ensures.value
+    ∙ c.in_ok-changes.ensures) met) c.meet_there.ensures.met

@@ -13,9 +13,9 @@ returns-then-byte-ne-READ-clause-met c =
     c.args.counts.now c.args.out.now.items c.requires.table c.ranges.addr.fits
     (λ one. c.if-byte-ne-READ.true (c.byte.ensures.byte ∙ one))
 
-pub meet_each-requires-clause-at : goal.meet_each-requires-clause-at
-meet_each-requires-clause-at c =
-    let at = c.requires.at in
+pub meet_turned-requires-clause-at : goal.meet_turned-requires-clause-at
+meet_turned-requires-clause-at c =
+    let at = c.requires.turning.before.standing in
     subst (All (IsAt c.args.scenario.now c.args.spot.now.standing)) (sym (c.deref.ensures.value
     ∙ c.in_ok-changes.ensures))
     (turns-at c.args.scenario.now c.args.spot.now.standing c.args.turning.step at.0 c.args.addr c.ranges.addr.fits at.1)
@@ -27,8 +27,8 @@ returns-clause-met c =
     let up : c.args.addr + 1 ≡ suc c.args.addr = omega arith in
     let read = read-there sc c.args.turning.step c.args.table.now c.requires.table c.args.addr c.ranges.addr.fits
     (sym c.byte.ensures.byte ∙ c.if-byte-ne-READ.false) in
-    on_ok_weaker c.meet_each.result (λ met.
-    counts-byte sc c.args.turning.step c.args.addr (c.args.addr + 1) wo c.args.counts.now c.meet_each.new.counts
-    c.args.out.now.items c.meet_each.new.out.items up read
-    (subst (λ (xs : List Change). CountsMore c.args.counts.now c.meet_each.new.counts wo sc xs c.args.out.now.items
-    c.meet_each.new.out.items) (c.deref.ensures.value ∙ c.in_ok-changes.ensures) met)) c.meet_each.ensures.met
+    on_ok_weaker c.meet_turned.result (λ met.
+    counts-byte sc c.args.turning.step c.args.addr (c.args.addr + 1) wo c.args.counts.now c.meet_turned.new.counts
+    c.args.out.now.items c.meet_turned.new.out.items up read
+    (subst (λ (xs : List Change). CountsMore c.args.counts.now c.meet_turned.new.counts wo sc xs c.args.out.now.items
+    c.meet_turned.new.out.items) (c.deref.ensures.value ∙ c.in_ok-changes.ensures) met)) c.meet_turned.ensures.met

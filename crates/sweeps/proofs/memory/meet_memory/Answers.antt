@@ -1,14 +1,10 @@
-use Rattle.std.proofs.Common.{◌<◌, List, refl, sym, subst}
+use Rattle.std.proofs.Common.{List, refl, sym, subst}
 use Rattle.std.proofs.lemmas.Result.{on_ok_weaker}
-use Rattle.guest_machine.specs.Shows.{Shows}
-use Rattle.scenario.specs.Scenario.{run_of}
 use Rattle.sweep_plans.specs.declared.change.Change.{Change}
-use Rattle.sweep_plans.specs.declared.change.Change.TheVariants.{Once}
-use Rattle.sweep_plans.specs.declared.change.Glitch.TheVariants.{Skip}
-use Rattle.sweep_plans.specs.declared.standing.Standing.{Standing}
-use Rattle.sweeps.specs.Standing.{IsAt, IsBelow, state_before}
 use Rattle.sweeps.specs.Sweeps.{CountsMore}
-use Rattle.sweeps.proofs.MemorySteps.{counts-nothing, fork-there, memory-off, memory-on, no-memory}
+use Rattle.sweeps.proofs.MemorySteps.{counts-nothing, memory-off, memory-on, no-memory}
+use Rattle.sweeps.specs.Recall.{IsTouched}
+use Rattle.sweeps.proofs.RecallSteps.{before-there}
 use Rattle.sweeps.proofs.Steps.{counts-none}
 use Rattle.sweeps.proofs.memory.meet_memory.Goals as goal
 
@@ -34,13 +30,17 @@ returns-then-not-plan-clause-met c =
 
 pub first_accesses-requires-clause-before : goal.first_accesses-requires-clause-before
 first_accesses-requires-clause-before c =
-    let sc = c.args.scenario.now in
-    let step = c.in-Step.step in
-    let below : step < sc.step = subst (IsBelow sc.step) c.in-Step.is c.requires.below in
-    let fork = c.requires.fork (Once step Skip)
-    (subst (λ (s : Standing). IsAt sc s (Once step Skip)) (sym c.in-Step.is) (refl, tt)) in
-    subst (λ k. Shows c.args.spot.now.fork.machine (state_before sc k))
-    (fork-there step sc.step (run_of sc) c.args.spot.now.fork below fork) fork.shows
+    (before-there c.args.scenario.now c.in-Step.step c.in-Step.pc c.args.spot.now c.in-Step.is c.requires.unmarked
+    c.requires.stands c.requires.below c.requires.fork).shows
+
+pub meet_bytes-requires-clause-turning : goal.meet_bytes-requires-clause-turning
+meet_bytes-requires-clause-turning c =
+    let sc = c.args.scenario.now in record {
+      before = before-there sc c.in-Step.step c.in-Step.pc c.args.spot.now c.in-Step.is c.requires.unmarked
+          c.requires.stands c.requires.below c.requires.fork;
+      touched = subst (λ setup. IsTouched c.args.spot.now.fork.machine setup c.in_ok-touched.touched) c.setup.ensures
+          c.in_ok-touched.ensures;
+    }
 
 pub returns-clause-met : goal.returns-clause-met
 returns-clause-met c =

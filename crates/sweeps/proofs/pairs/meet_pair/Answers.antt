@@ -28,6 +28,6 @@ returns-clause-met c sc left takes =
     (λ first met h. counted-more wo sc first met m c.args.counts.now c.count.new.self h outcome takes
     (c.in_ok-count.ensures.entries
     ∙ ap (with_text (entries_of c.args.counts.now.tallies)) c.deref.ensures.value) c.in_ok-count.ensures.edits
-    c.in_ok-count.ensures.steps)
+    c.in_ok-count.ensures.steps c.in_ok-count.ensures.recall)
     (λ first met h. c.in_ok-count.ensures.text ∙ (λ i. c.args.out.now.items
     ++ met_text (h.tallies i) m.change (c.deref.ensures.value i)))

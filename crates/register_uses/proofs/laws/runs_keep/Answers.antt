@@ -1,5 +1,0 @@
-use Rattle.register_uses.proofs.RunLaw.{runs-keep}
-use Rattle.register_uses.proofs.laws.runs_keep.Goals as goal
-
-pub returns : goal.returns
-returns c = runs-keep

@@ -1,0 +1,5 @@
+pub mod Replaced
+pub mod RowSteps
+pub mod StepLaw
+pub mod RunLaw
+pub mod WordLaw

@@ -1,0 +1,373 @@
+-- A register that a step doesn't look at may hold anything: it doesn't matter, or only to the register itself.
+use Rattle.std.proofs.Common.{◌≡◌, ℕ, ◌+◌, ◌≤◌, ◌==◌, ◌&&◌, ◌||◌, ◌++◌, Bool, true, false, cond, List, length, Option}
+use Rattle.std.proofs.Common.{Some, None, refl, ap, ap₂, sym, subst, ◌∙◌, arith}
+use Rattle.std.proofs.lemmas.Bool.Decides.{nat_tests}
+use Rattle.definedness.specs.declared.Bits.{Bits}
+use Rattle.instructions.specs.Instructions.{row_of}
+use Rattle.instructions.specs.declared.instruction.Instruction.{Instruction}
+use Rattle.run_values.specs.declared.status.Stop.TheVariants.{Misaligned}
+use Rattle.std.specs.Prelude.{is_none}
+use Rattle.guest_elf.specs.declared.hook.Hook.{Hook}
+use Rattle.guest_elf.specs.Hooks.{hook_at}
+use Rattle.shadow_memory.specs.Ranges.{window, little_word}
+use Rattle.guest_machine.specs.Exec.{deed_by}
+use Rattle.guest_machine.specs.State.{Core, State}
+use Rattle.guest_machine.specs.Registers.{register}
+use Rattle.guest_machine.specs.Effects.{Effect, quiet, stops}
+use Rattle.guest_machine.specs.Errors.{event_about}
+use Rattle.guest_machine.specs.StackPointer.{stack_ruled}
+use Rattle.guest_machine.specs.Exec.{Deed, Takes, CallsByName, Halts, Terms, Uses, called_here, calls_heap, counted}
+use Rattle.guest_machine.specs.Exec.{deed_asks, deed_at, deed_terms, effect_at, exec, fetch_fault, fetched, fetches}
+use Rattle.guest_machine.specs.Exec.{given_at, intake_at, intake_of, is_aligned, is_heap_deed, is_running, jump_fault}
+use Rattle.guest_machine.specs.Exec.{left_at, outcome, plan, rounded, row_asks, row_effect, row_uses, seen_also}
+use Rattle.guest_machine.specs.Exec.{taken_from, terms_of, unfetched, uses_at, written_to}
+use Rattle.guest_machine.specs.declared.setup.Setup.{Setup}
+use Rattle.step_uses.specs.declared.passing.Passing.TheVariants.{Looks, Keeps, Overwrites}
+use Rattle.step_uses.specs.Passing.{completes, passing, passing_deed, passing_row, reads, with_register}
+use Rattle.step_uses.specs.Passing.{writes}
+use Rattle.step_uses.specs.Laws.{KeepsRegisters, OverwritesRegisters}
+use Rattle.step_uses.proofs.Replaced.{put, set-is, register-other, ruled-other, ruled-stays, stack-stands}
+use Rattle.step_uses.proofs.RowSteps.{over, row-other, row-stays, row-again, uses-other, no-heap, asks-none}
+
+-- ---- what a passing says
+
+-- by the three tests of it: whether x2 is meant, whether it is written, and whether the instruction completes
+pub record IsKept (core : Core) (row : Option Instruction) (r : ℕ) : Type 0 where
+  pub unread : reads row r ≡ false
+  pub unwritten : completes core row && writes row r ≡ false
+  pub pointer : (r == 2) ≡ true → writes row r ≡ false
+
+pub record IsReplaced (core : Core) (row : Option Instruction) (r : ℕ) : Type 0 where
+  pub unread : reads row r ≡ false
+  pub written : completes core row && writes row r ≡ true
+  pub other : (r == 2) ≡ false
+
+kept-by : (read two whole write : Bool)
+    → cond (read || (write && two)) Looks (cond (whole && write) Overwrites Keeps) ≡ Keeps
+    → (read ≡ false) × (whole && write ≡ false) × (two ≡ true → write ≡ false)
+kept-by true two whole write h = cc
+kept-by false two true false h = (refl, refl, λ e. refl)
+kept-by false two false false h = (refl, refl, λ e. refl)
+kept-by false true whole true h = cc
+kept-by false false true true h = cc
+kept-by false false false true h = (refl, refl, λ e. cc)
+
+replaced-by : (read two whole write : Bool)
+    → cond (read || (write && two)) Looks (cond (whole && write) Overwrites Keeps) ≡ Overwrites
+    → (read ≡ false) × (whole && write ≡ true) × (two ≡ false)
+replaced-by true two whole write h = cc
+replaced-by false two true false h = cc
+replaced-by false two false false h = cc
+replaced-by false true whole true h = cc
+replaced-by false false true true h = (refl, refl, refl)
+replaced-by false false false true h = cc
+
+kept : (core : Core) (row : Option Instruction) (r : ℕ) → passing_row core row r ≡ Keeps → IsKept core row r
+unfolding passing_row
+kept core row r h =
+    let parts = kept-by (reads row r) (r == 2) (completes core row) (writes row r) h in
+    record { unread = parts.0; unwritten = parts.1; pointer = parts.2 }
+
+replaced : (core : Core) (row : Option Instruction) (r : ℕ) → passing_row core row r ≡ Overwrites
+    → IsReplaced core row r
+unfolding passing_row
+replaced core row r h =
+    let parts = replaced-by (reads row r) (r == 2) (completes core row) (writes row r) h in
+    record { unread = parts.0; written = parts.1; other = parts.2 }
+
+-- ---- an instruction with the stack pointer rule
+
+none-of : (whole write : Bool) → write ≡ false → whole && write ≡ false
+none-of true write h = h
+none-of false write h = refl
+
+module _ (core : Core) (row : Option Instruction) (r : ℕ) (bits : Bits) (terms : Terms) (given : List ℕ)
+    (taken : ℕ → ℕ) where
+  abbrev before : Effect
+  before = row_effect core row terms given taken
+
+  ruled-kept : IsKept core row r
+      → stack_ruled (register (put core r bits) 2) (put before.core r bits)
+      ≡ put (stack_ruled (register core 2) before.core) r bits
+  ruled-kept k = go (r == 2) refl
+    where
+      e : row_effect (put core r bits) row terms given taken ≡ over before r bits
+      e = row-other core row r bits terms given taken k.unread k.unwritten
+
+      two : (r == 2) ≡ true → r ≡ 2
+      two h = number r h
+        where
+          number : (m : ℕ) → (m == 2) ≡ true → m ≡ 2
+          number m h = grind (arith, nat_tests)
+
+      go : (t : Bool) → (r == 2) ≡ t
+          → stack_ruled (register (put core r bits) 2) (put before.core r bits)
+          ≡ put (stack_ruled (register core 2) before.core) r bits
+      go true h =
+          let quiet = k.pointer h in
+          let here : register before.core 2 ≡ register core 2 =
+          subst (λ q. register before.core q ≡ register core q) (two h)
+          (row-stays core row r terms given taken k.unread k.unwritten) in
+          let there : register (put before.core r bits) 2 ≡ register (put core r bits) 2 =
+          subst (λ q. register (put before.core r bits) q ≡ register (put core r bits) q) (two h)
+          (ap (λ x. register x.core r) (sym e)
+          ∙ row-stays (put core r bits) row r terms given taken k.unread
+          (none-of (completes (put core r bits) row) (writes row r) quiet)) in
+          ap (λ x. stack_ruled x (put before.core r bits)) (sym there) ∙ stack-stands (put before.core r bits)
+          ∙ ap (λ c. put c r bits) (sym (ap (λ x. stack_ruled x before.core) (sym here) ∙ stack-stands before.core))
+      go false h =
+          ap (λ x. stack_ruled x (put before.core r bits)) (register-other core r 2 bits h)
+          ∙ ruled-other (register core 2) before.core r bits h
+
+  rounded-kept : IsKept core row r
+      → rounded (put core r bits) (row_effect (put core r bits) row terms given taken)
+      ≡ over (rounded core before) r bits
+  rounded-kept k =
+      ap (λ e. rounded (put core r bits) e) (row-other core row r bits terms given taken k.unread k.unwritten)
+      ∙ ap (λ c. record { core = c; raised = (rounded core before).raised; made = before.made; output = before.output })
+      (ruled-kept k)
+
+  rounded-replaced : 1 ≤ r → IsReplaced core row r
+      → rounded (put core r bits) (row_effect (put core r bits) row terms given taken) ≡ rounded core before
+  rounded-replaced one k =
+      ap (λ e. rounded (put core r bits) e) (row-again core row r bits terms given taken one k.unread k.written)
+      ∙ ap (λ x. record {
+        core = stack_ruled x before.core;
+        raised = (rounded core before).raised;
+        made = before.made;
+        output = before.output;
+      }) (register-other core r 2 bits k.other)
+
+  rounded-stays : IsKept core row r → register (rounded core before).core r ≡ register core r
+  rounded-stays k =
+      ruled-stays (register core 2) before.core r ∙ row-stays core row r terms given taken k.unread k.unwritten
+
+-- ---- the step
+
+swapped : State → ℕ → Bits → State
+swapped s r bits = record s { core = put s.core r bits }
+
+-- by what is done
+by : State → Setup → Deed → State
+by s setup deed =
+    let terms = deed_terms s.core deed s.position (length s.output) setup in
+    let uses = plan s.core terms deed in
+    let effect = outcome s.core terms deed (given_at s.position terms.intake.count setup)
+    (taken_from s.bytes uses.reads) in
+    let intake = intake_of (deed_asks s.core deed) (left_at s.position setup) in
+    record {
+      bytes = written_to s.bytes uses.writes effect.made;
+      core = effect.core;
+      position = s.position + intake.count;
+      end_seen = seen_also s.end_seen intake.ends;
+      output = s.output ++ effect.output;
+      heap_calls = counted s.heap_calls (is_heap_deed s.core deed);
+      events = s.events ++ effect.raised;
+    }
+
+-- by the instruction that is carried out, what it asks for, and whether it calls the heap
+by-row : State → Setup → Option Instruction → Bool → Option ℕ → State
+by-row s setup row heap asks =
+    let terms = terms_of heap asks s.position (length s.output) setup in
+    let uses = row_uses s.core row terms in
+    let effect = rounded s.core (row_effect s.core row terms (given_at s.position terms.intake.count setup)
+    (taken_from s.bytes uses.reads)) in
+    let intake = intake_of asks (left_at s.position setup) in
+    record {
+      bytes = written_to s.bytes uses.writes effect.made;
+      core = effect.core;
+      position = s.position + intake.count;
+      end_seen = seen_also s.end_seen intake.ends;
+      output = s.output ++ effect.output;
+      heap_calls = counted s.heap_calls heap;
+      events = s.events ++ effect.raised;
+    }
+
+module _ (s : State) (setup : Setup) (row : Option Instruction) (r : ℕ) (bits : Bits) (asks : Option ℕ) (heap : Bool)
+  where
+    abbrev terms : Terms
+    terms = terms_of heap asks s.position (length s.output) setup
+
+    abbrev given : List ℕ
+    given = given_at s.position terms.intake.count setup
+
+    abbrev uses : Uses
+    uses = row_uses s.core row terms
+
+    abbrev effect : Effect
+    effect = rounded s.core (row_effect s.core row terms given (taken_from s.bytes uses.reads))
+
+    abbrev other : Effect
+    other =
+        rounded (put s.core r bits) (row_effect (put s.core r bits) row terms given
+        (taken_from s.bytes (row_uses (put s.core r bits) row terms).reads))
+
+    -- with the other bits, as far as the ranges read
+    under : reads row r ≡ false → other ≡ rounded (put s.core r bits)
+        (row_effect (put s.core r bits) row terms given (taken_from s.bytes uses.reads))
+    under h =
+        let far = put s.core r bits in
+        ap (λ u. rounded far (row_effect far row terms given (taken_from s.bytes u.reads)))
+        (uses-other s.core row r bits terms h)
+
+    row-kept : IsKept s.core row r
+        → by-row (swapped s r bits) setup row heap asks ≡ swapped (by-row s setup row heap asks) r bits
+    unfolding by-row swapped
+    row-kept k =
+        let u = uses-other s.core row r bits terms k.unread in
+        let e = under k.unread ∙ rounded-kept s.core row r bits terms given (taken_from s.bytes uses.reads) k in
+        let intake = intake_of asks (left_at s.position setup) in
+        λ i. record {
+          bytes = written_to s.bytes (u i).writes (e i).made;
+          core = (e i).core;
+          position = s.position + intake.count;
+          end_seen = seen_also s.end_seen intake.ends;
+          output = s.output ++ (e i).output;
+          heap_calls = counted s.heap_calls heap;
+          events = s.events ++ (e i).raised;
+        }
+
+    row-replaced : 1 ≤ r → IsReplaced s.core row r
+        → by-row (swapped s r bits) setup row heap asks ≡ by-row s setup row heap asks
+    unfolding by-row swapped
+    row-replaced one k =
+        let u = uses-other s.core row r bits terms k.unread in
+        let e = under k.unread ∙ rounded-replaced s.core row r bits terms given (taken_from s.bytes uses.reads) one k in
+        let intake = intake_of asks (left_at s.position setup) in
+        λ i. record {
+          bytes = written_to s.bytes (u i).writes (e i).made;
+          core = (e i).core;
+          position = s.position + intake.count;
+          end_seen = seen_also s.end_seen intake.ends;
+          output = s.output ++ (e i).output;
+          heap_calls = counted s.heap_calls heap;
+          events = s.events ++ (e i).raised;
+        }
+
+-- neither asks for input nor calls the heap
+plain : (s : State) (setup : Setup) (row : Option Instruction) (r : ℕ) → reads row r ≡ false
+    → by-row s setup row (calls_heap s.core row) (row_asks s.core row) ≡ by-row s setup row false None
+plain s setup row r h = ap₂ (by-row s setup row) (no-heap s.core row r h) (asks-none s.core row r h)
+
+-- ---- a step that takes no word
+
+unfetched-other : (core : Core) (r : ℕ) (bits : Bits) → unfetched (put core r bits) ≡ over (unfetched core) r bits
+unfolding unfetched event_about
+unfetched-other core r bits = go (is_running core.status) (is_aligned core.pc) (fetch_fault core)
+  where
+    changed : Core
+    changed = put core r bits
+
+    go : (t u : Bool) (fault : Option ℕ)
+        → cond t (cond u (jump_fault changed fault) (stops changed Misaligned)) (quiet changed)
+        ≡ over (cond t (cond u (jump_fault core fault) (stops core Misaligned)) (quiet core)) r bits
+    go true true None = refl
+    go true true (Some a) = refl
+    go true false fault = refl
+    go false u fault = refl
+
+unfetched-stays : (core : Core) (r : ℕ) → register (unfetched core).core r ≡ register core r
+unfolding unfetched register
+unfetched-stays core r = go (is_running core.status) (is_aligned core.pc) (fetch_fault core)
+  where
+    go : (t u : Bool) (fault : Option ℕ)
+        → register (cond t (cond u (jump_fault core fault) (stops core Misaligned)) (quiet core)).core r
+        ≡ register core r
+    go true true None = refl
+    go true true (Some a) = refl
+    go true false fault = refl
+    go false u fault = refl
+
+halt-kept : (s : State) (setup : Setup) (r : ℕ) (bits : Bits)
+    → by (swapped s r bits) setup Halts ≡ swapped (by s setup Halts) r bits
+unfolding by swapped
+halt-kept s setup r bits =
+    ap (λ e. record {
+      bytes = s.bytes;
+      core = e.core;
+      position = s.position + 0;
+      end_seen = s.end_seen;
+      output = s.output ++ e.output;
+      heap_calls = s.heap_calls;
+      events = s.events ++ e.raised;
+    }) (unfetched-other s.core r bits)
+
+-- ---- each deed
+
+by-kept : (s : State) (setup : Setup) (r : ℕ) (bits : Bits) (deed : Deed) → passing_deed s.core deed r ≡ Keeps
+    → by (swapped s r bits) setup deed ≡ swapped (by s setup deed) r bits
+unfolding by by-row passing_deed
+by-kept s setup r bits (Takes word) h =
+    let row = row_of word in
+    let k = kept s.core row r h in
+    plain (swapped s r bits) setup row r k.unread ∙ row-kept s setup row r bits None false k
+    ∙ ap (λ t. swapped t r bits) (sym (plain s setup row r k.unread))
+by-kept s setup r bits (CallsByName function) h = cc
+by-kept s setup r bits Halts h = halt-kept s setup r bits
+
+by-stays : (s : State) (setup : Setup) (r : ℕ) (deed : Deed) → passing_deed s.core deed r ≡ Keeps
+    → register (by s setup deed).core r ≡ register s.core r
+unfolding by passing_deed
+by-stays s setup r (Takes word) h =
+    rounded-stays s.core (row_of word) r (register s.core r) _ _ _ (kept s.core (row_of word) r h)
+by-stays s setup r (CallsByName function) h = cc
+by-stays s setup r Halts h = unfetched-stays s.core r
+
+by-replaced : (s : State) (setup : Setup) (r : ℕ) (bits : Bits) (deed : Deed) → 1 ≤ r
+    → passing_deed s.core deed r ≡ Overwrites → by (swapped s r bits) setup deed ≡ by s setup deed
+unfolding by by-row passing_deed
+by-replaced s setup r bits (Takes word) one h =
+    let row = row_of word in
+    let k = replaced s.core row r h in
+    plain (swapped s r bits) setup row r k.unread ∙ row-replaced s setup row r bits None false one k
+    ∙ sym (plain s setup row r k.unread)
+by-replaced s setup r bits (CallsByName function) one h = cc
+by-replaced s setup r bits Halts one h = cc
+
+-- ---- a machine that runs after a step ran before it
+
+deed-halts : (core : Core) (bytes : ℕ → ℕ) (hooks : List (ℕ × Hook)) → is_running core.status ≡ false
+    → deed_at core bytes hooks ≡ Halts
+unfolding called_here fetched fetches
+deed-halts core bytes hooks h =
+    let word = little_word (window bytes core.pc 4) in
+    ap (λ b. deed_by (cond (b && is_aligned core.pc) (hook_at hooks core.pc) None)
+    (cond (b && (is_aligned core.pc && is_none (fetch_fault core))) (Some word) None)) h
+
+halted-core : (core : Core) → is_running core.status ≡ false → (unfetched core).core ≡ core
+unfolding unfetched
+halted-core core h =
+    ap (λ b. (cond b (cond (is_aligned core.pc) (jump_fault core (fetch_fault core)) (stops core Misaligned))
+    (quiet core)).core) h
+
+pub runs-before : (s : State) (setup : Setup) → is_running (exec s setup).core.status ≡ true
+    → is_running s.core.status ≡ true
+unfolding exec intake_at uses_at effect_at by
+runs-before s setup then = go (is_running s.core.status) refl
+  where
+    go : (b : Bool) → is_running s.core.status ≡ b → b ≡ true
+    go true e = refl
+    go false e =
+        sym (ap (λ deed. is_running (by s setup deed).core.status) (deed-halts s.core s.bytes setup.hooks e)
+        ∙ ap (λ (core : Core). is_running core.status) (halted-core s.core e) ∙ e) ∙ then
+
+-- ---- the step of a state
+
+with-is : (s : State) (r : ℕ) (bits : Bits) → 1 ≤ r → with_register s r bits ≡ swapped s r bits
+unfolding with_register swapped
+with-is s r bits one = ap (λ core. record s { core = core }) (set-is s.core r bits one)
+
+pub keeps-registers : KeepsRegisters
+unfolding exec intake_at uses_at effect_at called_here fetched fetches passing by swapped
+keeps-registers s setup r bits one h =
+    let deed = deed_at s.core s.bytes setup.hooks in (
+      ap (λ t. exec t setup) (with-is s r bits one) ∙ by-kept s setup r bits deed h
+          ∙ sym (with-is (exec s setup) r bits one),
+      by-stays s setup r deed h,
+    )
+
+pub overwrites-registers : OverwritesRegisters
+unfolding exec intake_at uses_at effect_at called_here fetched fetches passing by swapped
+overwrites-registers s setup r bits one h =
+    ap (λ t. exec t setup) (with-is s r bits one)
+    ∙ by-replaced s setup r bits (deed_at s.core s.bytes setup.hooks) one h

@@ -1,0 +1,144 @@
+//! What a register is to the next step of a machine.
+ghost use Rattle.std.specs.Prelude.{◌≡◌, ◌&&◌, Some};
+ghost use Rattle.guest_machine.specs.State.{State};
+ghost use Rattle.guest_machine.specs.Shows.{Shows};
+ghost use Rattle.guest_machine.specs.Exec.{called_here, fetched, is_aligned, is_running};
+ghost use Rattle.step_uses.specs.Passing.{completes, passing, passing_row, reads, writes};
+
+use guest_elf::Hook;
+use guest_machine::{Hooks, Machine, Register, Setup, Status};
+use instructions::{Instruction, row_of};
+
+/// What a register is to a step.
+#[derive(Clone, Copy, PartialEq, Eq)]
+pub enum Passing {
+    /// What the step does may depend on the register.
+    Looks,
+    /// The step does the same whatever the register holds, and leaves it as it is.
+    Keeps,
+    /// The step does the same whatever the register holds, and replaces it.
+    Overwrites,
+}
+
+/// The number of the stack pointer.
+const STACK_POINTER: usize = 2;
+
+/// Whether an instruction has a register as an operand.
+#[tactic(auto, unfolding(crate::specs::Passing::reads))]
+fn reads(row: &Instruction, register: Register) -> bool
+    ensures { result ≡ reads (Some row.now) register }
+{
+    let r = register.number();
+    match *row {
+        Instruction::JumpRegister { rs1, .. } => r == rs1.number(),
+        Instruction::Branch { rs1, rs2, .. } => r == rs1.number() || r == rs2.number(),
+        Instruction::Load { rs1, .. } => r == rs1.number(),
+        Instruction::Store { rs1, rs2, .. } => r == rs1.number() || r == rs2.number(),
+        Instruction::Immediate { rs1, .. } => r == rs1.number(),
+        Instruction::Registers { rs1, rs2, .. } => r == rs1.number() || r == rs2.number(),
+        Instruction::CallEnvironment => true,
+        _ => false,
+    }
+}
+
+/// Whether an instruction has a register as its destination.
+#[tactic(auto, unfolding(crate::specs::Passing::writes))]
+fn writes(row: &Instruction, register: Register) -> bool
+    ensures { result ≡ writes (Some row.now) register }
+{
+    let r = register.number();
+    match *row {
+        Instruction::LoadUpper { rd, .. } => r == rd.number(),
+        Instruction::AddUpper { rd, .. } => r == rd.number(),
+        Instruction::Jump { rd, .. } => r == rd.number(),
+        Instruction::JumpRegister { rd, .. } => r == rd.number(),
+        Instruction::Load { rd, .. } => r == rd.number(),
+        Instruction::Immediate { rd, .. } => r == rd.number(),
+        Instruction::Registers { rd, .. } => r == rd.number(),
+        _ => false,
+    }
+}
+
+/// Whether an instruction at pc comes to write its destination.
+#[tactic(auto, unfolding(crate::specs::Passing::completes, guest_machine::specs::Effects::target))]
+fn completes(machine: &Machine, row: &Instruction) -> bool
+    ensures { (s : State) → Shows machine.now s → result ≡ completes s.core (Some row.now) }
+{
+    match *row {
+        Instruction::Jump { imm, .. } => machine.pc().wrapping_add(imm) % 4 == 0,
+        Instruction::JumpRegister { rs1, imm, .. } => {
+            let target = machine.register(rs1).value.wrapping_add(imm);
+            target / 2 * 2 % 4 == 0
+        }
+        _ => true,
+    }
+}
+
+/// Whether a machine runs, and pc is a multiple of 4.
+fn is_ready(machine: &Machine) -> bool
+    ensures { (s : State) → Shows machine.now s → result ≡ (is_running s.core.status && is_aligned s.core.pc) }
+{
+    matches!(machine.status(), Status::Running) && machine.pc() % 4 == 0
+}
+
+/// The function of the heap that the next step calls by name.
+#[tactic(auto, unfolding(guest_machine::specs::Exec::called_here))]
+fn called_here(machine: &Machine, hooks: &Hooks) -> Option<Hook>
+    ensures { (s : State) → Shows machine.now s → result ≡ called_here s.core hooks.now }
+{
+    if is_ready(machine) {
+        hooks.at(machine.pc())
+    } else {
+        None
+    }
+}
+
+/// The word at pc, if it may be fetched.
+#[tactic(auto, unfolding(guest_machine::specs::Exec::fetched, guest_machine::specs::Exec::fetches))]
+fn fetched(machine: &Machine) -> Option<u32>
+    ensures { (s : State) → Shows machine.now s → result ≡ fetched s.core s.bytes }
+{
+    if !is_ready(machine) {
+        return None;
+    }
+    let word = machine.memory().load(machine.pc(), 4);
+    match word.bad {
+        None => Some(word.value),
+        Some(_) => None,
+    }
+}
+
+/// What a register is to an instruction at pc.
+#[tactic(auto, unfolding(crate::specs::Passing::passing_row))]
+fn passing_row(machine: &Machine, row: &Instruction, register: Register) -> Passing
+    ensures { (s : State) → Shows machine.now s → result ≡ passing_row s.core (Some row.now) register }
+{
+    let is_operand = reads(row, register);
+    let is_destination = writes(row, register);
+    let is_complete = completes(machine, row);
+    let is_stack_pointer = register.number() == STACK_POINTER;
+    if is_operand || is_destination && is_stack_pointer {
+        Passing::Looks
+    } else if is_complete && is_destination {
+        Passing::Overwrites
+    } else {
+        Passing::Keeps
+    }
+}
+
+/// Returns what a register is to the next step of a machine, under a setup.
+#[tactic(auto, unfolding(crate::specs::Passing::passing, crate::specs::Passing::passing_deed, crate::specs::Passing::passing_row, crate::specs::Passing::reads, crate::specs::Passing::writes))]
+pub fn passing_of(machine: &Machine, setup: &Setup, register: Register) -> Passing
+    ensures { (s : State) → Shows machine.now s → result ≡ passing s setup.now register }
+{
+    if called_here(machine, &setup.hooks).is_some() {
+        return Passing::Looks;
+    }
+    match fetched(machine) {
+        Some(word) => match row_of(word) {
+            Some(row) => passing_row(machine, &row, register),
+            None => Passing::Keeps,
+        },
+        None => Passing::Keeps,
+    }
+}

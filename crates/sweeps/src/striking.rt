@@ -1,0 +1,277 @@
+//! The glitches just before one step, one at a time. An outcome that is recalled comes without a run.
+ghost use Rattle.std.specs.Prelude.{◌≡◌, ◌<◌, ◌∷◌, [], ℕ, IfOk, IfSome, OnOk, Bool, true};
+ghost use Rattle.guest_machine.specs.Exec.{is_running};
+ghost use Rattle.guest_machine.specs.Shows.{Shows};
+ghost use Rattle.guest_machine.specs.State.{State};
+ghost use Rattle.scenario.specs.Scenario.{Scenario as ScenarioOf};
+ghost use Rattle.step_uses.specs.declared.passing.Passing.TheVariants.{Looks};
+ghost use Rattle.std.specs.List.{All};
+ghost use Rattle.sweep_plans.specs.Changes.{IsRight};
+ghost use Rattle.sweep_plans.specs.declared.change.Change.TheVariants.{Once};
+ghost use Rattle.sweep_plans.specs.declared.change.Glitch.TheVariants.{Turn};
+ghost use Rattle.sweeps.specs.Outcomes.{IsOutcome};
+ghost use Rattle.sweeps.specs.Recall.{IsRecalled, IsTouched, Passes, Recalls, RegisterIs};
+ghost use Rattle.sweeps.specs.Spots.{IsBefore};
+ghost use Rattle.sweeps.specs.Standing.{IsAt, state_before};
+ghost use Rattle.sweeps.specs.Sweeps.{CountsMore};
+
+use crate::counting::Counts;
+use crate::meeting::meet;
+use crate::outcomes::outcome_of;
+use crate::recall::{Outcome, Recall};
+use crate::spots::Spot;
+use guest_machine::{Machine, Register, Setup, Touched};
+use scenario::Scenario;
+use std::alloc::{AllocError, Global};
+use step_uses::Passing;
+use step_uses::laws::{runs_keep, runs_keep_words, runs_overwrite};
+use sweep_plans::{Change, Glitch};
+
+/// Returns what a register is to the next step of a machine; x0 counts as one that the step looks at.
+fn passing_register(machine: &Machine, setup: &Setup, register: u8) -> Passing
+    requires { register < 32 }
+    ensures { (s : State) → Shows machine.now s → (Looks ≡ result → ⊥) → RegisterIs s setup.now register result }
+{
+    if register == 0 {
+        return Passing::Looks;
+    }
+    step_uses::passing_of(machine, setup, Register::new(register))
+}
+
+/// Returns what a word of memory is to the next step of a machine, which touches these ranges. If they aren't given, it counts as one that the
+/// step looks at.
+fn passing_word(machine: &Machine, setup: &Setup, touched: Option<Touched>, addr: u32) -> Passing
+    requires { IfSome touched (IsTouched machine.now setup.now) }
+    ensures { (s : State) → Shows machine.now s → (mask : ℕ) → Passes s setup.now (Turn addr mask) result }
+{
+    match touched {
+        Some(touched) => step_uses::passing_word(machine, touched, addr),
+        None => Passing::Looks,
+    }
+}
+
+/// Returns what is known of a glitch's part in the next step of a machine, which touches these ranges.
+fn passing_of(machine: &Machine, setup: &Setup, touched: Option<Touched>, glitch: Glitch) -> Passing
+    requires right { IsRight glitch }
+    requires touched { IfSome touched (IsTouched machine.now setup.now) }
+    ensures { (s : State) → Shows machine.now s → Passes s setup.now glitch result }
+{
+    match glitch {
+        Glitch::Flip { register, .. } => passing_register(machine, setup, register),
+        Glitch::Set { register, .. } => passing_register(machine, setup, register),
+        Glitch::Turn { addr, .. } => passing_word(machine, setup, touched, addr),
+        _ => Passing::Looks,
+    }
+}
+
+/// Returns the outcome of a glitch just before the step that is recalled, if it is known.
+fn recalled(
+    recall: &Recall,
+    glitch: Glitch,
+    passing: Passing,
+) -> Result<Option<Outcome>, AllocError>
+    ensures { IfOk result (λ found. IfSome found (IsRecalled recall.now glitch passing)) }
+{
+    runs_overwrite();
+    match passing {
+        Passing::Overwrites => Ok(Some(recall.unedited.clone()?)),
+        _ => recall.known(glitch),
+    }
+}
+
+/// Recalls an outcome of a glitch just before a step for the next step, if this one keeps the register.
+fn keep(
+    recall: &mut Recall,
+    glitch: Glitch,
+    passing: Passing,
+    outcome: Outcome,
+) -> Result<(), AllocError>
+    ensures step { OnOk result (recall.new.step ≡ recall.old.step) }
+    ensures so { OnOk result ((with_output : Bool) (sc : ScenarioOf) → sc.marks ≡ [] → recall.old.step < sc.step
+        → Passes (state_before sc recall.old.step) sc.setup glitch passing
+        → IsOutcome with_output sc (Once recall.old.step glitch) outcome → Recalls with_output sc recall.old
+        → Recalls with_output sc recall.new) }
+{
+    runs_keep();
+    runs_keep_words();
+    recall.pass(glitch);
+    match passing {
+        Passing::Keeps => recall.keep(glitch, outcome),
+        _ => Ok(()),
+    }
+}
+
+/// A glitch just before a step, and the ranges that the step touches if they are known.
+#[derive(Clone, Copy)]
+struct Struck {
+    step: u32,
+    glitch: Glitch,
+    touched: Option<Touched>,
+}
+
+/// Returns the outcome of a glitch at a spot: the one that is recalled, or that of a run. Afterwards the scenario is as it was.
+fn outcome_at(
+    alloc: Global,
+    scenario: &mut Scenario,
+    recall: &Recall,
+    spot: &Spot,
+    struck: Struck,
+    passing: Passing,
+    with_output: bool,
+) -> Result<Outcome, AllocError>
+    requires before { IsBefore scenario.old struck.step spot.now }
+    requires at { IsAt scenario.old spot.now.standing (Once struck.step struck.glitch) }
+    requires here { recall.now.step ≡ struck.step }
+    requires passing { Passes (state_before scenario.old struck.step) scenario.old.setup struck.glitch passing }
+    ensures same { scenario.new ≡ scenario.old }
+    ensures outcome { IfOk result (λ outcome. Recalls with_output scenario.old recall.now
+        → IsOutcome with_output scenario.old (Once struck.step struck.glitch) outcome) }
+{
+    if let Some(outcome) = recalled(recall, struck.glitch, passing)? {
+        return Ok(outcome);
+    }
+    let change = Change::Once {
+        step: struck.step,
+        glitch: struck.glitch,
+    };
+    let text = outcome_of(scenario, &spot.fork, spot.standing, change, with_output)?;
+    recall.outcome(alloc, text)
+}
+
+/// Applies a glitch at a spot, and no other edit, counts the outcome, and appends its row. Afterwards the scenario is as it was.
+fn meet_glitch(
+    alloc: Global,
+    scenario: &mut Scenario,
+    counts: &mut Counts,
+    spot: &Spot,
+    struck: Struck,
+    with_output: bool,
+    out: &mut Vec<u8>,
+) -> Result<(), AllocError>
+    requires before { IsBefore scenario.old struck.step spot.now }
+    requires at { IsAt scenario.old spot.now.standing (Once struck.step struck.glitch) }
+    requires right { IsRight struck.glitch }
+    requires touched { IfSome struck.touched (IsTouched spot.now.fork.machine scenario.old.setup) }
+    requires here { counts.old.recall.step ≡ struck.step }
+    ensures same { scenario.new ≡ scenario.old }
+    ensures here { OnOk result (counts.new.recall.step ≡ struck.step) }
+    ensures met { OnOk result (CountsMore counts.old counts.new with_output scenario.old (Once struck.step struck.glitch ∷ []) out.old.items out.new.items) }
+{
+    let Struck {
+        step,
+        glitch,
+        touched,
+    } = struck;
+    let passing = passing_of(&spot.fork.machine, scenario.setup(), touched, glitch);
+    let outcome = outcome_at(
+        alloc,
+        scenario,
+        &counts.recall,
+        spot,
+        struck,
+        passing,
+        with_output,
+    )?;
+    let steps = scenario.step() - spot.fork.step;
+    counts.count(Change::Once { step, glitch }, outcome.text(), steps, out)?;
+    keep(&mut counts.recall, glitch, passing, outcome)
+}
+
+/// Does the same for a change at a spot just before a step.
+fn meet_change(
+    alloc: Global,
+    scenario: &mut Scenario,
+    counts: &mut Counts,
+    spot: &Spot,
+    step: u32,
+    touched: Option<Touched>,
+    change: Change,
+    with_output: bool,
+    out: &mut Vec<u8>,
+) -> Result<(), AllocError>
+    requires before { IsBefore scenario.old step spot.now }
+    requires at { IsAt scenario.old spot.now.standing change }
+    requires touched { IfSome touched (IsTouched spot.now.fork.machine scenario.old.setup) }
+    requires here { counts.old.recall.step ≡ step }
+    ensures same { scenario.new ≡ scenario.old }
+    ensures here { OnOk result (counts.new.recall.step ≡ step) }
+    ensures met { OnOk result (CountsMore counts.old counts.new with_output scenario.old (change ∷ []) out.old.items out.new.items) }
+{
+    match change {
+        Change::Once { glitch, .. } => {
+            let struck = Struck {
+                step,
+                glitch,
+                touched,
+            };
+            meet_glitch(alloc, scenario, counts, spot, struck, with_output, out)
+        }
+        _ => meet(scenario, counts, spot, change, with_output, out),
+    }
+}
+
+/// Does the same for each of some changes just before a step.
+pub(crate) fn meet_changes(
+    alloc: Global,
+    scenario: &mut Scenario,
+    counts: &mut Counts,
+    spot: &Spot,
+    step: u32,
+    touched: Option<Touched>,
+    changes: &[Change],
+    with_output: bool,
+    out: &mut Vec<u8>,
+) -> Result<(), AllocError>
+    requires before { IsBefore scenario.old step spot.now }
+    requires at { All (IsAt scenario.old spot.now.standing) changes.now }
+    requires touched { IfSome touched (IsTouched spot.now.fork.machine scenario.old.setup) }
+    requires here { counts.old.recall.step ≡ step }
+    ensures same { scenario.new ≡ scenario.old }
+    ensures met { OnOk result (CountsMore counts.old counts.new with_output scenario.old changes.now out.old.items out.new.items) }
+{
+    for change in changes {
+        meet_change(
+            alloc,
+            scenario,
+            counts,
+            spot,
+            step,
+            touched,
+            *change,
+            with_output,
+            out,
+        )?;
+    }
+    Ok(())
+}
+
+/// Does the same after what is recalled has gone on to the step.
+pub(crate) fn meet_step(
+    alloc: Global,
+    scenario: &mut Scenario,
+    counts: &mut Counts,
+    spot: &Spot,
+    step: u32,
+    changes: &[Change],
+    with_output: bool,
+    out: &mut Vec<u8>,
+) -> Result<(), AllocError>
+    requires before { IsBefore scenario.old step spot.now }
+    requires at { All (IsAt scenario.old spot.now.standing) changes.now }
+    requires runs { is_running (state_before scenario.old step).core.status ≡ true }
+    ensures same { scenario.new ≡ scenario.old }
+    ensures met { OnOk result (CountsMore counts.old counts.new with_output scenario.old changes.now out.old.items out.new.items) }
+{
+    counts.recall.arrive(step);
+    meet_changes(
+        alloc,
+        scenario,
+        counts,
+        spot,
+        step,
+        None,
+        changes,
+        with_output,
+        out,
+    )
+}
