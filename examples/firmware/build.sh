@@ -1,16 +1,18 @@
 #!/usr/bin/env bash
-# usage: examples/firmware/build.sh [FOLDER]
+# usage: examples/firmware/build.sh [FOLDER [MARCH]]
 #
-# Builds the programs of this folder and of the one above, each beside its source, or all of them into FOLDER. One version of the
-# tools makes the same bytes each time, wherever the folders lie; the section .comment says which compiler it was.
+# Builds the programs of this folder and of the one above, each beside its source, or all of them into FOLDER, there perhaps for other
+# instructions than rv32im, such as rv32imac. One version of the tools makes the same bytes each time, wherever the folders lie; the
+# section .comment says which compiler it was.
 #
 # The files that are checked in hold code of this repository alone. average.elf, labels.elf and library.elf have picolibc in them,
 # and are left to who has it. Wants gcc-riscv64-unknown-elf and picolibc-riscv64-unknown-elf.
 set -euo pipefail
 case ${1-} in
-  --help) sed -n '2,8s/^# \{0,1\}//p' "$0"; exit 0 ;;
+  --help) sed -n '2,9s/^# \{0,1\}//p' "$0"; exit 0 ;;
   -*) sed -n 2p "$0" >&2; exit 2 ;;
 esac
+march=${2:-rv32im}
 into=${1:+$(mkdir -p "$1" && cd "$1" && pwd)}
 cd "$(dirname "$(readlink -f "$0")")"
 gcc=riscv64-unknown-elf-gcc
@@ -18,7 +20,7 @@ command -v $gcc >/dev/null || { echo "build.sh: no $gcc" >&2; exit 2; }
 
 # The names of folders on this machine have no place in the files, nor have those of temporary objects.
 moved=("$PWD=." "${PWD%/*}=.." "/usr/lib/=")
-target=(-march=rv32im -mabi=ilp32 --specs=picolibc.specs)
+target=("-march=$march" -mabi=ilp32 --specs=picolibc.specs)
 flags=("${target[@]}" -Og -g -Wall -Wextra "${moved[@]/#/-ffile-prefix-map=}" "${moved[@]/#/-Wa,--debug-prefix-map=}")
 objects=$(mktemp -d)
 trap 'rm -rf "$objects"' EXIT
@@ -32,7 +34,7 @@ $gcc "${flags[@]}" -DTWICE -c boot.c -o "$objects/boot-twice.o"
 for name in names heap; do
   $gcc "${flags[@]}" -c board/$name.c -o "$objects/board-$name.o"
 done
-$gcc "${flags[@]}" -march=rv32im_zicsr_zifencei -c board/start.S -o "$objects/board-start.o"
+$gcc "${flags[@]}" -march=${march}_zicsr_zifencei -c board/start.S -o "$objects/board-start.o"
 
 # linked FILE SCRIPT WORD..: names of objects, and options for the linker.
 linked() {

@@ -44,7 +44,7 @@ impl Machine {
         }
     }
 
-    /// ECALL. Answers whether the next instruction is the one at `pc + 4`.
+    /// ECALL. Answers whether the next instruction is the one after it.
     #[cold]
     #[inline(never)]
     pub fn call(&mut self) -> bool {
@@ -137,7 +137,7 @@ impl Machine {
     pub fn call_by_name(&mut self, function: Function) {
         let to = self.argument(RA) & !1;
         self.test(RA, Kind::Value);
-        if to % 4 != 0 {
+        if to % self.isa.unit() != 0 {
             self.status = Status::Misaligned;
             return;
         }

@@ -54,7 +54,7 @@ impl Machine {
                     self.memory.store::<1>(start.wrapping_add(i), byte.into(), 0);
                 }
             }
-            Change::Skip => self.pc = self.pc.wrapping_add(4),
+            Change::Skip => self.pc = self.pc.wrapping_add(self.length()),
         }
     }
 }

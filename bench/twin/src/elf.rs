@@ -45,10 +45,10 @@ impl Image {
         Some(Image { segments, entry: word(file, 24)?, functions: functions(file)? })
     }
 
-    /// Whether an address is that of a word, all of whose bytes are loaded.
-    pub fn has_word(&self, addr: u32) -> bool {
+    /// Whether the `len` bytes from an address on are loaded, none beyond 2^32.
+    pub fn has_bytes(&self, addr: u32, len: u32) -> bool {
         let is_loaded = |addr: u32| self.segments.iter().any(|it| addr.wrapping_sub(it.start) < it.len);
-        addr % 4 == 0 && (addr..=addr | 3).all(is_loaded)
+        addr.checked_add(len - 1).is_some_and(|last| (addr..=last).all(is_loaded))
     }
 
     /// The name of the function at an address: that of the nearest symbol at it or below, the first of equals.

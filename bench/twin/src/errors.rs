@@ -47,7 +47,7 @@ impl Kind {
 pub struct Group {
     pub kind: Kind,
     pub trace: Vec<u32>,
-    count: u64,
+    pub count: u64,
     address: Option<u32>,
 }
 

@@ -14,6 +14,8 @@ const REGISTERS: usize = 32;
 pub enum Access {
     Read,
     Write,
+    /// Both.
+    Update,
 }
 
 /// A run: the machine before its first step, and what is changed in it before each step.
@@ -157,7 +159,7 @@ fn does(machine: &Machine, kind: &str, range: (u32, u32)) -> bool {
     }
     match (kind, machine.access()) {
         ("run", _) => is_in(range, machine.pc),
-        ("read", Some((Access::Read, addr, n))) | ("write", Some((Access::Write, addr, n))) => {
+        ("read", Some((Access::Read | Access::Update, addr, n))) | ("write", Some((Access::Write | Access::Update, addr, n))) => {
             (0..n).any(|i| is_in(range, addr.wrapping_add(i)))
         }
         _ => false,

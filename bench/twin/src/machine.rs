@@ -1,11 +1,15 @@
-//! A machine of RV32IM (RISC-V Unprivileged ISA 20191213, chapters 2 and 7), each of whose registers and bytes has undefined bits
-//! (Seward and Nethercote, "Using Valgrind to detect undefined value errors with bit-precision", USENIX 2005, section 2.4).
+//! A machine of RV32IM (RISC-V Unprivileged ISA 20191213, chapters 2 and 7), perhaps with the extensions of `isa`, each of whose registers
+//! and bytes has undefined bits (Seward and Nethercote, "Using Valgrind to detect undefined value errors with bit-precision", USENIX 2005,
+//! section 2.4).
 
+use crate::atomics::{Atomic, atomic_of};
 use crate::elf::{Image, Segment};
 use crate::errors::{Errors, Kind};
 use crate::heap::Heap;
+use crate::isa::{HALF, Isa, WORD};
 use crate::looks::Access;
-use crate::memory::{Memory, RangeKind};
+use crate::memory::{Loaded, Memory, RangeKind};
+use crate::short::{expand, is_long};
 use crate::stack::Stack;
 use std::collections::BTreeMap;
 use std::rc::Rc;
@@ -34,6 +38,7 @@ pub enum Status {
 }
 
 pub struct Machine {
+    pub isa: Isa,
     pub memory: Memory,
     pub registers: [Bits; 32],
     pub pc: u32,
@@ -48,6 +53,12 @@ pub struct Machine {
     pub output: u32,
     /// Where wanted, the bytes that steps read and write beside taking words, in the order of the accesses: the first and how many.
     pub accesses: Option<Vec<(Access, u32, u32)>>,
+    /// The address of the last LR or SC, if it was an LR.
+    pub reserved: Option<u32>,
+    /// The control registers that were written, by their numbers.
+    pub controls: BTreeMap<u32, Bits>,
+    /// How many steps it has made, in a profile with control registers.
+    pub steps: u64,
 }
 
 /// Where the stack pointer points at the start, at sixteen bytes that may be used.
@@ -62,9 +73,13 @@ const STACK_POINTER: usize = 2;
 const LOAD: u32 = 0x03;
 const STORE: u32 = 0x23;
 
+const FENCE: u32 = 0x0F;
+const SYSTEM: u32 = 0x73;
 const ECALL: u32 = 0x0000_0073;
+const WFI: u32 = 0x1050_0073;
+
 /// The bits `high` down to `low` of a word.
-fn field(word: u32, high: u32, low: u32) -> u32 {
+pub fn field(word: u32, high: u32, low: u32) -> u32 {
     (word >> low) & (u32::MAX >> (31 - high + low))
 }
 
@@ -95,7 +110,7 @@ fn ends(x: Bits) -> (u32, u32) {
 }
 
 /// A sum: an undefined bit reaches itself and those that an undefined carry goes into.
-fn sum(x: Bits, y: Bits) -> Bits {
+pub fn sum(x: Bits, y: Bits) -> Bits {
     let ((least_x, greatest_x), (least_y, greatest_y)) = (ends(x), ends(y));
     let carried = least_x.wrapping_add(least_y) ^ greatest_x.wrapping_add(greatest_y);
     Bits { value: x.value.wrapping_add(y.value), undef: x.undef | y.undef | carried }
@@ -114,18 +129,18 @@ fn product(x: Bits, y: Bits) -> Bits {
     Bits { value: x.value.wrapping_mul(y.value), undef: lowest | lowest.wrapping_neg() }
 }
 
-fn xor(x: Bits, y: Bits) -> Bits {
+pub fn xor(x: Bits, y: Bits) -> Bits {
     Bits { value: x.value ^ y.value, undef: x.undef | y.undef }
 }
 
 /// A defined 1 makes a bit defined.
-fn or(x: Bits, y: Bits) -> Bits {
+pub fn or(x: Bits, y: Bits) -> Bits {
     let undef = (x.undef | y.undef) & (!x.value | x.undef) & (!y.value | y.undef);
     Bits { value: x.value | y.value, undef }
 }
 
 /// A defined 0 makes a bit defined.
-fn and(x: Bits, y: Bits) -> Bits {
+pub fn and(x: Bits, y: Bits) -> Bits {
     let undef = (x.undef | y.undef) & (x.value | x.undef) & (y.value | y.undef);
     Bits { value: x.value & y.value, undef }
 }
@@ -174,14 +189,14 @@ fn is_stack_pointer(bits: Bits) -> bool {
 
 impl Machine {
     /// The machine before its first step: words at an address, and zeros after them, `memsz` bytes in all.
-    pub fn start(at: u32, words: &[u32], memsz: u32) -> Machine {
+    pub fn start(isa: Isa, at: u32, words: &[u32], memsz: u32) -> Machine {
         let bytes = words.iter().flat_map(|word| word.to_le_bytes()).collect();
         let segments = vec![Segment { start: at, bytes, len: memsz }];
-        Machine::of(&Image { segments, entry: at, functions: Vec::new() }, &BTreeMap::new(), Rc::default())
+        Machine::of(isa, &Image { segments, entry: at, functions: Vec::new() }, &BTreeMap::new(), Rc::default())
     }
 
-    /// The machine before the first step of a program, in which some words are others, and which reads an input.
-    pub fn of(image: &Image, patches: &BTreeMap<u32, u32>, input: Rc<[u8]>) -> Machine {
+    /// The machine before the first step of a program, in which some bytes are others, and which reads an input.
+    pub fn of(isa: Isa, image: &Image, patches: &BTreeMap<u32, u8>, input: Rc<[u8]>) -> Machine {
         let mut memory = Memory::new();
         for it in &image.segments {
             memory.set_range(it.start, it.len, RangeKind::Defined);
@@ -189,13 +204,14 @@ impl Machine {
                 memory.store::<1>(it.start.wrapping_add(i), (*byte).into(), 0);
             }
         }
-        for (addr, word) in patches {
-            memory.store::<4>(*addr, *word, 0);
+        for (addr, byte) in patches {
+            memory.store::<1>(*addr, (*byte).into(), 0);
         }
         memory.set_range(STACK_START, STACK_ROOM, RangeKind::Defined);
         let mut registers = [known(0); 32];
         registers[STACK_POINTER] = known(STACK_START);
         Machine {
+            isa,
             memory,
             registers,
             pc: image.entry,
@@ -207,6 +223,9 @@ impl Machine {
             position: 0,
             output: 0,
             accesses: None,
+            reserved: None,
+            controls: BTreeMap::new(),
+            steps: 0,
         }
     }
 
@@ -227,6 +246,8 @@ impl Machine {
         self.heap.clone_from(&other.heap);
         self.errors.clone_from(&other.errors);
         (self.position, self.output) = (other.position, other.output);
+        (self.isa, self.reserved, self.steps) = (other.isa, other.reserved, other.steps);
+        self.controls.clone_from(&other.controls);
     }
 
     #[cold]
@@ -276,10 +297,10 @@ impl Machine {
         }
     }
 
-    /// Goes to an address, or stops where it is no multiple of 4.
+    /// Goes to an address, or stops where no instruction can be.
     #[inline(always)]
-    fn jump(&mut self, to: u32) -> bool {
-        if to % 4 != 0 {
+    fn jump<const UNIT: u32>(&mut self, to: u32) -> bool {
+        if to % UNIT != 0 {
             self.status = Status::Misaligned;
             return false;
         }
@@ -315,9 +336,9 @@ impl Machine {
         }
     }
 
-    /// Whether the next instruction is the one at `pc + 4`.
+    /// Whether the next instruction is the one after it.
     #[inline(always)]
-    fn branch(&mut self, word: u32) -> bool {
+    fn branch<const UNIT: u32>(&mut self, word: u32) -> bool {
         let (rs1, rs2) = (field(word, 19, 15), field(word, 24, 20));
         let (x, y) = (self.register(rs1), self.register(rs2));
         let taken = match field(word, 14, 12) {
@@ -338,7 +359,7 @@ impl Machine {
             self.set(rs2, known(y.value));
         }
         if taken {
-            self.jump(self.pc.wrapping_add(imm_b(word)));
+            self.jump::<UNIT>(self.pc.wrapping_add(imm_b(word)));
         }
         !taken
     }
@@ -398,9 +419,9 @@ impl Machine {
 
     /// JAL and JALR, to an address: a call, a return or neither, by its link register and by the one that JALR goes by.
     #[inline(always)]
-    fn linked_jump(&mut self, word: u32, by: u32, to: u32) -> bool {
-        let (site, link, rd) = (self.pc, self.pc.wrapping_add(4), field(word, 11, 7));
-        if self.jump(to) {
+    fn linked_jump<const UNIT: u32>(&mut self, word: u32, len: u32, by: u32, to: u32) -> bool {
+        let (site, link, rd) = (self.pc, self.pc.wrapping_add(len), field(word, 11, 7));
+        if self.jump::<UNIT>(to) {
             let (returns, calls) = (is_link(by), is_link(rd));
             if returns && !(calls && by == rd) {
                 self.stack.leave(to);
@@ -413,20 +434,20 @@ impl Machine {
         false
     }
 
-    /// Carries a word out, and says whether the next instruction is the one at `pc + 4`.
+    /// Carries out the word of an instruction of so many bytes, and says whether the next instruction is the one after it.
     #[inline(always)]
-    fn execute(&mut self, word: u32) -> bool {
+    fn execute<const UNIT: u32>(&mut self, word: u32, len: u32) -> bool {
         match word & 0x7F {
             0x37 => self.set(field(word, 11, 7), known(word & 0xFFFF_F000)),
             0x17 => self.set(field(word, 11, 7), known(self.pc.wrapping_add(word & 0xFFFF_F000))),
-            0x6F => return self.linked_jump(word, 0, self.pc.wrapping_add(imm_j(word))),
+            0x6F => return self.linked_jump::<UNIT>(word, len, 0, self.pc.wrapping_add(imm_j(word))),
             0x67 if field(word, 14, 12) == 0 => {
                 let rs1 = field(word, 19, 15);
                 let to = self.register(rs1).value.wrapping_add(imm_i(word)) & !1;
                 self.test(rs1, Kind::Value);
-                return self.linked_jump(word, rs1, to);
+                return self.linked_jump::<UNIT>(word, len, rs1, to);
             }
-            0x63 => return self.branch(word),
+            0x63 => return self.branch::<UNIT>(word),
             LOAD => match field(word, 14, 12) {
                 0 => self.load::<1>(word, true),
                 1 => self.load::<2>(word, true),
@@ -443,21 +464,80 @@ impl Machine {
             },
             0x13 => return self.immediate(word),
             0x33 => return self.registers(word),
-            0x0F if field(word, 14, 12) == 0 => {}
-            0x73 if word == ECALL => return self.call(),
-            0x73 if word == 0x0010_0073 => {
+            FENCE if field(word, 14, 12) == 0 => {}
+            SYSTEM if word == ECALL => return self.call(),
+            SYSTEM if word == 0x0010_0073 => {
                 self.status = Status::Break;
                 return false;
             }
+            _ if UNIT == HALF => return self.extension(word),
             _ => return self.illegal(),
         }
         true
     }
 
+    /// An instruction of an extension: FENCE.I and WFI, which do nothing, one of a control register, or an atomic one.
+    #[cold]
+    #[inline(never)]
+    fn extension(&mut self, word: u32) -> bool {
+        match word & 0x7F {
+            FENCE if field(word, 14, 12) == 1 => true,
+            SYSTEM if word == WFI => true,
+            SYSTEM => self.execute_control(word) || self.illegal(),
+            _ => match self.atomic(word) {
+                Some(atomic) => self.execute_atomic(atomic, word),
+                None => self.illegal(),
+            },
+        }
+    }
+
+    fn atomic(&self, word: u32) -> Option<Atomic> {
+        if self.isa.has_atomics() { atomic_of(word) } else { None }
+    }
+
+    /// The bytes of the instruction at pc, and how many there are. The first half says whether there is a second.
+    #[inline(always)]
+    fn take<const UNIT: u32>(&self) -> (Loaded, u32) {
+        if UNIT == WORD {
+            return (self.memory.load::<4>(self.pc), WORD);
+        }
+        let first = self.memory.load::<2>(self.pc);
+        if first.bad.is_some() || !is_long(first.value) {
+            return (first, HALF);
+        }
+        let second = self.memory.load::<2>(self.pc.wrapping_add(HALF));
+        let (value, undef) = (first.value | second.value << 16, first.undef | second.undef << 16);
+        (Loaded { value, undef, bad: second.bad }, WORD)
+    }
+
+    /// The word of the next instruction, if it can be taken and there is one.
+    fn next_word(&self) -> Option<u32> {
+        let (taken, len) = if self.isa.unit() == WORD { self.take::<WORD>() } else { self.take::<HALF>() };
+        let can_be_taken = self.status == Status::Running && self.pc % self.isa.unit() == 0 && taken.bad.is_none();
+        if can_be_taken { if len == HALF { expand(taken.value) } else { Some(taken.value) } } else { None }
+    }
+
+    /// How many bytes the next instruction has, by what its first ones hold.
+    pub fn length(&self) -> u32 {
+        let is_half = self.isa.unit() == HALF && !is_long(self.memory.load::<2>(self.pc).value);
+        if is_half { HALF } else { WORD }
+    }
+
     /// One step of a machine that runs.
     #[inline(always)]
     pub fn step(&mut self) {
-        if self.pc % 4 != 0 {
+        if self.isa.unit() == WORD {
+            self.step_by::<WORD>();
+        } else {
+            self.step_by::<HALF>();
+            self.steps += 1;
+        }
+    }
+
+    /// The same where instructions are at multiples of so many bytes.
+    #[inline(always)]
+    fn step_by<const UNIT: u32>(&mut self) {
+        if self.pc % UNIT != 0 {
             self.status = Status::Misaligned;
             return;
         }
@@ -465,18 +545,23 @@ impl Machine {
             self.call_by_name(function);
             return;
         }
-        let word = self.memory.load::<4>(self.pc);
-        if let Some(bad) = word.bad {
+        let (taken, len) = self.take::<UNIT>();
+        if let Some(bad) = taken.bad {
             self.raise_at(Kind::Jump, bad);
             self.status = Status::Jump;
             return;
         }
         let stack_pointer = self.registers[STACK_POINTER];
-        if word.undef != 0 {
+        if taken.undef != 0 {
             self.raise(Kind::Value);
         }
-        if self.execute(word.value) {
-            self.pc = self.pc.wrapping_add(4);
+        let word = if len == HALF { expand(taken.value) } else { Some(taken.value) };
+        let goes_on = match word {
+            Some(word) => self.execute::<UNIT>(word, len),
+            None => self.illegal(),
+        };
+        if goes_on {
+            self.pc = self.pc.wrapping_add(len);
         }
         if stack_pointer.value != self.registers[STACK_POINTER].value {
             self.stack_rule(stack_pointer);
@@ -485,11 +570,8 @@ impl Machine {
 
     /// What the next step does with memory beside taking its word: where, and with how many bytes.
     pub fn access(&self) -> Option<(Access, u32, u32)> {
-        let word = self.memory.load::<4>(self.pc);
-        if self.status != Status::Running || self.pc % 4 != 0 || word.bad.is_some() {
-            return None;
-        }
-        let (word, funct3) = (word.value, field(word.value, 14, 12));
+        let word = self.next_word()?;
+        let funct3 = field(word, 14, 12);
         let base = self.register(field(word, 19, 15)).value;
         match field(word, 6, 0) {
             LOAD if matches!(funct3, 0 | 1 | 2 | 4 | 5) => {
@@ -497,7 +579,12 @@ impl Machine {
             }
             STORE if funct3 < 3 => Some((Access::Write, base.wrapping_add(imm_s(word)), 1 << funct3)),
             _ if word == ECALL => self.read_access(),
-            _ => None,
+            _ if base % 4 != 0 => None,
+            _ => match self.atomic(word)? {
+                Atomic::LoadReserved => Some((Access::Read, base, 4)),
+                Atomic::StoreConditional => (self.reserved == Some(base)).then_some((Access::Write, base, 4)),
+                Atomic::Update(_) => Some((Access::Update, base, 4)),
+            },
         }
     }
 }

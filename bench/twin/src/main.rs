@@ -1,14 +1,17 @@
-//! A plain interpreter of RV32IM with accessible and undefined bits: what a step costs where nothing is proved. It runs the loop
+//! A plain interpreter of RV32IM, by `--isa` also of RV32IMC and RV32IMAC, with accessible and undefined bits: what a step costs where nothing is proved. It runs the loop
 //! that `bench/run` gives the program too, and prints where it leads; or a program of words from a file, and prints where it is after them,
 //! or answers looks at its run, or tells whether noise changes it. Of an ELF file it answers the lines of a session that looks, or writes
 //! the table of a sweep of alterations at steps.
 
+mod atomics;
 mod calls;
 mod changes;
+mod controls;
 mod elf;
 mod errors;
 mod hash;
 mod heap;
+mod isa;
 mod leaks;
 mod looks;
 mod machine;
@@ -16,8 +19,11 @@ mod memory;
 mod models;
 mod noise;
 mod outline;
+#[cfg(test)]
+mod profile_tests;
 mod request;
 mod session;
+mod short;
 mod stack;
 mod suppressions;
 mod sweep;
@@ -25,6 +31,7 @@ mod sweep;
 mod tests;
 
 use elf::Image;
+use isa::Isa;
 use looks::Run;
 use machine::{Machine, Status};
 use request::Request;
@@ -41,41 +48,66 @@ const PROGRAM_START: u32 = 0x0001_0000;
 const MEMORY: u32 = 0x2000;
 
 fn main() {
-    let words: Vec<String> = std::env::args().skip(1).collect();
+    let mut words: Vec<String> = std::env::args().skip(1).collect();
+    let Some(isa) = take_isa(&mut words) else {
+        eprintln!("twin: --isa is rv32im, rv32imc or rv32imac");
+        std::process::exit(2);
+    };
     if words.first().is_some_and(|word| word == "sweep") {
-        std::process::exit(sweep_of(&words[1..]));
+        std::process::exit(sweep_of(isa, &words[1..]));
     }
     let number = |at: usize| words.get(at).and_then(|word| word.parse().ok());
     match (words.len(), number(0), number(1)) {
+        (1, None, _) if words[0] == "halves" => tell_halves(),
         (3, None, Some(memory)) if words[0] == "looks" => match std::fs::read(&words[2]) {
-            Ok(bytes) => look(memory as u32, &bytes),
+            Ok(bytes) => look(isa, memory as u32, &bytes),
             Err(fault) => println!("twin: {fault}"),
         },
         (4, None, Some(steps)) if words[0] == "clean" => match (number(2), std::fs::read(&words[3])) {
-            (Some(memory), Ok(bytes)) => compare_with_noise(steps, memory as u32, &bytes),
+            (Some(memory), Ok(bytes)) => compare_with_noise(isa, steps, memory as u32, &bytes),
             _ => println!("twin: no such file"),
         },
         (2 | 3, None, _) if words[0] == "session" => match files(&words[1..]) {
-            Some((image, input)) => hold(Session::new(image, input)),
+            Some((image, input)) => hold(Session::new(isa, image, input)),
             None => println!("twin: no such file, or no program"),
         },
-        (1, Some(steps), _) => time(steps),
+        (3 | 4, None, Some(steps)) if words[0] == "summary" => match files(&words[2..]) {
+            Some((image, input)) => summarize(isa, steps, image, input),
+            None => println!("twin: no such file, or no program"),
+        },
+        (1, Some(steps), _) => time(isa, steps),
         (3, Some(steps), Some(memory)) => match std::fs::read(&words[2]) {
-            Ok(bytes) => tell(steps, memory as u32, &bytes),
+            Ok(bytes) => tell(isa, steps, memory as u32, &bytes),
             Err(fault) => println!("twin: {fault}"),
         },
         _ => println!(
             "usage: twin STEPS | twin STEPS MEMORY FILE | twin looks MEMORY FILE | twin clean STEPS MEMORY FILE \
-             | twin session PROGRAM [INPUT] | twin sweep PROGRAM --at A..B --faults LIST [--code-range LO..HI] [--pairs skip] \
-             [--step N] [--input F] [--supp F] [--with-output] [--part I/N]"
+             | twin session PROGRAM [INPUT] | twin summary STEPS PROGRAM [INPUT] | twin halves \
+             | twin sweep PROGRAM --at A..B --faults LIST [--code-range LO..HI] [--pairs skip] \
+             [--step N] [--input F] [--supp F] [--with-output] [--part I/N]; each with [--isa rv32im|rv32imc|rv32imac]"
         ),
     }
 }
 
+/// Takes `--isa NAME` or `--isa=NAME` out of the words, wherever it is: the last one counts. `None` if there is no such profile.
+fn take_isa(words: &mut Vec<String>) -> Option<Isa> {
+    let mut isa = Isa::Rv32im;
+    while let Some(at) = words.iter().position(|word| word == "--isa" || word.starts_with("--isa=")) {
+        let word = words.remove(at);
+        let name = match word.strip_prefix("--isa=") {
+            Some(name) => name.to_string(),
+            None if at < words.len() => words.remove(at),
+            None => return None,
+        };
+        isa = Isa::of(&name)?;
+    }
+    Some(isa)
+}
+
 /// Writes the table of a sweep, and answers the exit status.
-fn sweep_of(words: &[String]) -> i32 {
+fn sweep_of(isa: Isa, words: &[String]) -> i32 {
     let out = std::io::BufWriter::new(std::io::stdout().lock());
-    match Request::of(words).and_then(|request| sweep::sweep(&request, out)) {
+    match Request::of(isa, words).and_then(|request| sweep::sweep(&request, out)) {
         Ok(()) => 0,
         Err(fault) => {
             eprintln!("twin: {fault}");
@@ -99,8 +131,8 @@ fn hold(mut session: Session) {
 }
 
 /// Makes so many steps of the loop, and prints what each took.
-fn time(steps: u64) {
-    let mut machine = Machine::start(PROGRAM_START, &WORDS, MEMORY);
+fn time(isa: Isa, steps: u64) {
+    let mut machine = Machine::start(isa, PROGRAM_START, &WORDS, MEMORY);
     let began = Instant::now();
     let made = make(&mut machine, steps);
     let each = began.elapsed().as_secs_f64() * 1e9 / made.max(1) as f64;
@@ -120,8 +152,8 @@ fn make(machine: &mut Machine, steps: u64) -> u64 {
 
 /// Makes so many steps of a program whose words are the bytes of a file, in so many bytes of memory, and prints the state, and each
 /// error: its instruction, how often it came, its first address or `-`, and its text.
-fn tell(steps: u64, memory: u32, bytes: &[u8]) {
-    let mut machine = Machine::start(PROGRAM_START, &words_of(bytes), memory);
+fn tell(isa: Isa, steps: u64, memory: u32, bytes: &[u8]) {
+    let mut machine = Machine::start(isa, PROGRAM_START, &words_of(bytes), memory);
     make(&mut machine, steps);
     println!("{:?} {:#010x}", machine.status, machine.pc);
     for ((kind, pc), (count, address)) in machine.errors.by_place() {
@@ -130,15 +162,29 @@ fn tell(steps: u64, memory: u32, bytes: &[u8]) {
     }
 }
 
+/// Prints for each half the word that it stands for, or `none`.
+fn tell_halves() {
+    for half in 0..=u32::from(u16::MAX) {
+        println!("{}", short::expand(half).map_or("none".to_string(), |word| format!("{word:#010x}")));
+    }
+}
+
+/// Makes so many steps of a program, and prints how it ended, and its errors and leaks without addresses.
+fn summarize(isa: Isa, steps: u64, image: Image, input: Vec<u8>) {
+    let mut machine = Machine::of(isa, &image, &BTreeMap::new(), input.into());
+    make(&mut machine, steps);
+    print!("{}", outline::summary(&image, &machine));
+}
+
 /// The steps at which runs with noise are compared with the one without, beside the last clean one.
 const COMPARED: [u64; 6] = [3, 10, 30, 100, 400, 2000];
 const SEEDS: [u64; 3] = [1, 77, 0xDEAD_BEEF];
 
 /// Prints up to which step such a program is clean; whether its run is the same under noise at that step and at some before it, with how
 /// many errors; and the same of its whole run, where that has a use.
-fn compare_with_noise(steps: u64, memory: u32, bytes: &[u8]) {
+fn compare_with_noise(isa: Isa, steps: u64, memory: u32, bytes: &[u8]) {
     let words = words_of(bytes);
-    let start = || Machine::start(PROGRAM_START, &words, memory);
+    let start = || Machine::start(isa, PROGRAM_START, &words, memory);
     let told = |steps| {
         let (is_same, errors) = noise::is_same(&start, steps, &SEEDS);
         format!("{} {errors}", if is_same { "same" } else { "differs" })
@@ -158,9 +204,9 @@ fn words_of(bytes: &[u8]) -> Vec<u32> {
 }
 
 /// Answers each line of standard input that looks at the run of such a program.
-fn look(memory: u32, bytes: &[u8]) {
+fn look(isa: Isa, memory: u32, bytes: &[u8]) {
     let words = words_of(bytes);
-    let run = Run { start: &|| Machine::start(PROGRAM_START, &words, memory), changes: BTreeMap::new() };
+    let run = Run { start: &|| Machine::start(isa, PROGRAM_START, &words, memory), changes: BTreeMap::new() };
     for line in std::io::stdin().lines().map_while(Result::ok) {
         println!("{}", looks::answer(&run, &line).unwrap_or("no look".to_string()));
     }

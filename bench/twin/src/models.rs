@@ -15,7 +15,7 @@ pub enum Model {
     Registers,
     /// A bit of the pc is turned.
     Pc,
-    /// A bit of the word at the pc is turned, for this step only.
+    /// A bit of the instruction at the pc is turned, for this step only.
     Words,
     /// A register is zero.
     Zero,
@@ -48,8 +48,9 @@ fn byte_edits(step: u32, addr: u32) -> impl Iterator<Item = Edit> {
     (0..8).map(move |bit| vec![(step, Change::FlipBytes { start: addr - place, mask: 1 << (8 * place + bit) })])
 }
 
-/// The edits of a model at a step at which the machine has this pc, and after which these bytes are read.
-pub fn edits(model: Model, step: u32, pc: u32, read: &[u32]) -> Vec<Edit> {
+/// The edits of a model at a step at which the machine has this pc, and an instruction of so many bytes there. From this step on these bytes
+/// are read before they are overwritten.
+pub fn edits(model: Model, step: u32, pc: u32, len: u32, read: &[u32]) -> Vec<Edit> {
     let once = |change| vec![(step, change)];
     let set = |r, value| once(Change::Set { place: Place::Register(r), bits: crate::machine::known(value) });
     match model {
@@ -60,7 +61,8 @@ pub fn edits(model: Model, step: u32, pc: u32, read: &[u32]) -> Vec<Edit> {
         Model::Pc => bits().map(|mask| once(Change::Flip { place: Place::Pc, mask })).collect(),
         Model::Words if pc > LAST_WORD => Vec::new(),
         Model::Words => {
-            bits().map(|mask| Change::FlipBytes { start: pc, mask }).map(|turn| vec![(step, turn), (step + 1, turn)]).collect()
+            let turns = bits().take(8 * len as usize).map(|mask| Change::FlipBytes { start: pc, mask });
+            turns.map(|turn| vec![(step, turn), (step + 1, turn)]).collect()
         }
         Model::Zero => REGISTERS.map(|r| set(r, 0)).collect(),
         Model::Ones => REGISTERS.map(|r| set(r, u32::MAX)).collect(),

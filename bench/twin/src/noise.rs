@@ -1,4 +1,4 @@
-//! Runs with noise: before each step, undefined bits of registers, and what undefined and inaccessible bytes hold, become others by
+//! Runs with noise: before each step, undefined bits of registers and control registers, and what undefined and inaccessible bytes hold, become others by
 //! chance. A run that has made no use of them must go the same way.
 
 use crate::errors::Kind;
@@ -24,7 +24,7 @@ impl Noise {
     /// Disturbs a machine before its next step. Of memory that is what the step takes and looks at: other bytes can wait until a step
     /// looks at them.
     fn disturb(&mut self, machine: &mut Machine) {
-        for bits in &mut machine.registers {
+        for bits in machine.registers.iter_mut().chain(machine.controls.values_mut()) {
             bits.value ^= self.next() & bits.undef;
         }
         self.disturb_bytes(machine, machine.pc, 4);

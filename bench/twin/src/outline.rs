@@ -62,6 +62,22 @@ impl Writer {
     }
 }
 
+/// How a machine has ended, how much it has written, each error with its count and the names of its trace, and how many bytes in how many
+/// blocks are lost in each way: what does not depend on where a program's instructions are.
+pub fn summary(image: &Image, machine: &Machine) -> String {
+    let ended = end(machine).split(" 0x").next().unwrap_or_default().trim_end().to_string();
+    let mut text = format!("{ended}\noutput {}\n", machine.output);
+    for it in &machine.errors.groups {
+        let names: Vec<String> = cut(&it.trace).iter().map(|addr| shown(image.name_of(*addr))).collect();
+        writeln!(text, "{} times {}: {}", it.count, it.kind.text(), names.join(" by ")).expect("a string takes all");
+    }
+    for kind in [LeakKind::Definite, LeakKind::Indirect, LeakKind::Possible, LeakKind::Reachable] {
+        let sizes: Vec<u64> = leaks::search(machine).iter().filter(|it| it.1 == kind).map(|it| it.0.size.into()).collect();
+        writeln!(text, "{kind:?}: {} bytes in {} blocks", sizes.iter().sum::<u64>(), sizes.len()).expect("a string takes all");
+    }
+    text
+}
+
 /// A name: `?` for a byte that is no printable ASCII character.
 fn shown(name: &[u8]) -> String {
     name.iter().map(|byte| if byte.is_ascii_graphic() { char::from(*byte) } else { '?' }).collect()

@@ -1,5 +1,6 @@
 //! The command line of a sweep of alterations at steps, and its files.
 
+use crate::isa::Isa;
 use crate::models::{MODELS, Model};
 
 const LAST_STEP: u32 = 4_194_304;
@@ -7,6 +8,7 @@ const DEFAULT_STEP: u32 = 1_048_576;
 const MOST_PARTS: u64 = 1_000_000;
 
 pub struct Request {
+    pub isa: Isa,
     pub program: Vec<u8>,
     pub input: Vec<u8>,
     pub suppressions: Vec<u8>,
@@ -97,12 +99,12 @@ fn models(text: &str) -> Option<Vec<Model>> {
 }
 
 impl Request {
-    /// Reads the words of a command line after `sweep`, and the files that they name.
+    /// Reads the words of a command line after `sweep`, without `--isa`, and the files that they name.
     ///
     /// # Errors
     ///
     /// What is wrong with the first word or file at fault.
-    pub fn of(words: &[String]) -> Result<Request, String> {
+    pub fn of(isa: Isa, words: &[String]) -> Result<Request, String> {
         let words = Words::of(words)?;
         let step = words.get("--step").map_or(Some(DEFAULT_STEP), number);
         let step = step.filter(|step| *step <= LAST_STEP).ok_or("no such step")?;
@@ -115,6 +117,7 @@ impl Request {
         let code = words.get("--code-range").map(|text| range(text, None).ok_or("no range: --code-range")).transpose()?;
         let pairs = words.get("--pairs").map(|text| if text == "skip" { Ok(()) } else { Err("no such pairs") }).transpose()?;
         Ok(Request {
+            isa,
             program: read(words.file.as_deref().ok_or("no program")?)?,
             input: words.file("--input")?,
             suppressions: words.file("--supp")?,

@@ -3,6 +3,7 @@
 
 use crate::changes::{Change, Place};
 use crate::elf::Image;
+use crate::isa::{HALF, Isa, WORD};
 use crate::looks::{self, Run};
 use crate::machine::{Bits, Machine};
 use crate::memory::RangeKind;
@@ -26,17 +27,19 @@ const TOO_MANY: u32 = 10;
 const UNKNOWN: &str = "the twin doesn't know";
 
 pub struct Session {
+    isa: Isa,
     image: Image,
     input: Rc<[u8]>,
-    patches: BTreeMap<u32, u32>,
+    /// The bytes that patches change.
+    patches: BTreeMap<u32, u8>,
     /// In the order of their lines, each with its step.
     changes: Vec<(u32, Change)>,
     step: u32,
 }
 
 impl Session {
-    pub fn new(image: Image, input: Vec<u8>) -> Session {
-        Session { image, input: input.into(), patches: BTreeMap::new(), changes: Vec::new(), step: 0 }
+    pub fn new(isa: Isa, image: Image, input: Vec<u8>) -> Session {
+        Session { isa, image, input: input.into(), patches: BTreeMap::new(), changes: Vec::new(), step: 0 }
     }
 
     /// Returns the reply to a line.
@@ -57,9 +60,12 @@ impl Session {
             ["worked"] | ["input" | "option" | "supp", _, ..] => return Ok(UNKNOWN.to_string()),
             ["goto", step] => self.step = step_of(number(step)?)?,
             ["patch", addr, word] => {
-                let (addr, word) = (number(addr)?, number(word)?);
-                require(self.image.has_word(addr), NO_WORD)?;
-                self.patches.insert(addr, word);
+                self.patch(number(addr)?, number(word)?, WORD)?;
+            }
+            ["patch16", addr, half] if self.isa.unit() == HALF => {
+                let (addr, half) = (number(addr)?, number(half)?);
+                require(half < 1 << 16, BAD_LINE)?;
+                self.patch(addr, half, HALF)?;
             }
             ["unmark", place] => {
                 let place = number(place)? as usize;
@@ -73,6 +79,13 @@ impl Session {
             }
         }
         Ok("ok".to_string())
+    }
+
+    /// Puts the lowest bytes of a number at an address at which an instruction can be, over earlier patches there.
+    fn patch(&mut self, addr: u32, value: u32, len: u32) -> Result<(), u32> {
+        require(addr % self.isa.unit() == 0 && self.image.has_bytes(addr, len), NO_WORD)?;
+        self.patches.extend((addr..=addr + (len - 1)).zip(value.to_le_bytes()));
+        Ok(())
     }
 
     fn look(&self, fields: &[&str]) -> Result<String, u32> {
@@ -112,7 +125,7 @@ impl Session {
         for (step, change) in &self.changes {
             changes.entry(u64::from(*step)).or_default().push(*change);
         }
-        look(&Run { start: &|| Machine::of(&self.image, &self.patches, self.input.clone()), changes })
+        look(&Run { start: &|| Machine::of(self.isa, &self.image, &self.patches, self.input.clone()), changes })
     }
 }
 

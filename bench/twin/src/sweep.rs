@@ -3,6 +3,7 @@
 use crate::changes::Change;
 use crate::elf::Image;
 use crate::hash::sha256;
+use crate::isa::Isa;
 use crate::looks::Access;
 use crate::machine::{Machine, Status};
 use crate::models::{self, Edit, Model};
@@ -111,7 +112,7 @@ impl<W: Write> Sweep<'_, W> {
         let has_memory = self.request.models.contains(&Model::Memory);
         let read = if has_memory { self.read_later(before, now) } else { Vec::new() };
         for model in &self.request.models {
-            for edit in models::edits(*model, now, before.pc, &read) {
+            for edit in models::edits(*model, now, before.pc, before.length(), &read) {
                 let outcome = self.outcome(before, now, &edit);
                 self.table.row(&edit, outcome, self.request.step - now)?;
             }
@@ -141,6 +142,9 @@ impl<W: Write> Sweep<'_, W> {
 /// The lines before the first outcome.
 fn head(request: &Request, out: &mut impl Write) -> io::Result<()> {
     writeln!(out, "sweep 2")?;
+    if request.isa != Isa::Rv32im {
+        writeln!(out, "isa {}", request.isa.name())?;
+    }
     for (name, bytes) in [("program", &request.program), ("input", &request.input), ("supp", &request.suppressions)] {
         writeln!(out, "{name} {} {}", bytes.len(), sha256(bytes))?;
     }
@@ -160,7 +164,7 @@ pub fn sweep(request: &Request, mut out: impl Write) -> Result<(), String> {
     let image = Image::of(&request.program).ok_or("no program")?;
     let rules = suppressions::parse(&request.suppressions).ok_or("no suppressions")?;
     let input: Rc<[u8]> = request.input.clone().into();
-    let start = || Machine::of(&image, &BTreeMap::new(), input.clone());
+    let start = || Machine::of(request.isa, &image, &BTreeMap::new(), input.clone());
     let (mut before, mut second, run) = (start(), start(), start());
     let image = Image::of(&request.program).ok_or("no program")?;
     head(request, &mut out).map_err(|fault| fault.to_string())?;

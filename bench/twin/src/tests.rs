@@ -4,6 +4,7 @@ use crate::changes::{Change, Place};
 use crate::elf::{Image, Segment, Symbol};
 use crate::errors::Kind;
 use crate::hash::sha256;
+use crate::isa::Isa;
 use crate::leaks::{self, LeakKind};
 use crate::machine::{Bits, Machine, Status};
 use crate::memory::RangeKind;
@@ -17,7 +18,7 @@ const START: u32 = 0x0001_0000;
 
 /// The machine after so many steps of a program.
 fn after(words: &[u32], steps: u32) -> Machine {
-    let mut machine = Machine::start(START, words, 0x1000);
+    let mut machine = Machine::start(Isa::Rv32im, START, words, 0x1000);
     for _ in 0..steps {
         machine.step();
     }
@@ -69,7 +70,7 @@ fn a_jump_away_stops_at_the_first_inaccessible_byte() {
 
 /// A machine before its first step, of a program without an end: jal x0,0.
 fn waiting() -> Machine {
-    Machine::start(START, &[0x0000_006F], 0x1000)
+    Machine::start(Isa::Rv32im, START, &[0x0000_006F], 0x1000)
 }
 
 fn changed(machine: &mut Machine, change: Change) -> Bits {
@@ -127,7 +128,7 @@ fn a_machine_that_has_ended_takes_marks_only() {
 /// A session on the program that waits, whose segment has so many bytes.
 fn session(len: u32) -> Session {
     let segments = vec![Segment { start: START, bytes: 0x6Fu32.to_le_bytes().to_vec(), len }];
-    Session::new(Image { segments, entry: START, functions: Vec::new() }, vec![1, 2, 3])
+    Session::new(Isa::Rv32im, Image { segments, entry: START, functions: Vec::new() }, vec![1, 2, 3])
 }
 
 #[test]
@@ -191,7 +192,7 @@ fn a_hash_is_that_of_the_standard() {
 fn at_function(name: &str) -> Machine {
     let functions = vec![Symbol { start: START, len: 0, name: name.into() }];
     let segments = vec![Segment { start: START, bytes: Vec::new(), len: 0x1000 }];
-    let mut machine = Machine::of(&Image { segments, entry: START, functions }, &BTreeMap::new(), Rc::default());
+    let mut machine = Machine::of(Isa::Rv32im, &Image { segments, entry: START, functions }, &BTreeMap::new(), Rc::default());
     machine.registers[1].value = START;
     machine
 }
@@ -257,10 +258,10 @@ fn a_suppression_fits_the_first_names_of_a_trace() {
 fn a_sweep_is_refused_before_it_begins() {
     for words in ["--faults=skip", "--at=0", "--at=0 --faults=skip,skip", "--at=0 --faults=memory", "--at=2..1 --faults=skip"] {
         let words: Vec<String> = words.split(' ').map(String::from).collect();
-        assert!(Request::of(&words).is_err(), "{words:?}");
+        assert!(Request::of(Isa::Rv32im, &words).is_err(), "{words:?}");
     }
     for words in ["--at=5 --faults=skip --step=5", "--at=0.. --faults=skip --step=0", "--at=0 --faults=skip --part=2/1"] {
         let words: Vec<String> = words.split(' ').map(String::from).collect();
-        assert!(Request::of(&words).is_err(), "{words:?}");
+        assert!(Request::of(Isa::Rv32im, &words).is_err(), "{words:?}");
     }
 }

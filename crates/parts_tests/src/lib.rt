@@ -1,5 +1,5 @@
-//! Tests of the crates below the machine, by their public calls: undefined bits, instructions, program files, memory, call stacks, the
-//! heap, errors, kinds of leaks, suppressions and counted texts.
+//! Tests of the crates below the machine, by their public calls: undefined bits, instructions of 32 and of 16 bits and of extensions, program
+//! files, memory, call stacks, the heap, errors, kinds of leaks, suppressions and counted texts.
 //!
 //! This crate is separate from those that it tests, since a crate with tests is proved a second time with them.
 #![tactic(auto)]
@@ -12,6 +12,10 @@ mod counted_texts;
 mod decoding;
 #[cfg(test)]
 mod errors;
+#[cfg(test)]
+mod expanding;
+#[cfg(test)]
+mod extending;
 #[cfg(test)]
 mod files;
 #[cfg(test)]

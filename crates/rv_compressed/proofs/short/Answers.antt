@@ -1,0 +1,7 @@
+-- Each value of the two bits has an arm, so the last arm is not reached; it has no row either.
+use Rattle.std.proofs.Common.{sym, rules}
+use Rattle.rv_compressed.proofs.TableLemmas.{expansion_other_short}
+use Rattle.rv_compressed.proofs.short.Goals as goal
+
+pub returns-in_default : goal.returns-in_default
+returns-in_default c = sym (expansion_other_short c.args.half c.requires (search rules))
