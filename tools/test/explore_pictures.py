@@ -151,11 +151,11 @@ def test_swept_steps(tests):
     cells = sum(int(round(it[3] / 24 + 0.5)) for it in pairs)
     wanted = table.count(b"\nskip ") - len(re.findall(rb"\nskip \d+ \d", table))
     tests.check("picture of steps: pairs", "" if cells == wanted > 50 and not overlaps(pairs) else (cells, wanted))
+    tests.check("picture of steps: a pair", "" if "first step 2497, second step 2505: skip 2497; skip 2505" in text else text[:300])
     table = tests.sweep("boot.elf", "--input=boot.input", "--at=1270..1280", "--faults=memory,pc", "--step=2000")
     rects, text = drawn(tests, table, ["boot.elf", "--input=boot.input", "--goal=exited 0"])
     for label, wanted in (("bytes", "memory: a row for each byte"), ("a byte's row", ">0x7fffff"), ("a function", "<title>verify</title>")):
         tests.check(f"picture of steps: {label}", "" if wanted in text else text[:600])
-    tests.check("picture of steps: a pair", "" if "first step 2497, second step 2505: skip 2497; skip 2505" in text else text[:300])
 
 
 def close_colours(text):
