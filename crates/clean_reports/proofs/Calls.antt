@@ -19,7 +19,7 @@ use Rattle.guest_machine.specs.State.{Core}
 use Rattle.guest_machine.specs.Registers.{known, set_register, tested}
 use Rattle.guest_machine.specs.Spans.{span_at}
 use Rattle.guest_machine.specs.Errors.{here, parameter_errors, buffer_errors, buffer_event}
-use Rattle.guest_machine.specs.Effects.{Effect, raising, advanced, exited, stored_core, no_bytes}
+use Rattle.guest_machine.specs.Effects.{Effect, raising, moved_to, exited, stored_core, no_bytes}
 use Rattle.guest_machine.specs.Calls.{argument, answered, parameters_of, tested_from}
 use Rattle.guest_machine.specs.Calls.{errors_from, failure, ebadf, enospc, enosys, read_call}
 use Rattle.guest_machine.specs.Calls.{moved_len, is_output, output_room, bytes_taken, write_call}
@@ -83,83 +83,83 @@ write-parameters = WriteFd ∷ WriteBuffer ∷ WriteCount ∷ []
 
 -- the effect of each call, by the core and errors after the tests and the values of the parameters --
 
-abbrev pub answer-by : Core → List Event → ℕ → Effect
-answer-by now es n = raising (advanced (answered now n)) es
+abbrev pub answer-by : Core → ℕ → List Event → ℕ → Effect
+answer-by now next es n = raising (moved_to (answered now n) next) es
 
-abbrev read-by : Core → List Event → ℕ → ℕ → ℕ → ℕ → List ℕ → Effect
-read-by now es fd buffer len n given =
+abbrev read-by : Core → ℕ → List Event → ℕ → ℕ → ℕ → ℕ → List ℕ → Effect
+read-by now next es fd buffer len n given =
     cond (fd == 0)
     (record {
-      core = advanced (answered (stored_core now buffer n 0) n);
+      core = moved_to (answered (stored_core now buffer n 0) n) next;
       raised = es ++ buffer_errors now ReadBuffer false buffer len;
       made = slice_index given;
       output = [];
     })
-    (answer-by now es (failure ebadf))
+    (answer-by now next es (failure ebadf))
 
-abbrev write-by : Core → List Event → ℕ → ℕ → ℕ → ℕ → (ℕ → ℕ) → Effect
-write-by now es fd buffer len written taken =
+abbrev write-by : Core → ℕ → List Event → ℕ → ℕ → ℕ → ℕ → (ℕ → ℕ) → Effect
+write-by now next es fd buffer len written taken =
     cond (is_output fd)
     (cond (nat_le (written + len) output_room)
     (record {
-      core = advanced (answered now len);
+      core = moved_to (answered now len) next;
       raised = es ++ buffer_errors now WriteBuffer true buffer len;
       made = no_bytes;
       output = bytes_taken taken len;
     })
-    (answer-by now es (failure enospc)))
-    (answer-by now es (failure ebadf))
+    (answer-by now next es (failure enospc)))
+    (answer-by now next es (failure ebadf))
 
-abbrev write-cases : Core → Bool → Bool → ℕ → ℕ → (ℕ → ℕ) → Effect
-write-cases now p q buffer len taken =
+abbrev write-cases : Core → ℕ → Bool → Bool → ℕ → ℕ → (ℕ → ℕ) → Effect
+write-cases now next p q buffer len taken =
     cond p
     (cond q
     (record {
-      core = advanced (answered now len);
+      core = moved_to (answered now len) next;
       raised = [] ++ buffer_errors now WriteBuffer true buffer len;
       made = no_bytes;
       output = bytes_taken taken len;
     })
-    (answer-by now [] (failure enospc)))
-    (answer-by now [] (failure ebadf))
+    (answer-by now next [] (failure enospc)))
+    (answer-by now next [] (failure ebadf))
 
 abbrev write-span : ℕ → ℕ → ℕ → ℕ → Option Span
 write-span fd buffer len written =
     cond (is_output fd && nat_le (written + len) output_room) (Some (span_at buffer len)) None
 
-pub read-first : (c : Core) (n : ℕ) (given : List ℕ) → NoUse (read_call c n given).raised
+pub read-first : (c : Core) (next n : ℕ) (given : List ℕ) → NoUse (read_call c next n given).raised
     → NoUse (test-errors c read-parameters)
 unfolding read_call parameters_of
-read-first c n given none = go (argument c 10 == 0) none
+read-first c next n given none = go (argument c 10 == 0) none
   where
     go : (b : Bool) → NoUse (cond b
         (record {
-          core = advanced (answered (stored_core (after-tests c read-parameters) (argument c 11) n 0) n);
+          core = moved_to (answered (stored_core (after-tests c read-parameters) (argument c 11) n 0) n) next;
           raised = test-errors c read-parameters ++ buffer_errors (after-tests c read-parameters) ReadBuffer false
               (argument c 11) (moved_len c);
           made = slice_index given;
           output = [];
         })
-        (answer-by (after-tests c read-parameters) (test-errors c read-parameters) (failure ebadf))).raised
+        (answer-by (after-tests c read-parameters) next (test-errors c read-parameters) (failure ebadf))).raised
         → NoUse (test-errors c read-parameters)
     go true none = left-none _ _ none
     go false none = none
 
-pub write-first : (c : Core) (written : ℕ) (taken : ℕ → ℕ) → NoUse (write_call c written taken).raised
+pub write-first : (c : Core) (next written : ℕ) (taken : ℕ → ℕ) → NoUse (write_call c next written taken).raised
     → NoUse (test-errors c write-parameters)
 unfolding write_call parameters_of
-write-first c written taken none = go (is_output (argument c 10)) (nat_le (written + moved_len c) output_room) none
+write-first c next written taken none = go (is_output (argument c 10)) (nat_le (written + moved_len c) output_room) none
   where
     go : (b d : Bool) → NoUse (cond b (cond d
         (record {
-          core = advanced (answered (after-tests c write-parameters) (moved_len c));
+          core = moved_to (answered (after-tests c write-parameters) (moved_len c)) next;
           raised = test-errors c write-parameters ++ buffer_errors (after-tests c write-parameters) WriteBuffer true
               (argument c 11) (moved_len c);
           made = no_bytes;
           output = bytes_taken taken (moved_len c);
         })
-        (answer-by (after-tests c write-parameters) (test-errors c write-parameters) (failure enospc)))
-        (answer-by (after-tests c write-parameters) (test-errors c write-parameters) (failure ebadf))).raised
+        (answer-by (after-tests c write-parameters) next (test-errors c write-parameters) (failure enospc)))
+        (answer-by (after-tests c write-parameters) next (test-errors c write-parameters) (failure ebadf))).raised
         → NoUse (test-errors c write-parameters)
     go true true none = left-none _ _ none
     go true false none = none
@@ -182,8 +182,9 @@ small-failure : (n : ℕ) → 0 < n → failure n < 2 ^ 32
 small-failure n h = omega arith
 
 module _ (c : Core) (qs : List Bits) (a : RegistersAgree c.registers qs) (f g : ℕ → ℕ)
-    (m : MemoriesAgree c.shadow f g) where
-  answers-by : (n : ℕ) → n < 2 ^ 32 → EffectsAgree f g None None (answer-by c [] n) (answer-by (swap c qs) [] n)
+    (m : MemoriesAgree c.shadow f g) (next : ℕ) where
+  answers-by : (n : ℕ) → n < 2 ^ 32
+      → EffectsAgree f g None None (answer-by c next [] n) (answer-by (swap c qs) next [] n)
   unfolding set_register
   answers-by n small = record {
     registers = set-in qs 10 (known n);
@@ -198,7 +199,7 @@ module _ (c : Core) (qs : List Bits) (a : RegistersAgree c.registers qs) (f g : 
 
   reads-by : (fd buffer len n : ℕ) (given : List ℕ) → n < 2 ^ 32 → AreBytes (slice_index given)
       → EffectsAgree f g (cond (fd == 0) (Some (span_at buffer n)) None) (cond (fd == 0) (Some (span_at buffer n)) None)
-      (read-by c [] fd buffer len n given) (read-by (swap c qs) [] fd buffer len n given)
+      (read-by c next [] fd buffer len n given) (read-by (swap c qs) next [] fd buffer len n given)
   unfolding set_register
   reads-by fd buffer len n given small bytes = go (fd == 0)
     where
@@ -206,20 +207,20 @@ module _ (c : Core) (qs : List Bits) (a : RegistersAgree c.registers qs) (f g : 
           → EffectsAgree f g (cond b (Some (span_at buffer n)) None) (cond b (Some (span_at buffer n)) None)
           (cond b
           (record {
-            core = advanced (answered (stored_core c buffer n 0) n);
+            core = moved_to (answered (stored_core c buffer n 0) n) next;
             raised = [] ++ buffer_errors c ReadBuffer false buffer len;
             made = slice_index given;
             output = [];
           })
-          (answer-by c [] (failure ebadf)))
+          (answer-by c next [] (failure ebadf)))
           (cond b
           (record {
-            core = advanced (answered (stored_core (swap c qs) buffer n 0) n);
+            core = moved_to (answered (stored_core (swap c qs) buffer n 0) n) next;
             raised = [] ++ buffer_errors (swap c qs) ReadBuffer false buffer len;
             made = slice_index given;
             output = [];
           })
-          (answer-by (swap c qs) [] (failure ebadf)))
+          (answer-by (swap c qs) next [] (failure ebadf)))
       go true = record {
         registers = set-in qs 10 (known n);
         core = refl;
@@ -232,12 +233,13 @@ module _ (c : Core) (qs : List Bits) (a : RegistersAgree c.registers qs) (f g : 
       }
       go false = answers-by (failure ebadf) (small-failure 9 (omega arith))
 
-  pub reads : (n : ℕ) (given : List ℕ) → n < 2 ^ 32 → AreBytes (slice_index given) → NoUse (read_call c n given).raised
-      → EffectsAgree f g (read_uses c n).writes (read_uses (swap c qs) n).writes (read_call c n given)
-      (read_call (swap c qs) n given)
+  pub reads : (n : ℕ) (given : List ℕ) → n < 2 ^ 32 → AreBytes (slice_index given)
+      → NoUse (read_call c next n given).raised
+      → EffectsAgree f g (read_uses c n).writes (read_uses (swap c qs) n).writes (read_call c next n given)
+      (read_call (swap c qs) next n given)
   unfolding read_call moved_len parameters_of
   reads n given small bytes none =
-      let known = call-known c read-parameters (read-first c n given none) in
+      let known = call-known c read-parameters (read-first c next n given none) in
       let known' = call-others c qs a read-parameters known in
       let now = call-tested c read-parameters known in
       let now' = call-tested (swap c qs) read-parameters known' in
@@ -247,8 +249,8 @@ module _ (c : Core) (qs : List Bits) (a : RegistersAgree c.registers qs) (f g : 
       let y = same-argument c qs a 11 known.1.1.0 in
       let z = same-argument c qs a 12 known.1.1.1.0 in
       carried-along f g _ _ _ _ _ _ _ _ refl (λ i. cond (x i == 0) (Some (span_at (y i) n)) None)
-      (λ i. read-by (sym now i) (sym es i) (argument c 10) (argument c 11) (moved_len c) n given)
-      (λ i. read-by (sym now' i) (sym es' i) (x i) (y i) (min (z i) most_moved) n given)
+      (λ i. read-by (sym now i) next (sym es i) (argument c 10) (argument c 11) (moved_len c) n given)
+      (λ i. read-by (sym now' i) next (sym es' i) (x i) (y i) (min (z i) most_moved) n given)
       (reads-by (argument c 10) (argument c 11) (moved_len c) n given small bytes)
 
   -- write --
@@ -262,18 +264,19 @@ module _ (c : Core) (qs : List Bits) (a : RegistersAgree c.registers qs) (f g : 
       go i false e = refl
 
   writes-by : (fd buffer len written : ℕ) → len < 2 ^ 32
-      → NoUse (write-by c [] fd buffer len written (taken_from f (write-span fd buffer len written))).raised
+      → NoUse (write-by c next [] fd buffer len written (taken_from f (write-span fd buffer len written))).raised
       → EffectsAgree f g None None
-      (write-by c [] fd buffer len written (taken_from f (write-span fd buffer len written)))
-      (write-by (swap c qs) [] fd buffer len written (taken_from g (write-span fd buffer len written)))
+      (write-by c next [] fd buffer len written (taken_from f (write-span fd buffer len written)))
+      (write-by (swap c qs) next [] fd buffer len written (taken_from g (write-span fd buffer len written)))
   unfolding set_register
   writes-by fd buffer len written small none = go (is_output fd) (nat_le (written + len) output_room) none
     where
       go : (p q : Bool)
-          → NoUse (write-cases c p q buffer len (taken_from f (cond (p && q) (Some (span_at buffer len)) None))).raised
+          → NoUse
+          (write-cases c next p q buffer len (taken_from f (cond (p && q) (Some (span_at buffer len)) None))).raised
           → EffectsAgree f g None None
-          (write-cases c p q buffer len (taken_from f (cond (p && q) (Some (span_at buffer len)) None)))
-          (write-cases (swap c qs) p q buffer len (taken_from g (cond (p && q) (Some (span_at buffer len)) None)))
+          (write-cases c next p q buffer len (taken_from f (cond (p && q) (Some (span_at buffer len)) None)))
+          (write-cases (swap c qs) next p q buffer len (taken_from g (cond (p && q) (Some (span_at buffer len)) None)))
       go true true none =
           let same = taken-same buffer len (none-bad c buffer len none) in
           record {
@@ -287,12 +290,12 @@ module _ (c : Core) (qs : List Bits) (a : RegistersAgree c.registers qs) (f g : 
       go true false none = answers-by (failure enospc) (small-failure 28 (omega arith))
       go false q none = answers-by (failure ebadf) (small-failure 9 (omega arith))
 
-  pub writes : (written : ℕ) → NoUse (write_call c written (taken_from f (write_uses c written).reads)).raised
-      → EffectsAgree f g None None (write_call c written (taken_from f (write_uses c written).reads))
-      (write_call (swap c qs) written (taken_from g (write_uses (swap c qs) written).reads))
+  pub writes : (written : ℕ) → NoUse (write_call c next written (taken_from f (write_uses c written).reads)).raised
+      → EffectsAgree f g None None (write_call c next written (taken_from f (write_uses c written).reads))
+      (write_call (swap c qs) next written (taken_from g (write_uses (swap c qs) written).reads))
   unfolding write_call moved_len appends parameters_of
   writes written none =
-      let known = call-known c write-parameters (write-first c written _ none) in
+      let known = call-known c write-parameters (write-first c next written _ none) in
       let known' = call-others c qs a write-parameters known in
       let now = call-tested c write-parameters known in
       let now' = call-tested (swap c qs) write-parameters known' in
@@ -302,12 +305,13 @@ module _ (c : Core) (qs : List Bits) (a : RegistersAgree c.registers qs) (f g : 
       let y = same-argument c qs a 11 known.1.1.0 in
       let z = same-argument c qs a 12 known.1.1.1.0 in
       let few : moved_len c < 2 ^ 32 = omega arith in
-      let quiet' = subst (λ (e : Effect). NoUse e.raised) (λ i. write-by (now i) (es i) (argument c 10) (argument c 11)
+      let quiet' =
+      subst (λ (e : Effect). NoUse e.raised) (λ i. write-by (now i) next (es i) (argument c 10) (argument c 11)
       (moved_len c) written (taken_from f (write-span (argument c 10) (argument c 11) (moved_len c) written))) none in
       carried-along f g _ _ _ _ _ _ _ _ refl refl
-      (λ i. write-by (sym now i) (sym es i) (argument c 10) (argument c 11) (moved_len c) written
+      (λ i. write-by (sym now i) next (sym es i) (argument c 10) (argument c 11) (moved_len c) written
       (taken_from f (write-span (argument c 10) (argument c 11) (moved_len c) written)))
-      (λ i. write-by (sym now' i) (sym es' i) (x i) (y i) (min (z i) most_moved) written
+      (λ i. write-by (sym now' i) next (sym es' i) (x i) (y i) (min (z i) most_moved) written
       (taken_from g (write-span (x i) (y i) (min (z i) most_moved) written)))
       (writes-by (argument c 10) (argument c 11) (moved_len c) written few quiet')
 
@@ -335,13 +339,13 @@ module _ (c : Core) (qs : List Bits) (a : RegistersAgree c.registers qs) (f g : 
       let known = call-known c (parameter ∷ []) none in exits-by (parameter ∷ []) known.1.0 known
 
   pub unknowns : NoUse (test-errors c [])
-      → EffectsAgree f g None None (answer-by (after-tests c []) (test-errors c []) (failure enosys))
-      (answer-by (after-tests (swap c qs) []) (test-errors (swap c qs) []) (failure enosys))
+      → EffectsAgree f g None None (answer-by (after-tests c []) next (test-errors c []) (failure enosys))
+      (answer-by (after-tests (swap c qs) []) next (test-errors (swap c qs) []) (failure enosys))
   unknowns none =
       let known = call-known c [] none in
       let known' = call-others c qs a [] known in
       carried-along f g _ _ _ _ _ _ _ _ refl refl
-      (λ i. answer-by (sym (call-tested c [] known) i) (sym (call-raises c [] known) i) (failure enosys))
-      (λ i. answer-by (sym (call-tested (swap c qs) [] known') i) (sym (call-raises (swap c qs) [] known') i)
+      (λ i. answer-by (sym (call-tested c [] known) i) next (sym (call-raises c [] known) i) (failure enosys))
+      (λ i. answer-by (sym (call-tested (swap c qs) [] known') i) next (sym (call-raises (swap c qs) [] known') i)
       (failure enosys))
       (answers-by (failure enosys) (small-failure 38 (omega arith)))

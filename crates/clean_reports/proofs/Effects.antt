@@ -1,6 +1,6 @@
 -- Effects that agree, of the instructions that make no call.
 use Rattle.std.proofs.Common.{◌≡◌, ℕ, ◌+◌, ◌*◌, ◌/◌, ◌%◌, ◌^◌, ◌<◌, not, Bool, true, false, cond, refl}
-use Rattle.std.proofs.Common.{sym, ap, ◌∙◌, subst, subst₂, arith, List, [], ◌++◌, Option, Some, None, ◌==◌}
+use Rattle.std.proofs.Common.{sym, ap, ◌∙◌, subst, subst₂, arith, List, [], ◌++◌, Option, Some, None}
 use Rattle.std.proofs.lemmas.Bool.{false≢true, not-true}
 use Rattle.std.proofs.lemmas.Nat.{mod_below}
 use Rattle.definedness.specs.declared.Bits.{Bits}
@@ -19,10 +19,11 @@ use Rattle.instructions.specs.declared.instruction.Operation.{Operation}
 use Rattle.run_values.specs.declared.span.Span.{Span}
 use Rattle.run_values.specs.declared.status.Stop.{Stop}
 use Rattle.run_values.specs.declared.status.Stop.TheVariants.{Misaligned}
+use Rattle.guest_elf.specs.Profiles.{is_aligned}
 use Rattle.guest_machine.specs.State.{Core}
 use Rattle.guest_machine.specs.Registers.{known, register, set_register, tested, defined}
 use Rattle.guest_machine.specs.Errors.{value_errors, access_errors, event_unless, event_about, here, taken_undef}
-use Rattle.guest_machine.specs.Effects.{Effect, quiet, raising, moved_to, advanced, stopped, stored_core, results_in}
+use Rattle.guest_machine.specs.Effects.{Effect, quiet, raising, moved_to, stopped, stored_core, results_in}
 use Rattle.guest_machine.specs.Effects.{target, load, store, jumped, is_undefined, branch_tested, branched}
 use Rattle.guest_machine.specs.Effects.{branch, followed, linked_jump, jump, jump_register, compute, compute_immediate}
 use Rattle.guest_machine.specs.Effects.{load_upper, add_upper}
@@ -61,7 +62,7 @@ none-about c n start len none = go (first_inaccessible c.shadow start len) none
     go (Some a) none = absurd (false≢true (sym none.0))
 
 module _ (c : Core) (qs : List Bits) (a : RegistersAgree c.registers qs) (f g : ℕ → ℕ)
-    (m : MemoriesAgree c.shadow f g) where
+    (m : MemoriesAgree c.shadow f g) (next : ℕ) (fits : next < 2 ^ 32) where
   -- an effect that only changes the core
   pub still : (e : Effect) → e ≡ quiet c → EffectsAgree f g None None e (quiet (swap c qs))
   still e is = subst (λ x. EffectsAgree f g None None x (quiet (swap c qs))) (sym is) (record {
@@ -82,7 +83,7 @@ module _ (c : Core) (qs : List Bits) (a : RegistersAgree c.registers qs) (f g : 
   halts stop es = record { registers = qs; core = refl; agree = a; raised = refl; output = refl; memory = m }
 
   pub results : (rd : ℕ) (x y : Bits) → ValuesAgree x y
-      → EffectsAgree f g None None (results_in c rd x) (results_in (swap c qs) rd y)
+      → EffectsAgree f g None None (results_in c next rd x) (results_in (swap c qs) next rd y)
   unfolding set_register
   results rd x y v = record {
     registers = set-in qs rd y;
@@ -94,68 +95,64 @@ module _ (c : Core) (qs : List Bits) (a : RegistersAgree c.registers qs) (f g : 
   }
 
   pub computes : (operation : Operation) (rd rs1 rs2 : ℕ)
-      → EffectsAgree f g None None (compute c operation rd rs1 rs2) (compute (swap c qs) operation rd rs1 rs2)
+      → EffectsAgree f g None None (compute c next operation rd rs1 rs2) (compute (swap c qs) next operation rd rs1 rs2)
   computes operation rd rs1 rs2 =
       results rd _ _ (computed-agree operation (register c rs1) (register c rs2) (register (swap c qs) rs1)
       (register (swap c qs) rs2) (register-agrees c qs a rs1) (register-agrees c qs a rs2))
 
   pub computes-with : (operation : Operation) (rd rs1 imm : ℕ) → imm < 2 ^ 32
-      → EffectsAgree f g None None (compute_immediate c operation rd rs1 imm)
-      (compute_immediate (swap c qs) operation rd rs1 imm)
+      → EffectsAgree f g None None (compute_immediate c next operation rd rs1 imm)
+      (compute_immediate (swap c qs) next operation rd rs1 imm)
   computes-with operation rd rs1 imm small =
       results rd _ _ (computed-agree operation (register c rs1) (known imm) (register (swap c qs) rs1) (known imm)
       (register-agrees c qs a rs1) (known-agrees imm small))
 
   pub uppers : (rd imm : ℕ) → imm < 2 ^ 32
-      → EffectsAgree f g None None (load_upper c rd imm) (load_upper (swap c qs) rd imm)
+      → EffectsAgree f g None None (load_upper c next rd imm) (load_upper (swap c qs) next rd imm)
   uppers rd imm small = results rd (known imm) (known imm) (known-agrees imm small)
 
-  pub adds : (rd imm : ℕ) → EffectsAgree f g None None (add_upper c rd imm) (add_upper (swap c qs) rd imm)
+  pub adds : (rd imm : ℕ) → EffectsAgree f g None None (add_upper c next rd imm) (add_upper (swap c qs) next rd imm)
   adds rd imm =
       results rd _ _ (known-agrees ((c.pc + imm) % 2 ^ 32) (mod_below (c.pc + imm) (2 ^ 32) (omega arith)))
 
   -- jumps --
 
   pub links : (hint : StackHint) (rd to : ℕ) (es : List Event)
-      → EffectsAgree f g None None (raising (linked_jump c hint rd to) es)
-      (raising (linked_jump (swap c qs) hint rd to) es)
+      → EffectsAgree f g None None (raising (linked_jump c next hint rd to) es)
+      (raising (linked_jump (swap c qs) next hint rd to) es)
   unfolding linked_jump set_register
-  links hint rd to es = go (to % 4 == 0)
+  links hint rd to es = go (is_aligned c.isa to)
     where
-      next : ℕ
-      next = (c.pc + 4) % 2 ^ 32
-
       go : (b : Bool) → EffectsAgree f g None None
-          (raising (cond b (moved_to (set_register (followed c hint to) rd (known ((c.pc + 4) % 2 ^ 32))) to)
+          (raising (cond b (moved_to (set_register (followed c next hint to) rd (known next)) to)
           (stopped c Misaligned)) es)
-          (raising (cond b (moved_to (set_register (followed (swap c qs) hint to) rd (known ((c.pc + 4) % 2 ^ 32))) to)
+          (raising (cond b (moved_to (set_register (followed (swap c qs) next hint to) rd (known next)) to)
           (stopped (swap c qs) Misaligned)) es)
       go true = record {
-        registers = set-in qs rd (known ((c.pc + 4) % 2 ^ 32));
+        registers = set-in qs rd (known next);
         core = refl;
-        agree = set-in-agrees c.registers qs a rd _ _
-            (known-agrees ((c.pc + 4) % 2 ^ 32) (mod_below (c.pc + 4) (2 ^ 32) (omega arith)));
+        agree = set-in-agrees c.registers qs a rd _ _ (known-agrees next fits);
         raised = refl;
         output = refl;
         memory = m;
       }
       go false = record { registers = qs; core = refl; agree = a; raised = refl; output = refl; memory = m }
 
-  pub jumps : (rd imm : ℕ) → EffectsAgree f g None None (jump c rd imm) (jump (swap c qs) rd imm)
+  pub jumps : (rd imm : ℕ) → EffectsAgree f g None None (jump c next rd imm) (jump (swap c qs) next rd imm)
   jumps rd imm = links (jal_hint rd) rd ((c.pc + imm) % 2 ^ 32) []
 
   same-target : (rs1 imm : ℕ) → IsKnown c rs1 → target c rs1 imm ≡ target (swap c qs) rs1 imm
   unfolding target
   same-target rs1 imm known = ap (λ n. (n + imm) % 2 ^ 32) (same-argument c qs a rs1 known)
 
-  pub jumps-to : (rd rs1 imm : ℕ) → NoUse (jump_register c rd rs1 imm).raised
-      → EffectsAgree f g None None (jump_register c rd rs1 imm) (jump_register (swap c qs) rd rs1 imm)
+  pub jumps-to : (rd rs1 imm : ℕ) → NoUse (jump_register c next rd rs1 imm).raised
+      → EffectsAgree f g None None (jump_register c next rd rs1 imm) (jump_register (swap c qs) next rd rs1 imm)
   jumps-to rd rs1 imm none =
       let known = known-by c rs1 Value refl none in
       let known' = other-known c qs a rs1 known in
       let P : Core → Core → List Event → List Event → ℕ → Type 0 = λ now other es others to.
-      EffectsAgree f g None None (raising (linked_jump now (jalr_hint rd rs1) rd (target c rs1 imm / 2 * 2)) es)
-      (raising (linked_jump other (jalr_hint rd rs1) rd (to / 2 * 2)) others) in
+      EffectsAgree f g None None (raising (linked_jump now next (jalr_hint rd rs1) rd (target c rs1 imm / 2 * 2)) es)
+      (raising (linked_jump other next (jalr_hint rd rs1) rd (to / 2 * 2)) others) in
       let at : P c (swap c qs) [] [] (target c rs1 imm) = links (jalr_hint rd rs1) rd (target c rs1 imm / 2 * 2) [] in
       let one = subst (λ t. P c (swap c qs) [] [] t) (same-target rs1 imm known) at in
       let two = subst₂ (λ x y. P x y [] [] (target (swap c qs) rs1 imm)) (sym (tested-same c rs1 known))
@@ -166,9 +163,9 @@ module _ (c : Core) (qs : List Bits) (a : RegistersAgree c.registers qs) (f g : 
   -- branches --
 
   branches-by : (b : Bool) (to : ℕ) (es : List Event)
-      → EffectsAgree f g None None (raising (branched b c to) es) (raising (branched b (swap c qs) to) es)
+      → EffectsAgree f g None None (raising (branched b c next to) es) (raising (branched b (swap c qs) next to) es)
   unfolding branched jumped
-  branches-by true to es = go (to % 4 == 0)
+  branches-by true to es = go (is_aligned c.isa to)
     where
       go : (b : Bool) → EffectsAgree f g None None
           (raising (cond b (moved_to c to) (stopped c Misaligned)) es)
@@ -176,10 +173,10 @@ module _ (c : Core) (qs : List Bits) (a : RegistersAgree c.registers qs) (f g : 
           (stopped (swap c qs) Misaligned)) es)
       go true = moves to es
       go false = halts Misaligned es
-  branches-by false to es = moves ((c.pc + 4) % 2 ^ 32) es
+  branches-by false to es = moves next es
 
-  pub branches : (test : Comparison) (rs1 rs2 imm : ℕ) → NoUse (branch c test rs1 rs2 imm).raised
-      → EffectsAgree f g None None (branch c test rs1 rs2 imm) (branch (swap c qs) test rs1 rs2 imm)
+  pub branches : (test : Comparison) (rs1 rs2 imm : ℕ) → NoUse (branch c next test rs1 rs2 imm).raised
+      → EffectsAgree f g None None (branch c next test rs1 rs2 imm) (branch (swap c qs) next test rs1 rs2 imm)
   unfolding branch_tested event_unless
   branches test rs1 rs2 imm none =
       let x = register-agrees c qs a rs1 in
@@ -195,7 +192,7 @@ module _ (c : Core) (qs : List Bits) (a : RegistersAgree c.registers qs) (f g : 
       let to = (c.pc + imm) % 2 ^ 32 in
       let by : (d : Core) → Bool → Bool → Effect = λ d u b.
       raising (branched b (cond u (defined
-      (defined d rs1) rs2) d) to) (event_unless (not u) (here d) Cond) in
+      (defined d rs1) rs2) d) next to) (event_unless (not u) (here d) Cond) in
       subst₂ (λ e h. EffectsAgree f g None None e h)
       (ap (λ u. by c u (passes test (register c rs1).value (register c rs2).value)) (sym decided))
       ((λ i. by (swap c qs) (sym decided i) (way i)) ∙ ap (λ u. by (swap c qs) u
@@ -207,10 +204,10 @@ module _ (c : Core) (qs : List Bits) (a : RegistersAgree c.registers qs) (f g : 
   -- the effect of a load, by the core after the test, the test's errors and the address
   abbrev load-by : Core → List Event → ℕ → Width → Bool → ℕ → (ℕ → ℕ) → Effect
   load-by now es start width signed rd taken =
-      raising (advanced (set_register now rd (record {
+      raising (moved_to (set_register now rd (record {
         value = extended width signed (little_word taken);
         undef = extended width signed (taken_undef now start (width_len width));
-      }))) (es ++ access_errors now (Read (width_len width)) start (width_len width))
+      })) next) (es ++ access_errors now (Read (width_len width)) start (width_len width))
 
   loads-by : (width : Width) (signed : Bool) (rd start : ℕ) → NoneBad c start (width_len width)
       → EffectsAgree f g None None (load-by c [] start width signed rd (window f start (width_len width)))
@@ -246,9 +243,10 @@ module _ (c : Core) (qs : List Bits) (a : RegistersAgree c.registers qs) (f g : 
       }
 
   pub loads : (width : Width) (signed : Bool) (rd rs1 imm : ℕ)
-      → NoUse (load c width signed rd rs1 imm (taken_from f (Some (accessed c rs1 imm width)))).raised
-      → EffectsAgree f g None None (load c width signed rd rs1 imm (taken_from f (Some (accessed c rs1 imm width))))
-      (load (swap c qs) width signed rd rs1 imm (taken_from g (Some (accessed (swap c qs) rs1 imm width))))
+      → NoUse (load c next width signed rd rs1 imm (taken_from f (Some (accessed c rs1 imm width)))).raised
+      → EffectsAgree f g None None
+      (load c next width signed rd rs1 imm (taken_from f (Some (accessed c rs1 imm width))))
+      (load (swap c qs) next width signed rd rs1 imm (taken_from g (Some (accessed (swap c qs) rs1 imm width))))
   loads width signed rd rs1 imm none =
       let n = width_len width in
       let start = target c rs1 imm in
@@ -272,7 +270,7 @@ module _ (c : Core) (qs : List Bits) (a : RegistersAgree c.registers qs) (f g : 
   abbrev store-by : Core → List Event → ℕ → Width → ℕ → Effect
   store-by now es start width rs2 =
       record {
-        core = advanced (stored_core now start (width_len width) (register now rs2).undef);
+        core = moved_to (stored_core now start (width_len width) (register now rs2).undef) next;
         raised = es ++ access_errors now (Write (width_len width)) start (width_len width);
         made = byte_of (register now rs2).value;
         output = [];
@@ -291,7 +289,7 @@ module _ (c : Core) (qs : List Bits) (a : RegistersAgree c.registers qs) (f g : 
       let v = register-agrees c qs a rs2 in
       record {
         registers = qs;
-        core = λ i. advanced (stored_core (swap c qs) start (width_len width) (sym v.undef i));
+        core = λ i. moved_to (stored_core (swap c qs) start (width_len width) (sym v.undef i)) next;
         agree = a;
         raised = refl;
         output = refl;
@@ -302,9 +300,9 @@ module _ (c : Core) (qs : List Bits) (a : RegistersAgree c.registers qs) (f g : 
             (byte-lt (register c rs2).value) (byte-lt (register (swap c qs) rs2).value);
       }
 
-  pub stores : (width : Width) (rs1 rs2 imm : ℕ) → NoUse (store c width rs1 rs2 imm).raised
+  pub stores : (width : Width) (rs1 rs2 imm : ℕ) → NoUse (store c next width rs1 rs2 imm).raised
       → EffectsAgree f g (Some (accessed c rs1 imm width)) (Some (accessed (swap c qs) rs1 imm width))
-      (store c width rs1 rs2 imm) (store (swap c qs) width rs1 rs2 imm)
+      (store c next width rs1 rs2 imm) (store (swap c qs) next width rs1 rs2 imm)
   stores width rs1 rs2 imm none =
       let n = width_len width in
       let start = target c rs1 imm in

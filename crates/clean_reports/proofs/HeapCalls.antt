@@ -29,7 +29,7 @@ use Rattle.guest_machine.specs.State.{Core}
 use Rattle.guest_machine.specs.Registers.{known, set_register, tested}
 use Rattle.guest_machine.specs.Spans.{span_at}
 use Rattle.guest_machine.specs.Errors.{value_errors}
-use Rattle.guest_machine.specs.Effects.{Effect, quiet, raising, advanced, stopped, no_bytes}
+use Rattle.guest_machine.specs.Effects.{Effect, quiet, raising, moved_to, stopped, no_bytes}
 use Rattle.guest_machine.specs.Calls.{argument, answered, heap_parameters, tested_from, errors_from}
 use Rattle.guest_machine.specs.Calls.{parameters_of}
 use Rattle.guest_machine.specs.HeapCalls.{placed, carved, block_at, given_block, freed, released_here, free_errors}
@@ -345,11 +345,11 @@ module _ (c : Core) (qs : List Bits) (a : RegistersAgree c.registers qs) (f g : 
 -- what comes before and after the work --
 
 -- the same errors may come before an effect, and the same change of pc after it
-advances : (f g : ℕ → ℕ) (u v : Option Span) (e h : Effect) (es : List Event) → EffectsAgree f g u v e h
-    → EffectsAgree f g u v (between es e advanced) (between es h advanced)
-advances f g u v e h es x = record {
+advances : (f g : ℕ → ℕ) (u v : Option Span) (e h : Effect) (es : List Event) (next : ℕ) → EffectsAgree f g u v e h
+    → EffectsAgree f g u v (between es e (λ after. moved_to after next)) (between es h (λ after. moved_to after next))
+advances f g u v e h es next x = record {
   registers = x.registers;
-  core = ap advanced x.core;
+  core = ap (λ after. moved_to after next) x.core;
   agree = x.agree;
   raised = ap (λ r. es ++ r) x.raised;
   output = x.output;
@@ -367,10 +367,10 @@ come-back f g u v e h es to x = record {
   memory = x.memory;
 }
 
-pub heap-first : (c : Core) (function : Hook) (redzone volume : ℕ) (taken : ℕ → ℕ)
-    → NoUse (heap_call function c redzone volume taken).raised → NoUse (test-errors c (heap_parameters function))
+pub heap-first : (c : Core) (next : ℕ) (function : Hook) (redzone volume : ℕ) (taken : ℕ → ℕ)
+    → NoUse (heap_call function c next redzone volume taken).raised → NoUse (test-errors c (heap_parameters function))
 unfolding parameters_of
-heap-first c function redzone volume taken none = left-none _ _ none
+heap-first c next function redzone volume taken none = left-none _ _ none
 
 -- the work only looks at arguments that are defined, so it is the same
 pub record SameWork (function : Hook) (x y v w : ℕ) : Type 0 where
@@ -431,24 +431,24 @@ module _ (c : Core) (qs : List Bits) (a : RegistersAgree c.registers qs) (f g : 
       ∙ same.work (swap c qs) redzone volume (taken_from g (work_uses function c.blocks x y redzone).reads))
       (works c qs a f g m opened function (argument c 10) (argument c 11) redzone volume)
 
-  pub heap-calls : NoUse
-      (heap_call function c redzone volume (taken_from f (heap_uses function c redzone).reads)).raised
+  pub heap-calls : (next : ℕ) → NoUse
+      (heap_call function c next redzone volume (taken_from f (heap_uses function c redzone).reads)).raised
       → EffectsAgree f g (heap_uses function c redzone).writes (heap_uses function (swap c qs) redzone).writes
-      (heap_call function c redzone volume (taken_from f (heap_uses function c redzone).reads))
-      (heap_call function (swap c qs) redzone volume (taken_from g (heap_uses function (swap c qs) redzone).reads))
+      (heap_call function c next redzone volume (taken_from f (heap_uses function c redzone).reads))
+      (heap_call function (swap c qs) next redzone volume (taken_from g (heap_uses function (swap c qs) redzone).reads))
   unfolding parameters_of
-  heap-calls none =
-      let known = call-known c (heap_parameters function) (heap-first c function redzone volume _ none) in
+  heap-calls next none =
+      let known = call-known c (heap_parameters function) (heap-first c next function redzone volume _ none) in
       let known' = call-others c qs a (heap_parameters function) known in
       let by : Core → Core → List Event → (ℕ → ℕ) → Effect = λ d now es h.
       between es (heap_work function now (argument d 10) (argument d 11) redzone volume
-      (taken_from h (heap_uses function d redzone).reads)) advanced in
+      (taken_from h (heap_uses function d redzone).reads)) (λ after. moved_to after next) in
       carried-along f g _ _ _ _ _ _ _ _ refl refl
       (λ i. by c (sym (call-tested c (heap_parameters function) known) i)
       (sym (call-raises c (heap_parameters function) known) i) f)
       (λ i. by (swap c qs) (sym (call-tested (swap c qs) (heap_parameters function) known') i)
       (sym (call-raises (swap c qs) (heap_parameters function) known') i) g)
-      (advances f g _ _ (own-work c f) (own-work (swap c qs) g) [] (works-alike known.1))
+      (advances f g _ _ (own-work c f) (own-work (swap c qs) g) [] next (works-alike known.1))
 
 -- a call by name that raises no use has a defined x1
 pub named-first : (b : Bool) (c : Core) (function : Hook) (redzone volume : ℕ) (taken : ℕ → ℕ)

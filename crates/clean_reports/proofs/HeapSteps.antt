@@ -25,10 +25,12 @@ use Rattle.instructions.specs.declared.instruction.Instruction.TheVariants.{Bran
 use Rattle.instructions.specs.declared.instruction.Instruction.TheVariants.{Fence, CallEnvironment as CallRow}
 use Rattle.instructions.specs.declared.instruction.Instruction.TheVariants.{Breakpoint}
 use Rattle.run_values.specs.declared.status.Stop.TheVariants.{Misaligned}
+use Rattle.guest_elf.specs.Profiles.{is_aligned}
 use Rattle.guest_machine.specs.State.{Core, State}
 use Rattle.guest_machine.specs.Registers.{known, register, set_register, tested, defined}
 use Rattle.guest_machine.specs.Errors.{here}
-use Rattle.guest_machine.specs.Effects.{moved_to, advanced, stopped, exited, stored_core, target, jumped, branch_tested}
+use Rattle.guest_machine.specs.Effects.{after_word, moved_to, stopped, exited, stored_core, target}
+use Rattle.guest_machine.specs.Effects.{jumped, branch_tested}
 use Rattle.guest_machine.specs.Effects.{is_undefined, branched, followed, linked_jump, quiet, stops}
 use Rattle.guest_machine.specs.StackPointer.{stack_ruled, stack_moved, framed, ranged, is_stack_pointer, is_in_stack}
 use Rattle.guest_machine.specs.StackPointer.{largest_frame}
@@ -47,7 +49,7 @@ use Rattle.guest_machine.specs.HeapCalls.{Refuses, Frees, Keeps, Moves, resizing
 use Rattle.guest_machine.specs.HeapCalls.{heap_work, heap_call}
 use Rattle.guest_machine.specs.NamedCalls.{named_by, returns, returned_to, return_address}
 use Rattle.guest_machine.specs.Exec.{Deed, Takes, CallsByName, Halts, Terms, outcome, row_effect}
-use Rattle.guest_machine.specs.Exec.{call_effect, unfetched, jump_fault, is_running, is_aligned}
+use Rattle.guest_machine.specs.Exec.{call_effect, unfetched, jump_fault, is_running}
 use Rattle.guest_machine.specs.Exec.{fetch_fault, deed_at, exec, effect_at}
 use Rattle.guest_machine.specs.declared.setup.Setup.{Setup}
 use Rattle.clean_reports.specs.Heap.{HeapIsOpen, HeapIsClosed}
@@ -216,24 +218,24 @@ rules c x = go (is_stack_pointer x && is_stack_pointer (register c 2)) refl
 
 -- jumps --
 
-links : (c : Core) (hint : StackHint) (rd to : ℕ) → LeavesHeap c (linked_jump c hint rd to)
+links : (c : Core) (next : ℕ) (hint : StackHint) (rd to : ℕ) → LeavesHeap c (linked_jump c next hint rd to)
 unfolding linked_jump set_register
-links c hint rd to = go (to % 4 == 0)
+links c next hint rd to = go (is_aligned c.isa to)
   where
     go : (b : Bool) → LeavesHeap c
-        (cond b (moved_to (set_register (followed c hint to) rd (known ((c.pc + 4) % 2 ^ 32))) to)
+        (cond b (moved_to (set_register (followed c next hint to) rd (known next)) to)
         (stopped c Misaligned))
     go true = record { blocks = refl; same = λ a low high. refl }
     go false = record { blocks = refl; same = λ a low high. refl }
 
-branches : (b : Bool) (c : Core) (to : ℕ) → LeavesHeap c (branched b c to)
+branches : (b : Bool) (c : Core) (next to : ℕ) → LeavesHeap c (branched b c next to)
 unfolding branched jumped
-branches true c to = go (to % 4 == 0)
+branches true c next to = go (is_aligned c.isa to)
   where
     go : (b : Bool) → LeavesHeap c (cond b (moved_to c to) (stopped c Misaligned))
     go true = record { blocks = refl; same = λ a low high. refl }
     go false = record { blocks = refl; same = λ a low high. refl }
-branches false c to = record { blocks = refl; same = λ a low high. refl }
+branches false c next to = record { blocks = refl; same = λ a low high. refl }
 
 branch-tests : (c : Core) (u : Bool) (rs1 rs2 : ℕ) → LeavesHeap c (cond u (defined (defined c rs1) rs2) c)
 branch-tests c true rs1 rs2 =
@@ -315,13 +317,13 @@ works b Realloc c h x y redzone volume taken =
 pub goes : (c : Core) (to : ℕ) → LeavesHeap c (moved_to c to)
 goes c to = record { blocks = refl; same = λ a low high. refl }
 
-heap-calls : (b : Bool) (function : Hook) (c : Core) → Stands b c → (redzone volume : ℕ) (taken : ℕ → ℕ)
-    → Stands b (heap_call function c redzone volume taken).core
+heap-calls : (b : Bool) (function : Hook) (c : Core) → Stands b c → (next redzone volume : ℕ) (taken : ℕ → ℕ)
+    → Stands b (heap_call function c next redzone volume taken).core
 unfolding parameters_of
-heap-calls b function c h redzone volume taken =
+heap-calls b function c h next redzone volume taken =
     let now = tested_from (tested c 17) 10 (heap_parameters function) in
     let done = heap_work function now (argument c 10) (argument c 11) redzone volume taken in
-    on b done.core (advanced done.core) (goes done.core ((done.core.pc + 4) % 2 ^ 32))
+    on b done.core (moved_to done.core next) (goes done.core next)
     (works b function now (on b c now (call-tests c 17 (heap_parameters function)) h) (argument c 10)
     (argument c 11) redzone
     volume taken)
@@ -342,13 +344,13 @@ named-calls b false function c h redzone volume taken =
 -- calls by number --
 
 -- the result of a call, after its tests
-answers : (c now : Core) (n : ℕ) → LeavesHeap c now → LeavesHeap c (advanced (answered now n))
+answers : (c now : Core) (next n : ℕ) → LeavesHeap c now → LeavesHeap c (moved_to (answered now n) next)
 unfolding set_register
-answers c now n l = record { blocks = l.blocks; same = l.same }
+answers c now next n l = record { blocks = l.blocks; same = l.same }
 
-module _ (b : Bool) (c : Core) (h : Stands b c) (terms : Terms) (given : List ℕ) (taken : ℕ → ℕ) where
+module _ (b : Bool) (c : Core) (h : Stands b c) (next : ℕ) (terms : Terms) (given : List ℕ) (taken : ℕ → ℕ) where
   abbrev StandsAt : ℕ → Type 0
-  StandsAt n = Stands b (call_effect c (call_of n) terms given taken).core
+  StandsAt n = Stands b (call_effect c next (call_of n) terms given taken).core
 
   abbrev after : List Parameter → Core
   after ps = tested_from (tested c 17) 10 ps
@@ -359,19 +361,19 @@ module _ (b : Bool) (c : Core) (h : Stands b c) (terms : Terms) (given : List �
     where
       go : (t : Bool) → LeavesHeap c (cond t
           (record {
-            core = advanced (answered (stored_core (after read-parameters) (argument c 11) terms.intake.count 0)
-                terms.intake.count);
+            core = moved_to (answered (stored_core (after read-parameters) (argument c 11) terms.intake.count 0)
+                terms.intake.count) next;
             raised = test-errors c read-parameters
                 ++ buffer_errors (after read-parameters) ReadBuffer false (argument c 11) (moved_len c);
             made = slice_index given;
             output = [];
           })
-          (answer-by (after read-parameters) (test-errors c read-parameters) (failure ebadf))).core
+          (answer-by (after read-parameters) next (test-errors c read-parameters) (failure ebadf))).core
       go true =
-          answers c (stored_core (after read-parameters) (argument c 11) terms.intake.count 0) terms.intake.count
+          answers c (stored_core (after read-parameters) (argument c 11) terms.intake.count 0) next terms.intake.count
           (then c (after read-parameters) _ (call-tests c 17 read-parameters)
           (stores (after read-parameters) (argument c 11) terms.intake.count 0))
-      go false = answers c (after read-parameters) (failure ebadf) (call-tests c 17 read-parameters)
+      go false = answers c (after read-parameters) next (failure ebadf) (call-tests c 17 read-parameters)
 
   writes : StandsAt 64
   unfolding call_effect write_call parameters_of
@@ -379,17 +381,17 @@ module _ (b : Bool) (c : Core) (h : Stands b c) (terms : Terms) (given : List �
     where
       go : (t u : Bool) → LeavesHeap c (cond t (cond u
           (record {
-            core = advanced (answered (after write-parameters) (moved_len c));
+            core = moved_to (answered (after write-parameters) (moved_len c)) next;
             raised = test-errors c write-parameters
                 ++ buffer_errors (after write-parameters) WriteBuffer true (argument c 11) (moved_len c);
             made = no_bytes;
             output = bytes_taken taken (moved_len c);
           })
-          (answer-by (after write-parameters) (test-errors c write-parameters) (failure enospc)))
-          (answer-by (after write-parameters) (test-errors c write-parameters) (failure ebadf))).core
-      go true true = answers c (after write-parameters) (moved_len c) (call-tests c 17 write-parameters)
-      go true false = answers c (after write-parameters) (failure enospc) (call-tests c 17 write-parameters)
-      go false u = answers c (after write-parameters) (failure ebadf) (call-tests c 17 write-parameters)
+          (answer-by (after write-parameters) next (test-errors c write-parameters) (failure enospc)))
+          (answer-by (after write-parameters) next (test-errors c write-parameters) (failure ebadf))).core
+      go true true = answers c (after write-parameters) next (moved_len c) (call-tests c 17 write-parameters)
+      go true false = answers c (after write-parameters) next (failure enospc) (call-tests c 17 write-parameters)
+      go false u = answers c (after write-parameters) next (failure ebadf) (call-tests c 17 write-parameters)
 
   exits : (p : Parameter) → Stands b (exited (after (p ∷ [])) (argument c 10 % 256))
   exits p =
@@ -405,23 +407,23 @@ module _ (b : Bool) (c : Core) (h : Stands b c) (terms : Terms) (given : List �
 
   mallocs : StandsAt 2001
   unfolding call_effect
-  mallocs = heap-calls b Malloc c h terms.redzone terms.volume taken
+  mallocs = heap-calls b Malloc c h next terms.redzone terms.volume taken
 
   frees : StandsAt 2002
   unfolding call_effect
-  frees = heap-calls b Free c h terms.redzone terms.volume taken
+  frees = heap-calls b Free c h next terms.redzone terms.volume taken
 
   callocs : StandsAt 2003
   unfolding call_effect
-  callocs = heap-calls b Calloc c h terms.redzone terms.volume taken
+  callocs = heap-calls b Calloc c h next terms.redzone terms.volume taken
 
   reallocs : StandsAt 2004
   unfolding call_effect
-  reallocs = heap-calls b Realloc c h terms.redzone terms.volume taken
+  reallocs = heap-calls b Realloc c h next terms.redzone terms.volume taken
 
   unknown : StandsAt 0
   unfolding call_effect parameters_of
-  unknown = on b c _ (answers c (after []) (failure enosys) (call-tests c 17 [])) h
+  unknown = on b c _ (answers c (after []) next (failure enosys) (call-tests c 17 [])) h
 
   calls : (n : ℕ) → StandsAt n
   calls n = elim (cases_eq n 63) [
@@ -441,7 +443,7 @@ module _ (b : Bool) (c : Core) (h : Stands b c) (terms : Terms) (given : List �
                 | inr v ↦ elim (cases_eq n 2004) [
                   | inl e ↦ subst StandsAt (sym e) reallocs
                   | inr w ↦
-                      subst (λ call. Stands b (call_effect c call terms given taken).core)
+                      subst (λ call. Stands b (call_effect c next call terms given taken).core)
                       (sym (other n p q r s t u v w)) unknown
                 ]
               ]
@@ -453,17 +455,17 @@ module _ (b : Bool) (c : Core) (h : Stands b c) (terms : Terms) (given : List �
   ]
 
   -- each row
-  pub rows : (row : Option Instruction) → Stands b (row_effect c row terms given taken).core
+  pub rows : (row : Option Instruction) → Stands b (row_effect c next row terms given taken).core
   unfolding row_effect set_register call_at branch_tested
   rows None = on b c _ (record { blocks = refl; same = λ a low high. refl }) h
   rows (Some (LoadUpper rd imm)) = on b c _ (record { blocks = refl; same = λ a low high. refl }) h
   rows (Some (AddUpper rd imm)) = on b c _ (record { blocks = refl; same = λ a low high. refl }) h
-  rows (Some (Jump rd imm)) = on b c _ (links c _ rd ((c.pc + imm) % 2 ^ 32)) h
+  rows (Some (Jump rd imm)) = on b c _ (links c next _ rd ((c.pc + imm) % 2 ^ 32)) h
   rows (Some (JumpRegister rd rs1 imm)) =
-      on b c _ (then c (tested c rs1) _ (tests c rs1) (links (tested c rs1) _ rd (target c rs1 imm / 2 * 2))) h
+      on b c _ (then c (tested c rs1) _ (tests c rs1) (links (tested c rs1) next _ rd (target c rs1 imm / 2 * 2))) h
   rows (Some (Branch test rs1 rs2 imm)) =
       on b c _ (then c _ _ (branch-tests c (is_undefined c test rs1 rs2) rs1 rs2)
-      (branches _ (cond (is_undefined c test rs1 rs2) (defined (defined c rs1) rs2) c) ((c.pc + imm) % 2 ^ 32))) h
+      (branches _ (cond (is_undefined c test rs1 rs2) (defined (defined c rs1) rs2) c) next ((c.pc + imm) % 2 ^ 32))) h
   rows (Some (Load width signed rd rs1 imm)) =
       let l = tests c rs1 in on b c _ (record { blocks = l.blocks; same = l.same }) h
   rows (Some (Store width rs1 rs2 imm)) =
@@ -478,7 +480,7 @@ module _ (b : Bool) (c : Core) (h : Stands b c) (terms : Terms) (given : List �
 
 none-taken : (c : Core) → LeavesHeap c (unfetched c).core
 unfolding unfetched
-none-taken c = go (is_running c.status) (is_aligned c.pc) (fetch_fault c)
+none-taken c = go (is_running c.status) (is_aligned c.isa c.pc) (fetch_fault c)
   where
     go : (b d : Bool) (o : Option ℕ)
         → LeavesHeap c (cond b (cond d (jump_fault c o) (stops c Misaligned)) (quiet c)).core
@@ -490,9 +492,9 @@ none-taken c = go (is_running c.status) (is_aligned c.pc) (fetch_fault c)
 deeds : (b : Bool) (c : Core) → Stands b c → (terms : Terms) (deed : Deed) (given : List ℕ) (taken : ℕ → ℕ)
     → Stands b (outcome c terms deed given taken).core
 deeds b c h terms (Takes word) given taken =
-    let row = rows b c h terms given taken (row_of word) in
-    on b (row_effect c (row_of word) terms given taken).core _
-    (rules (row_effect c (row_of word) terms given taken).core (register c 2)) row
+    let row = rows b c h (after_word c) terms given taken (row_of word) in
+    on b (row_effect c (after_word c) (row_of word) terms given taken).core _
+    (rules (row_effect c (after_word c) (row_of word) terms given taken).core (register c 2)) row
 deeds b c h terms (CallsByName function) given taken =
     named-calls b (returns c) function c h terms.redzone terms.volume taken
 deeds b c h terms Halts given taken = on b c _ (none-taken c) h

@@ -1,5 +1,5 @@
 -- Effects that agree, of each row of the instruction table.
-use Rattle.std.proofs.Common.{◌≡◌, ℕ, ◌+◌, ◌%◌, ◌^◌, ◌<◌, min, Bool, true, false, cond, refl}
+use Rattle.std.proofs.Common.{◌≡◌, ℕ, ◌^◌, ◌<◌, min, Bool, true, false, cond, refl}
 use Rattle.std.proofs.Common.{sym, subst, arith, List, [], ◌∷◌, length, drop, Option, Some, None}
 use Rattle.std.proofs.Common.{slice_index, All, ◌==◌, inl, inr}
 use Rattle.std.specs.Prelude.{find}
@@ -119,7 +119,7 @@ pub record BothAgree (f g : ℕ → ℕ) (p q : Bool) (x y : Terms) (u v : Optio
 
 module _ (c : Core) (qs : List Bits) (a : RegistersAgree c.registers qs) (f g : ℕ → ℕ)
     (m : MemoriesAgree c.shadow f g) (opened : BlocksAreOpen c) (position written : ℕ) (setup : Setup)
-    (bytes : HasBytes setup) where
+    (bytes : HasBytes setup) (next : ℕ) (fits : next < 2 ^ 32) where
   -- the terms and the effect of the call of a number
   abbrev call-terms : Core → ℕ → Terms
   call-terms d n = terms_of (is_heap (call_of n)) (call_asks d (call_of n)) position written setup
@@ -127,7 +127,7 @@ module _ (c : Core) (qs : List Bits) (a : RegistersAgree c.registers qs) (f g : 
   abbrev call-leaves : Core → ℕ → (ℕ → ℕ) → Effect
   call-leaves d n h =
       let terms = call-terms d n in
-      call_effect d (call_of n) terms (given_at position terms.intake.count setup)
+      call_effect d next (call_of n) terms (given_at position terms.intake.count setup)
       (taken_from h (call_uses d (call_of n) terms).reads)
 
   abbrev CallsAgree : ℕ → ℕ → Type 0
@@ -153,9 +153,9 @@ module _ (c : Core) (qs : List Bits) (a : RegistersAgree c.registers qs) (f g : 
   unfolding call_effect call_uses call_asks parameters_of
   read-agrees none =
       let n = (call-terms c 63).intake.count in
-      let known = call-known c read-parameters (read-first c n _ none) in
+      let known = call-known c read-parameters (read-first c next n _ none) in
       let same = read-terms known in
-      let at = reads c qs a f g m n (given_at position n setup) (few-given (argument c 10 == 0))
+      let at = reads c qs a f g m next n (given_at position n setup) (few-given (argument c 10 == 0))
       (given-bytes position n setup bytes) none in (
         known.0,
         record {
@@ -163,7 +163,7 @@ module _ (c : Core) (qs : List Bits) (a : RegistersAgree c.registers qs) (f g : 
           terms = same;
           effects = subst (λ (t : Terms). EffectsAgree f g (call_uses c (call_of 63) (call-terms c 63)).writes
               (call_uses (swap c qs) (call_of 63) t).writes (call-leaves c 63 f)
-              (call_effect (swap c qs) (call_of 63) t (given_at position t.intake.count setup)
+              (call_effect (swap c qs) next (call_of 63) t (given_at position t.intake.count setup)
               (taken_from g (call_uses (swap c qs) (call_of 63) t).reads))) same at;
         },
       )
@@ -171,8 +171,8 @@ module _ (c : Core) (qs : List Bits) (a : RegistersAgree c.registers qs) (f g : 
   write-agrees : NoUse (call-leaves c 64 f).raised → IsKnown c 17 × CallsAgree 64 64
   unfolding call_effect call_uses call_asks
   write-agrees none = (
-    (call-known c write-parameters (write-first c written _ none)).0,
-    record { heap = refl; terms = refl; effects = writes c qs a f g m written none },
+    (call-known c write-parameters (write-first c next written _ none)).0,
+    record { heap = refl; terms = refl; effects = writes c qs a f g m next written none },
   )
 
   exit-agrees : NoUse (call-leaves c 93 f).raised → IsKnown c 17 × CallsAgree 93 93
@@ -180,7 +180,7 @@ module _ (c : Core) (qs : List Bits) (a : RegistersAgree c.registers qs) (f g : 
   exit-agrees none = (
     (call-known c (ExitStatus ∷ []) none).0,
     record
-        { heap = refl; terms = refl; effects = exits c qs a f g m ExitStatus none },
+        { heap = refl; terms = refl; effects = exits c qs a f g m next ExitStatus none },
   )
 
   group-agrees : NoUse (call-leaves c 94 f).raised → IsKnown c 17 × CallsAgree 94 94
@@ -188,57 +188,57 @@ module _ (c : Core) (qs : List Bits) (a : RegistersAgree c.registers qs) (f g : 
   group-agrees none = (
     (call-known c (ExitGroupStatus ∷ []) none).0,
     record
-        { heap = refl; terms = refl; effects = exits c qs a f g m ExitGroupStatus none },
+        { heap = refl; terms = refl; effects = exits c qs a f g m next ExitGroupStatus none },
   )
 
   malloc-agrees : NoUse (call-leaves c 2001 f).raised → IsKnown c 17 × CallsAgree 2001 2001
   unfolding call_effect call_uses call_asks
   malloc-agrees none = (
-    (call-known c (heap_parameters Malloc) (heap-first c Malloc setup.redzone setup.volume _ none)).0,
+    (call-known c (heap_parameters Malloc) (heap-first c next Malloc setup.redzone setup.volume _ none)).0,
     record {
       heap = refl;
       terms = refl;
-      effects = heap-calls c qs a f g m opened Malloc setup.redzone setup.volume none;
+      effects = heap-calls c qs a f g m opened Malloc setup.redzone setup.volume next none;
     },
   )
 
   free-agrees : NoUse (call-leaves c 2002 f).raised → IsKnown c 17 × CallsAgree 2002 2002
   unfolding call_effect call_uses call_asks
   free-agrees none = (
-    (call-known c (heap_parameters Free) (heap-first c Free setup.redzone setup.volume _ none)).0,
+    (call-known c (heap_parameters Free) (heap-first c next Free setup.redzone setup.volume _ none)).0,
     record {
       heap = refl;
       terms = refl;
-      effects = heap-calls c qs a f g m opened Free setup.redzone setup.volume none;
+      effects = heap-calls c qs a f g m opened Free setup.redzone setup.volume next none;
     },
   )
 
   calloc-agrees : NoUse (call-leaves c 2003 f).raised → IsKnown c 17 × CallsAgree 2003 2003
   unfolding call_effect call_uses call_asks
   calloc-agrees none = (
-    (call-known c (heap_parameters Calloc) (heap-first c Calloc setup.redzone setup.volume _ none)).0,
+    (call-known c (heap_parameters Calloc) (heap-first c next Calloc setup.redzone setup.volume _ none)).0,
     record {
       heap = refl;
       terms = refl;
-      effects = heap-calls c qs a f g m opened Calloc setup.redzone setup.volume none;
+      effects = heap-calls c qs a f g m opened Calloc setup.redzone setup.volume next none;
     },
   )
 
   realloc-agrees : NoUse (call-leaves c 2004 f).raised → IsKnown c 17 × CallsAgree 2004 2004
   unfolding call_effect call_uses call_asks
   realloc-agrees none = (
-    (call-known c (heap_parameters Realloc) (heap-first c Realloc setup.redzone setup.volume _ none)).0,
+    (call-known c (heap_parameters Realloc) (heap-first c next Realloc setup.redzone setup.volume _ none)).0,
     record {
       heap = refl;
       terms = refl;
-      effects = heap-calls c qs a f g m opened Realloc setup.redzone setup.volume none;
+      effects = heap-calls c qs a f g m opened Realloc setup.redzone setup.volume next none;
     },
   )
 
   unknown-agrees : NoUse (call-leaves c 0 f).raised → IsKnown c 17 × CallsAgree 0 0
   unfolding call_effect call_uses call_asks parameters_of
   unknown-agrees none =
-      ((call-known c [] none).0, record { heap = refl; terms = refl; effects = unknowns c qs a f g m none })
+      ((call-known c [] none).0, record { heap = refl; terms = refl; effects = unknowns c qs a f g m next none })
 
   -- of one number; of any number that is none of the eight, as of 0
   abbrev AgreesAt : ℕ → Type 0
@@ -273,7 +273,8 @@ module _ (c : Core) (qs : List Bits) (a : RegistersAgree c.registers qs) (f g : 
     where
       like-none : call_of n ≡ call_of 0 → AgreesAt n
       like-none e =
-          subst (λ call. NoUse (call_effect c call (terms_of (is_heap call) (call_asks c call) position written setup)
+          subst
+          (λ call. NoUse (call_effect c next call (terms_of (is_heap call) (call_asks c call) position written setup)
           (given_at position (terms_of (is_heap call) (call_asks c call) position written setup).intake.count setup)
           (taken_from f (call_uses c call
           (terms_of (is_heap call) (call_asks c call) position written setup)).reads)).raised
@@ -283,10 +284,11 @@ module _ (c : Core) (qs : List Bits) (a : RegistersAgree c.registers qs) (f g : 
           (call_uses c call (terms_of (is_heap call) (call_asks c call) position written setup)).writes
           (call_uses (swap c qs) call
           (terms_of (is_heap call) (call_asks (swap c qs) call) position written setup)).writes
-          (call_effect c call (terms_of (is_heap call) (call_asks c call) position written setup)
+          (call_effect c next call (terms_of (is_heap call) (call_asks c call) position written setup)
           (given_at position (terms_of (is_heap call) (call_asks c call) position written setup).intake.count setup)
           (taken_from f (call_uses c call (terms_of (is_heap call) (call_asks c call) position written setup)).reads))
-          (call_effect (swap c qs) call (terms_of (is_heap call) (call_asks (swap c qs) call) position written setup)
+          (call_effect (swap c qs) next call
+          (terms_of (is_heap call) (call_asks (swap c qs) call) position written setup)
           (given_at position (terms_of (is_heap call) (call_asks (swap c qs) call) position written setup).intake.count
           setup) (taken_from g (call_uses (swap c qs) call
           (terms_of (is_heap call) (call_asks (swap c qs) call) position written setup)).reads))) (sym e) unknown-agrees
@@ -304,7 +306,8 @@ module _ (c : Core) (qs : List Bits) (a : RegistersAgree c.registers qs) (f g : 
   abbrev row-leaves : Core → Option Instruction → (ℕ → ℕ) → Effect
   row-leaves d row h =
       let terms = row-terms d row in
-      row_effect d row terms (given_at position terms.intake.count setup) (taken_from h (row_uses d row terms).reads)
+      row_effect d next row terms (given_at position terms.intake.count setup)
+      (taken_from h (row_uses d row terms).reads)
 
   abbrev RowsAgree : Option Instruction → Type 0
   RowsAgree row =
@@ -314,25 +317,27 @@ module _ (c : Core) (qs : List Bits) (a : RegistersAgree c.registers qs) (f g : 
 
   pub row-agrees : (row : Option Instruction) → IfSmall row → NoUse (row-leaves c row f).raised → RowsAgree row
   unfolding row_effect row_uses calls_heap row_asks call_at
-  row-agrees None small none = record { heap = refl; terms = refl; effects = halts c qs a f g m Illegal [] }
+  row-agrees None small none = record { heap = refl; terms = refl; effects = halts c qs a f g m next fits Illegal [] }
   row-agrees (Some (LoadUpper rd imm)) small none =
-      record { heap = refl; terms = refl; effects = uppers c qs a f g m rd imm small }
+      record { heap = refl; terms = refl; effects = uppers c qs a f g m next fits rd imm small }
   row-agrees (Some (AddUpper rd imm)) small none = record
-      { heap = refl; terms = refl; effects = adds c qs a f g m rd imm }
-  row-agrees (Some (Jump rd imm)) small none = record { heap = refl; terms = refl; effects = jumps c qs a f g m rd imm }
+      { heap = refl; terms = refl; effects = adds c qs a f g m next fits rd imm }
+  row-agrees (Some (Jump rd imm)) small none =
+      record { heap = refl; terms = refl; effects = jumps c qs a f g m next fits rd imm }
   row-agrees (Some (JumpRegister rd rs1 imm)) small none =
-      record { heap = refl; terms = refl; effects = jumps-to c qs a f g m rd rs1 imm none }
+      record { heap = refl; terms = refl; effects = jumps-to c qs a f g m next fits rd rs1 imm none }
   row-agrees (Some (Branch test rs1 rs2 imm)) small none =
-      record { heap = refl; terms = refl; effects = branches c qs a f g m test rs1 rs2 imm none }
+      record { heap = refl; terms = refl; effects = branches c qs a f g m next fits test rs1 rs2 imm none }
   row-agrees (Some (Load width signed rd rs1 imm)) small none =
-      record { heap = refl; terms = refl; effects = loads c qs a f g m width signed rd rs1 imm none }
+      record { heap = refl; terms = refl; effects = loads c qs a f g m next fits width signed rd rs1 imm none }
   row-agrees (Some (Store width rs1 rs2 imm)) small none =
-      record { heap = refl; terms = refl; effects = stores c qs a f g m width rs1 rs2 imm none }
+      record { heap = refl; terms = refl; effects = stores c qs a f g m next fits width rs1 rs2 imm none }
   row-agrees (Some (Immediate operation rd rs1 imm)) small none =
-      record { heap = refl; terms = refl; effects = computes-with c qs a f g m operation rd rs1 imm small }
+      record { heap = refl; terms = refl; effects = computes-with c qs a f g m next fits operation rd rs1 imm small }
   row-agrees (Some (Registers operation rd rs1 rs2)) small none =
-      record { heap = refl; terms = refl; effects = computes c qs a f g m operation rd rs1 rs2 }
+      record { heap = refl; terms = refl; effects = computes c qs a f g m next fits operation rd rs1 rs2 }
   row-agrees (Some Fence) small none = record
-      { heap = refl; terms = refl; effects = moves c qs a f g m ((c.pc + 4) % 2 ^ 32) [] }
+      { heap = refl; terms = refl; effects = moves c qs a f g m next fits next [] }
   row-agrees (Some CallRow) small none = row-calls none
-  row-agrees (Some Breakpoint) small none = record { heap = refl; terms = refl; effects = halts c qs a f g m Break [] }
+  row-agrees (Some Breakpoint) small none =
+      record { heap = refl; terms = refl; effects = halts c qs a f g m next fits Break [] }

@@ -11,13 +11,14 @@ use Rattle.shadow_memory.specs.Ranges.{window, little_word}
 use Rattle.shadow_memory.specs.declared.cells.RangeKind.{RangeKind}
 use Rattle.shadow_memory.specs.declared.cells.RangeKind.TheVariants.{NoAccess, Undefined, Defined}
 use Rattle.instructions.specs.declared.width.Width.TheVariants.{Word}
+use Rattle.guest_elf.specs.Profiles.{is_aligned}
 use Rattle.guest_machine.specs.State.{Core}
 use Rattle.guest_machine.specs.Registers.{register}
 use Rattle.guest_machine.specs.Errors.{fetch_undef}
 use Rattle.guest_machine.specs.StackPointer.{is_stack_pointer, is_in_stack, framed, stack_moved, stack_ruled}
 use Rattle.guest_machine.specs.StackPointer.{largest_frame}
 use Rattle.guest_machine.specs.StackPointer.{ranged}
-use Rattle.guest_machine.specs.Exec.{fetches, fetch_fault, is_running, is_aligned}
+use Rattle.guest_machine.specs.Exec.{fetches, fetch_fault, is_running}
 use Rattle.clean_reports.specs.Agreement.{ValuesAgree, RegistersAgree, MemoriesAgree}
 use Rattle.clean_reports.proofs.Bits.{window-lt}
 use Rattle.clean_reports.proofs.Values.{same-bits}
@@ -118,7 +119,8 @@ module _ (c : Core) (qs : List Bits) (a : RegistersAgree c.registers qs) (f g : 
       first-none : Core → Type 0
       first-none d = fetch_fault d ≡ None
 
-      fault : (d : Core) → (is_running d.status && (is_aligned d.pc && is_none (fetch_fault d))) ≡ true → first-none d
+      fault : (d : Core) → (is_running d.status && (is_aligned d.isa d.pc && is_none (fetch_fault d))) ≡ true
+          → first-none d
       fault d e =
-          is-none (fetch_fault d) (and_parts (is_aligned d.pc) (is_none (fetch_fault d))
-          (and_parts (is_running d.status) (is_aligned d.pc && is_none (fetch_fault d)) e).1).1
+          is-none (fetch_fault d) (and_parts (is_aligned d.isa d.pc) (is_none (fetch_fault d))
+          (and_parts (is_running d.status) (is_aligned d.isa d.pc && is_none (fetch_fault d)) e).1).1

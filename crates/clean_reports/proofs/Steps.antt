@@ -1,6 +1,7 @@
 -- From states that agree, a whole step leads to states that agree.
-use Rattle.std.proofs.Common.{◌≡◌, ℕ, ◌+◌, ◌%◌, Bool, true, false, cond, refl, sym, ap}
+use Rattle.std.proofs.Common.{◌≡◌, ℕ, ◌+◌, ◌^◌, Bool, true, false, cond, refl, sym, ap, arith}
 use Rattle.std.proofs.Common.{◌∙◌, subst, subst₂, List, ◌++◌, length, Option, Some, None, ◌==◌}
+use Rattle.std.proofs.lemmas.Nat.{mod_below}
 use Rattle.definedness.specs.declared.Bits.{Bits}
 use Rattle.error_events.specs.declared.kind.Kind.TheVariants.{Value}
 use Rattle.shadow_memory.specs.Ranges.{window, little_word}
@@ -8,16 +9,17 @@ use Rattle.guest_elf.specs.declared.hook.Hook.{Hook}
 use Rattle.instructions.specs.Instructions.{row_of}
 use Rattle.run_values.specs.declared.span.Span.{Span}
 use Rattle.run_values.specs.declared.status.Stop.TheVariants.{Misaligned}
+use Rattle.guest_elf.specs.Profiles.{is_aligned}
 use Rattle.guest_machine.specs.State.{Core, State}
 use Rattle.guest_machine.specs.Registers.{register}
 use Rattle.guest_machine.specs.Errors.{here, fetch_undef, fetch_errors}
-use Rattle.guest_machine.specs.Effects.{Effect, quiet, stops}
+use Rattle.guest_machine.specs.Effects.{Effect, after_word, quiet, stops}
 use Rattle.guest_machine.specs.StackPointer.{stack_ruled}
 use Rattle.guest_machine.specs.NamedCalls.{returns, named_by}
 use Rattle.guest_machine.specs.Exec.{Deed, Takes, CallsByName, Halts, Terms, terms_of, deed_terms, plan, outcome}
 use Rattle.guest_machine.specs.Exec.{rounded}
 use Rattle.guest_machine.specs.Exec.{is_heap_deed, given_at, taken_from, written_to, named_uses_by, unfetched}
-use Rattle.guest_machine.specs.Exec.{jump_fault, is_running, is_aligned, fetch_fault, fetches, fetched, called_here}
+use Rattle.guest_machine.specs.Exec.{jump_fault, is_running, fetch_fault, fetches, fetched, called_here}
 use Rattle.guest_machine.specs.Exec.{deed_by}
 use Rattle.guest_machine.specs.Exec.{deed_at, exec, intake_at, uses_at, effect_at, seen_also, counted}
 use Rattle.guest_machine.specs.declared.setup.Setup.{Setup}
@@ -52,7 +54,7 @@ module _ (c : Core) (qs : List Bits) (a : RegistersAgree c.registers qs) (f g : 
   -- a step that fetches nothing
   none-fetched : EffectsAgree f g None None (unfetched c) (unfetched (swap c qs))
   unfolding unfetched
-  none-fetched = go (is_running c.status) (is_aligned c.pc) (fetch_fault c)
+  none-fetched = go (is_running c.status) (is_aligned c.isa c.pc) (fetch_fault c)
     where
       go : (b d : Bool) (o : Option ℕ) → EffectsAgree f g None None
           (cond b (cond d (jump_fault c o) (stops c Misaligned)) (quiet c))
@@ -79,12 +81,13 @@ module _ (c : Core) (qs : List Bits) (a : RegistersAgree c.registers qs) (f g : 
 
   pub deeds-agree : (deed : Deed) → NoUse (deed-leaves c deed f).raised → DeedsAgree deed
   deeds-agree (Takes word) none =
-      let r = row-agrees c qs a f g m opened position written setup bytes (row_of word) (row-small word)
+      let r = row-agrees c qs a f g m opened position written setup bytes (after_word c)
+      (mod_below (c.pc + 4) (2 ^ 32) (omega arith)) (row_of word) (row-small word)
       (right-none (fetch_errors c) _ none) in
       record { heap = r.heap; terms = r.terms; effects = rounds _ _ _ _ r.effects }
   deeds-agree (CallsByName function) none =
       let one = named-first (returns c) c function _ _ _ none in
-      let same : returns c ≡ returns (swap c qs) = ap (λ n. n % 4 == 0) (same-return c qs a one) in
+      let same : returns c ≡ returns (swap c qs) = ap (is_aligned c.isa) (same-return c qs a one) in
       subst (λ (b : Bool). BothAgree f g (returns c) b (terms_of (returns c) None position written setup)
       (terms_of b None position written setup)
       (named_uses_by (returns c) function c (terms_of (returns c) None position written setup).redzone).writes
@@ -164,6 +167,7 @@ module _ (setup : Setup) (s : State) (qs : List Bits) (g : ℕ → ℕ) (bytes :
         status = ap (λ (k : Core). k.status) (sym x.core);
         frames = ap (λ (k : Core). k.frames) (sym x.core);
         blocks = ap (λ (k : Core). k.blocks) (sym x.core);
+        isa = ap (λ (k : Core). k.isa) (sym x.core);
         position = ap (λ (t : Terms). s.position + t.intake.count) d.terms;
         end_seen = ap (λ (t : Terms). seen_also s.end_seen t.intake.ends) d.terms;
         output = ap (λ o. s.output ++ o) x.output;
@@ -198,6 +202,7 @@ step-agrees setup bytes s t opened d none =
         status = d.status i;
         frames = d.frames i;
         blocks = d.blocks i;
+        isa = d.isa i;
       };
       position = d.position i;
       end_seen = d.end_seen i;

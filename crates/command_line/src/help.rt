@@ -175,11 +175,11 @@ except their own:
 
 At each step that the unedited run executes, one fault is tried at a time, of each model in the list:
   skip       the instruction is left out
-  registers  one bit of x1 to x31 is turned, just before the step
+  registers  one bit of one of x1 to x31 is turned, just before the step
   pc         one bit of pc
   words      one bit of the word at pc, for this step only
   memory     one bit of a byte that this step or a later one reads before it is overwritten
-  zero, ones x1 to x31 is set to 0, to 0xffffffff
+  zero, ones one of x1 to x31 is set to 0, or to 0xffffffff
 `--pairs skip` also leaves out two instructions, the second at a later step of --at. --at and
 --faults need each other, and --code-range and --pairs need both. Steps at which a function of the
 heap is called by name are left out.

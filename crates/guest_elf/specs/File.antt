@@ -14,8 +14,10 @@ use Rattle.guest_elf.specs.declared.image.Image.{Image}
 use Rattle.guest_elf.specs.declared.program.ProgramHeader.{ProgramHeader}
 use Rattle.guest_elf.specs.Fields.{byte_at, half_at, word_at}
 use Rattle.guest_elf.specs.Hooks.{hooks_by}
-use Rattle.guest_elf.specs.Images.{contents_of, loaded_at, entry_of, name_at, hooks_of}
+use Rattle.guest_elf.specs.Images.{contents_of, loaded_at, entry_of, name_at, hooks_of, profile_of}
 use Rattle.guest_elf.specs.Names.{name_by, nearest}
+use Rattle.guest_elf.specs.Profiles.{usual}
+use Rattle.guest_elf.specs.declared.profile.Profile.{Profile}
 use Rattle.guest_elf.specs.Sections.{has_bad_section_table, is_bad_table, naming_in, strings_of, symbol_table}
 use Rattle.guest_elf.specs.Segments.{SegmentContent}
 use Rattle.memory_map.specs.Regions.{heap_begin, heap_end, stack_begin, stack_end}
@@ -230,12 +232,18 @@ name_in file address =
 unfoldable pub hooks_in : List ℕ → List (ℕ × Hook)
 hooks_in file = hooks_by (strings_of file (symbol_table file)) (naming_in file (symbol_table file))
 
--- the image is the file's: the file isn't rejected, and the image has the file's segments in their order, loads what
--- the file does, begins where the file does, names what it names and has its functions of the heap
-pub record IsImageOf (file : List ℕ) (image : Image) : Type 0 where
+-- the image is the file's, for a profile: the file isn't rejected, and the image has the file's segments in their
+-- order, loads what the file does, begins where the file does, names what it names, has its functions of the heap and
+-- has this profile
+pub record IsImageFor (profile : Profile) (file : List ℕ) (image : Image) : Type 0 where
   pub accepted : refusal file ≡ None
   pub segments : contents_of image ≡ contents_in file
   pub loads : (address : ℕ) → loaded_at image address ≡ loaded_in file address
   pub entry : entry_of image ≡ entry_in file
   pub names : (address : ℕ) → name_at image address ≡ name_in file address
   pub hooks : hooks_of image ≡ hooks_in file
+  pub read_for : profile_of image ≡ profile
+
+-- for the usual profile
+abbrev pub IsImageOf : List ℕ → Image → Type 0
+IsImageOf file image = IsImageFor usual file image

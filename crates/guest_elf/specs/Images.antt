@@ -5,6 +5,7 @@ use Rattle.guest_elf.specs.Names.{named_by}
 use Rattle.guest_elf.specs.Segments.{SegmentContent, content_of, loaded}
 use Rattle.guest_elf.specs.declared.hook.Hook.{Hook}
 use Rattle.guest_elf.specs.declared.image.Image.{Image}
+use Rattle.guest_elf.specs.declared.profile.Profile.{Profile}
 use Rattle.guest_elf.specs.declared.segment.Segment.{Segment}
 
 -- the loaded segments, in the order of the program headers
@@ -18,6 +19,10 @@ contents_of image = map content_of (segments_of image)
 -- the address of the first instruction (ELF header, e_entry)
 unfoldable pub entry_of : Image → ℕ
 entry_of image = image.entry
+
+-- what the file was read for
+unfoldable pub profile_of : Image → Profile
+profile_of image = image.profile
 
 -- the byte that the image loads at an address
 unfoldable pub loaded_at : Image → ℕ → Option ℕ

@@ -4,5 +4,6 @@ pub mod Hooks
 pub mod File
 pub mod Images
 pub mod Names
+pub mod Profiles
 pub mod Sections
 pub mod Segments

@@ -3,13 +3,14 @@ ghost use Rattle.std.specs.Prelude.{◌≡◌, ℕ, ◌+◌, ◌%◌, ◌^◌, �
 ghost use Rattle.std.specs.List.Sorted.{IsNonDecreasingBy};
 ghost use Rattle.guest_elf.specs.Hooks.{hooks_by, IsRising};
 ghost use Rattle.guest_elf.specs.declared.hook.Hook.{Hook as HookOf};
-ghost use Rattle.guest_elf.specs.Images.{segments_of, entry_of, loaded_at, name_at, hooks_of};
+ghost use Rattle.guest_elf.specs.Images.{segments_of, entry_of, loaded_at, name_at, hooks_of, profile_of};
 ghost use Rattle.guest_elf.specs.Names.{named_by};
 ghost use Rattle.guest_elf.specs.Segments.{has_address, Fits};
 ghost use Rattle.std.specs.List.{list_any};
 
 use crate::hook::Hook;
 use crate::names::FunctionNames;
+use crate::profile::Profile;
 use crate::segment::Segment;
 use std::alloc::{AllocError, Global};
 
@@ -22,21 +23,29 @@ pub struct Image<'a> {
     segments: Vec<Segment<'a>>,
     entry: u32,
     names: FunctionNames<'a>,
+    profile: Profile,
 }
 
 impl<'a> Image<'a> {
-    /// Returns the image of these segments, which begins at `entry`, with these names.
-    #[tactic(auto, unfolding(crate::specs::Images::segments_of, crate::specs::Images::entry_of, crate::specs::Images::name_at, crate::specs::Images::hooks_of))]
-    pub(crate) fn new(segments: Vec<Segment<'a>>, entry: u32, names: FunctionNames<'a>) -> Self
+    /// Returns the image of these segments, which begins at `entry`, with these names, read for a profile.
+    #[tactic(auto, unfolding(crate::specs::Images::segments_of, crate::specs::Images::entry_of, crate::specs::Images::name_at, crate::specs::Images::hooks_of, crate::specs::Images::profile_of))]
+    pub(crate) fn new(
+        segments: Vec<Segment<'a>>,
+        entry: u32,
+        names: FunctionNames<'a>,
+        profile: Profile,
+    ) -> Self
         ensures segments { segments_of result ≡ segments.entry.items }
         ensures entry { entry_of result ≡ entry }
         ensures names { (address : ℕ) → name_at result address ≡ named_by names.entry address }
         ensures hooks { hooks_of result ≡ hooks_by names.entry.strings.now names.entry.symbols.items }
+        ensures profile { profile_of result ≡ profile }
     {
         Image {
             segments,
             entry,
             names,
+            profile,
         }
     }
 
@@ -56,6 +65,14 @@ impl<'a> Image<'a> {
         ensures { result ≡ entry_of self.now }
     {
         self.entry
+    }
+
+    /// Returns what the file was read for.
+    #[tactic(auto, unfolding(crate::specs::Images::profile_of))]
+    pub fn profile(&self) -> Profile
+        ensures { result ≡ profile_of self.now }
+    {
+        self.profile
     }
 
     /// Returns the name of the function at an address, a slice of the file; `???` if no symbol names one. It may outlive the image.

@@ -2,15 +2,19 @@
 //! the machine that runs it.
 //!
 //! [`read`] returns an [`Image`], whose segments and names are slices of the file, or the first of the reasons to reject the file, in the
-//! order of their numbers. It returns for every file. It tests the conditions 20 to 28 before it allocates memory. Then lists grow: of the
-//! loaded program headers, of the segments and of the symbols that name. If one can't grow, it returns `Memory`. Of the other calls, only
-//! `hooks` allocates memory.
+//! order of their numbers. [`read_for`] does the same for a [`Profile`], which it keeps in the image. Both return for every file. They test
+//! the conditions 20 to 28 before they allocate memory. Then lists grow: of the loaded program headers, of the segments and of the symbols
+//! that name. If one can't grow, they return `Memory`. Of the other calls, only `hooks` allocates memory.
 //!
 //! | Call | What it returns |
 //! |---|---|
 //! | [`read`] | the image of a file, or an [`ElfFault`] |
+//! | [`read_for`] | the same, with a profile other than the usual one |
+//! | [`Profile::USUAL`] | the profile of [`read`]: RV32IM |
+//! | [`Isa::aligns`] | whether an instruction may begin at an address |
 //! | [`Image::segments`] | the loaded segments, in the order of the file's program headers |
 //! | [`Image::entry`] | the address of the first instruction |
+//! | [`Image::profile`] | what the file was read for |
 //! | [`Image::patchable`] | whether each byte of the word at an address is loaded |
 //! | [`Image::name_of`] | the name of the function at an address |
 //! | [`Image::hooks`] | the functions named `malloc`, `free`, `calloc` and `realloc`, by their addresses |
@@ -29,9 +33,10 @@
 //!
 //! The layer above uses one contract, that of [`read`]. An image is the file's (`IsImageOf`): the file isn't rejected; the image's segments
 //! are those of the loadable program headers in the order of their table; at each address it loads what the file does and has the file's
-//! name; it has the file's functions of the heap; and it begins at e_entry. A fault other than `Memory` is the file's refusal, and a
+//! name; it has the file's functions of the heap; it begins at e_entry; and it has the usual profile, or that of [`read_for`]
+//! (`IsImageFor`). A fault other than `Memory` is the file's refusal, and a
 //! refusal from 20 to 28 is returned whatever memory there is. Callers see of an image `segments_of`, `contents_of`, `entry_of`,
-//! `loaded_at`, `name_at` and `hooks_of`.
+//! `loaded_at`, `name_at`, `hooks_of` and `profile_of`.
 //!
 //! Where the definitions are, in `specs/`:
 //!
@@ -43,9 +48,10 @@
 //! - `Hooks`: which names are functions of the heap, and those of a symbol table (`hook_named`, `hooks_by`).
 //! - `Images` and `Segments`: what an image loads and names, and a list of segments (`loaded`).
 //! - `Faults`: the numbers of the faults.
+//! - `Profiles`: the usual profile, and where an instruction may begin (`is_aligned`).
 //!
 //! Sources: System V ABI, edition 4.1, chapters 4 and 5 (the ELF-32 object file format); RISC-V ELF
-//! psABI 1.0 (e_machine 243).
+//! psABI 1.0 (e_machine 243); RISC-V Unprivileged ISA 20191213 (names of instruction sets, IALIGN).
 #![tactic(auto)]
 
 mod fault;
@@ -55,6 +61,7 @@ mod image;
 mod lookups;
 mod names;
 mod overlaps;
+mod profile;
 mod program;
 mod reading;
 mod refusals;
@@ -66,6 +73,7 @@ mod symbols;
 pub use fault::ElfFault;
 pub use hook::Hook;
 pub use image::Image;
-pub use reading::read;
+pub use profile::{Isa, Profile};
+pub use reading::{read, read_for};
 pub use segment::Segment;
 pub use segments::MOST_BYTES;

@@ -1,6 +1,6 @@
 //! From a file's bytes to an image.
 ghost use Rattle.std.specs.Prelude.{◌≡◌, ℕ, ◌⊎◌, false, length, map, IfOk, IfErr, IfNone};
-ghost use Rattle.guest_elf.specs.File.{early_refusal, late_refusal, refusal, is_bad_segment, bytes_in, content_in, contents_in, first_loaded, loads_of, HasHeader, HasTable, HasSegments, IsImageOf};
+ghost use Rattle.guest_elf.specs.File.{early_refusal, late_refusal, refusal, is_bad_segment, bytes_in, content_in, contents_in, first_loaded, loads_of, HasHeader, HasTable, HasSegments, IsImageFor, IsImageOf};
 ghost use Rattle.guest_elf.specs.Sections.{symbol_table, HasNames, HasSections};
 ghost use Rattle.guest_elf.specs.Segments.{content_of, loaded};
 ghost use Rattle.guest_elf.specs.declared.fault.ElfFault.{ElfFault};
@@ -10,6 +10,7 @@ use crate::fields::{E_ENTRY, word_at};
 use crate::image::Image;
 use crate::names::FunctionNames;
 use crate::overlaps::has_overlap;
+use crate::profile::Profile;
 use crate::program::{ProgramHeader, header_at, header_count};
 use crate::refusals::{
     has_bad_table, has_bad_version, is_not_class_32, is_not_elf, is_not_executable,
@@ -117,15 +118,16 @@ fn segments_of<'a>(alloc: Global, file: &'a [u8]) -> Result<Vec<Segment<'a>>, Al
     Ok(segments)
 }
 
-/// Reads a static executable for RV32 from the bytes of an ELF32 file, which the image borrows.
+/// Reads a static executable for RV32 from the bytes of an ELF32 file, which the image borrows, for a profile. It reads the same for each
+/// profile, and keeps the profile in the image.
 ///
 /// # Errors
 ///
 /// Returns the first condition that holds, in the order of `ElfFault::number`, or `Memory` if a list could not grow. The first list grows
 /// after the conditions 20 to 28 are tested.
 #[tactic(auto, unfolding(crate::specs::File::refusal))]
-pub fn read<'a>(alloc: Global, file: &'a [u8]) -> Result<Image<'a>, ElfFault>
-    ensures image { IfOk result (IsImageOf file.entry.now) }
+pub fn read_for<'a>(alloc: Global, file: &'a [u8], profile: Profile) -> Result<Image<'a>, ElfFault>
+    ensures image { IfOk result (IsImageFor profile file.entry.now) }
     ensures refused { IfErr result (λ fault.
         (fault ≡ ElfFault.Memory) ⊎ (refusal file.entry.now ≡ Some fault)) }
     // Running out of memory hides no condition that is tested before the first list grows.
@@ -139,5 +141,19 @@ pub fn read<'a>(alloc: Global, file: &'a [u8]) -> Result<Image<'a>, ElfFault>
     }
     let segments = segments_of(alloc, file)?;
     let names = FunctionNames::read(alloc, file)?;
-    Ok(Image::new(segments, word_at(file, E_ENTRY), names))
+    Ok(Image::new(segments, word_at(file, E_ENTRY), names, profile))
+}
+
+/// Reads a static executable for RV32 from the bytes of an ELF32 file, which the image borrows, for the usual profile.
+///
+/// # Errors
+///
+/// Those of [`read_for`].
+pub fn read<'a>(alloc: Global, file: &'a [u8]) -> Result<Image<'a>, ElfFault>
+    ensures image { IfOk result (IsImageOf file.entry.now) }
+    ensures refused { IfErr result (λ fault.
+        (fault ≡ ElfFault.Memory) ⊎ (refusal file.entry.now ≡ Some fault)) }
+    ensures least { (fault : ElfFault) → early_refusal file.entry.now ≡ Some fault → result ≡ Err fault }
+{
+    read_for(alloc, file, Profile::USUAL)
 }

@@ -13,7 +13,7 @@ use Rattle.error_events.specs.declared.kind.Kind.TheVariants.{Read, Write}
 use Rattle.guest_machine.specs.State.{Core}
 use Rattle.guest_machine.specs.Registers.{known, register, set_register, tested, defined}
 use Rattle.guest_machine.specs.Errors.{access_errors, event_about, event_unless, here, taken_undef, value_errors}
-use Rattle.guest_machine.specs.Effects.{advanced, load, raising, results_in, store, target}
+use Rattle.guest_machine.specs.Effects.{moved_to, load, raising, results_in, store, target}
 use Rattle.guest_machine.specs.Doing.{stored_at, storing}
 
 -- a register with no undefined bit stays, and is no error
@@ -45,12 +45,12 @@ abbrev bits_of : ℕ → ℕ → Bits
 bits_of value undef = record { value = value; undef = undef }
 
 -- a load of a number that is defined, by an address that is
-pub load-at-once : (core : Core) (bytes : ℕ → ℕ) (width : Width) (signed : Bool) (rd rs1 imm value : ℕ)
+pub load-at-once : (core : Core) (next : ℕ) (bytes : ℕ → ℕ) (width : Width) (signed : Bool) (rd rs1 imm value : ℕ)
     → (register core rs1).undef ≡ 0
     → HasDefined bytes core.shadow (target core rs1 imm) (width_len width) value
-    → results_in core rd (known (extended width signed value))
-    ≡ load core width signed rd rs1 imm (window bytes (target core rs1 imm) (width_len width))
-load-at-once core bytes width signed rd rs1 imm value known_is has =
+    → results_in core next rd (known (extended width signed value))
+    ≡ load core next width signed rd rs1 imm (window bytes (target core rs1 imm) (width_len width))
+load-at-once core next bytes width signed rd rs1 imm value known_is has =
     let start = target core rs1 imm in
     let n = width_len width in
     let stays = test-passes core rs1 known_is in
@@ -65,17 +65,18 @@ load-at-once core bytes width signed rd rs1 imm value known_is has =
     let bits : bits_of (extended width signed (little_word (window bytes start n)))
     (extended width signed (taken_undef (tested core rs1) start n)) ≡ known (extended width signed value) =
     ap₂ bits_of taken undef in
-    sym (ap₂ raising (ap₂ (λ (now : Core) (b : Bits). advanced (set_register now rd b)) stays bits) errors)
+    sym (ap₂ raising (ap₂ (λ (now : Core) (b : Bits). moved_to (set_register now rd b) next) stays bits) errors)
 
 -- a store over bytes that may be accessed, by an address that is defined
-pub store-at-once : (core : Core) (width : Width) (rs1 rs2 imm : ℕ) → (register core rs1).undef ≡ 0
+pub store-at-once : (core : Core) (next : ℕ) (width : Width) (rs1 rs2 imm : ℕ) → (register core rs1).undef ≡ 0
     → first_inaccessible core.shadow (target core rs1 imm) (width_len width) ≡ None
-    → stored_at core (target core rs1 imm) (width_len width) (register core rs2) ≡ store core width rs1 rs2 imm
-store-at-once core width rs1 rs2 imm known_is none =
+    → stored_at core next (target core rs1 imm) (width_len width) (register core rs2)
+    ≡ store core next width rs1 rs2 imm
+store-at-once core next width rs1 rs2 imm known_is none =
     let start = target core rs1 imm in
     let n = width_len width in
     let stays = test-passes core rs1 known_is in
     let errors : (value_errors core rs1 ++ access_errors (tested core rs1) (Write n) start n) ≡ [] =
     ap₂ (λ (xs ys : List Event). xs ++ ys) (no-value-error core rs1 known_is)
     (ap (λ (now : Core). access_errors now (Write n) start n) stays ∙ no-access-error core (Write n) start n none) in
-    sym (ap₂ (λ (now : Core) (raised : List Event). storing now start n (register now rs2) raised) stays errors)
+    sym (ap₂ (λ (now : Core) (raised : List Event). storing now next start n (register now rs2) raised) stays errors)

@@ -4,11 +4,12 @@ use Rattle.std.proofs.Common.{append-nil}
 use Rattle.std.specs.Prelude.{is_none}
 use Rattle.guest_elf.specs.declared.hook.Hook.{Hook}
 use Rattle.guest_elf.specs.Hooks.{hook_at}
+use Rattle.guest_elf.specs.Profiles.{is_aligned}
 use Rattle.shadow_memory.specs.Ranges.{window, little_word}
 use Rattle.guest_machine.specs.State.{State, Core}
 use Rattle.guest_machine.specs.Exec.{exec, touches, touched_at, uses_at, intake_at, effect_at, has_touched, Deed}
 use Rattle.guest_machine.specs.Exec.{deed_by, deed_at, called_here, fetched, fetches}
-use Rattle.guest_machine.specs.Exec.{fetch_span, fetch_fault, unfetched, jump_fault, is_running, is_aligned}
+use Rattle.guest_machine.specs.Exec.{fetch_span, fetch_fault, unfetched, jump_fault, is_running}
 use Rattle.guest_machine.specs.Exec.{is_heap_deed, plan, outcome, deed_terms, deed_asks}
 use Rattle.guest_machine.specs.Exec.{intake_of, left_at, given_at, taken_from, written_to, seen_also, counted}
 use Rattle.guest_machine.specs.Effects.{Effect, quiet, stops}
@@ -20,8 +21,8 @@ pub halts : (core : Core) (bytes : ℕ → ℕ) (hooks : List (ℕ × Hook)) →
     → deed_at core bytes hooks ≡ Deed.Halts
 unfolding called_here fetched fetches
 halts core bytes hooks h =
-    ap (λ b. deed_by (cond (b && is_aligned core.pc) (hook_at hooks core.pc) None) (fetched core bytes)) h
-    ∙ ap (λ b. deed_by None (cond (b && (is_aligned core.pc && is_none (fetch_fault core)))
+    ap (λ b. deed_by (cond (b && is_aligned core.isa core.pc) (hook_at hooks core.pc) None) (fetched core bytes)) h
+    ∙ ap (λ b. deed_by None (cond (b && (is_aligned core.isa core.pc && is_none (fetch_fault core)))
     (Some (little_word (window bytes core.pc 4))) None)) h
 
 touches-nothing : (s : State) (setup : Setup) (a : ℕ) → is_running s.core.status ≡ false → touches s setup a ≡ false
@@ -79,7 +80,7 @@ halted-step s setup h =
       events = s.events ++ effect.raised;
     } in
     ap by (halts s.core s.bytes setup.hooks h)
-    ∙ ap (λ b. after s (cond b (cond (is_aligned s.core.pc) (jump_fault s.core (fetch_fault s.core))
+    ∙ ap (λ b. after s (cond b (cond (is_aligned s.core.isa s.core.pc) (jump_fault s.core (fetch_fault s.core))
     (stops s.core Misaligned)) (quiet s.core))) h
     ∙ after-quiet s
 

@@ -1,10 +1,10 @@
 -- A state that rests in a jump to itself stays as it is.
-use Rattle.std.proofs.Common.{◌≡◌, ◌⊎◌, inl, inr, ℕ, ◌+◌, ◌%◌, ◌^◌, ◌<◌, ◌&&◌, ◌==◌, nat_eq, nat_lt, Bool, true}
+use Rattle.std.proofs.Common.{◌≡◌, inl, inr, ℕ, ◌+◌, ◌%◌, ◌^◌, ◌<◌, ◌&&◌, ◌==◌, nat_lt, Bool, true}
 use Rattle.std.proofs.Common.{false, cond, List, [], ◌∷◌}
-use Rattle.std.proofs.Common.{◌++◌, length, append-nil, Option, Some, None, refl, ap, ap₂, sym, subst, ◌∙◌, arith}
+use Rattle.std.proofs.Common.{◌++◌, length, append-nil, Option, Some, None, refl, ap, ◌∙◌, arith}
 use Rattle.std.proofs.Common.{add-zero}
 use Rattle.std.proofs.lemmas.Bool.Decides.{nat_tests}
-use Rattle.definedness.specs.declared.Bits.{Bits}
+use Rattle.guest_elf.specs.Profiles.{is_aligned}
 use Rattle.guest_elf.specs.declared.hook.Hook.{Hook}
 use Rattle.instructions.specs.Instructions.{instruction_of, row_of}
 use Rattle.rv_decode.specs.Table.{insn, rows}
@@ -12,24 +12,23 @@ use Rattle.instructions.specs.CallStack.{hint_by, hinted, jal_hint}
 use Rattle.instructions.specs.declared.instruction.Instruction.{Instruction}
 use Rattle.instructions.specs.declared.instruction.Instruction.TheVariants.{Jump}
 use Rattle.guest_machine.specs.State.{Core, State}
-use Rattle.guest_machine.specs.Effects.{Effect, linked_jump, stopped}
+use Rattle.guest_machine.specs.Effects.{Effect, after_word, linked_jump, stopped}
 use Rattle.guest_machine.specs.Errors.{fetch_undef, fetch_errors, event_of, event_unless, here}
 use Rattle.error_events.specs.declared.kind.Kind.TheVariants.{Value}
 use Rattle.error_events.specs.declared.event.Note.TheVariants.{Absent}
-use Rattle.guest_machine.specs.Registers.{known, register, set_register}
+use Rattle.guest_machine.specs.Registers.{register, set_register}
 use Rattle.guest_machine.specs.StackPointer.{framed, stack_moved, stack_ruled}
 use Rattle.shadow_memory.specs.declared.cells.RangeKind.TheVariants.{NoAccess, Undefined}
 use Rattle.run_values.specs.declared.status.Stop.TheVariants.{Misaligned}
-use Rattle.guest_machine.specs.Exec.{Deed, Takes, CallsByName, Halts, Terms, deed_at, deed_by, deed_terms, exec}
+use Rattle.guest_machine.specs.Exec.{Deed, Takes, CallsByName, Halts, deed_at, deed_by, deed_terms, exec}
 use Rattle.guest_machine.specs.Exec.{outcome}
 use Rattle.guest_machine.specs.Exec.{called_here, fetched, fetches, intake_at, intake_of, left_at, deed_asks}
-use Rattle.guest_machine.specs.Exec.{is_aligned}
 use Rattle.guest_machine.specs.Exec.{given_at, taken_from, plan, row_asks, row_effect, row_uses, uses_at, effect_at}
 use Rattle.guest_machine.specs.Exec.{is_heap_deed, calls_heap, counted, is_running, rounded, seen_also, terms_of}
 use Rattle.guest_machine.specs.Exec.{written_to}
 use Rattle.guest_machine.specs.Streams.{calls_out, is_idle, jumps_to_itself, row_at, row_in, self_jump, StaysAtRest}
 use Rattle.guest_machine.specs.declared.setup.Setup.{Setup}
-use Rattle.guest_machine.proofs.Fetching.{at_multiple}
+use Rattle.guest_machine.proofs.Fetching.{at_start}
 use Rattle.guest_machine.proofs.Halted.{halts, stays-halted}
 
 both : (p q : Bool) → p && q ≡ true → (p ≡ true) × (q ≡ true)
@@ -77,13 +76,13 @@ stack-stands core = stands _ core (register core 2).value
 
 -- ---- the jump
 
-jumps-here : (core : Core) → core.pc < 2 ^ 32 → core.pc % 4 ≡ 0
-    → linked_jump core (jal_hint 0) 0 ((core.pc + 0) % 2 ^ 32) ≡ core
+jumps-here : (core : Core) (next : ℕ) → core.pc < 2 ^ 32 → is_aligned core.isa core.pc ≡ true
+    → linked_jump core next (jal_hint 0) 0 ((core.pc + 0) % 2 ^ 32) ≡ core
 unfolding linked_jump set_register hinted hint_by
-jumps-here core small multiple =
+jumps-here core next small aligned =
     let here : (core.pc + 0) % 2 ^ 32 ≡ core.pc = omega (arith, small) in
-    let even : (core.pc % 4 == 0) ≡ true = grind (arith, nat_tests) in
-    ap (λ to. linked_jump core (jal_hint 0) 0 to) here ∙ ap (λ b. cond b core (stopped core Misaligned)) even
+    ap (λ to. linked_jump core next (jal_hint 0) 0 to) here
+    ∙ ap (λ b. cond b core (stopped core Misaligned)) aligned
 
 -- ---- the step
 
@@ -122,7 +121,8 @@ by-row : State → Setup → Option Instruction → State
 by-row s setup row =
     let terms = terms_of (calls_heap s.core row) (row_asks s.core row) s.position (length s.output) setup in
     let uses = row_uses s.core row terms in
-    let effect = rounded s.core (row_effect s.core row terms (given_at s.position terms.intake.count setup)
+    let effect =
+    rounded s.core (row_effect s.core (after_word s.core) row terms (given_at s.position terms.intake.count setup)
     (taken_from s.bytes uses.reads)) in
     let intake = intake_of (row_asks s.core row) (left_at s.position setup) in
     record {
@@ -135,12 +135,14 @@ by-row s setup row =
       events = s.events ++ effect.raised;
     }
 
-jumped-state : (s : State) (setup : Setup) → s.core.pc < 2 ^ 32 → s.core.pc % 4 ≡ 0 → (fetch_undef s.core == 0) ≡ true
+jumped-state : (s : State) (setup : Setup) → s.core.pc < 2 ^ 32 → is_aligned s.core.isa s.core.pc ≡ true
+    → (fetch_undef s.core == 0) ≡ true
     → by-row s setup (Some (Jump 0 0)) ≡ s
 unfolding by-row row_asks row_uses row_effect calls_heap event_unless after
-jumped-state s setup small multiple defined =
-    let there = jumps-here s.core small multiple in
-    let core : stack_ruled (register s.core 2) (linked_jump s.core (jal_hint 0) 0 ((s.core.pc + 0) % 2 ^ 32)) ≡ s.core =
+jumped-state s setup small aligned defined =
+    let there = jumps-here s.core (after_word s.core) small aligned in
+    let core : stack_ruled (register s.core 2)
+    (linked_jump s.core (after_word s.core) (jal_hint 0) 0 ((s.core.pc + 0) % 2 ^ 32)) ≡ s.core =
     ap (λ core. stack_ruled (register s.core 2) core) there ∙ stack-stands s.core in
     let raised : fetch_errors s.core ++ [] ≡ [] =
     ap (λ b. cond b [] (event_of (here s.core) Value Absent ∷ []) ++ []) defined in
@@ -159,8 +161,8 @@ unfolding exec intake_at uses_at effect_at is_idle by by-row
 idle-step setup s small idle =
     let parts = both (jumps_to_itself (deed_at s.core s.bytes setup.hooks)) (fetch_undef s.core == 0) idle in
     let found = idle-deed (deed_at s.core s.bytes setup.hooks) parts.0 in
-    let multiple = at_multiple s.core (may-fetch s.core s.bytes setup.hooks self_jump found) in
-    ap (by s setup) found ∙ ap (by-row s setup) self-row ∙ jumped-state s setup small multiple parts.1
+    let aligned = at_start s.core (may-fetch s.core s.bytes setup.hooks self_jump found) in
+    ap (by s setup) found ∙ ap (by-row s setup) self-row ∙ jumped-state s setup small aligned parts.1
 
 quiet-jump : (deed : Deed) → jumps_to_itself deed ≡ true → calls_out (row_in deed) ≡ false
 unfolding calls_out row_in

@@ -17,5 +17,6 @@ pub mod AtOnce
 pub mod SameWords
 pub mod Fetching
 pub mod StreamLaw
+pub mod IsaLaw
 pub mod IdleLaw
 pub mod StreamSteps

@@ -173,6 +173,7 @@ holds-poked m memory addr word b c zero s h =
             status = m.status;
             frames = m.frames;
             blocks = blocks_of m.heap;
+            isa = m.isa;
           }) ∙ h.core;
       position = h.position;
       end_seen = h.end_seen;

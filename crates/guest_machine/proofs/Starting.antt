@@ -4,8 +4,9 @@ use Rattle.std.specs.Prelude.{slice_set}
 use Rattle.std.proofs.Math.Path.{fun_ext}
 use Rattle.definedness.specs.declared.Bits.{Bits}
 use Rattle.guest_elf.specs.declared.image.Image.{Image}
+use Rattle.guest_elf.specs.declared.profile.Isa.{Isa}
 use Rattle.guest_elf.specs.declared.segment.Segment.{Segment}
-use Rattle.guest_elf.specs.Images.{segments_of, entry_of, loaded_at}
+use Rattle.guest_elf.specs.Images.{segments_of, entry_of, loaded_at, profile_of}
 use Rattle.shadow_memory.specs.Ranges.{written}
 use Rattle.shadow_memory.specs.Shadows.{shadow_of, made_so}
 use Rattle.shadow_memory.specs.Memories.{bytes_in, shadows_in}
@@ -26,13 +27,14 @@ use Rattle.error_events.specs.declared.groups.Groups.{Groups}
 use Rattle.run_values.specs.declared.status.Status.TheVariants.{Running}
 
 pub holds-start : (alloc : Global) (image : Image) (fresh loaded memory : Memory) (groups : Groups)
-    (frames : List Frame) (heap : Heap) (segments : List Segment) (pc : ℕ) (zeros top : Bits)
+    (frames : List Frame) (heap : Heap) (segments : List Segment) (pc : ℕ) (isa : Isa) (zeros top : Bits)
     → bytes_in fresh ≡ (λ a. 0) → shadows_in fresh ≡ (λ a. shadow_of NoAccess)
     → bytes_in loaded ≡ loaded_bytes segments (bytes_in fresh)
     → shadows_in loaded ≡ loaded_shadows segments (shadows_in fresh)
     → bytes_in memory ≡ written (bytes_in loaded) stack_start 16 (slice_index [])
     → shadows_in memory ≡ made_so (shadows_in loaded) stack_start 16 Defined
-    → segments ≡ segments_of image → pc ≡ entry_of image → zeros ≡ known 0 → top ≡ known stack_start
+    → segments ≡ segments_of image → pc ≡ entry_of image → isa ≡ (profile_of image).isa → zeros ≡ known 0
+    → top ≡ known stack_start
     → groups_of groups ≡ [] → frames ≡ [] → blocks_of heap ≡ no_blocks
     → (zero : slice_index_or (slice_set (replicate 32 zeros) 2 top) 0 (known 0) ≡ known 0)
     → Holds (record {
@@ -45,12 +47,13 @@ pub holds-start : (alloc : Global) (image : Image) (fresh loaded memory : Memory
       heap = heap;
       progress = record { position = 0; end_seen = false; output_len = 0; heap_calls = 0 };
       noted = record { groups = groups; raised = false };
+      isa = isa;
       zero = zero;
     })
     (start_state image)
 unfolding start_state loaded_bytes loaded_shadows loaded_at grouped firsts_after
-holds-start alloc image fresh loaded memory groups frames heap segments pc zeros top b0 s0 b1 s1 b2 s2 same at z t g
-    calls none zero =
+holds-start alloc image fresh loaded memory groups frames heap segments pc isa zeros top b0 s0 b1 s1 b2 s2 same at set
+    z t g calls none zero =
     record {
       bytes = b2 ∙ ap₂ (λ f m. written f stack_start 16 m) (b1 ∙ ap₂ loaded_bytes same b0) (fun_ext (λ i. refl));
       core = λ i. record {
@@ -60,6 +63,7 @@ holds-start alloc image fresh loaded memory groups frames heap segments pc zeros
         status = Running;
         frames = calls i;
         blocks = none i;
+        isa = set i;
       };
       position = refl;
       end_seen = refl;

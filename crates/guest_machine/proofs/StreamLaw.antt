@@ -1,7 +1,8 @@
 -- What a step has to do with input and output follows from its instruction.
-use Rattle.std.proofs.Common.{◌≡◌, ◌⊎◌, inl, inr, ℕ, zero, suc, ◌+◌, ◌&&◌, ◌==◌, nat_eq, nat_le, Bool, true, false}
-use Rattle.std.proofs.Common.{cond, not, List, [], ◌∷◌, ◌++◌, length, append-nil, append_assoc, Option, Some, None}
-use Rattle.std.proofs.Common.{refl, ap, sym, subst, ◌∙◌, arith, add-zero}
+use Rattle.std.proofs.Common.{◌≡◌, ◌⊎◌, inl, inr, ℕ, zero, suc, ◌+◌, ◌&&◌, ◌==◌, nat_le, Bool, true, false}
+use Rattle.std.proofs.Common.{cond, List, [], ◌++◌, length, append-nil, append_assoc, Option, Some, None}
+use Rattle.std.proofs.Common.{refl, ap, sym, ◌∙◌, arith, add-zero}
+use Rattle.guest_elf.specs.Profiles.{is_aligned}
 use Rattle.guest_elf.specs.declared.hook.Hook.{Hook}
 use Rattle.guest_elf.specs.declared.hook.Hook.TheVariants.{Malloc, Free, Calloc, Realloc}
 use Rattle.shadow_memory.specs.Ranges.{window}
@@ -16,7 +17,7 @@ use Rattle.std.specs.Prelude.{slice_index}
 use Rattle.error_events.specs.declared.parameter.Parameter.TheVariants.{ReadBuffer, WriteBuffer}
 use Rattle.run_values.specs.declared.status.Stop.TheVariants.{Misaligned}
 use Rattle.guest_machine.specs.Errors.{buffer_errors}
-use Rattle.guest_machine.specs.Effects.{Effect, advanced, no_bytes, quiet, stops, stored_core}
+use Rattle.guest_machine.specs.Effects.{Effect, after_word, moved_to, no_bytes, quiet, stops, stored_core}
 use Rattle.guest_machine.specs.Calls.{answered, argument, answers, appends, bytes_taken, call_at, is_output}
 use Rattle.guest_machine.specs.Calls.{moved_len, failure}
 use Rattle.guest_machine.specs.Calls.{call_errors, call_tested, ebadf, enospc}
@@ -26,11 +27,11 @@ use Rattle.guest_machine.specs.NamedCalls.{named_by, returns}
 use Rattle.guest_machine.specs.Exec.{Deed, Takes, CallsByName, Halts, Terms, Uses}
 use Rattle.guest_machine.specs.Exec.{call_effect, call_uses, row_asks, row_effect, row_uses, exec}
 use Rattle.guest_machine.specs.Exec.{deed_at, deed_asks, deed_terms, effect_at, uses_at, intake_at, intake_of, left_at}
-use Rattle.guest_machine.specs.Exec.{given_at, outcome, plan, taken_from, written_to, touched_at, touched_of, unfetched}
-use Rattle.guest_machine.specs.Exec.{fetch_fault, is_aligned, is_running}
-use Rattle.guest_machine.specs.Exec.{jump_fault, named_uses_by, seen_also, write_uses}
+use Rattle.guest_machine.specs.Exec.{given_at, outcome, plan, taken_from, written_to, touched_at, unfetched}
+use Rattle.guest_machine.specs.Exec.{fetch_fault, is_running}
+use Rattle.guest_machine.specs.Exec.{jump_fault, seen_also}
 use Rattle.guest_machine.specs.Run.{pre}
-use Rattle.guest_machine.specs.Streams.{row_in, row_at, calls_out, refuses_row, refuses_write, SameStreams, bytes_over}
+use Rattle.guest_machine.specs.Streams.{row_in, row_at, calls_out, refuses_row, refuses_write, bytes_over}
 use Rattle.guest_machine.specs.Streams.{OnlyCallsSpeak, WritesWhatItReads, OutputGrows}
 use Rattle.guest_machine.specs.declared.environment_call.EnvironmentCall.{EnvironmentCall}
 use Rattle.guest_machine.specs.declared.environment_call.EnvironmentCall.TheVariants.{Read, Write, Exit, ExitGroup}
@@ -41,33 +42,34 @@ use Rattle.guest_machine.proofs.Running.{one-more}
 -- ---- instructions that are no ECALL
 
 -- such an instruction asks for no input, writes nothing out, and refuses nothing
-record Silent (core : Core) (row : Option Instruction) (terms : Terms) (given : List ℕ) (taken : ℕ → ℕ) : Type 0 where
+record Silent (core : Core) (next : ℕ) (row : Option Instruction) (terms : Terms) (given : List ℕ)
+    (taken : ℕ → ℕ) : Type 0 where
   asks : row_asks core row ≡ None
-  output : (row_effect core row terms given taken).output ≡ []
+  output : (row_effect core next row terms given taken).output ≡ []
   fits : (written : ℕ) → refuses_row core row written ≡ false
 
-silent : (core : Core) (row : Option Instruction) (terms : Terms) (given : List ℕ) (taken : ℕ → ℕ)
-    → calls_out row ≡ false → Silent core row terms given taken
+silent : (core : Core) (next : ℕ) (row : Option Instruction) (terms : Terms) (given : List ℕ) (taken : ℕ → ℕ)
+    → calls_out row ≡ false → Silent core next row terms given taken
 unfolding calls_out row_asks row_effect refuses_row
-silent core None terms given taken h = record { asks = refl; output = refl; fits = λ n. refl }
-silent core (Some (LoadUpper rd imm)) terms given taken h = record { asks = refl; output = refl; fits = λ n. refl }
-silent core (Some (AddUpper rd imm)) terms given taken h = record { asks = refl; output = refl; fits = λ n. refl }
-silent core (Some (Jump rd imm)) terms given taken h = record { asks = refl; output = refl; fits = λ n. refl }
-silent core (Some (JumpRegister rd rs1 imm)) terms given taken h =
+silent core next None terms given taken h = record { asks = refl; output = refl; fits = λ n. refl }
+silent core next (Some (LoadUpper rd imm)) terms given taken h = record { asks = refl; output = refl; fits = λ n. refl }
+silent core next (Some (AddUpper rd imm)) terms given taken h = record { asks = refl; output = refl; fits = λ n. refl }
+silent core next (Some (Jump rd imm)) terms given taken h = record { asks = refl; output = refl; fits = λ n. refl }
+silent core next (Some (JumpRegister rd rs1 imm)) terms given taken h =
     record { asks = refl; output = refl; fits = λ n. refl }
-silent core (Some (Branch test rs1 rs2 imm)) terms given taken h =
+silent core next (Some (Branch test rs1 rs2 imm)) terms given taken h =
     record { asks = refl; output = refl; fits = λ n. refl }
-silent core (Some (Load width signed rd rs1 imm)) terms given taken h =
+silent core next (Some (Load width signed rd rs1 imm)) terms given taken h =
     record { asks = refl; output = refl; fits = λ n. refl }
-silent core (Some (Store width rs1 rs2 imm)) terms given taken h =
+silent core next (Some (Store width rs1 rs2 imm)) terms given taken h =
     record { asks = refl; output = refl; fits = λ n. refl }
-silent core (Some (Immediate operation rd rs1 imm)) terms given taken h =
+silent core next (Some (Immediate operation rd rs1 imm)) terms given taken h =
     record { asks = refl; output = refl; fits = λ n. refl }
-silent core (Some (Registers operation rd rs1 rs2)) terms given taken h =
+silent core next (Some (Registers operation rd rs1 rs2)) terms given taken h =
     record { asks = refl; output = refl; fits = λ n. refl }
-silent core (Some Fence) terms given taken h = record { asks = refl; output = refl; fits = λ n. refl }
-silent core (Some CallEnvironment) terms given taken h = cc
-silent core (Some Breakpoint) terms given taken h = record { asks = refl; output = refl; fits = λ n. refl }
+silent core next (Some Fence) terms given taken h = record { asks = refl; output = refl; fits = λ n. refl }
+silent core next (Some CallEnvironment) terms given taken h = cc
+silent core next (Some Breakpoint) terms given taken h = record { asks = refl; output = refl; fits = λ n. refl }
 
 -- ---- calls of the heap, and steps that carry nothing out
 
@@ -98,8 +100,8 @@ halt-silent : (core : Core) → (unfetched core).output ≡ []
 unfolding unfetched
 halt-silent core =
     of-two (is_running core.status)
-    (cond (is_aligned core.pc) (jump_fault core (fetch_fault core)) (stops core Misaligned)) (quiet core)
-    (of-two (is_aligned core.pc) (jump_fault core (fetch_fault core)) (stops core Misaligned)
+    (cond (is_aligned core.isa core.pc) (jump_fault core (fetch_fault core)) (stops core Misaligned)) (quiet core)
+    (of-two (is_aligned core.isa core.pc) (jump_fault core (fetch_fault core)) (stops core Misaligned)
     (fault-silent core (fetch_fault core)) refl) refl
 
 -- ---- ECALL
@@ -119,69 +121,69 @@ write-spoken true false bytes range full other closed f h k = inl h
 write-spoken false fits bytes range full other closed f h k = inl k
 
 -- what `read` and `write` leave where they are carried out
-reads-in : Core → ℕ → List ℕ → Effect
-reads-in core n given =
+unfoldable pub reads-in : Core → ℕ → ℕ → List ℕ → Effect
+reads-in core next n given =
     let now = call_tested core Read in
     record {
-      core = advanced (answered (stored_core now (argument core 11) n 0) n);
+      core = moved_to (answered (stored_core now (argument core 11) n 0) n) next;
       raised = call_errors core Read ++ buffer_errors now ReadBuffer false (argument core 11) (moved_len core);
       made = slice_index given;
       output = [];
     }
 
-writes-from : Core → (ℕ → ℕ) → Effect
-writes-from core taken =
+unfoldable pub writes-from : Core → ℕ → (ℕ → ℕ) → Effect
+writes-from core next taken =
     let now = call_tested core Write in
     let n = moved_len core in
     record {
-      core = advanced (answered now n);
+      core = moved_to (answered now n) next;
       raised = call_errors core Write ++ buffer_errors now WriteBuffer true (argument core 11) n;
       made = no_bytes;
       output = bytes_taken taken n;
     }
 
-call-spoken : (core : Core) (call : EnvironmentCall) (terms : Terms) (given : List ℕ) (bytes : ℕ → ℕ)
+call-spoken : (core : Core) (next : ℕ) (call : EnvironmentCall) (terms : Terms) (given : List ℕ) (bytes : ℕ → ℕ)
     → Spoken bytes (call_uses core call terms)
-    (call_effect core call terms given (taken_from bytes (call_uses core call terms).reads)).output
+    (call_effect core next call terms given (taken_from bytes (call_uses core call terms).reads)).output
 unfolding call_effect call_uses Spoken read_call write_call appends reads-in writes-from
-call-spoken core Read terms given bytes =
-    inl (of-two (argument core 10 == 0) (reads-in core terms.intake.count given) (answers core Read (failure ebadf))
-    refl
-    refl)
-call-spoken core Write terms given bytes =
+call-spoken core next Read terms given bytes =
+    inl (of-two (argument core 10 == 0) (reads-in core next terms.intake.count given)
+    (answers core next Read (failure ebadf)) refl refl)
+call-spoken core next Write terms given bytes =
     write-spoken (is_output (argument core 10)) (nat_le (terms.written + moved_len core) output_room) bytes
-    (record { start = argument core 11; len = moved_len core }) (writes-from core) (answers core Write (failure enospc))
-    (answers core Write (failure ebadf)) (λ taken. refl) refl refl
-call-spoken core Exit terms given bytes = inl refl
-call-spoken core ExitGroup terms given bytes = inl refl
-call-spoken core (Heap function) terms given bytes = inl (heap-silent function _ _ _ _ _ _)
-call-spoken core Unknown terms given bytes = inl refl
+    (record { start = argument core 11; len = moved_len core }) (writes-from core next)
+    (answers core next Write (failure enospc))
+    (answers core next Write (failure ebadf)) (λ taken. refl) refl refl
+call-spoken core next Exit terms given bytes = inl refl
+call-spoken core next ExitGroup terms given bytes = inl refl
+call-spoken core next (Heap function) terms given bytes = inl (heap-silent function _ _ _ _ _ _)
+call-spoken core next Unknown terms given bytes = inl refl
 
 -- ---- a step
 
-row-spoken : (core : Core) (row : Option Instruction) (terms : Terms) (given : List ℕ) (bytes : ℕ → ℕ)
+row-spoken : (core : Core) (next : ℕ) (row : Option Instruction) (terms : Terms) (given : List ℕ) (bytes : ℕ → ℕ)
     → Spoken bytes (row_uses core row terms)
-    (row_effect core row terms given (taken_from bytes (row_uses core row terms).reads)).output
+    (row_effect core next row terms given (taken_from bytes (row_uses core row terms).reads)).output
 unfolding Spoken row_uses row_effect calls_out
-row-spoken core (Some CallEnvironment) terms given bytes = call-spoken core (call_at core) terms given bytes
-row-spoken core None terms given bytes = inl refl
-row-spoken core (Some (LoadUpper rd imm)) terms given bytes = inl refl
-row-spoken core (Some (AddUpper rd imm)) terms given bytes = inl refl
-row-spoken core (Some (Jump rd imm)) terms given bytes = inl refl
-row-spoken core (Some (JumpRegister rd rs1 imm)) terms given bytes = inl refl
-row-spoken core (Some (Branch test rs1 rs2 imm)) terms given bytes = inl refl
-row-spoken core (Some (Load width signed rd rs1 imm)) terms given bytes = inl refl
-row-spoken core (Some (Store width rs1 rs2 imm)) terms given bytes = inl refl
-row-spoken core (Some (Immediate operation rd rs1 imm)) terms given bytes = inl refl
-row-spoken core (Some (Registers operation rd rs1 rs2)) terms given bytes = inl refl
-row-spoken core (Some Fence) terms given bytes = inl refl
-row-spoken core (Some Breakpoint) terms given bytes = inl refl
+row-spoken core next (Some CallEnvironment) terms given bytes = call-spoken core next (call_at core) terms given bytes
+row-spoken core next None terms given bytes = inl refl
+row-spoken core next (Some (LoadUpper rd imm)) terms given bytes = inl refl
+row-spoken core next (Some (AddUpper rd imm)) terms given bytes = inl refl
+row-spoken core next (Some (Jump rd imm)) terms given bytes = inl refl
+row-spoken core next (Some (JumpRegister rd rs1 imm)) terms given bytes = inl refl
+row-spoken core next (Some (Branch test rs1 rs2 imm)) terms given bytes = inl refl
+row-spoken core next (Some (Load width signed rd rs1 imm)) terms given bytes = inl refl
+row-spoken core next (Some (Store width rs1 rs2 imm)) terms given bytes = inl refl
+row-spoken core next (Some (Immediate operation rd rs1 imm)) terms given bytes = inl refl
+row-spoken core next (Some (Registers operation rd rs1 rs2)) terms given bytes = inl refl
+row-spoken core next (Some Fence) terms given bytes = inl refl
+row-spoken core next (Some Breakpoint) terms given bytes = inl refl
 
 deed-spoken : (core : Core) (deed : Deed) (terms : Terms) (given : List ℕ) (bytes : ℕ → ℕ)
     → Spoken bytes (plan core terms deed)
     (outcome core terms deed given (taken_from bytes (plan core terms deed).reads)).output
 unfolding Spoken
-deed-spoken core (Takes word) terms given bytes = row-spoken core (row_of word) terms given bytes
+deed-spoken core (Takes word) terms given bytes = row-spoken core (after_word core) (row_of word) terms given bytes
 deed-spoken core (CallsByName function) terms given bytes =
     inl (named-silent (returns core) function core terms.redzone terms.volume _)
 deed-spoken core Halts terms given bytes = inl (halt-silent core)
@@ -205,7 +207,7 @@ deed-quiet : (core : Core) (deed : Deed) (terms : Terms) (given : List ℕ) (tak
     × ((written : ℕ) → refuses_row core (row_in deed) written ≡ false)
 unfolding row_in refuses_row
 deed-quiet core (Takes word) terms given taken h =
-    let q = silent core (row_of word) terms given taken h in (q.asks, q.output, q.fits)
+    let q = silent core (after_word core) (row_of word) terms given taken h in (q.asks, q.output, q.fits)
 deed-quiet core (CallsByName function) terms given taken h =
     (refl, named-silent (returns core) function core terms.redzone terms.volume taken, λ n. refl)
 deed-quiet core Halts terms given taken h = (refl, halt-silent core, λ n. refl)

@@ -14,7 +14,7 @@ use Rattle.error_events.specs.declared.parameter.Parameter.TheVariants.{ReallocS
 use Rattle.guest_machine.specs.State.{Core}
 use Rattle.guest_machine.specs.Registers.{known, register, set_register, tested}
 use Rattle.guest_machine.specs.Errors.{parameter_errors, buffer_errors}
-use Rattle.guest_machine.specs.Effects.{Effect, no_bytes, raising, advanced, exited, stored_core}
+use Rattle.guest_machine.specs.Effects.{Effect, no_bytes, raising, moved_to, exited, stored_core}
 use Rattle.guest_elf.specs.declared.hook.Hook.{Hook}
 use Rattle.guest_elf.specs.declared.hook.Hook.TheVariants.{Malloc, Free, Calloc, Realloc}
 use Rattle.guest_machine.specs.declared.environment_call.EnvironmentCall.{EnvironmentCall}
@@ -103,9 +103,9 @@ enospc = 28
 abbrev pub enosys : ℕ
 enosys = 38
 
--- a call that only returns a result
-abbrev pub answers : Core → EnvironmentCall → ℕ → Effect
-answers core call n = raising (advanced (answered (call_tested core call) n)) (call_errors core call)
+-- a call that only returns a result, and goes on at the address after it
+abbrev pub answers : Core → ℕ → EnvironmentCall → ℕ → Effect
+answers core next call n = raising (moved_to (answered (call_tested core call) n) next) (call_errors core call)
 
 -- read and write: the descriptor is in a0, the buffer in a1, the count in a2 --
 
@@ -119,18 +119,18 @@ moved_len core = min (argument core 12) most_moved
 
 -- the buffer is tested for as many bytes as the call may move, and the n bytes that are given of the input are stored
 -- even so, with no undefined bits. Descriptor 0 is the input
-unfoldable pub read_call : Core → ℕ → List ℕ → Effect
-read_call core n given =
+unfoldable pub read_call : Core → ℕ → ℕ → List ℕ → Effect
+read_call core next n given =
     if argument core 10 == 0
     then
     (let now = call_tested core Read in
     record {
-      core = advanced (answered (stored_core now (argument core 11) n 0) n);
+      core = moved_to (answered (stored_core now (argument core 11) n 0) n) next;
       raised = call_errors core Read ++ buffer_errors now ReadBuffer false (argument core 11) (moved_len core);
       made = slice_index given;
       output = [];
     })
-    else answers core Read (failure ebadf)
+    else answers core next Read (failure ebadf)
 
 -- descriptors 1 and 2 are the output, which has room for 65,536 bytes in all
 abbrev pub is_output : ℕ → Bool
@@ -148,8 +148,8 @@ abbrev pub bytes_taken : (ℕ → ℕ) → ℕ → List ℕ
 bytes_taken taken n = map taken (range_with_len 0 n)
 
 -- the buffer is tested, and its bytes are appended even so
-unfoldable pub write_call : Core → ℕ → (ℕ → ℕ) → Effect
-write_call core written taken =
+unfoldable pub write_call : Core → ℕ → ℕ → (ℕ → ℕ) → Effect
+write_call core next written taken =
     if is_output (argument core 10)
     then
     (if nat_le (written + moved_len core) output_room
@@ -157,18 +157,18 @@ write_call core written taken =
     (let now = call_tested core Write in
     let n = moved_len core in
     record {
-      core = advanced (answered now n);
+      core = moved_to (answered now n) next;
       raised = call_errors core Write ++ buffer_errors now WriteBuffer true (argument core 11) n;
       made = no_bytes;
       output = bytes_taken taken n;
     })
-    else answers core Write (failure enospc))
-    else answers core Write (failure ebadf)
+    else answers core next Write (failure enospc))
+    else answers core next Write (failure ebadf)
 
 -- the program ends with the low 8 bits of a0
 abbrev pub exit_call : Core → EnvironmentCall → Effect
 exit_call core call = raising (exited (call_tested core call) (argument core 10 % 256)) (call_errors core call)
 
 -- no such call
-abbrev pub unknown_call : Core → Effect
-unknown_call core = answers core Unknown (failure enosys)
+abbrev pub unknown_call : Core → ℕ → Effect
+unknown_call core next = answers core next Unknown (failure enosys)

@@ -1,7 +1,7 @@
 -- What the machine's private functions do to the parts that it shows.
-use Rattle.std.specs.Prelude.{◌≡◌, ℕ, ◌+◌, true, false, Bool, length, List, [], ◌∷◌, Option, Some, None}
+use Rattle.std.specs.Prelude.{◌≡◌, ℕ, ◌+◌, ◌%◌, ◌^◌, true, false, Bool, length, List, [], ◌∷◌, Option, Some, None}
 use Rattle.guest_machine.specs.State.{Core}
-use Rattle.guest_machine.specs.Effects.{Effect, advanced, stored_core}
+use Rattle.guest_machine.specs.Effects.{Effect, moved_to, stored_core}
 use Rattle.run_values.specs.declared.span.Span.{Span}
 use Rattle.guest_machine.specs.Calls.{read_call, write_call}
 use Rattle.guest_machine.specs.HeapCalls.{Resizing, heap_work, heap_call}
@@ -82,6 +82,10 @@ pub record Does (old new : Guest) (effect : Effect) (uses : Uses) (heap : Bool) 
   pub heap_calls : new.progress.heap_calls ≡ counted old.progress.heap_calls heap
   pub noted : Raises old new effect.raised
 
+-- the address after an instruction of this length at pc
+abbrev pub next_of : Core → ℕ → ℕ
+next_of core len = (core.pc + len) % 2 ^ 32
+
 -- the word at pc may be fetched, is defined, and decodes to this instruction
 pub record IsDecoded (core : Core) (bytes : ℕ → ℕ) (instruction : Instruction) : Type 0 where
   pub taken : fetches core ≡ true
@@ -89,16 +93,16 @@ pub record IsDecoded (core : Core) (bytes : ℕ → ℕ) (instruction : Instruct
   pub undef : fetch_undef core ≡ 0
 
 -- the effect of a store of a number at n bytes, with these errors; and without errors
-abbrev pub storing : Core → ℕ → ℕ → Bits → List Event → Effect
-storing core start n bits raised = record {
-  core = advanced (stored_core core start n bits.undef);
+abbrev pub storing : Core → ℕ → ℕ → ℕ → Bits → List Event → Effect
+storing core next start n bits raised = record {
+  core = moved_to (stored_core core start n bits.undef) next;
   raised = raised;
   made = byte_of bits.value;
   output = [];
 }
 
-abbrev pub stored_at : Core → ℕ → ℕ → Bits → Effect
-stored_at core start n bits = storing core start n bits []
+abbrev pub stored_at : Core → ℕ → ℕ → ℕ → Bits → Effect
+stored_at core next start n bits = storing core next start n bits []
 
 -- uses, as the code has them
 abbrev pub used_of : Uses → Used
@@ -112,7 +116,8 @@ touched_in used fetch = record { fetch = fetch; reads = used.reads; writes = use
 abbrev pub used_in_move : Resizing → ℕ → ℕ → Used
 used_in_move what p size = record { reads = moved_from what p size; writes = moved_into what size }
 
--- an instruction that a machine executes: what it sees of the setup, what it uses, and that new is old after it
+-- an instruction that a machine executes: what it sees of the setup, what it uses, and that new is old after it, by the
+-- address after the instruction
 abbrev pub row_terms : Guest → Option Instruction → Setup → Terms
 row_terms m row setup =
     terms_of (calls_heap (core_of m) row) (row_asks (core_of m) row) m.progress.position m.progress.output_len setup
@@ -120,21 +125,23 @@ row_terms m row setup =
 abbrev pub uses_by : Guest → Option Instruction → Setup → Uses
 uses_by m row setup = row_uses (core_of m) row (row_terms m row setup)
 
-abbrev pub DoesRow : Guest → Guest → Option Instruction → Setup → Type 0
-DoesRow old new row setup =
+abbrev pub DoesRow : Guest → Guest → ℕ → Option Instruction → Setup → Type 0
+DoesRow old new next row setup =
     let uses = uses_by old row setup in
     let intake = (row_terms old row setup).intake in
     let given = given_at old.progress.position intake.count setup in
-    Does old new (row_effect (core_of old) row (row_terms old row setup) given (taken_from (bytes_of old) uses.reads))
-    uses (calls_heap (core_of old) row) intake
+    Does old new
+    (row_effect (core_of old) next row (row_terms old row setup) given (taken_from (bytes_of old) uses.reads)) uses
+    (calls_heap (core_of old) row) intake
 
 -- the same between the test of its word and the stack pointer rule
-abbrev pub DoesRound : Guest → Guest → Option Instruction → Setup → Type 0
-DoesRound old new row setup =
+abbrev pub DoesRound : Guest → Guest → ℕ → Option Instruction → Setup → Type 0
+DoesRound old new next row setup =
     let uses = uses_by old row setup in
     let intake = (row_terms old row setup).intake in
     let given = given_at old.progress.position intake.count setup in
-    let effect = row_effect (core_of old) row (row_terms old row setup) given (taken_from (bytes_of old) uses.reads) in
+    let effect =
+    row_effect (core_of old) next row (row_terms old row setup) given (taken_from (bytes_of old) uses.reads) in
     Does old new (rounded (core_of old) effect) uses (calls_heap (core_of old) row) intake
 
 -- a whole step of a machine, and what it touches
@@ -154,17 +161,17 @@ touched_by m setup = touched_at (core_of m) (bytes_of m) m.progress.position m.p
 abbrev pub read_intake : Guest → Setup → Intake
 read_intake m setup = intake_of (call_asks (core_of m) Read) (left_at m.progress.position setup)
 
-abbrev pub DoesRead : Guest → Guest → Setup → Type 0
-DoesRead old new setup =
+abbrev pub DoesRead : Guest → Guest → ℕ → Setup → Type 0
+DoesRead old new next setup =
     let intake = read_intake old setup in
-    Does old new (read_call (core_of old) intake.count (given_at old.progress.position intake.count setup))
+    Does old new (read_call (core_of old) next intake.count (given_at old.progress.position intake.count setup))
     (read_uses (core_of old) intake.count) false intake
 
-abbrev pub DoesWrite : Guest → Guest → Type 0
-DoesWrite old new =
+abbrev pub DoesWrite : Guest → Guest → ℕ → Type 0
+DoesWrite old new next =
     let uses = write_uses (core_of old) old.progress.output_len in
-    Does old new (write_call (core_of old) old.progress.output_len (taken_from (bytes_of old) uses.reads)) uses false
-    no_intake
+    Does old new (write_call (core_of old) next old.progress.output_len (taken_from (bytes_of old) uses.reads)) uses
+    false no_intake
 
 -- what a heap call does; and the call by number, and by name
 abbrev pub DoesWork : Guest → Guest → Hook → ℕ → ℕ → Setup → Type 0
@@ -173,11 +180,12 @@ DoesWork old new function x y setup =
     Does old new (heap_work function (core_of old) x y setup.redzone setup.volume
     (taken_from (bytes_of old) uses.reads)) uses true no_intake
 
-abbrev pub DoesHeapCall : Guest → Guest → Hook → Setup → Type 0
-DoesHeapCall old new function setup =
+abbrev pub DoesHeapCall : Guest → Guest → ℕ → Hook → Setup → Type 0
+DoesHeapCall old new next function setup =
     let uses = heap_uses function (core_of old) setup.redzone in
-    Does old new (heap_call function (core_of old) setup.redzone setup.volume (taken_from (bytes_of old) uses.reads))
-    uses true no_intake
+    Does old new
+    (heap_call function (core_of old) next setup.redzone setup.volume (taken_from (bytes_of old) uses.reads)) uses true
+    no_intake
 
 abbrev pub named_terms : Guest → Setup → Terms
 named_terms m setup = terms_of (returns (core_of m)) None m.progress.position m.progress.output_len setup

@@ -1,11 +1,12 @@
 -- What each instruction does, as a function of what decides it, of the input that it gets and of the bytes that it
 -- reads (RISC-V Unprivileged ISA 20191213, chapters 2 and 7; undefined bits as in Memcheck).
-use Rattle.std.specs.Prelude.{ℕ, ◌+◌, ◌*◌, ◌/◌, ◌%◌, ◌^◌, ◌==◌, Bool, true, false, not, if◌then◌else◌, List, [], ◌++◌}
+use Rattle.std.specs.Prelude.{ℕ, ◌+◌, ◌*◌, ◌/◌, ◌%◌, ◌^◌, Bool, true, false, not, if◌then◌else◌, List, [], ◌++◌}
 use Rattle.definedness.specs.declared.Bits.{Bits}
 use Rattle.shadow_memory.specs.Ranges.{little_word}
 use Rattle.shadow_memory.specs.Shadows.{stored_undef}
 use Rattle.shadow_memory.specs.Ranges.{byte_of}
 use Rattle.instructions.specs.Widths.{width_len}
+use Rattle.guest_elf.specs.Profiles.{is_aligned}
 use Rattle.guest_machine.specs.State.{Core}
 use Rattle.guest_machine.specs.Registers.{known, register, set_register, defined, tested}
 use Rattle.instructions.specs.Alu.{computed, passes, is_undecided, extended}
@@ -43,8 +44,9 @@ raising core events = record { core = core; raised = events; made = no_bytes; ou
 abbrev pub moved_to : Core → ℕ → Core
 moved_to core to = record core { pc = to }
 
-abbrev pub advanced : Core → Core
-advanced core = moved_to core ((core.pc + 4) % 2 ^ 32)
+-- the address after the word at pc
+abbrev pub after_word : Core → ℕ
+after_word core = (core.pc + 4) % 2 ^ 32
 
 abbrev pub stopped : Core → Stop → Core
 stopped core stop = record core { status = Stopped stop }
@@ -56,23 +58,27 @@ exited core code = record core { status = Exited code }
 abbrev pub stored_core : Core → ℕ → ℕ → ℕ → Core
 stored_core core start n undef = record core { shadow = stored_undef core.shadow start n undef }
 
+-- Below, `next` is the address after the instruction, where the machine goes on unless the instruction says otherwise.
+
 -- an instruction that only writes rd
-abbrev pub results_in : Core → ℕ → Bits → Effect
-results_in core rd bits = quiet (advanced (set_register core rd bits))
+abbrev pub results_in : Core → ℕ → ℕ → Bits → Effect
+results_in core next rd bits = quiet (moved_to (set_register core rd bits) next)
 
 -- LUI and AUIPC (section 2.4)
-abbrev pub load_upper : Core → ℕ → ℕ → Effect
-load_upper core rd imm = results_in core rd (known imm)
+abbrev pub load_upper : Core → ℕ → ℕ → ℕ → Effect
+load_upper core next rd imm = results_in core next rd (known imm)
 
-abbrev pub add_upper : Core → ℕ → ℕ → Effect
-add_upper core rd imm = results_in core rd (known ((core.pc + imm) % 2 ^ 32))
+abbrev pub add_upper : Core → ℕ → ℕ → ℕ → Effect
+add_upper core next rd imm = results_in core next rd (known ((core.pc + imm) % 2 ^ 32))
 
 -- computations with an immediate, and of two registers (sections 2.4 and 7)
-abbrev pub compute_immediate : Core → Operation → ℕ → ℕ → ℕ → Effect
-compute_immediate core operation rd rs1 imm = results_in core rd (computed operation (register core rs1) (known imm))
+abbrev pub compute_immediate : Core → ℕ → Operation → ℕ → ℕ → ℕ → Effect
+compute_immediate core next operation rd rs1 imm =
+    results_in core next rd (computed operation (register core rs1) (known imm))
 
-abbrev pub compute : Core → Operation → ℕ → ℕ → ℕ → Effect
-compute core operation rd rs1 rs2 = results_in core rd (computed operation (register core rs1) (register core rs2))
+abbrev pub compute : Core → ℕ → Operation → ℕ → ℕ → ℕ → Effect
+compute core next operation rd rs1 rs2 =
+    results_in core next rd (computed operation (register core rs1) (register core rs2))
 
 -- rs1 plus the immediate: the address of a load, a store or JALR
 unfoldable pub target : Core → ℕ → ℕ → ℕ
@@ -80,8 +86,8 @@ target core rs1 imm = ((register core rs1).value + imm) % 2 ^ 32
 
 -- loads (section 2.6): rs1 is tested, and then the bytes; they are loaded even so, and the sign bit and its undefined
 -- bit are extended together
-abbrev pub load : Core → Width → Bool → ℕ → ℕ → ℕ → (ℕ → ℕ) → Effect
-load core width signed rd rs1 imm taken =
+abbrev pub load : Core → ℕ → Width → Bool → ℕ → ℕ → ℕ → (ℕ → ℕ) → Effect
+load core next width signed rd rs1 imm taken =
     let now = tested core rs1 in
     let start = target core rs1 imm in
     let undef = taken_undef now start (width_len width) in
@@ -89,25 +95,25 @@ load core width signed rd rs1 imm taken =
       value = extended width signed (little_word taken);
       undef = extended width signed undef;
     } in
-    raising (advanced (set_register now rd bits)) (value_errors core rs1
+    raising (moved_to (set_register now rd bits) next) (value_errors core rs1
     ++ access_errors now (Read (width_len width)) start (width_len width))
 
 -- stores (section 2.6): rs1 is tested, and then the bytes; the low bytes of rs2 are stored even so, with their
 -- undefined bits
-abbrev pub store : Core → Width → ℕ → ℕ → ℕ → Effect
-store core width rs1 rs2 imm =
+abbrev pub store : Core → ℕ → Width → ℕ → ℕ → ℕ → Effect
+store core next width rs1 rs2 imm =
     let now = tested core rs1 in
     record {
-      core = advanced (stored_core now (target core rs1 imm) (width_len width) (register now rs2).undef);
+      core = moved_to (stored_core now (target core rs1 imm) (width_len width) (register now rs2).undef) next;
       raised =
           value_errors core rs1 ++ access_errors now (Write (width_len width)) (target core rs1 imm) (width_len width);
       made = byte_of (register now rs2).value;
       output = [];
     }
 
--- a jump to an address: one that is no multiple of 4 stops the machine (section 2.5)
+-- a jump to an address: one at which no instruction may begin stops the machine (section 2.5)
 unfoldable pub jumped : Core → ℕ → Core
-jumped core to = if to % 4 == 0 then moved_to core to else stopped core Misaligned
+jumped core to = if is_aligned core.isa to then moved_to core to else stopped core Misaligned
 
 -- does a branch depend on undefined bits?
 abbrev pub is_undefined : Core → Comparison → ℕ → ℕ → Bool
@@ -122,36 +128,37 @@ abbrev pub branch_errors : Core → Comparison → ℕ → ℕ → List Event
 branch_errors core test rs1 rs2 = event_unless (not (is_undefined core test rs1 rs2)) (here core) Cond
 
 -- conditional branches (section 2.5)
-unfoldable pub branched : Bool → Core → ℕ → Core
-branched true core to = jumped core to
-branched false core to = advanced core
+unfoldable pub branched : Bool → Core → ℕ → ℕ → Core
+branched true core next to = jumped core to
+branched false core next to = moved_to core next
 
-abbrev pub branch : Core → Comparison → ℕ → ℕ → ℕ → Effect
-branch core test rs1 rs2 imm =
+abbrev pub branch : Core → ℕ → Comparison → ℕ → ℕ → ℕ → Effect
+branch core next test rs1 rs2 imm =
     raising
-    (branched (passes test (register core rs1).value (register core rs2).value) (branch_tested core test rs1 rs2)
+    (branched (passes test (register core rs1).value (register core rs2).value) (branch_tested core test rs1 rs2) next
     ((core.pc + imm) % 2 ^ 32))
     (branch_errors core test rs1 rs2)
 
 -- the calls that the machine is in, by what a jump hints
-abbrev pub followed : Core → StackHint → ℕ → Core
-followed core hint to = record core { frames = hinted hint core.pc to core.frames }
+abbrev pub followed : Core → ℕ → StackHint → ℕ → Core
+followed core next hint to = record core { frames = hinted hint core.pc next to core.frames }
 
--- a jump that leaves the address after it in rd; one to an address that is no multiple of 4 stops the machine, and
--- leaves rd and the calls
-unfoldable pub linked_jump : Core → StackHint → ℕ → ℕ → Core
-linked_jump core hint rd to =
-    if to % 4 == 0 then moved_to (set_register (followed core hint to) rd (known ((core.pc + 4) % 2 ^ 32))) to
+-- a jump that leaves the address after it in rd; one to an address at which no instruction may begin stops the machine,
+-- and leaves rd and the calls
+unfoldable pub linked_jump : Core → ℕ → StackHint → ℕ → ℕ → Core
+linked_jump core next hint rd to =
+    if is_aligned core.isa to then moved_to (set_register (followed core next hint to) rd (known next)) to
     else stopped core Misaligned
 
 -- JAL and JALR (section 2.5): JALR's register is tested; its target is computed before rd is written, and its lowest
 -- bit is cleared
-abbrev pub jump : Core → ℕ → ℕ → Effect
-jump core rd imm = quiet (linked_jump core (jal_hint rd) rd ((core.pc + imm) % 2 ^ 32))
+abbrev pub jump : Core → ℕ → ℕ → ℕ → Effect
+jump core next rd imm = quiet (linked_jump core next (jal_hint rd) rd ((core.pc + imm) % 2 ^ 32))
 
-abbrev pub jump_register : Core → ℕ → ℕ → ℕ → Effect
-jump_register core rd rs1 imm =
-    raising (linked_jump (tested core rs1) (jalr_hint rd rs1) rd (target core rs1 imm / 2 * 2)) (value_errors core rs1)
+abbrev pub jump_register : Core → ℕ → ℕ → ℕ → ℕ → Effect
+jump_register core next rd rs1 imm =
+    raising (linked_jump (tested core rs1) next (jalr_hint rd rs1) rd (target core rs1 imm / 2 * 2))
+    (value_errors core rs1)
 
 -- a step that only stops the machine
 abbrev pub stops : Core → Stop → Effect

@@ -1,7 +1,7 @@
 -- One step, in three parts: what it does, by the word at pc and the functions that are called by name; what it uses, by
 -- this and what decides the step; and what it leaves, by these, the input that it gets and the bytes that it reads. It
 -- depends on no other byte value and no other part of the setup.
-use Rattle.std.specs.Prelude.{nat_lt, ◌≡◌, ℕ, ◌+◌, ◌-◌, ◌*◌, ◌%◌, ◌==◌, ◌&&◌, ◌||◌, Bool, true, false, if◌then◌else◌}
+use Rattle.std.specs.Prelude.{nat_lt, ◌≡◌, ℕ, ◌+◌, ◌-◌, ◌*◌, ◌==◌, ◌&&◌, ◌||◌, Bool, true, false, if◌then◌else◌}
 use Rattle.std.specs.Prelude.{List, ◌++◌, take, drop, length, min, Option, Some, None, is_none}
 use Rattle.shadow_memory.specs.Ranges.{window, little_word, written}
 use Rattle.guest_machine.specs.Spans.{span_at, covers}
@@ -9,12 +9,13 @@ use Rattle.shadow_memory.specs.Shadows.{first_inaccessible}
 use Rattle.instructions.specs.Widths.{width_len}
 use Rattle.guest_machine.specs.State.{Core, State}
 use Rattle.instructions.specs.Instructions.{row_of}
-use Rattle.guest_machine.specs.Effects.{Effect, no_bytes, quiet, raising, advanced, stopped, target, load_upper}
+use Rattle.guest_machine.specs.Effects.{Effect, no_bytes, quiet, raising, moved_to, stopped, target, load_upper}
 use Rattle.guest_machine.specs.Effects.{add_upper, compute_immediate, compute, load, store, branch, jump, jump_register}
-use Rattle.guest_machine.specs.Effects.{stops}
+use Rattle.guest_machine.specs.Effects.{after_word, stops}
 use Rattle.guest_machine.specs.Calls.{argument, call_at, is_heap, moved_len, appends, read_call, write_call, exit_call}
 use Rattle.guest_machine.specs.Calls.{unknown_call}
 use Rattle.guest_elf.specs.Hooks.{hook_at}
+use Rattle.guest_elf.specs.Profiles.{is_aligned}
 use Rattle.guest_machine.specs.NamedCalls.{returns, named_call}
 use Rattle.guest_machine.specs.Errors.{here, event_about, fetch_undef, fetch_errors}
 use Rattle.guest_machine.specs.StackPointer.{stack_ruled}
@@ -54,16 +55,13 @@ is_running Running = true
 is_running (Exited code) = false
 is_running (Stopped stop) = false
 
-abbrev pub is_aligned : ℕ → Bool
-is_aligned a = a % 4 == 0
-
 -- the first inaccessible one of the four bytes at pc
 abbrev pub fetch_fault : Core → Option ℕ
 fetch_fault core = first_inaccessible core.shadow core.pc 4
 
 -- may the word at pc be fetched?
 unfoldable pub fetches : Core → Bool
-fetches core = is_running core.status && (is_aligned core.pc && is_none (fetch_fault core))
+fetches core = is_running core.status && (is_aligned core.isa core.pc && is_none (fetch_fault core))
 
 -- the word at pc, if it may be fetched
 unfoldable pub fetched : Core → (ℕ → ℕ) → Option ℕ
@@ -86,7 +84,7 @@ pub data Deed : Type 0 where
 
 -- the function that is called by name: the one that begins at pc
 unfoldable pub called_here : Core → List (ℕ × Hook) → Option Hook
-called_here core hooks = if is_running core.status && is_aligned core.pc then hook_at hooks core.pc else None
+called_here core hooks = if is_running core.status && is_aligned core.isa core.pc then hook_at hooks core.pc else None
 
 -- a function is called before its word is looked at
 abbrev pub deed_by : Option Hook → Option ℕ → Deed
@@ -224,28 +222,32 @@ row_uses core _ terms = nothing
 
 -- what a step leaves --
 
-unfoldable pub call_effect : Core → EnvironmentCall → Terms → List ℕ → (ℕ → ℕ) → Effect
-call_effect core ReadCall terms given taken = read_call core terms.intake.count given
-call_effect core WriteCall terms given taken = write_call core terms.written taken
-call_effect core ExitCall terms given taken = exit_call core ExitCall
-call_effect core ExitGroupCall terms given taken = exit_call core ExitGroupCall
-call_effect core (HeapCall function) terms given taken = heap_call function core terms.redzone terms.volume taken
-call_effect core UnknownCall terms given taken = unknown_call core
+-- by the address after the instruction
+unfoldable pub call_effect : Core → ℕ → EnvironmentCall → Terms → List ℕ → (ℕ → ℕ) → Effect
+call_effect core next ReadCall terms given taken = read_call core next terms.intake.count given
+call_effect core next WriteCall terms given taken = write_call core next terms.written taken
+call_effect core next ExitCall terms given taken = exit_call core ExitCall
+call_effect core next ExitGroupCall terms given taken = exit_call core ExitGroupCall
+call_effect core next (HeapCall function) terms given taken =
+    heap_call function core next terms.redzone terms.volume taken
+call_effect core next UnknownCall terms given taken = unknown_call core next
 
-unfoldable pub row_effect : Core → Option Instruction → Terms → List ℕ → (ℕ → ℕ) → Effect
-row_effect core None terms given taken = stops core Illegal
-row_effect core (Some (LoadUpper rd imm)) terms given taken = load_upper core rd imm
-row_effect core (Some (AddUpper rd imm)) terms given taken = add_upper core rd imm
-row_effect core (Some (Jump rd imm)) terms given taken = jump core rd imm
-row_effect core (Some (JumpRegister rd rs1 imm)) terms given taken = jump_register core rd rs1 imm
-row_effect core (Some (Branch test rs1 rs2 imm)) terms given taken = branch core test rs1 rs2 imm
-row_effect core (Some (Load width signed rd rs1 imm)) terms given taken = load core width signed rd rs1 imm taken
-row_effect core (Some (Store width rs1 rs2 imm)) terms given taken = store core width rs1 rs2 imm
-row_effect core (Some (Immediate operation rd rs1 imm)) terms given taken = compute_immediate core operation rd rs1 imm
-row_effect core (Some (Registers operation rd rs1 rs2)) terms given taken = compute core operation rd rs1 rs2
-row_effect core (Some Fence) terms given taken = quiet (advanced core)
-row_effect core (Some CallRow) terms given taken = call_effect core (call_at core) terms given taken
-row_effect core (Some Breakpoint) terms given taken = stops core Break
+unfoldable pub row_effect : Core → ℕ → Option Instruction → Terms → List ℕ → (ℕ → ℕ) → Effect
+row_effect core next None terms given taken = stops core Illegal
+row_effect core next (Some (LoadUpper rd imm)) terms given taken = load_upper core next rd imm
+row_effect core next (Some (AddUpper rd imm)) terms given taken = add_upper core next rd imm
+row_effect core next (Some (Jump rd imm)) terms given taken = jump core next rd imm
+row_effect core next (Some (JumpRegister rd rs1 imm)) terms given taken = jump_register core next rd rs1 imm
+row_effect core next (Some (Branch test rs1 rs2 imm)) terms given taken = branch core next test rs1 rs2 imm
+row_effect core next (Some (Load width signed rd rs1 imm)) terms given taken =
+    load core next width signed rd rs1 imm taken
+row_effect core next (Some (Store width rs1 rs2 imm)) terms given taken = store core next width rs1 rs2 imm
+row_effect core next (Some (Immediate operation rd rs1 imm)) terms given taken =
+    compute_immediate core next operation rd rs1 imm
+row_effect core next (Some (Registers operation rd rs1 rs2)) terms given taken = compute core next operation rd rs1 rs2
+row_effect core next (Some Fence) terms given taken = quiet (moved_to core next)
+row_effect core next (Some CallRow) terms given taken = call_effect core next (call_at core) terms given taken
+row_effect core next (Some Breakpoint) terms given taken = stops core Break
 
 -- a fetch that meets an inaccessible byte
 abbrev pub jump_fault : Core → Option ℕ → Effect
@@ -256,7 +258,7 @@ jump_fault core (Some a) = raising (stopped core JumpStop) (event_about core.blo
 unfoldable pub unfetched : Core → Effect
 unfetched core =
     if is_running core.status
-    then (if is_aligned core.pc then jump_fault core (fetch_fault core) else stops core Misaligned)
+    then (if is_aligned core.isa core.pc then jump_fault core (fetch_fault core) else stops core Misaligned)
     else quiet core
 
 -- the three parts together --
@@ -284,7 +286,8 @@ rounded core e =
 
 -- a call by name leaves the stack pointer, and so needs no rule for it
 abbrev pub outcome : Core → Terms → Deed → List ℕ → (ℕ → ℕ) → Effect
-outcome core terms (Takes word) given taken = rounded core (row_effect core (row_of word) terms given taken)
+outcome core terms (Takes word) given taken =
+    rounded core (row_effect core (after_word core) (row_of word) terms given taken)
 outcome core terms (CallsByName function) given taken = named_call function core terms.redzone terms.volume taken
 outcome core terms Halts given taken = unfetched core
 

@@ -15,7 +15,7 @@ use Rattle.guest_heap.specs.declared.released.Released.{Released}
 use Rattle.guest_heap.specs.declared.released.Released.TheVariants.{Done, Nothing, Invalid}
 use Rattle.guest_machine.specs.State.{Core}
 use Rattle.guest_machine.specs.Errors.{here, event_about}
-use Rattle.guest_machine.specs.Effects.{Effect, quiet, raising, advanced}
+use Rattle.guest_machine.specs.Effects.{Effect, quiet, raising, moved_to}
 use Rattle.guest_machine.specs.StackPointer.{ranged}
 use Rattle.guest_machine.specs.Calls.{argument, answered, call_tested, call_errors}
 use Rattle.guest_elf.specs.declared.hook.Hook.{Hook}
@@ -153,11 +153,11 @@ between errors effect last = record {
   output = effect.output;
 }
 
--- a call by number, at ECALL: the number is tested, and then the parameters
-abbrev pub heap_call : Hook → Core → ℕ → ℕ → (ℕ → ℕ) → Effect
-heap_call function core redzone volume taken =
+-- a call by number, at ECALL: the number is tested, and then the parameters; it goes on at the address after it
+abbrev pub heap_call : Hook → Core → ℕ → ℕ → ℕ → (ℕ → ℕ) → Effect
+heap_call function core next redzone volume taken =
     let now = call_tested core (Heap function) in
     between
     (call_errors core (Heap function))
     (heap_work function now (argument core 10) (argument core 11) redzone volume taken)
-    advanced
+    (λ after. moved_to after next)

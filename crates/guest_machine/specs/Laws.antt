@@ -1,8 +1,15 @@
 -- Laws of one step, which follow from its form and not from any instruction.
 use Rattle.std.specs.Prelude.{◌≡◌, ℕ, ◌/◌, ◌%◌, ◌^◌, ◌<◌, ◌≤◌, true, false, Bool, List, [], ◌∷◌, ◌++◌, length}
-use Rattle.std.specs.Prelude.{slice_get}
+use Rattle.std.specs.Prelude.{slice_get, ◌==◌, ◌&&◌, if◌then◌else◌, is_none, None}
+use Rattle.guest_elf.specs.Hooks.{hook_at}
 use Rattle.guest_elf.specs.declared.hook.Hook.{Hook}
-use Rattle.guest_machine.specs.State.{State}
+use Rattle.guest_elf.specs.declared.profile.Isa.TheVariants.{Rv32im}
+use Rattle.instructions.specs.declared.hint.StackHint.{StackHint}
+use Rattle.run_values.specs.declared.status.Stop.TheVariants.{Misaligned}
+use Rattle.guest_machine.specs.State.{Core, State}
+use Rattle.guest_machine.specs.Registers.{known, set_register}
+use Rattle.guest_machine.specs.Effects.{followed, jumped, linked_jump, moved_to, quiet, stopped, stops}
+use Rattle.guest_machine.specs.NamedCalls.{return_address, returns}
 use Rattle.guest_machine.specs.Run as Altered
 use Rattle.guest_machine.specs.Run.{poked, marked}
 use Rattle.guest_machine.specs.Alterations.{altered}
@@ -11,6 +18,7 @@ use Rattle.guest_machine.specs.MarkedRun.{alterations_of}
 use Rattle.run_values.specs.Alterations.{alteration_of}
 use Rattle.run_values.specs.declared.mark.Mark.{Mark}
 use Rattle.guest_machine.specs.Exec.{exec, touches, counted, is_heap_deed, is_running, deed_at}
+use Rattle.guest_machine.specs.Exec.{called_here, fetch_fault, fetches, jump_fault, unfetched}
 use Rattle.guest_machine.specs.declared.setup.Setup.{Setup}
 
 -- the addresses of the word at an address
@@ -97,6 +105,30 @@ abbrev pub StaysHalted : Type 0
 StaysHalted =
     (setup : Setup) (s : State) → is_running s.core.status ≡ false
     → (exec s setup ≡ s) × ((a : ℕ) → touches s setup a ≡ false)
+
+-- a step leaves the instruction set
+abbrev pub KeepsIsa : Type 0
+KeepsIsa = (setup : Setup) (s : State) → (exec s setup).core.isa ≡ s.core.isa
+
+-- a core at which an instruction may begin at each multiple of 4, and nowhere else (RISC-V Unprivileged ISA 20191213,
+-- section 1.5)
+pub record IsByFours (core : Core) : Type 0 where
+  pub jumps : (to : ℕ) → jumped core to ≡ if to % 4 == 0 then moved_to core to else stopped core Misaligned
+  pub links : (next : ℕ) (hint : StackHint) (rd to : ℕ) → linked_jump core next hint rd to
+      ≡ if to % 4 == 0 then moved_to (set_register (followed core next hint to) rd (known next)) to
+      else stopped core Misaligned
+  pub returns : returns core ≡ (return_address core % 4 == 0)
+  pub calls : (hooks : List (ℕ × Hook)) → called_here core hooks
+      ≡ if is_running core.status && core.pc % 4 == 0 then hook_at hooks core.pc else None
+  pub fetches : fetches core ≡ (is_running core.status && (core.pc % 4 == 0 && is_none (fetch_fault core)))
+  pub halts : unfetched core
+      ≡ if is_running core.status
+      then (if core.pc % 4 == 0 then jump_fault core (fetch_fault core) else stops core Misaligned)
+      else quiet core
+
+-- a core whose instruction set is RV32IM is one
+abbrev pub GoesByFours : Type 0
+GoesByFours = (core : Core) → core.isa ≡ Rv32im → IsByFours core
 
 -- ---- marks as alterations
 

@@ -3,7 +3,7 @@ use Rattle.std.specs.Prelude.{ℕ, false, zero, suc, ◌==◌, List, filter, fol
 use Rattle.std.specs.Prelude.{replicate, slice_set, []}
 use Rattle.guest_elf.specs.declared.image.Image.{Image}
 use Rattle.guest_heap.specs.Blocks.{no_blocks}
-use Rattle.guest_elf.specs.Images.{loaded_at, entry_of}
+use Rattle.guest_elf.specs.Images.{loaded_at, entry_of, profile_of}
 use Rattle.shadow_memory.specs.Ranges.{written, byte_of}
 use Rattle.shadow_memory.specs.Shadows.{Shadow, shadow_of, made_so}
 use Rattle.guest_machine.specs.State.{State}
@@ -42,6 +42,7 @@ start_state image =
         status = Running;
         frames = [];
         blocks = no_blocks;
+        isa = (profile_of image).isa;
       };
       position = 0;
       end_seen = false;

@@ -17,6 +17,7 @@ core_of g = record {
   status = g.status;
   frames = g.frames;
   blocks = blocks_of g.heap;
+  isa = g.isa;
 }
 
 -- the byte values

@@ -4,12 +4,13 @@ use Rattle.definedness.specs.declared.Bits.{Bits}
 use Rattle.shadow_memory.specs.Shadows.{Shadow}
 use Rattle.run_values.specs.declared.status.Status.{Status}
 use Rattle.call_stacks.specs.declared.stack.Frame.{Frame}
+use Rattle.guest_elf.specs.declared.profile.Isa.{Isa}
 use Rattle.guest_heap.specs.Blocks.{Blocks}
 use Rattle.error_events.specs.declared.event.Event.{Event}
 
 -- what decides a step, besides the byte values: for each address whether it may be accessed and its undefined bits, the
--- 32 registers with their undefined bits, pc, whether the machine runs, the calls that it is in, newest first, and the
--- blocks of the heap
+-- 32 registers with their undefined bits, pc, whether the machine runs, the calls that it is in, newest first,
+-- the blocks of the heap, and the instruction set, which no step changes
 pub record Core : Type 0 where
   pub shadow : ℕ → Shadow
   pub registers : List Bits
@@ -17,6 +18,7 @@ pub record Core : Type 0 where
   pub status : Status
   pub frames : List Frame
   pub blocks : Blocks
+  pub isa : Isa
 
 -- a state: besides the core, the byte at each address, the number of bytes of input read, whether some read asked for
 -- more than was left of it, the bytes that were written, the number of heap calls, and all errors so far

@@ -20,6 +20,7 @@ use crate::cached_memory::CachedMemory;
 use call_stacks::CallStack;
 use definedness::Bits;
 use error_events::{Event, Groups};
+use guest_elf::Isa;
 use guest_heap::Heap;
 use run_values::Status;
 use std::alloc::{AllocError, Global};
@@ -101,7 +102,7 @@ pub struct Machine {
     guest: Box<Guest>,
 }
 
-/// What a machine holds: memory, registers, pc, status, calls, heap, progress and its errors.
+/// What a machine holds: memory, registers, pc, status, calls, heap, progress, its errors and its instruction set.
 #[derive(Drop)]
 pub(crate) struct Guest {
     alloc: Global,
@@ -113,6 +114,7 @@ pub(crate) struct Guest {
     heap: Heap,
     progress: Progress,
     noted: Noted,
+    isa: Isa,
     // x0 is 0, so that a read tests nothing.
     ghost zero: { slice_index_or registers 0 (known 0) ≡ known 0 },
 }

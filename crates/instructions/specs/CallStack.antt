@@ -1,6 +1,6 @@
 -- What a jump does to the call stack: the hints for a return-address stack (RISC-V Unprivileged ISA 20191213, section
 -- 2.5, table 2.1). A link register is x1 or x5.
-use Rattle.std.specs.Prelude.{ℕ, ◌+◌, ◌%◌, ◌^◌, ◌==◌, ◌||◌, Bool, true, false, List}
+use Rattle.std.specs.Prelude.{ℕ, ◌==◌, ◌||◌, Bool, true, false, List}
 use Rattle.call_stacks.specs.Frames.{called, returned}
 use Rattle.call_stacks.specs.declared.stack.Frame.{Frame}
 use Rattle.instructions.specs.declared.hint.StackHint.{StackHint}
@@ -24,13 +24,13 @@ jal_hint rd = hint_by (is_link rd) false false
 abbrev pub jalr_hint : ℕ → ℕ → StackHint
 jalr_hint rd rs1 = hint_by (is_link rd) (is_link rs1) (rd == rs1)
 
--- the frame of a call at pc
-abbrev pub frame_at : ℕ → Frame
-frame_at pc = record { site = pc; return_to = (pc + 4) % 2 ^ 32 }
+-- the frame of a call at pc, whose next instruction in memory is at an address
+abbrev pub frame_at : ℕ → ℕ → Frame
+frame_at pc next = record { site = pc; return_to = next }
 
 -- the calls after a jump at pc to an address
-unfoldable pub hinted : StackHint → ℕ → ℕ → List Frame → List Frame
-hinted NoHint pc to frames = frames
-hinted Pop pc to frames = returned to frames
-hinted Push pc to frames = called (frame_at pc) frames
-hinted PopPush pc to frames = called (frame_at pc) (returned to frames)
+unfoldable pub hinted : StackHint → ℕ → ℕ → ℕ → List Frame → List Frame
+hinted NoHint pc next to frames = frames
+hinted Pop pc next to frames = returned to frames
+hinted Push pc next to frames = called (frame_at pc next) frames
+hinted PopPush pc next to frames = called (frame_at pc next) (returned to frames)

@@ -2,8 +2,8 @@
 //! outside (`tools/test/test-guests`).
 use crate::trials::{COUNT, NO_STREAMS, Row, Trial, are_hooks, assert_so};
 use guest_machine::laws::{
-    alters_as_marked, end_stays, keeps_end, keeps_heap, keeps_input, keeps_pokes, keeps_words,
-    reads_on, runs_as_marked, stays_halted,
+    alters_as_marked, end_stays, goes_by_fours, keeps_end, keeps_heap, keeps_input, keeps_isa,
+    keeps_pokes, keeps_words, reads_on, runs_as_marked, stays_halted,
 };
 use guest_machine::{Input, Span, Status, Stop};
 use std::alloc::{AllocError, Global};
@@ -288,6 +288,8 @@ fn the_laws_can_be_called() {
     keeps_end();
     end_stays();
     stays_halted();
+    keeps_isa();
+    goes_by_fours();
     alters_as_marked();
     runs_as_marked();
 }

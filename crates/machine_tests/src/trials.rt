@@ -1,6 +1,6 @@
 //! Trials of programs' machines.
 use definedness::Bits;
-use guest_elf::{Hook, Image, read};
+use guest_elf::{Hook, Image, Isa, read};
 use guest_machine::{
     Act, Alteration, Hooks, Input, Machine, Mark, Meter, Register, Setup, Span, Status, Touched,
 };
@@ -25,7 +25,7 @@ pub(crate) type Touches = (Option<Span>, Option<Span>, Option<Span>);
 
 /// What is tested of a program's machine.
 pub(crate) enum Trial {
-    /// Each register is defined before the first step, and 0 except for the stack pointer.
+    /// Each register is defined before the first step, and 0 except for the stack pointer; the instruction set is the image's.
     Registers,
     /// What each step touches; the number of steps after that; and the state and streams then.
     Steps(&'static [Touches], u32, State, Streams),
@@ -288,7 +288,8 @@ fn learns(alloc: Global, image: &Image, start: Machine, setup: &Setup) -> Result
     is_learnt(alloc, image, setup, &mut decoded)
 }
 
-/// Returns whether each register of a machine before its first step is defined, and 0 except for the stack pointer.
+/// Returns whether each register of a machine before its first step is defined, and 0 except for the stack pointer, and whether the
+/// instruction set is that of `read`.
 fn has_registers(machine: &Machine) -> bool {
     for number in 0..32 {
         let value = if number == 2 { 0x7FFF_FFF0 } else { 0 };
@@ -297,7 +298,7 @@ fn has_registers(machine: &Machine) -> bool {
             return false;
         }
     }
-    true
+    machine.isa() == Isa::Rv32im
 }
 
 /// Returns whether a trial passes on an image.

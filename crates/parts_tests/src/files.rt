@@ -1,7 +1,7 @@
 //! Files by hand, and their images. `tools/test/test-files` tests with which number a cut or changed file is rejected.
 use crate::{comes, holds};
 use byteorder::{ByteOrder, LittleEndian};
-use guest_elf::{ElfFault, Hook, Image, Segment, read};
+use guest_elf::{ElfFault, Hook, Image, Isa, Profile, Segment, read, read_for};
 use std::alloc::{AllocError, Global};
 use std::process::Abort;
 
@@ -84,6 +84,24 @@ fn is_read(alloc: Global) -> bool {
         }
         Err(_) => false,
     }
+}
+
+/// Returns whether the program is read for a profile, which the image keeps.
+fn is_read_for(alloc: Global, profile: Profile) -> bool {
+    match read_for(alloc, &PROGRAM, profile) {
+        Ok(image) => image.profile() == profile && are_code(image.segments()),
+        Err(_) => false,
+    }
+}
+
+/// Returns whether instructions of RV32IM may begin at multiples of 4 alone.
+fn begin_at_fours() -> bool {
+    let isa = Isa::Rv32im;
+    isa.aligns(0x10004)
+        && !isa.aligns(0x10005)
+        && !isa.aligns(0x10006)
+        && !isa.aligns(0x10007)
+        && isa.aligns(0xFFFF_FFFC)
 }
 
 /// Two changed words of the program, an address, whether the word there can be patched, and whether the segment has bytes.
@@ -252,6 +270,14 @@ fn is_sized_answered(alloc: Global, len: usize, want: u8) -> Result<bool, AllocE
 #[test]
 fn files_by_hand(rt: HostRuntime) {
     holds(&rt, "a program", is_read(rt.alloc()));
+    let usual = Profile { isa: Isa::Rv32im };
+    holds(&rt, "the usual profile", usual == Profile::USUAL);
+    holds(
+        &rt,
+        "a program for a profile",
+        is_read_for(rt.alloc(), usual),
+    );
+    holds(&rt, "the places of instructions", begin_at_fours());
     comes(
         &rt,
         "at the limit",

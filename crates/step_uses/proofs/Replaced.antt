@@ -8,6 +8,7 @@ use Rattle.definedness.specs.declared.Bits.{Bits}
 use Rattle.instructions.specs.declared.hint.StackHint.{StackHint}
 use Rattle.instructions.specs.declared.instruction.Comparison.{Comparison}
 use Rattle.instructions.specs.Alu.{is_undecided}
+use Rattle.guest_elf.specs.Profiles.{is_aligned}
 use Rattle.guest_machine.specs.State.{Core}
 use Rattle.guest_machine.specs.Registers.{known, register, set_register, defined, tested}
 use Rattle.guest_machine.specs.Effects.{branched, branch_tested, followed, jumped, linked_jump, moved_to}
@@ -113,6 +114,14 @@ tested-stays core r q h = go ((register core q).undef == 0)
     go true = refl
     go false = set-stays core r q new h
 
+pub tested-isa : (core : Core) (q : ℕ) → (tested core q).isa ≡ core.isa
+unfolding tested set_register
+tested-isa core q = go ((register core q).undef == 0)
+  where
+    go : (t : Bool) → (cond t core (set_register core q (known (register core q).value))).isa ≡ core.isa
+    go true = refl
+    go false = refl
+
 pub target-other : (core : Core) (r q : ℕ) (bits : Bits) (imm : ℕ) → (r == q) ≡ false
     → target (put core r bits) q imm ≡ target core q imm
 unfolding target
@@ -120,45 +129,50 @@ target-other core r q bits imm h = ap (λ (x : Bits). (x.value + imm) % 2 ^ 32) 
 
 -- ---- jumps
 
-pub linked-other : (core : Core) (hint : StackHint) (r rd to : ℕ) (bits : Bits)
-    → (to % 4 == 0) && (r == rd) ≡ false
-    → linked_jump (put core r bits) hint rd to ≡ put (linked_jump core hint rd to) r bits
+pub linked-other : (core : Core) (next : ℕ) (hint : StackHint) (r rd to : ℕ) (bits : Bits)
+    → is_aligned core.isa to && (r == rd) ≡ false
+    → linked_jump (put core r bits) next hint rd to ≡ put (linked_jump core next hint rd to) r bits
 unfolding linked_jump
-linked-other core hint r rd to bits = go (to % 4 == 0)
+linked-other core next hint r rd to bits = go (is_aligned core.isa to)
   where
     link : Bits
-    link = known ((core.pc + 4) % 2 ^ 32)
+    link = known next
 
     go : (t : Bool) → t && (r == rd) ≡ false
-        → cond t (moved_to (set_register (followed (put core r bits) hint to) rd link) to)
+        → cond t (moved_to (set_register (followed (put core r bits) next hint to) rd link) to)
         (stopped (put core r bits) Misaligned)
-        ≡ put (cond t (moved_to (set_register (followed core hint to) rd link) to) (stopped core Misaligned)) r bits
-    go true h = ap (λ k. moved_to k to) (set-other (followed core hint to) r rd bits link h)
+        ≡ put (cond t (moved_to (set_register (followed core next hint to) rd link) to) (stopped core Misaligned)) r
+        bits
+    go true h = ap (λ k. moved_to k to) (set-other (followed core next hint to) r rd bits link h)
     go false h = refl
 
-pub linked-stays : (core : Core) (hint : StackHint) (r rd to : ℕ) → (to % 4 == 0) && (r == rd) ≡ false
-    → register (linked_jump core hint rd to) r ≡ register core r
+pub linked-stays : (core : Core) (next : ℕ) (hint : StackHint) (r rd to : ℕ)
+    → is_aligned core.isa to && (r == rd) ≡ false
+    → register (linked_jump core next hint rd to) r ≡ register core r
 unfolding linked_jump register
-linked-stays core hint r rd to = go (to % 4 == 0)
+linked-stays core next hint r rd to = go (is_aligned core.isa to)
   where
     link : Bits
-    link = known ((core.pc + 4) % 2 ^ 32)
+    link = known next
 
     go : (t : Bool) → t && (r == rd) ≡ false
-        → register (cond t (moved_to (set_register (followed core hint to) rd link) to) (stopped core Misaligned)) r
+        → register
+        (cond t (moved_to (set_register (followed core next hint to) rd link) to) (stopped core Misaligned)) r
         ≡ register core r
-    go true h = set-stays (followed core hint to) r rd link h
+    go true h = set-stays (followed core next hint to) r rd link h
     go false h = refl
 
-pub linked-again : (core : Core) (hint : StackHint) (r to : ℕ) (bits : Bits) → 1 ≤ r → (to % 4 == 0) ≡ true
-    → linked_jump (put core r bits) hint r to ≡ linked_jump core hint r to
+pub linked-again : (core : Core) (next : ℕ) (hint : StackHint) (r to : ℕ) (bits : Bits) → 1 ≤ r
+    → is_aligned core.isa to ≡ true
+    → linked_jump (put core r bits) next hint r to ≡ linked_jump core next hint r to
 unfolding linked_jump
-linked-again core hint r to bits one h =
-    let link = known ((core.pc + 4) % 2 ^ 32) in
-    ap (λ t. cond t (moved_to (set_register (followed (put core r bits) hint to) r link) to)
+linked-again core next hint r to bits one h =
+    let link = known next in
+    ap (λ t. cond t (moved_to (set_register (followed (put core r bits) next hint to) r link) to)
     (stopped (put core r bits) Misaligned)) h
-    ∙ ap (λ k. moved_to k to) (set-again (followed core hint to) r bits link one)
-    ∙ ap (λ t. cond t (moved_to (set_register (followed core hint to) r link) to) (stopped core Misaligned)) (sym h)
+    ∙ ap (λ k. moved_to k to) (set-again (followed core next hint to) r bits link one)
+    ∙ ap (λ t. cond t (moved_to (set_register (followed core next hint to) r link) to) (stopped core Misaligned))
+    (sym h)
 
 -- ---- branches
 
@@ -186,25 +200,26 @@ branch-stays core test r rs1 rs2 one two = go (is_undecided test (register core 
     go true = set-stays (defined core rs1) r rs2 _ two ∙ set-stays core r rs1 _ one
     go false = refl
 
-pub branched-other : (t : Bool) (core : Core) (r to : ℕ) (bits : Bits)
-    → branched t (put core r bits) to ≡ put (branched t core to) r bits
+pub branched-other : (t : Bool) (core : Core) (next r to : ℕ) (bits : Bits)
+    → branched t (put core r bits) next to ≡ put (branched t core next to) r bits
 unfolding branched jumped
-branched-other true core r to bits = go (to % 4 == 0)
+branched-other true core next r to bits = go (is_aligned core.isa to)
   where
     go : (t : Bool) → cond t (moved_to (put core r bits) to) (stopped (put core r bits) Misaligned)
         ≡ put (cond t (moved_to core to) (stopped core Misaligned)) r bits
     go true = refl
     go false = refl
-branched-other false core r to bits = refl
+branched-other false core next r to bits = refl
 
-pub branched-stays : (t : Bool) (core : Core) (r to : ℕ) → register (branched t core to) r ≡ register core r
+pub branched-stays : (t : Bool) (core : Core) (next r to : ℕ)
+    → register (branched t core next to) r ≡ register core r
 unfolding branched jumped register
-branched-stays true core r to = go (to % 4 == 0)
+branched-stays true core next r to = go (is_aligned core.isa to)
   where
     go : (t : Bool) → register (cond t (moved_to core to) (stopped core Misaligned)) r ≡ register core r
     go true = refl
     go false = refl
-branched-stays false core r to = refl
+branched-stays false core next r to = refl
 
 -- ---- the stack pointer rule
 

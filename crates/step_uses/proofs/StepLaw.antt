@@ -11,14 +11,15 @@ use Rattle.guest_elf.specs.declared.hook.Hook.{Hook}
 use Rattle.guest_elf.specs.Hooks.{hook_at}
 use Rattle.shadow_memory.specs.Ranges.{window, little_word}
 use Rattle.guest_machine.specs.Exec.{deed_by}
+use Rattle.guest_elf.specs.Profiles.{is_aligned}
 use Rattle.guest_machine.specs.State.{Core, State}
 use Rattle.guest_machine.specs.Registers.{register}
-use Rattle.guest_machine.specs.Effects.{Effect, quiet, stops}
+use Rattle.guest_machine.specs.Effects.{Effect, after_word, quiet, stops}
 use Rattle.guest_machine.specs.Errors.{event_about}
 use Rattle.guest_machine.specs.StackPointer.{stack_ruled}
 use Rattle.guest_machine.specs.Exec.{Deed, Takes, CallsByName, Halts, Terms, Uses, called_here, calls_heap, counted}
 use Rattle.guest_machine.specs.Exec.{deed_asks, deed_at, deed_terms, effect_at, exec, fetch_fault, fetched, fetches}
-use Rattle.guest_machine.specs.Exec.{given_at, intake_at, intake_of, is_aligned, is_heap_deed, is_running, jump_fault}
+use Rattle.guest_machine.specs.Exec.{given_at, intake_at, intake_of, is_heap_deed, is_running, jump_fault}
 use Rattle.guest_machine.specs.Exec.{left_at, outcome, plan, rounded, row_asks, row_effect, row_uses, seen_also}
 use Rattle.guest_machine.specs.Exec.{taken_from, terms_of, unfetched, uses_at, written_to}
 use Rattle.guest_machine.specs.declared.setup.Setup.{Setup}
@@ -81,18 +82,18 @@ none-of : (whole write : Bool) → write ≡ false → whole && write ≡ false
 none-of true write h = h
 none-of false write h = refl
 
-module _ (core : Core) (row : Option Instruction) (r : ℕ) (bits : Bits) (terms : Terms) (given : List ℕ)
+module _ (core : Core) (next : ℕ) (row : Option Instruction) (r : ℕ) (bits : Bits) (terms : Terms) (given : List ℕ)
     (taken : ℕ → ℕ) where
   abbrev before : Effect
-  before = row_effect core row terms given taken
+  before = row_effect core next row terms given taken
 
   ruled-kept : IsKept core row r
       → stack_ruled (register (put core r bits) 2) (put before.core r bits)
       ≡ put (stack_ruled (register core 2) before.core) r bits
   ruled-kept k = go (r == 2) refl
     where
-      e : row_effect (put core r bits) row terms given taken ≡ over before r bits
-      e = row-other core row r bits terms given taken k.unread k.unwritten
+      e : row_effect (put core r bits) next row terms given taken ≡ over before r bits
+      e = row-other core next row r bits terms given taken k.unread k.unwritten
 
       two : (r == 2) ≡ true → r ≡ 2
       two h = number r h
@@ -107,11 +108,11 @@ module _ (core : Core) (row : Option Instruction) (r : ℕ) (bits : Bits) (terms
           let quiet = k.pointer h in
           let here : register before.core 2 ≡ register core 2 =
           subst (λ q. register before.core q ≡ register core q) (two h)
-          (row-stays core row r terms given taken k.unread k.unwritten) in
+          (row-stays core next row r terms given taken k.unread k.unwritten) in
           let there : register (put before.core r bits) 2 ≡ register (put core r bits) 2 =
           subst (λ q. register (put before.core r bits) q ≡ register (put core r bits) q) (two h)
           (ap (λ x. register x.core r) (sym e)
-          ∙ row-stays (put core r bits) row r terms given taken k.unread
+          ∙ row-stays (put core r bits) next row r terms given taken k.unread
           (none-of (completes (put core r bits) row) (writes row r) quiet)) in
           ap (λ x. stack_ruled x (put before.core r bits)) (sym there) ∙ stack-stands (put before.core r bits)
           ∙ ap (λ c. put c r bits) (sym (ap (λ x. stack_ruled x before.core) (sym here) ∙ stack-stands before.core))
@@ -120,17 +121,17 @@ module _ (core : Core) (row : Option Instruction) (r : ℕ) (bits : Bits) (terms
           ∙ ruled-other (register core 2) before.core r bits h
 
   rounded-kept : IsKept core row r
-      → rounded (put core r bits) (row_effect (put core r bits) row terms given taken)
+      → rounded (put core r bits) (row_effect (put core r bits) next row terms given taken)
       ≡ over (rounded core before) r bits
   rounded-kept k =
-      ap (λ e. rounded (put core r bits) e) (row-other core row r bits terms given taken k.unread k.unwritten)
+      ap (λ e. rounded (put core r bits) e) (row-other core next row r bits terms given taken k.unread k.unwritten)
       ∙ ap (λ c. record { core = c; raised = (rounded core before).raised; made = before.made; output = before.output })
       (ruled-kept k)
 
   rounded-replaced : 1 ≤ r → IsReplaced core row r
-      → rounded (put core r bits) (row_effect (put core r bits) row terms given taken) ≡ rounded core before
+      → rounded (put core r bits) (row_effect (put core r bits) next row terms given taken) ≡ rounded core before
   rounded-replaced one k =
-      ap (λ e. rounded (put core r bits) e) (row-again core row r bits terms given taken one k.unread k.written)
+      ap (λ e. rounded (put core r bits) e) (row-again core next row r bits terms given taken one k.unread k.written)
       ∙ ap (λ x. record {
         core = stack_ruled x before.core;
         raised = (rounded core before).raised;
@@ -140,7 +141,7 @@ module _ (core : Core) (row : Option Instruction) (r : ℕ) (bits : Bits) (terms
 
   rounded-stays : IsKept core row r → register (rounded core before).core r ≡ register core r
   rounded-stays k =
-      ruled-stays (register core 2) before.core r ∙ row-stays core row r terms given taken k.unread k.unwritten
+      ruled-stays (register core 2) before.core r ∙ row-stays core next row r terms given taken k.unread k.unwritten
 
 -- ---- the step
 
@@ -170,8 +171,8 @@ by-row : State → Setup → Option Instruction → Bool → Option ℕ → Stat
 by-row s setup row heap asks =
     let terms = terms_of heap asks s.position (length s.output) setup in
     let uses = row_uses s.core row terms in
-    let effect = rounded s.core (row_effect s.core row terms (given_at s.position terms.intake.count setup)
-    (taken_from s.bytes uses.reads)) in
+    let effect = rounded s.core (row_effect s.core (after_word s.core) row terms
+    (given_at s.position terms.intake.count setup) (taken_from s.bytes uses.reads)) in
     let intake = intake_of asks (left_at s.position setup) in
     record {
       bytes = written_to s.bytes uses.writes effect.made;
@@ -195,19 +196,19 @@ module _ (s : State) (setup : Setup) (row : Option Instruction) (r : ℕ) (bits 
     uses = row_uses s.core row terms
 
     abbrev effect : Effect
-    effect = rounded s.core (row_effect s.core row terms given (taken_from s.bytes uses.reads))
+    effect = rounded s.core (row_effect s.core (after_word s.core) row terms given (taken_from s.bytes uses.reads))
 
     abbrev other : Effect
     other =
-        rounded (put s.core r bits) (row_effect (put s.core r bits) row terms given
+        rounded (put s.core r bits) (row_effect (put s.core r bits) (after_word s.core) row terms given
         (taken_from s.bytes (row_uses (put s.core r bits) row terms).reads))
 
     -- with the other bits, as far as the ranges read
     under : reads row r ≡ false → other ≡ rounded (put s.core r bits)
-        (row_effect (put s.core r bits) row terms given (taken_from s.bytes uses.reads))
+        (row_effect (put s.core r bits) (after_word s.core) row terms given (taken_from s.bytes uses.reads))
     under h =
         let far = put s.core r bits in
-        ap (λ u. rounded far (row_effect far row terms given (taken_from s.bytes u.reads)))
+        ap (λ u. rounded far (row_effect far (after_word s.core) row terms given (taken_from s.bytes u.reads)))
         (uses-other s.core row r bits terms h)
 
     row-kept : IsKept s.core row r
@@ -215,7 +216,8 @@ module _ (s : State) (setup : Setup) (row : Option Instruction) (r : ℕ) (bits 
     unfolding by-row swapped
     row-kept k =
         let u = uses-other s.core row r bits terms k.unread in
-        let e = under k.unread ∙ rounded-kept s.core row r bits terms given (taken_from s.bytes uses.reads) k in
+        let e = under k.unread
+        ∙ rounded-kept s.core (after_word s.core) row r bits terms given (taken_from s.bytes uses.reads) k in
         let intake = intake_of asks (left_at s.position setup) in
         λ i. record {
           bytes = written_to s.bytes (u i).writes (e i).made;
@@ -232,7 +234,8 @@ module _ (s : State) (setup : Setup) (row : Option Instruction) (r : ℕ) (bits 
     unfolding by-row swapped
     row-replaced one k =
         let u = uses-other s.core row r bits terms k.unread in
-        let e = under k.unread ∙ rounded-replaced s.core row r bits terms given (taken_from s.bytes uses.reads) one k in
+        let e = under k.unread
+        ∙ rounded-replaced s.core (after_word s.core) row r bits terms given (taken_from s.bytes uses.reads) one k in
         let intake = intake_of asks (left_at s.position setup) in
         λ i. record {
           bytes = written_to s.bytes (u i).writes (e i).made;
@@ -253,7 +256,7 @@ plain s setup row r h = ap₂ (by-row s setup row) (no-heap s.core row r h) (ask
 
 unfetched-other : (core : Core) (r : ℕ) (bits : Bits) → unfetched (put core r bits) ≡ over (unfetched core) r bits
 unfolding unfetched event_about
-unfetched-other core r bits = go (is_running core.status) (is_aligned core.pc) (fetch_fault core)
+unfetched-other core r bits = go (is_running core.status) (is_aligned core.isa core.pc) (fetch_fault core)
   where
     changed : Core
     changed = put core r bits
@@ -268,7 +271,7 @@ unfetched-other core r bits = go (is_running core.status) (is_aligned core.pc) (
 
 unfetched-stays : (core : Core) (r : ℕ) → register (unfetched core).core r ≡ register core r
 unfolding unfetched register
-unfetched-stays core r = go (is_running core.status) (is_aligned core.pc) (fetch_fault core)
+unfetched-stays core r = go (is_running core.status) (is_aligned core.isa core.pc) (fetch_fault core)
   where
     go : (t u : Bool) (fault : Option ℕ)
         → register (cond t (cond u (jump_fault core fault) (stops core Misaligned)) (quiet core)).core r
@@ -309,7 +312,7 @@ by-stays : (s : State) (setup : Setup) (r : ℕ) (deed : Deed) → passing_deed 
     → register (by s setup deed).core r ≡ register s.core r
 unfolding by passing_deed
 by-stays s setup r (Takes word) h =
-    rounded-stays s.core (row_of word) r (register s.core r) _ _ _ (kept s.core (row_of word) r h)
+    rounded-stays s.core (after_word s.core) (row_of word) r (register s.core r) _ _ _ (kept s.core (row_of word) r h)
 by-stays s setup r (CallsByName function) h = cc
 by-stays s setup r Halts h = unfetched-stays s.core r
 
@@ -331,13 +334,13 @@ deed-halts : (core : Core) (bytes : ℕ → ℕ) (hooks : List (ℕ × Hook)) �
 unfolding called_here fetched fetches
 deed-halts core bytes hooks h =
     let word = little_word (window bytes core.pc 4) in
-    ap (λ b. deed_by (cond (b && is_aligned core.pc) (hook_at hooks core.pc) None)
-    (cond (b && (is_aligned core.pc && is_none (fetch_fault core))) (Some word) None)) h
+    ap (λ b. deed_by (cond (b && is_aligned core.isa core.pc) (hook_at hooks core.pc) None)
+    (cond (b && (is_aligned core.isa core.pc && is_none (fetch_fault core))) (Some word) None)) h
 
 halted-core : (core : Core) → is_running core.status ≡ false → (unfetched core).core ≡ core
 unfolding unfetched
 halted-core core h =
-    ap (λ b. (cond b (cond (is_aligned core.pc) (jump_fault core (fetch_fault core)) (stops core Misaligned))
+    ap (λ b. (cond b (cond (is_aligned core.isa core.pc) (jump_fault core (fetch_fault core)) (stops core Misaligned))
     (quiet core)).core) h
 
 pub runs-before : (s : State) (setup : Setup) → is_running (exec s setup).core.status ≡ true

@@ -8,10 +8,11 @@ use Rattle.instructions.specs.declared.instruction.Instruction.{Instruction}
 use Rattle.instructions.specs.declared.instruction.Instruction.TheVariants.{LoadUpper, AddUpper, Jump, JumpRegister}
 use Rattle.instructions.specs.declared.instruction.Instruction.TheVariants.{Branch, Load, Store, Immediate, Registers}
 use Rattle.instructions.specs.declared.instruction.Instruction.TheVariants.{CallEnvironment}
+use Rattle.guest_elf.specs.Profiles.{is_aligned}
 use Rattle.guest_machine.specs.State.{Core, State}
 use Rattle.guest_machine.specs.Registers.{set_register}
 use Rattle.guest_machine.specs.Effects.{target}
-use Rattle.guest_machine.specs.Exec.{Deed, Takes, CallsByName, Halts, deed_at, is_aligned}
+use Rattle.guest_machine.specs.Exec.{Deed, Takes, CallsByName, Halts, deed_at}
 use Rattle.guest_machine.specs.declared.setup.Setup.{Setup}
 use Rattle.step_uses.specs.declared.passing.Passing.{Passing}
 use Rattle.step_uses.specs.declared.passing.Passing.TheVariants.{Looks, Keeps, Overwrites}
@@ -39,10 +40,10 @@ writes (Some (Immediate operation rd rs1 imm)) r = r == rd
 writes (Some (Registers operation rd rs1 rs2)) r = r == rd
 writes _ r = false
 
--- does an instruction come to write its destination? A jump to an address that is no multiple of 4 leaves it
+-- does an instruction come to write its destination? A jump to an address at which no instruction may begin leaves it
 unfoldable pub completes : Core → Option Instruction → Bool
-completes core (Some (Jump rd imm)) = is_aligned ((core.pc + imm) % 2 ^ 32)
-completes core (Some (JumpRegister rd rs1 imm)) = is_aligned (target core rs1 imm / 2 * 2)
+completes core (Some (Jump rd imm)) = is_aligned core.isa ((core.pc + imm) % 2 ^ 32)
+completes core (Some (JumpRegister rd rs1 imm)) = is_aligned core.isa (target core rs1 imm / 2 * 2)
 completes core _ = true
 
 -- an instruction looks at its operands. One whose destination is x2 looks at x2, as the stack pointer rule compares the

@@ -2,7 +2,8 @@
 ghost use Rattle.std.specs.Prelude.{◌≡◌, ◌&&◌, Some};
 ghost use Rattle.guest_machine.specs.State.{State};
 ghost use Rattle.guest_machine.specs.Shows.{Shows};
-ghost use Rattle.guest_machine.specs.Exec.{called_here, fetched, is_aligned, is_running};
+ghost use Rattle.guest_elf.specs.Profiles.{is_aligned};
+ghost use Rattle.guest_machine.specs.Exec.{called_here, fetched, is_running};
 ghost use Rattle.step_uses.specs.Passing.{completes, passing, passing_row, reads, writes};
 
 use guest_elf::Hook;
@@ -65,20 +66,20 @@ fn completes(machine: &Machine, row: &Instruction) -> bool
     ensures { (s : State) → Shows machine.now s → result ≡ completes s.core (Some row.now) }
 {
     match *row {
-        Instruction::Jump { imm, .. } => machine.pc().wrapping_add(imm) % 4 == 0,
+        Instruction::Jump { imm, .. } => { machine.isa().aligns(machine.pc().wrapping_add(imm)) }
         Instruction::JumpRegister { rs1, imm, .. } => {
             let target = machine.register(rs1).value.wrapping_add(imm);
-            target / 2 * 2 % 4 == 0
+            machine.isa().aligns(target / 2 * 2)
         }
         _ => true,
     }
 }
 
-/// Whether a machine runs, and pc is a multiple of 4.
+/// Whether a machine runs, and an instruction may begin at pc.
 fn is_ready(machine: &Machine) -> bool
-    ensures { (s : State) → Shows machine.now s → result ≡ (is_running s.core.status && is_aligned s.core.pc) }
+    ensures { (s : State) → Shows machine.now s → result ≡ (is_running s.core.status && is_aligned s.core.isa s.core.pc) }
 {
-    matches!(machine.status(), Status::Running) && machine.pc() % 4 == 0
+    matches!(machine.status(), Status::Running) && machine.isa().aligns(machine.pc())
 }
 
 /// The function of the heap that the next step calls by name.

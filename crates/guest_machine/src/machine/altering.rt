@@ -131,7 +131,7 @@ impl Guest {
         ensures { IsDone Skip self.old self.new }
     {
         if self.runs() {
-            self.advance();
+            self.advance_by(4);
         }
     }
 }

@@ -51,6 +51,7 @@ impl Guest {
                 groups: Groups::new(alloc),
                 raised: false,
             },
+            isa: image.profile().isa,
         })
     }
 
@@ -126,6 +127,7 @@ impl Guest {
                 groups: self.noted.groups.share()?,
                 raised: self.noted.raised,
             },
+            isa: self.isa,
         })
     }
 }

@@ -82,15 +82,20 @@ impl Guest {
         self.test_parameters(parameters_of(call))
     }
 
-    /// A call that only returns a result.
+    /// A call that only returns a result, and goes on at the address after it.
     #[tactic(auto, unfolding(crate::specs::Doing::note_events))]
-    fn test_and_answer(&mut self, call: EnvironmentCall, n: u32) -> Result<Used, AllocError>
-        ensures does { OnOk result (Does self.old self.new (answers (core_of self.old) call n) nothing false no_intake) }
+    fn test_and_answer(
+        &mut self,
+        next: u32,
+        call: EnvironmentCall,
+        n: u32,
+    ) -> Result<Used, AllocError>
+        ensures does { OnOk result (Does self.old self.new (answers (core_of self.old) next call n) nothing false no_intake) }
         ensures uses { IfOk result (λ used. used ≡ used_of nothing) }
     {
         self.test_call(call)?;
         self.answer(n);
-        self.advance();
+        self.advance(next);
         Ok(NOTHING)
     }
 
@@ -134,12 +139,12 @@ impl Guest {
     }
 
     #[tactic(auto, unfolding(crate::specs::Calls::read_call, crate::specs::Exec::call_asks, crate::specs::Doing::note_events), using(crate::proofs::Showing::note_events_append))]
-    fn read_call(&mut self, setup: &Setup) -> Result<Used, AllocError>
-        ensures does { OnOk result (DoesRead self.old self.new setup.now) }
+    fn read_call(&mut self, next: u32, setup: &Setup) -> Result<Used, AllocError>
+        ensures does { OnOk result (DoesRead self.old self.new next setup.now) }
         ensures uses { IfOk result (λ used. used ≡ used_of (read_uses (core_of self.old) (read_intake self.old setup.now).count)) }
     {
         if self.argument(A0) != 0 {
-            return self.test_and_answer(EnvironmentCall::Read, BAD_DESCRIPTOR);
+            return self.test_and_answer(next, EnvironmentCall::Read, BAD_DESCRIPTOR);
         }
         let start = self.argument(A1);
         let asked = self.moved_len();
@@ -150,7 +155,7 @@ impl Guest {
         self.store_input(start, given)?;
         self.progress.note_read(asked, n);
         self.answer(n);
-        self.advance();
+        self.advance(next);
         Ok(Used {
             reads: None,
             writes: Some(Span { start, len: n }),
@@ -158,45 +163,45 @@ impl Guest {
     }
 
     #[tactic(auto, unfolding(crate::specs::Calls::write_call, crate::specs::Calls::appends, crate::specs::Doing::note_events), using(crate::proofs::Showing::note_events_append, crate::proofs::Showing::length_taken))]
-    fn write_call(&mut self) -> Result<Used, AllocError>
-        ensures does { OnOk result (DoesWrite self.old self.new) }
+    fn write_call(&mut self, next: u32) -> Result<Used, AllocError>
+        ensures does { OnOk result (DoesWrite self.old self.new next) }
         ensures uses { IfOk result (λ used. used ≡ used_of (write_uses (core_of self.old) self.old.progress.output_len)) }
     {
         let descriptor = self.argument(A0);
         if descriptor != 1 && descriptor != 2 {
-            return self.test_and_answer(EnvironmentCall::Write, BAD_DESCRIPTOR);
+            return self.test_and_answer(next, EnvironmentCall::Write, BAD_DESCRIPTOR);
         }
         let start = self.argument(A1);
         let len = self.moved_len();
         if !self.progress.has_room(len) {
-            return self.test_and_answer(EnvironmentCall::Write, NO_SPACE);
+            return self.test_and_answer(next, EnvironmentCall::Write, NO_SPACE);
         }
         self.test_call(EnvironmentCall::Write)?;
         self.test_buffer(Parameter::WriteBuffer, true, start, len)?;
         self.progress.output_len += u64::from(len);
         self.answer(len);
-        self.advance();
+        self.advance(next);
         Ok(Used {
             reads: Some(Span { start, len }),
             writes: None,
         })
     }
 
-    /// Executes ECALL, and returns which bytes it read and which it wrote.
+    /// Executes ECALL, after which `next` is the address, and returns which bytes it read and which it wrote.
     #[cold]
     #[inline(never)]
     #[tactic(auto, unfolding(crate::specs::Calls::call_at, crate::specs::Exec::call_effect, crate::specs::Exec::call_uses, crate::specs::Exec::calls_heap, crate::specs::Exec::row_asks, crate::specs::Exec::call_asks, crate::specs::Exec::row_uses, crate::specs::Exec::row_effect))]
-    pub(super) fn call_environment(&mut self, setup: &Setup) -> Result<Used, AllocError>
-        ensures does { OnOk result (DoesRow self.old self.new (Some Instruction.CallEnvironment) setup.now) }
+    pub(super) fn call_environment(&mut self, next: u32, setup: &Setup) -> Result<Used, AllocError>
+        ensures does { OnOk result (DoesRow self.old self.new next (Some Instruction.CallEnvironment) setup.now) }
         ensures uses { IfOk result (λ used. used ≡ used_of (uses_by self.old (Some Instruction.CallEnvironment) setup.now)) }
     {
         let call = EnvironmentCall::of(self.argument(A7));
         match call {
-            EnvironmentCall::Read => self.read_call(setup),
-            EnvironmentCall::Write => self.write_call(),
+            EnvironmentCall::Read => self.read_call(next, setup),
+            EnvironmentCall::Write => self.write_call(next),
             EnvironmentCall::Exit | EnvironmentCall::ExitGroup => self.exit_call(call),
-            EnvironmentCall::Heap(function) => self.heap_call(function, setup),
-            EnvironmentCall::Unknown => self.test_and_answer(call, NO_SUCH_CALL),
+            EnvironmentCall::Heap(function) => self.heap_call(next, function, setup),
+            EnvironmentCall::Unknown => self.test_and_answer(next, call, NO_SUCH_CALL),
         }
     }
 }

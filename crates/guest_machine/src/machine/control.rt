@@ -1,10 +1,10 @@
 //! Where a machine goes next: pc, whether it runs, and the frames of the calls that it is in.
-ghost use Rattle.std.specs.Prelude.{◌≡◌, ◌%◌};
-ghost use Rattle.guest_machine.specs.Effects.{advanced, stopped, jumped, linked_jump};
+ghost use Rattle.std.specs.Prelude.{◌≡◌};
+ghost use Rattle.guest_machine.specs.Effects.{moved_to, stopped, jumped, linked_jump};
 ghost use Rattle.instructions.specs.CallStack.{hinted};
 ghost use Rattle.guest_machine.specs.NamedCalls.{returned_to};
 ghost use Rattle.guest_machine.specs.Shows.{core_of};
-ghost use Rattle.guest_machine.specs.Doing.{Sets};
+ghost use Rattle.guest_machine.specs.Doing.{next_of, Sets};
 
 use crate::machine::Guest;
 use crate::machine::registers::known;
@@ -12,30 +12,37 @@ use call_stacks::CallStack;
 use instructions::{Register, StackHint};
 use run_values::{Status, Stop};
 
-/// Calls and returns, by the hint of a jump from an address to another.
+/// Calls and returns, by the hint of a jump from an address to another; `next` is the address after the jump.
 #[tactic(auto, unfolding(instructions::specs::CallStack::hinted))]
-fn follow(frames: &mut CallStack, hint: StackHint, pc: u32, to: u32)
-    ensures { frames.new ≡ hinted hint pc to frames.old }
+fn follow(frames: &mut CallStack, hint: StackHint, pc: u32, next: u32, to: u32)
+    ensures { frames.new ≡ hinted hint pc next to frames.old }
 {
-    let after = pc.wrapping_add(4);
     match hint {
         StackHint::NoHint => {}
         StackHint::Pop => frames.back_to(to),
-        StackHint::Push => frames.call(pc, after),
+        StackHint::Push => frames.call(pc, next),
         StackHint::PopPush => {
             frames.back_to(to);
-            frames.call(pc, after);
+            frames.call(pc, next);
         }
     }
 }
 
 impl Guest {
-    /// Advances to the next instruction.
+    /// Goes on at the address after the instruction.
     #[inline(always)]
-    pub(super) fn advance(&mut self)
-        ensures { Sets self.old self.new (advanced (core_of self.old)) }
+    pub(super) fn advance(&mut self, next: u32)
+        ensures { Sets self.old self.new (moved_to (core_of self.old) next) }
     {
-        self.pc = self.pc.wrapping_add(4);
+        self.pc = next;
+    }
+
+    /// Goes on after an instruction of this length. It adds to pc where pc is kept, which costs less than `advance`.
+    #[inline(always)]
+    pub(super) fn advance_by(&mut self, len: u32)
+        ensures { Sets self.old self.new (moved_to (core_of self.old) (next_of (core_of self.old) len)) }
+    {
+        self.pc = self.pc.wrapping_add(len);
     }
 
     /// Stops for good, at this pc.
@@ -46,28 +53,27 @@ impl Guest {
         self.status = Status::Stopped(stop);
     }
 
-    /// Jumps to an address, or stops if it is no multiple of 4.
+    /// Jumps to an address, or stops if no instruction may begin there.
     #[inline(always)]
     #[tactic(auto, unfolding(crate::specs::Effects::jumped))]
     pub(super) fn jump(&mut self, to: u32)
         ensures { Sets self.old self.new (jumped (core_of self.old) to) }
     {
-        if to % 4 == 0 {
+        if self.isa.aligns(to) {
             self.pc = to;
         } else {
             self.stop(Stop::Misaligned);
         }
     }
 
-    /// Jumps to an address, and leaves the address after this instruction in rd.
+    /// Jumps to an address, and leaves the address after this instruction in rd; stops if no instruction may begin there.
     #[tactic(auto, unfolding(crate::specs::Effects::linked_jump))]
-    pub(super) fn linked_jump(&mut self, hint: StackHint, rd: Register, to: u32)
-        ensures { Sets self.old self.new (linked_jump (core_of self.old) hint rd to) }
+    pub(super) fn linked_jump(&mut self, next: u32, hint: StackHint, rd: Register, to: u32)
+        ensures { Sets self.old self.new (linked_jump (core_of self.old) next hint rd to) }
     {
-        if to % 4 == 0 {
-            let link = self.pc.wrapping_add(4);
-            follow(&mut self.frames, hint, self.pc, to);
-            self.set_register(rd, known(link));
+        if self.isa.aligns(to) {
+            follow(&mut self.frames, hint, self.pc, next, to);
+            self.set_register(rd, known(next));
             self.pc = to;
         } else {
             self.stop(Stop::Misaligned);
@@ -75,7 +81,6 @@ impl Guest {
     }
 
     /// Returns to an address.
-    #[tactic(auto, unfolding(instructions::specs::CallStack::hinted))]
     pub(super) fn return_to(&mut self, to: u32)
         ensures { Sets self.old self.new (returned_to to (core_of self.old)) }
     {

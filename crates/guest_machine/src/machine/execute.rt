@@ -1,4 +1,4 @@
-//! The instructions.
+//! The instructions. Each is given its length, `len`, or the address after it, `next`.
 ghost use Rattle.std.specs.Prelude.{◌≡◌, ◌<◌, false, Some, None, OnOk, IfOk, IfSome, IsTrue, IsFalse};
 ghost use Rattle.shadow_memory.specs.Ranges.{byte_of, written};
 ghost use Rattle.shadow_memory.specs.Shadows.{first_inaccessible, stored_undef, HasDefined};
@@ -11,7 +11,7 @@ ghost use Rattle.instructions.specs.Widths.{width_len, width_limit};
 ghost use Rattle.guest_machine.specs.Effects.{stored_core, results_in, load, store, branch, jump, jump_register, branched};
 ghost use Rattle.guest_machine.specs.Exec.{no_intake, nothing, accessed, writing, taken_from};
 ghost use Rattle.guest_machine.specs.Shows.{core_of, bytes_of};
-ghost use Rattle.guest_machine.specs.Doing.{Notes, Changes, Does, stored_at};
+ghost use Rattle.guest_machine.specs.Doing.{next_of, Notes, Changes, Does, stored_at};
 
 use crate::cached_memory::CachedMemory;
 use crate::machine::Guest;
@@ -42,14 +42,14 @@ fn put(
 }
 
 impl Guest {
-    /// Writes rd and advances.
+    /// Writes rd, and goes on after the instruction.
     #[inline(always)]
-    #[tactic(auto, unfolding(crate::specs::Doing::note_events))]
-    pub(super) fn result_in(&mut self, rd: Register, bits: Bits)
-        ensures { Does self.old self.new (results_in (core_of self.old) rd bits) nothing false no_intake }
+    #[tactic(auto, unfolding(crate::specs::Registers::set_register, crate::specs::Doing::note_events))]
+    pub(super) fn result_in(&mut self, len: u32, rd: Register, bits: Bits)
+        ensures { Does self.old self.new (results_in (core_of self.old) (next_of (core_of self.old) len) rd bits) nothing false no_intake }
     {
         self.set_register(rd, bits);
-        self.advance();
+        self.advance_by(len);
     }
 
     /// Returns the low bytes at an address, their undefined bits and the first inaccessible one. Each width is separate, so that a word is
@@ -91,13 +91,14 @@ impl Guest {
     #[tactic(auto, unfolding(crate::specs::Doing::note_events), using(crate::proofs::Showing::note_events_append))]
     fn load_testing(
         &mut self,
+        next: u32,
         width: Width,
         signed: bool,
         rd: Register,
         rs1: Register,
         imm: u32,
     ) -> Result<(), AllocError>
-        ensures { OnOk result (Does self.old self.new (load (core_of self.old) width signed rd rs1 imm
+        ensures { OnOk result (Does self.old self.new (load (core_of self.old) next width signed rd rs1 imm
             (taken_from (bytes_of self.old) (Some (accessed (core_of self.old) rs1 imm width)))) nothing false no_intake) }
     {
         let start = self.target(rs1, imm);
@@ -105,7 +106,8 @@ impl Guest {
         let loaded = self.take(start, width)?;
         let value = extended(width, signed, loaded.value);
         let undef = extended(width, signed, loaded.undef);
-        self.result_in(rd, Bits { value, undef });
+        self.set_register(rd, Bits { value, undef });
+        self.advance(next);
         Ok(())
     }
 
@@ -137,41 +139,43 @@ impl Guest {
     #[inline(always)]
     fn load_of(
         &mut self,
+        len: u32,
         width: Width,
         signed: bool,
         rd: Register,
         rs1: Register,
         imm: u32,
     ) -> Result<(), AllocError>
-        ensures { OnOk result (Does self.old self.new (load (core_of self.old) width signed rd rs1 imm
+        ensures { OnOk result (Does self.old self.new (load (core_of self.old) (next_of (core_of self.old) len) width signed rd rs1 imm
             (taken_from (bytes_of self.old) (Some (accessed (core_of self.old) rs1 imm width)))) nothing false no_intake) }
     {
         if self.read_register(rs1).undef == 0
             && let Some(value) = self.defined(self.target(rs1, imm), width)
         {
-            self.result_in(rd, known(extended(width, signed, value)));
+            self.result_in(len, rd, known(extended(width, signed, value)));
             return Ok(());
         }
-        self.load_testing(width, signed, rd, rs1, imm)
+        self.load_testing(self.pc.wrapping_add(len), width, signed, rd, rs1, imm)
     }
 
     /// A load; each width is separate.
     #[inline(always)]
     pub(super) fn load(
         &mut self,
+        len: u32,
         width: Width,
         signed: bool,
         rd: Register,
         rs1: Register,
         imm: u32,
     ) -> Result<(), AllocError>
-        ensures { OnOk result (Does self.old self.new (load (core_of self.old) width signed rd rs1 imm
+        ensures { OnOk result (Does self.old self.new (load (core_of self.old) (next_of (core_of self.old) len) width signed rd rs1 imm
             (taken_from (bytes_of self.old) (Some (accessed (core_of self.old) rs1 imm width)))) nothing false no_intake) }
     {
         match width {
-            Width::Byte => self.load_of(Width::Byte, signed, rd, rs1, imm),
-            Width::Half => self.load_of(Width::Half, signed, rd, rs1, imm),
-            Width::Word => self.load_of(Width::Word, signed, rd, rs1, imm),
+            Width::Byte => self.load_of(len, Width::Byte, signed, rd, rs1, imm),
+            Width::Half => self.load_of(len, Width::Half, signed, rd, rs1, imm),
+            Width::Word => self.load_of(len, Width::Word, signed, rd, rs1, imm),
         }
     }
 
@@ -180,12 +184,13 @@ impl Guest {
     #[tactic(auto, unfolding(crate::specs::Doing::note_events), using(crate::proofs::Showing::note_events_append))]
     fn store_testing(
         &mut self,
+        next: u32,
         width: Width,
         rs1: Register,
         rs2: Register,
         imm: u32,
     ) -> Result<(), AllocError>
-        ensures { OnOk result (Does self.old self.new (store (core_of self.old) width rs1 rs2 imm)
+        ensures { OnOk result (Does self.old self.new (store (core_of self.old) next width rs1 rs2 imm)
             (writing (accessed (core_of self.old) rs1 imm width)) false no_intake) }
     {
         let to = self.target(rs1, imm);
@@ -193,7 +198,7 @@ impl Guest {
         let stored = self.read_register(rs2);
         let fault = put(&mut self.memory, to, width, stored)?;
         self.test_store(width.byte_len(), fault)?;
-        self.advance();
+        self.advance(next);
         Ok(())
     }
 
@@ -212,18 +217,18 @@ impl Guest {
         }
     }
 
-    /// Does the same, and advances.
+    /// Does the same, and goes on after the instruction.
     #[inline(always)]
     #[tactic(auto, unfolding(crate::specs::Doing::note_events))]
-    fn store_at_once(&mut self, start: u32, width: Width, bits: Bits) -> bool
-        ensures done { IsTrue result → Does self.old self.new (stored_at (core_of self.old) start (width_len width) bits)
+    fn store_at_once(&mut self, len: u32, start: u32, width: Width, bits: Bits) -> bool
+        ensures done { IsTrue result → Does self.old self.new (stored_at (core_of self.old) (next_of (core_of self.old) len) start (width_len width) bits)
             (writing (span_at start (width_len width))) false no_intake }
         ensures bad { IsTrue result → first_inaccessible (core_of self.old).shadow start (width_len width) ≡ None }
         ensures kept { IsFalse result → Changes self.old self.new (core_of self.old) (bytes_of self.old) }
     {
         let done = self.put_at_once(start, width, bits);
         if done {
-            self.advance();
+            self.advance_by(len);
         }
         done
     }
@@ -232,38 +237,40 @@ impl Guest {
     #[inline(always)]
     fn store_of(
         &mut self,
+        len: u32,
         width: Width,
         rs1: Register,
         rs2: Register,
         imm: u32,
     ) -> Result<(), AllocError>
-        ensures { OnOk result (Does self.old self.new (store (core_of self.old) width rs1 rs2 imm)
+        ensures { OnOk result (Does self.old self.new (store (core_of self.old) (next_of (core_of self.old) len) width rs1 rs2 imm)
             (writing (accessed (core_of self.old) rs1 imm width)) false no_intake) }
     {
         if self.read_register(rs1).undef == 0
-            && self.store_at_once(self.target(rs1, imm), width, self.read_register(rs2))
+            && self.store_at_once(len, self.target(rs1, imm), width, self.read_register(rs2))
         {
             return Ok(());
         }
-        self.store_testing(width, rs1, rs2, imm)
+        self.store_testing(self.pc.wrapping_add(len), width, rs1, rs2, imm)
     }
 
     /// A store; each width is separate.
     #[inline(always)]
     pub(super) fn store(
         &mut self,
+        len: u32,
         width: Width,
         rs1: Register,
         rs2: Register,
         imm: u32,
     ) -> Result<(), AllocError>
-        ensures { OnOk result (Does self.old self.new (store (core_of self.old) width rs1 rs2 imm)
+        ensures { OnOk result (Does self.old self.new (store (core_of self.old) (next_of (core_of self.old) len) width rs1 rs2 imm)
             (writing (accessed (core_of self.old) rs1 imm width)) false no_intake) }
     {
         match width {
-            Width::Byte => self.store_of(Width::Byte, rs1, rs2, imm),
-            Width::Half => self.store_of(Width::Half, rs1, rs2, imm),
-            Width::Word => self.store_of(Width::Word, rs1, rs2, imm),
+            Width::Byte => self.store_of(len, Width::Byte, rs1, rs2, imm),
+            Width::Half => self.store_of(len, Width::Half, rs1, rs2, imm),
+            Width::Word => self.store_of(len, Width::Word, rs1, rs2, imm),
         }
     }
 
@@ -271,48 +278,51 @@ impl Guest {
     #[tactic(auto, unfolding(crate::specs::Effects::branched))]
     pub(super) fn branch(
         &mut self,
+        len: u32,
         comparison: Comparison,
         rs1: Register,
         rs2: Register,
         imm: u32,
     ) -> Result<(), AllocError>
-        ensures { OnOk result (Does self.old self.new (branch (core_of self.old) comparison rs1 rs2 imm) nothing false no_intake) }
+        ensures { OnOk result (Does self.old self.new (branch (core_of self.old) (next_of (core_of self.old) len) comparison rs1 rs2 imm) nothing false no_intake) }
     {
         let taken = passes(
             comparison,
             self.read_register(rs1).value,
             self.read_register(rs2).value,
         );
+        let next = self.pc.wrapping_add(len);
         let to = self.pc.wrapping_add(imm);
         self.test_branch(comparison, rs1, rs2)?;
         if taken {
             self.jump(to);
         } else {
-            self.advance();
+            self.advance(next);
         }
         Ok(())
     }
 
     #[inline(always)]
     #[tactic(auto, unfolding(crate::specs::Doing::note_events))]
-    pub(super) fn jump_and_link(&mut self, rd: Register, imm: u32)
-        ensures { Does self.old self.new (jump (core_of self.old) rd imm) nothing false no_intake }
+    pub(super) fn jump_and_link(&mut self, next: u32, rd: Register, imm: u32)
+        ensures { Does self.old self.new (jump (core_of self.old) next rd imm) nothing false no_intake }
     {
-        self.linked_jump(StackHint::of_jal(rd), rd, self.pc.wrapping_add(imm));
+        self.linked_jump(next, StackHint::of_jal(rd), rd, self.pc.wrapping_add(imm));
     }
 
     #[tactic(auto, unfolding(crate::specs::Doing::note_events))]
     pub(super) fn jump_register(
         &mut self,
+        next: u32,
         rd: Register,
         rs1: Register,
         imm: u32,
     ) -> Result<(), AllocError>
-        ensures { OnOk result (Does self.old self.new (jump_register (core_of self.old) rd rs1 imm) nothing false no_intake) }
+        ensures { OnOk result (Does self.old self.new (jump_register (core_of self.old) next rd rs1 imm) nothing false no_intake) }
     {
         let to = self.target(rs1, imm) / 2 * 2;
         self.test_value(rs1)?;
-        self.linked_jump(StackHint::of_jalr(rd, rs1), rd, to);
+        self.linked_jump(next, StackHint::of_jalr(rd, rs1), rd, to);
         Ok(())
     }
 }

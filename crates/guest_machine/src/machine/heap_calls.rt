@@ -294,17 +294,22 @@ impl Guest {
         }
     }
 
-    /// A heap call by number.
+    /// A heap call by number, which goes on at the address after it.
     #[tactic(auto, using(crate::proofs::Showing::note_events_append))]
-    pub(super) fn heap_call(&mut self, function: Hook, setup: &Setup) -> Result<Used, AllocError>
-        ensures does { OnOk result (DoesHeapCall self.old self.new function setup.now) }
+    pub(super) fn heap_call(
+        &mut self,
+        next: u32,
+        function: Hook,
+        setup: &Setup,
+    ) -> Result<Used, AllocError>
+        ensures does { OnOk result (DoesHeapCall self.old self.new next function setup.now) }
         ensures uses { IfOk result (λ used. used ≡ used_of (heap_uses function (core_of self.old) setup.now.redzone)) }
     {
         let x = self.argument(A0);
         let y = self.argument(A1);
         self.test_call(EnvironmentCall::Heap(function))?;
         let used = self.heap_work(function, x, y, setup)?;
-        self.advance();
+        self.advance(next);
         Ok(used)
     }
 }

@@ -24,10 +24,11 @@ impl Guest {
         ensures uses { IfOk result (λ used. used ≡ used_of (uses_by_name self.old function setup.now)) }
     {
         let to = self.argument(RA) / 2 * 2;
+        let returns = self.isa.aligns(to);
         let x = self.argument(A0);
         let y = self.argument(A1);
         self.test_value(Register::new(RA))?;
-        if to % 4 != 0 {
+        if !returns {
             self.stop(Stop::Misaligned);
             return Ok(NOTHING);
         }

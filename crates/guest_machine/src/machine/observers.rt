@@ -11,6 +11,7 @@ ghost use Rattle.guest_machine.specs.Shows.{Shows, has_raised};
 use crate::machine::Machine;
 use definedness::Bits;
 use error_events::Groups;
+use guest_elf::Isa;
 use guest_heap::Heap;
 use instructions::Register;
 use run_values::Status;
@@ -30,6 +31,13 @@ impl Machine {
         ensures { (s : State) → Shows self.now s → result ≡ s.core.pc }
     {
         self.guest.pc
+    }
+
+    /// Returns the instruction set, which stays that of the image.
+    pub fn isa(&self) -> Isa
+        ensures { (s : State) → Shows self.now s → result ≡ s.core.isa }
+    {
+        self.guest.isa
     }
 
     /// Returns the number of bytes of input read.

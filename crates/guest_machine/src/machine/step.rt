@@ -1,15 +1,16 @@
 //! One step.
 ghost use Rattle.std.specs.Prelude.{◌≡◌, ◌+◌, ◌%◌, ◌&&◌, ◌≤◌, [], min, length, nat_lt, true, false, Option, Some, None, IfOk, IfSome, IfNone, OnErr, OnOk};
+ghost use Rattle.guest_elf.specs.Profiles.{is_aligned};
 ghost use Rattle.guest_machine.specs.State.{State};
 ghost use Rattle.guest_machine.specs.Errors.{fetch_undef};
 ghost use Rattle.instructions.specs.Instructions.{row_of};
 ghost use Rattle.shadow_memory.specs.Ranges.{little_word, window};
-ghost use Rattle.guest_machine.specs.Exec.{no_intake, nothing, reading, writing, is_running, is_aligned, called_here, fetches, unfetched, jump_fault};
+ghost use Rattle.guest_machine.specs.Exec.{no_intake, nothing, reading, writing, is_running, called_here, fetches, unfetched, jump_fault};
 ghost use Rattle.guest_machine.specs.Exec.{exec, touched_of, IsFetched};
 ghost use Rattle.guest_machine.specs.Run.{pre};
 ghost use Rattle.guest_machine.specs.Shows.{core_of, bytes_of, Holds, Shows, has_raised};
 ghost use Rattle.guest_machine.specs.Spans.{span_at, IsWord};
-ghost use Rattle.guest_machine.specs.Doing.{IsDecoded, touched_in, used_of, uses_by, touched_by, Does, DoesRow, DoesRound, DoesStep};
+ghost use Rattle.guest_machine.specs.Doing.{next_of, IsDecoded, touched_in, used_of, uses_by, touched_by, Does, DoesRow, DoesRound, DoesStep};
 
 use crate::hooks::Hooks;
 use crate::machine::registers::known;
@@ -86,37 +87,42 @@ impl Guest {
 
     /// An environment call.
     #[inline(always)]
-    fn call_out(&mut self, setup: &Setup) -> Result<Used, AllocError>
-        ensures does { OnOk result (DoesRow self.old self.new (Some Instruction.CallEnvironment) setup.now) }
+    fn call_out(&mut self, next: u32, setup: &Setup) -> Result<Used, AllocError>
+        ensures does { OnOk result (DoesRow self.old self.new next (Some Instruction.CallEnvironment) setup.now) }
         ensures uses { IfOk result (λ used. used ≡ used_of (uses_by self.old (Some Instruction.CallEnvironment) setup.now)) }
     {
-        let used = self.call_environment(setup)?;
+        let used = self.call_environment(next, setup)?;
         Ok(used)
     }
 
-    /// Executes an instruction. Returns which bytes it read and which it wrote.
+    /// Executes an instruction of this length. Returns which bytes it read and which it wrote.
     #[inline(always)]
     #[tactic(auto, unfolding(crate::specs::Exec::row_effect, crate::specs::Exec::row_uses, crate::specs::Exec::calls_heap, crate::specs::Exec::row_asks, crate::specs::Exec::call_asks, crate::specs::Doing::note_events))]
-    fn execute(&mut self, setup: &Setup, instruction: Instruction) -> Result<Used, AllocError>
-        ensures does { OnOk result (DoesRow self.old self.new (Some instruction) setup.now) }
+    fn execute(
+        &mut self,
+        setup: &Setup,
+        len: u32,
+        instruction: Instruction,
+    ) -> Result<Used, AllocError>
+        ensures does { OnOk result (DoesRow self.old self.new (next_of (core_of self.old) len) (Some instruction) setup.now) }
         ensures uses { IfOk result (λ used. used ≡ used_of (uses_by self.old (Some instruction) setup.now)) }
     {
         match instruction {
             Instruction::LoadUpper { rd, imm } => {
-                self.result_in(rd, known(imm));
+                self.result_in(len, rd, known(imm));
                 Ok(NOTHING)
             }
             Instruction::AddUpper { rd, imm } => {
                 let value = self.pc.wrapping_add(imm);
-                self.result_in(rd, known(value));
+                self.result_in(len, rd, known(value));
                 Ok(NOTHING)
             }
             Instruction::Jump { rd, imm } => {
-                self.jump_and_link(rd, imm);
+                self.jump_and_link(self.pc.wrapping_add(len), rd, imm);
                 Ok(NOTHING)
             }
             Instruction::JumpRegister { rd, rs1, imm } => {
-                self.jump_register(rd, rs1, imm)?;
+                self.jump_register(self.pc.wrapping_add(len), rd, rs1, imm)?;
                 Ok(NOTHING)
             }
             Instruction::Branch {
@@ -125,7 +131,7 @@ impl Guest {
                 rs2,
                 imm,
             } => {
-                self.branch(comparison, rs1, rs2, imm)?;
+                self.branch(len, comparison, rs1, rs2, imm)?;
                 Ok(NOTHING)
             }
             Instruction::Load {
@@ -136,7 +142,7 @@ impl Guest {
                 imm,
             } => {
                 let range = self.accessed(rs1, imm, width);
-                self.load(width, signed, rd, rs1, imm)?;
+                self.load(len, width, signed, rd, rs1, imm)?;
                 Ok(Used::reading(range))
             }
             Instruction::Store {
@@ -146,7 +152,7 @@ impl Guest {
                 imm,
             } => {
                 let range = self.accessed(rs1, imm, width);
-                self.store(width, rs1, rs2, imm)?;
+                self.store(len, width, rs1, rs2, imm)?;
                 Ok(Used::writing(range))
             }
             Instruction::Immediate {
@@ -156,7 +162,7 @@ impl Guest {
                 imm,
             } => {
                 let bits = computed(operation, self.read_register(rs1), known(imm));
-                self.result_in(rd, bits);
+                self.result_in(len, rd, bits);
                 Ok(NOTHING)
             }
             Instruction::Registers {
@@ -166,14 +172,14 @@ impl Guest {
                 rs2,
             } => {
                 let bits = computed(operation, self.read_register(rs1), self.read_register(rs2));
-                self.result_in(rd, bits);
+                self.result_in(len, rd, bits);
                 Ok(NOTHING)
             }
             Instruction::Fence => {
-                self.advance();
+                self.advance_by(len);
                 Ok(NOTHING)
             }
-            Instruction::CallEnvironment => self.call_out(setup),
+            Instruction::CallEnvironment => self.call_out(self.pc.wrapping_add(len), setup),
             Instruction::Breakpoint => {
                 self.stop(Stop::Break);
                 Ok(NOTHING)
@@ -189,12 +195,12 @@ impl Guest {
         matches!(self.status, Status::Running)
     }
 
-    /// Whether it runs, and pc is a multiple of 4.
+    /// Whether it runs, and an instruction may begin at pc.
     #[inline(always)]
     fn is_ready(&self) -> bool
-        ensures { result ≡ (is_running (core_of self.now).status && is_aligned (core_of self.now).pc) }
+        ensures { result ≡ (is_running (core_of self.now).status && is_aligned (core_of self.now).isa (core_of self.now).pc) }
     {
-        self.runs() && self.pc % 4 == 0
+        self.runs() && self.isa.aligns(self.pc)
     }
 
     /// The function of the heap that is called by name.
@@ -251,7 +257,7 @@ impl Guest {
         ensures { OnOk result (Does self.old self.new (unfetched (core_of self.old)) nothing false no_intake) }
     {
         if let Status::Running = self.status {
-            if self.pc % 4 == 0 {
+            if self.isa.aligns(self.pc) {
                 let fault = self.memory.load(self.pc, 4).bad;
                 self.jump_fault(fault)?;
             } else {
@@ -308,23 +314,24 @@ impl Guest {
         &mut self,
         setup: &Setup,
         undef: u32,
+        len: u32,
         instruction: Instruction,
     ) -> Result<Used, AllocError>
         requires { undef ≡ fetch_undef (core_of self.old) }
-        ensures does { OnOk result (DoesRound self.old self.new (Some instruction) setup.now) }
+        ensures does { OnOk result (DoesRound self.old self.new (next_of (core_of self.old) len) (Some instruction) setup.now) }
         ensures uses { IfOk result (λ used. used ≡ used_of (uses_by self.old (Some instruction) setup.now)) }
     {
         let stack_pointer = self.read_register(Register::new(2));
         self.test_word(undef)?;
-        let used = self.execute(setup, instruction)?;
+        let used = self.execute(setup, len, instruction)?;
         self.stack_rule(stack_pointer)?;
         Ok(used)
     }
 
     /// Stops at a word that is no instruction.
     #[tactic(auto, unfolding(crate::specs::Exec::row_effect, crate::specs::Exec::row_uses, crate::specs::Exec::calls_heap, crate::specs::Exec::row_asks, crate::specs::Doing::note_events))]
-    fn stop_illegal(&mut self, setup: &Setup)
-        ensures does { DoesRow self.old self.new None setup.now }
+    fn stop_illegal(&mut self, setup: &Setup, len: u32)
+        ensures does { DoesRow self.old self.new (next_of (core_of self.old) len) None setup.now }
         ensures uses { uses_by self.old None setup.now ≡ nothing }
     {
         self.stop(Stop::Illegal);
@@ -332,27 +339,27 @@ impl Guest {
 
     /// The same as [`Guest::round`] at a word that is no instruction.
     #[tactic(auto, using(crate::proofs::Showing::note_events_append))]
-    fn round_illegal(&mut self, setup: &Setup, undef: u32) -> Result<(), AllocError>
+    fn round_illegal(&mut self, setup: &Setup, undef: u32, len: u32) -> Result<(), AllocError>
         requires { undef ≡ fetch_undef (core_of self.old) }
-        ensures does { OnOk result (DoesRound self.old self.new None setup.now) }
+        ensures does { OnOk result (DoesRound self.old self.new (next_of (core_of self.old) len) None setup.now) }
         ensures uses { OnOk result (uses_by self.old None setup.now ≡ nothing) }
     {
         let stack_pointer = self.read_register(Register::new(2));
         self.test_word(undef)?;
-        self.stop_illegal(setup);
+        self.stop_illegal(setup, len);
         self.stack_rule(stack_pointer)
     }
 
     /// Decodes a word that may be fetched, and executes it.
-    fn round_anew(&mut self, setup: &Setup, word: Bits) -> Result<Used, AllocError>
+    fn round_anew(&mut self, setup: &Setup, len: u32, word: Bits) -> Result<Used, AllocError>
         requires { IsFetched (core_of self.old) (bytes_of self.old) word }
-        ensures does { OnOk result (DoesRound self.old self.new (row_of word.value) setup.now) }
+        ensures does { OnOk result (DoesRound self.old self.new (next_of (core_of self.old) len) (row_of word.value) setup.now) }
         ensures uses { IfOk result (λ used. used ≡ used_of (uses_by self.old (row_of word.value) setup.now)) }
     {
         match self.decode(word) {
-            Some(instruction) => self.round(setup, word.undef, instruction),
+            Some(instruction) => self.round(setup, word.undef, len, instruction),
             None => {
-                self.round_illegal(setup, word.undef)?;
+                self.round_illegal(setup, word.undef, len)?;
                 Ok(NOTHING)
             }
         }
@@ -374,7 +381,7 @@ impl Guest {
                 Ok(NOTHING.touched(None))
             }
             Some(word) => {
-                let used = self.round_anew(setup, word)?;
+                let used = self.round_anew(setup, 4, word)?;
                 Ok(used.touched_at(pc))
             }
         }
@@ -420,7 +427,7 @@ impl Guest {
         match self.decoded() {
             None => self.begin_anew(setup),
             Some(instruction) => {
-                let used = self.round(setup, 0, instruction)?;
+                let used = self.round(setup, 0, 4, instruction)?;
                 Ok(used.touched_at(pc))
             }
         }

@@ -4,7 +4,7 @@ use Rattle.guest_elf.specs.File.{early_refusal, late_refusal, loaded_in, refusal
 use Rattle.guest_elf.specs.Images.{loaded_at}
 use Rattle.guest_elf.specs.Segments.{content_of, loaded}
 use Rattle.guest_elf.specs.declared.segment.Segment.{Segment}
-use Rattle.guest_elf.proofs.reading.read.Goals as goal
+use Rattle.guest_elf.proofs.reading.read_for.Goals as goal
 
 not_refused : (file : List ℕ) → early_refusal file ≡ None → late_refusal file ≡ None → refusal file ≡ None
 unfolding refusal
@@ -25,4 +25,5 @@ returns-clause-image c = record {
   entry = c.new.ensures.entry ∙ c.word_at.ensures;
   names = λ address. c.new.ensures.names address ∙ c.in_ok-names.ensures.names address;
   hooks = c.new.ensures.hooks ∙ c.in_ok-names.ensures.hooks;
+  read_for = c.new.ensures.profile;
 }

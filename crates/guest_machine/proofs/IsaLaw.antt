@@ -1,0 +1,237 @@
+-- No step changes the instruction set; and where an instruction of RV32IM may begin.
+use Rattle.std.proofs.Common.{◌≡◌, ℕ, ◌+◌, ◌-◌, ◌*◌, ◌/◌, ◌%◌, ◌^◌, ◌==◌, ◌&&◌, nat_lt, nat_le, Bool, true, false, cond}
+use Rattle.std.proofs.Common.{refl, ◌∙◌, List, [], ◌∷◌, Option, Some, None}
+use Rattle.error_events.specs.declared.parameter.Parameter.{Parameter}
+use Rattle.std.specs.Prelude.{is_none}
+use Rattle.guest_elf.specs.Hooks.{hook_at}
+use Rattle.guest_elf.specs.Profiles.{is_aligned, unit}
+use Rattle.guest_elf.specs.declared.hook.Hook.{Hook}
+use Rattle.guest_elf.specs.declared.hook.Hook.TheVariants.{Malloc, Free, Calloc, Realloc}
+use Rattle.guest_elf.specs.declared.profile.Isa.{Isa}
+use Rattle.guest_elf.specs.declared.profile.Isa.TheVariants.{Rv32im}
+use Rattle.guest_heap.specs.Steps.{place}
+use Rattle.guest_heap.specs.declared.released.Released.{Released}
+use Rattle.guest_heap.specs.declared.released.Released.TheVariants.{Done, Nothing, Invalid}
+use Rattle.instructions.specs.Alu.{passes}
+use Rattle.instructions.specs.CallStack.{jal_hint, jalr_hint}
+use Rattle.instructions.specs.Instructions.{row_of}
+use Rattle.instructions.specs.declared.hint.StackHint.{StackHint}
+use Rattle.instructions.specs.declared.instruction.Comparison.{Comparison}
+use Rattle.instructions.specs.declared.instruction.Instruction.{Instruction}
+use Rattle.instructions.specs.declared.instruction.Instruction.TheVariants.{LoadUpper, AddUpper, Jump, JumpRegister}
+use Rattle.instructions.specs.declared.instruction.Instruction.TheVariants.{Branch, Load, Store, Immediate, Registers}
+use Rattle.instructions.specs.declared.instruction.Instruction.TheVariants.{Fence, CallEnvironment, Breakpoint}
+use Rattle.definedness.specs.declared.Bits.{Bits}
+use Rattle.run_values.specs.declared.status.Stop.TheVariants.{Misaligned}
+use Rattle.shadow_memory.specs.declared.cells.RangeKind.{RangeKind}
+use Rattle.shadow_memory.specs.declared.cells.RangeKind.TheVariants.{NoAccess, Undefined, Defined}
+use Rattle.guest_machine.specs.State.{Core}
+use Rattle.guest_machine.specs.Registers.{defined, known, register, set_register, tested}
+use Rattle.guest_machine.specs.StackPointer.{framed, is_stack_pointer, largest_frame, ranged, stack_moved, stack_ruled}
+use Rattle.guest_machine.specs.Effects.{Effect, branch_tested, branched, followed, is_undefined, jumped, linked_jump}
+use Rattle.guest_machine.specs.Effects.{after_word, moved_to, quiet, stopped, stops, target}
+use Rattle.guest_machine.specs.Calls.{answers, argument, call_at, call_tested, ebadf, enospc, failure, heap_parameters}
+use Rattle.guest_machine.specs.Calls.{is_output, moved_len, output_room, parameters_of, read_call, tested_from}
+use Rattle.guest_machine.specs.Calls.{write_call}
+use Rattle.guest_machine.specs.HeapCalls.{Resizing, Allocates, Refuses, Frees, Keeps, Moves, block_at, freed, heap_work}
+use Rattle.guest_machine.specs.HeapCalls.{released_here, resized, resizing}
+use Rattle.guest_machine.specs.NamedCalls.{named_by, named_tested, return_address, returns}
+use Rattle.guest_machine.specs.Exec.{Deed, Takes, CallsByName, Halts, Terms, call_effect, effect_at, exec, fetch_fault}
+use Rattle.guest_machine.specs.Exec.{called_here, deed_at, fetches, is_running, jump_fault, outcome}
+use Rattle.guest_machine.specs.Exec.{row_effect, unfetched}
+use Rattle.guest_machine.specs.Laws.{GoesByFours, IsByFours, KeepsIsa}
+use Rattle.guest_machine.specs.declared.environment_call.EnvironmentCall.{EnvironmentCall}
+use Rattle.guest_machine.specs.declared.environment_call.EnvironmentCall.TheVariants.{Read, Write, Exit, ExitGroup}
+use Rattle.guest_machine.specs.declared.environment_call.EnvironmentCall.TheVariants.{Heap, Unknown}
+use Rattle.guest_machine.proofs.StreamLaw.{reads-in, writes-from}
+
+either : (b : Bool) (isa : Isa) (x y : Core) → x.isa ≡ isa → y.isa ≡ isa → (cond b x y).isa ≡ isa
+either true isa x y h k = h
+either false isa x y h k = k
+
+-- ---- tests
+
+tests : (c : Core) (r : ℕ) → (tested c r).isa ≡ c.isa
+unfolding tested set_register
+tests c r = either ((register c r).undef == 0) c.isa c (defined c r) refl refl
+
+tests-from : (c : Core) (r : ℕ) (ps : List Parameter) → (tested_from c r ps).isa ≡ c.isa
+unfolding tested_from
+tests-from c r [] = refl
+tests-from c r (p ∷ ps) = tests-from (tested c r) (r + 1) ps ∙ tests c r
+
+call-tests : (c : Core) (call : EnvironmentCall) → (call_tested c call).isa ≡ c.isa
+call-tests c call = tests-from (tested c 17) 10 (parameters_of call) ∙ tests c 17
+
+-- ---- the stack pointer rule
+
+frames : (c : Core) (low high : ℕ) (kind : RangeKind) → (framed c low high kind).isa ≡ c.isa
+unfolding framed
+frames c low high kind =
+    either (nat_le (high - low) largest_frame) c.isa (ranged c low (high - low) kind) c refl refl
+
+moves : (c : Core) (old new : ℕ) → (stack_moved c old new).isa ≡ c.isa
+unfolding stack_moved
+moves c old new =
+    either (nat_lt new old) c.isa (framed c new old Undefined) (cond (nat_lt old new) (framed c old new NoAccess) c)
+    (frames c new old Undefined)
+    (either (nat_lt old new) c.isa (framed c old new NoAccess) c (frames c old new NoAccess) refl)
+
+rules : (old : Bits) (c : Core) → (stack_ruled old c).isa ≡ c.isa
+unfolding stack_ruled
+rules old c =
+    either (is_stack_pointer old && is_stack_pointer (register c 2)) c.isa
+    (stack_moved c old.value (register c 2).value) c (moves c old.value (register c 2).value) refl
+
+-- ---- jumps
+
+links : (c : Core) (next : ℕ) (hint : StackHint) (rd to : ℕ) → (linked_jump c next hint rd to).isa ≡ c.isa
+unfolding linked_jump set_register
+links c next hint rd to =
+    either (is_aligned c.isa to) c.isa (moved_to (set_register (followed c next hint to) rd (known next)) to)
+    (stopped c Misaligned) refl refl
+
+branches : (b : Bool) (c : Core) (next to : ℕ) → (branched b c next to).isa ≡ c.isa
+unfolding branched jumped
+branches true c next to = either (is_aligned c.isa to) c.isa (moved_to c to) (stopped c Misaligned) refl refl
+branches false c next to = refl
+
+-- ---- the heap
+
+frees : (c : Core) (released : Released) (volume : ℕ) → (freed c released volume).isa ≡ c.isa
+unfolding freed
+frees c (Done b) volume = refl
+frees c Nothing volume = refl
+frees c Invalid volume = refl
+
+allocates : (c : Core) (found : Option ℕ) (size redzone : ℕ) (kind : RangeKind)
+    → (block_at c found size redzone kind).isa ≡ c.isa
+unfolding block_at set_register
+allocates c None size redzone kind = refl
+allocates c (Some p) size redzone kind = refl
+
+resizes : (c : Core) (p size redzone volume : ℕ) (what : Resizing) → (resized c p size redzone volume what).isa ≡ c.isa
+unfolding resized set_register
+resizes c p size redzone volume Allocates = allocates c (place c.blocks size redzone) size redzone Undefined
+resizes c p size redzone volume Refuses = refl
+resizes c p size redzone volume Frees = frees c (released_here c p) volume
+resizes c p size redzone volume Keeps = refl
+resizes c p size redzone volume (Moves b q) = frees _ _ volume
+
+works : (function : Hook) (c : Core) (x y redzone volume : ℕ) (taken : ℕ → ℕ)
+    → (heap_work function c x y redzone volume taken).core.isa ≡ c.isa
+unfolding heap_work set_register
+works Malloc c x y redzone volume taken = allocates c (place c.blocks x redzone) x redzone Undefined
+works Free c x y redzone volume taken = frees c (released_here c x) volume
+works Calloc c x y redzone volume taken = allocates c (place c.blocks (x * y) redzone) (x * y) redzone Defined
+works Realloc c x y redzone volume taken = resizes c x y redzone volume (resizing c.blocks x y redzone)
+
+named : (b : Bool) (function : Hook) (c : Core) (redzone volume : ℕ) (taken : ℕ → ℕ)
+    → (named_by b function c redzone volume taken).core.isa ≡ c.isa
+unfolding named_by
+named true function c redzone volume taken =
+    works function (named_tested c function) (argument c 10) (argument c 11) redzone volume taken
+    ∙ tests-from (tested c 1) 10 (heap_parameters function) ∙ tests c 1
+named false function c redzone volume taken = tests c 1
+
+-- ---- calls
+
+either-effect : (b : Bool) (isa : Isa) (e h : Effect) → e.core.isa ≡ isa → h.core.isa ≡ isa
+    → (cond b e h).core.isa ≡ isa
+either-effect true isa e h p q = p
+either-effect false isa e h p q = q
+
+answer : (c : Core) (next : ℕ) (call : EnvironmentCall) (n : ℕ) → (answers c next call n).core.isa ≡ c.isa
+unfolding set_register
+answer c next call n = call-tests c call
+
+calls : (c : Core) (next : ℕ) (call : EnvironmentCall) (terms : Terms) (given : List ℕ) (taken : ℕ → ℕ)
+    → (call_effect c next call terms given taken).core.isa ≡ c.isa
+unfolding call_effect read_call write_call reads-in writes-from set_register
+calls c next Read terms given taken =
+    either-effect (argument c 10 == 0) c.isa (reads-in c next terms.intake.count given)
+    (answers c next Read (failure ebadf)) (call-tests c Read) (answer c next Read (failure ebadf))
+calls c next Write terms given taken =
+    either-effect (is_output (argument c 10)) c.isa
+    (cond (nat_le (terms.written + moved_len c) output_room) (writes-from c next taken)
+    (answers c next Write (failure enospc)))
+    (answers c next Write (failure ebadf))
+    (either-effect (nat_le (terms.written + moved_len c) output_room) c.isa (writes-from c next taken)
+    (answers c next Write (failure enospc)) (call-tests c Write) (answer c next Write (failure enospc)))
+    (answer c next Write (failure ebadf))
+calls c next Exit terms given taken = call-tests c Exit
+calls c next ExitGroup terms given taken = call-tests c ExitGroup
+calls c next (Heap function) terms given taken =
+    works function (call_tested c (Heap function)) (argument c 10) (argument c 11) terms.redzone terms.volume taken
+    ∙ call-tests c (Heap function)
+calls c next Unknown terms given taken = call-tests c Unknown
+
+-- ---- a step
+
+branch-tests : (c : Core) (test : Comparison) (rs1 rs2 : ℕ) → (branch_tested c test rs1 rs2).isa ≡ c.isa
+unfolding branch_tested set_register
+branch-tests c test rs1 rs2 =
+    either (is_undefined c test rs1 rs2) c.isa (defined (defined c rs1) rs2) c refl refl
+
+row-keeps : (c : Core) (next : ℕ) (row : Option Instruction) (terms : Terms) (given : List ℕ) (taken : ℕ → ℕ)
+    → (row_effect c next row terms given taken).core.isa ≡ c.isa
+unfolding row_effect set_register
+row-keeps c next None terms given taken = refl
+row-keeps c next (Some (LoadUpper rd imm)) terms given taken = refl
+row-keeps c next (Some (AddUpper rd imm)) terms given taken = refl
+row-keeps c next (Some (Jump rd imm)) terms given taken = links c next (jal_hint rd) rd ((c.pc + imm) % 2 ^ 32)
+row-keeps c next (Some (JumpRegister rd rs1 imm)) terms given taken =
+    links (tested c rs1) next (jalr_hint rd rs1) rd (target c rs1 imm / 2 * 2) ∙ tests c rs1
+row-keeps c next (Some (Branch test rs1 rs2 imm)) terms given taken =
+    branches (passes test (register c rs1).value (register c rs2).value) (branch_tested c test rs1 rs2) next
+    ((c.pc + imm) % 2 ^ 32) ∙ branch-tests c test rs1 rs2
+row-keeps c next (Some (Load width signed rd rs1 imm)) terms given taken = tests c rs1
+row-keeps c next (Some (Store width rs1 rs2 imm)) terms given taken = tests c rs1
+row-keeps c next (Some (Immediate operation rd rs1 imm)) terms given taken = refl
+row-keeps c next (Some (Registers operation rd rs1 rs2)) terms given taken = refl
+row-keeps c next (Some Fence) terms given taken = refl
+row-keeps c next (Some CallEnvironment) terms given taken = calls c next (call_at c) terms given taken
+row-keeps c next (Some Breakpoint) terms given taken = refl
+
+fault-keeps : (c : Core) (fault : Option ℕ) → (jump_fault c fault).core.isa ≡ c.isa
+fault-keeps c None = refl
+fault-keeps c (Some a) = refl
+
+none-taken : (c : Core) → (unfetched c).core.isa ≡ c.isa
+unfolding unfetched
+none-taken c =
+    either-effect (is_running c.status) c.isa
+    (cond (is_aligned c.isa c.pc) (jump_fault c (fetch_fault c)) (stops c Misaligned)) (quiet c)
+    (either-effect (is_aligned c.isa c.pc) c.isa (jump_fault c (fetch_fault c)) (stops c Misaligned)
+    (fault-keeps c (fetch_fault c)) refl) refl
+
+deed-keeps : (c : Core) (terms : Terms) (deed : Deed) (given : List ℕ) (taken : ℕ → ℕ)
+    → (outcome c terms deed given taken).core.isa ≡ c.isa
+deed-keeps c terms (Takes word) given taken =
+    rules (register c 2) (row_effect c (after_word c) (row_of word) terms given taken).core
+    ∙ row-keeps c (after_word c) (row_of word) terms given taken
+deed-keeps c terms (CallsByName function) given taken =
+    named (returns c) function c terms.redzone terms.volume taken
+deed-keeps c terms Halts given taken = none-taken c
+
+pub keeps-isa : KeepsIsa
+unfolding exec effect_at
+keeps-isa setup s = deed-keeps s.core _ (deed_at s.core s.bytes setup.hooks) _ _
+
+-- ---- where an instruction may begin
+
+by-fours : (core : Core) → core.isa ≡ Rv32im → IsByFours core
+unfolding jumped linked_jump called_here fetches unfetched unit
+by-fours core is = record {
+  jumps = λ to. (λ i. cond (is_aligned (is i) to) (moved_to core to) (stopped core Misaligned));
+  links = λ next hint rd to. (λ i. cond (is_aligned (is i) to)
+      (moved_to (set_register (followed core next hint to) rd (known next)) to) (stopped core Misaligned));
+  returns = λ i. is_aligned (is i) (return_address core);
+  calls = λ hooks. (λ i. cond (is_running core.status && is_aligned (is i) core.pc) (hook_at hooks core.pc) None);
+  fetches = λ i. is_running core.status && (is_aligned (is i) core.pc && is_none (fetch_fault core));
+  halts = λ i. cond (is_running core.status)
+      (cond (is_aligned (is i) core.pc) (jump_fault core (fetch_fault core)) (stops core Misaligned)) (quiet core);
+}
+
+pub goes-by-fours : GoesByFours
+goes-by-fours = by-fours
