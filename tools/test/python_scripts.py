@@ -110,6 +110,7 @@ with replaycheck.Run("station.elf", input="station.input") as run:
 """
 INTERRUPTED = """
 import os, replaycheck, signal, threading
+signal.signal(signal.SIGINT, signal.default_int_handler)  # a shell's job in the background begins without it
 with replaycheck.Run("station.elf", input="station.input") as run:
     before = run.report().text
     for turn in range(40):
