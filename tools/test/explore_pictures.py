@@ -60,7 +60,7 @@ def test_picture(tests):
 
 
 def made_steps(count, bad=(), outcome=ERROR, model="skip", edits=None):
-    """The table of a sweep of so many steps, of which some have an outcome of their own; with these edits, or those of a model."""
+    """The table of a sweep of `count` steps, of which some have an outcome of their own; with these edits, or those of a model."""
     edits = edits or [edit for at in range(count) for edit in edits_of(model, at, None)]
     is_bad = [int(it.split(" ")[1]) in bad and not it.endswith("x5 0xffffffff") for it in edits]
     lines = ["sweep 2", f"program 9 {SUM}", f"input 0 {SUM}", f"supp 0 {SUM}", f"steps 0..{count - 1} {model}", f"step {count}",
@@ -106,7 +106,7 @@ def test_made_steps(tests):
     tests.check("picture of steps: registers, their names", "" if all(names) else text[:300])
     first = f"steps {-(-137 * 700 // 320)} to "
     tests.check("picture of steps: registers, the title", "" if marks and marks[0][5].startswith(first) else marks[:1])
-    for count, size, every in ((1, 1, 1), (40, 30, 1), (330, 170, 3), (100000, 1, 8)):  # bytes of so many addresses, at each Nth step
+    for count, size, every in ((1, 1, 1), (40, 30, 1), (330, 170, 3), (100000, 1, 8)):  # bytes of `size` addresses, at each Nth step
         edits = [edit for at in range(0, count, every) for address in range(0x20003, 0x20003 + size)
                  if count == 1 or address % 7 != at % 7 for edit in byte_edits(at, address)]
         rects, text = drawn(tests, made_steps(count, {count // 2}, model="memory", edits=edits))

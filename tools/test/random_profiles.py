@@ -185,7 +185,7 @@ class Program:
         return found
 
     def past(self, chunks: list[bytes], length: int) -> int:
-        """The distance from an instruction of so many bytes to the start of one of the chunks after it, or their end."""
+        """The distance from an instruction with this length to the start of one of the chunks after it, or their end."""
         return length + sum(map(len, chunks[:self.random.randrange(len(chunks) + 1)]))
 
     def branches(self) -> bytes:

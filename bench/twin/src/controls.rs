@@ -1,5 +1,5 @@
-//! Control registers (RISC-V Unprivileged ISA 20191213, chapters 9 and 10; Privileged Architecture 20190608, section 2.1 and table 2.2): words
-//! with undefined bits, 0 at first, which only instructions change; but for counters, which have the number of steps before this one.
+//! Control registers (RISC-V Unprivileged ISA 20191213, chapters 9 and 10; Privileged Architecture 20190608, section 2.1 and table 2.2).
+//! They are words with undefined bits, 0 at first, which only instructions change. Counters have the number of steps before this one.
 
 use crate::machine::{Bits, Machine, and, field, known, or};
 
@@ -38,8 +38,8 @@ impl Machine {
         }
     }
 
-    /// CSRRW, CSRRS, CSRRC, and the same with an immediate. Answers whether there is such an instruction. The latter two write nothing where
-    /// their register is x0, or their immediate 0.
+    /// CSRRW, CSRRS, CSRRC, and the same with an immediate. Answers whether there is such an instruction. CSRRS and CSRRC write nothing
+    /// where their register is x0, or their immediate 0.
     pub fn execute_control(&mut self, word: u32) -> bool {
         let (number, funct3, rs1) = (field(word, 31, 20), field(word, 14, 12), field(word, 19, 15));
         let how = match funct3 {

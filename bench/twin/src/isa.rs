@@ -1,5 +1,6 @@
-//! Which instructions a machine has: those of RV32IM, or with these also 16-bit ones (C), atomic ones (A), and those of control registers
-//! (Zicsr), FENCE.I (Zifencei) and WFI (RISC-V Unprivileged ISA 20191213, chapters 16, 8, 9 and 3; Privileged Architecture 20190608, 3.2.3).
+//! Which instructions a machine has: those of RV32IM, or with these also 16-bit ones (C), atomic ones (A), those of control registers
+//! (Zicsr), FENCE.I (Zifencei) and WFI. Sources: RISC-V Unprivileged ISA 20191213, chapters 16, 8, 9 and 3; Privileged Architecture
+//! 20190608, section 3.2.3.
 
 /// A profile, by the name that compilers have for its letters.
 #[derive(Clone, Copy, PartialEq, Eq)]

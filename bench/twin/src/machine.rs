@@ -434,7 +434,7 @@ impl Machine {
         false
     }
 
-    /// Carries out the word of an instruction of so many bytes, and says whether the next instruction is the one after it.
+    /// Carries out the word of an instruction with this length in bytes, and says whether the next instruction is the one after it.
     #[inline(always)]
     fn execute<const UNIT: u32>(&mut self, word: u32, len: u32) -> bool {
         match word & 0x7F {
@@ -534,7 +534,7 @@ impl Machine {
         }
     }
 
-    /// The same where instructions are at multiples of so many bytes.
+    /// The same where instructions are at multiples of this number of bytes.
     #[inline(always)]
     fn step_by<const UNIT: u32>(&mut self) {
         if self.pc % UNIT != 0 {

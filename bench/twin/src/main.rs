@@ -1,7 +1,7 @@
-//! A plain interpreter of RV32IM, by `--isa` also of RV32IMC and RV32IMAC, with accessible and undefined bits: what a step costs where nothing is proved. It runs the loop
-//! that `bench/run` gives the program too, and prints where it leads; or a program of words from a file, and prints where it is after them,
-//! or answers looks at its run, or tells whether noise changes it. Of an ELF file it answers the lines of a session that looks, or writes
-//! the table of a sweep of alterations at steps.
+//! A plain interpreter of RV32IM, by `--isa` also of RV32IMC and RV32IMAC, with accessible and undefined bits: what a step costs where
+//! nothing is proved. It runs the loop that `bench/run` gives the program too, and prints where it leads; or a program of words from a
+//! file, and prints where it is after them, or answers looks at its run, or tells whether noise changes it. Of an ELF file it answers the
+//! lines of a session that looks, or writes the table of a sweep of alterations at steps.
 
 mod atomics;
 mod calls;
@@ -169,7 +169,7 @@ fn tell_halves() {
     }
 }
 
-/// Makes so many steps of a program, and prints how it ended, and its errors and leaks without addresses.
+/// Makes a number of steps of a program, and prints how it ended, and its errors and leaks without addresses.
 fn summarize(isa: Isa, steps: u64, image: Image, input: Vec<u8>) {
     let mut machine = Machine::of(isa, &image, &BTreeMap::new(), input.into());
     make(&mut machine, steps);

@@ -48,8 +48,8 @@ fn byte_edits(step: u32, addr: u32) -> impl Iterator<Item = Edit> {
     (0..8).map(move |bit| vec![(step, Change::FlipBytes { start: addr - place, mask: 1 << (8 * place + bit) })])
 }
 
-/// The edits of a model at a step at which the machine has this pc, and an instruction of so many bytes there. From this step on these bytes
-/// are read before they are overwritten.
+/// The edits of a model at a step at which the machine has this pc, and an instruction with this length in bytes there. The last bytes are
+/// those that this step or a later one reads before they are overwritten.
 pub fn edits(model: Model, step: u32, pc: u32, len: u32, read: &[u32]) -> Vec<Edit> {
     let once = |change| vec![(step, change)];
     let set = |r, value| once(Change::Set { place: Place::Register(r), bits: crate::machine::known(value) });

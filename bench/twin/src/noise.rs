@@ -1,5 +1,5 @@
-//! Runs with noise: before each step, undefined bits of registers and control registers, and what undefined and inaccessible bytes hold, become others by
-//! chance. A run that has made no use of them must go the same way.
+//! Runs with noise: before each step, undefined bits of registers and control registers, and what undefined and inaccessible bytes hold,
+//! become others by chance. A run that has made no use of them must go the same way.
 
 use crate::errors::Kind;
 use crate::machine::{Machine, Status};

@@ -55,7 +55,7 @@ impl Half {
         pairs.iter().map(|(from, to)| (self.0 >> from & 1) << to).sum()
     }
 
-    /// A number of so many bits, of which the highest is the half's bit 12, with its sign repeated.
+    /// A number with this width in bits, of which the highest is the half's bit 12, with its sign repeated.
     fn signed(&self, bits: u32, low: u32) -> u32 {
         let number = low | (self.0 >> 12 & 1) << (bits - 1);
         ((number << (32 - bits)).cast_signed() >> (32 - bits)).cast_unsigned()

@@ -28,7 +28,7 @@ OneRow = AllPairs Excludes rows
 
 -- ---- each expansion is an instruction of 32 bits
 
--- the number modulo 2^32 is that of a signed number of so many bits
+-- a number modulo 2^32 is that of a signed number with this width in bits
 abbrev pub IsSigned : ℕ → ℕ → Type 0
 IsSigned width n = (n < 2 ^ (width - 1)) ⊎ ((2 ^ 32 ≤ n + 2 ^ (width - 1)) × (n < 2 ^ 32))
 

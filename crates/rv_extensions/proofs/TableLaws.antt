@@ -21,7 +21,7 @@ use Rattle.rv_extensions.proofs.TableLemmas.{reads}
 
 -- ---- operands
 
--- each form's operands are fields of so many bits, or 0
+-- each form's operands are fields of their widths, or 0
 pub with_fields-HasOperands : (form : Form) (op : ExtensionOp) (word : ℕ) → HasOperands (with_fields form op word)
 with_fields-HasOperands Load op word = (omega arith, omega arith, omega arith, omega arith, omega arith)
 with_fields-HasOperands Update op word = (omega arith, omega arith, omega arith, omega arith, omega arith)

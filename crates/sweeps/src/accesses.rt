@@ -60,7 +60,7 @@ fn enter(table: &mut Memory, range: Option<Span>, how: u8) -> Result<(), AllocEr
 }
 
 /// Returns whether a machine runs.
-fn is_running(machine: &Machine) -> bool
+pub(crate) fn is_running(machine: &Machine) -> bool
     ensures { (s : State) → Shows machine.now s → result ≡ is_running s.core.status }
 {
     matches!(machine.status(), Status::Running)

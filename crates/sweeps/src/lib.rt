@@ -23,7 +23,8 @@
 //! Not each outcome needs a run. That of a register that is set or has a bit turned before a step is the outcome of the same change before
 //! the next step, if the step keeps the register; if the step overwrites the register, it is that of the unedited run. Bits of a word of
 //! memory are like a register that is kept, if the step doesn't touch the word (`step_uses` has the laws). So from one step to the next a
-//! sweep recalls up to 2^20 outcomes of up to 4,096 bytes (`Recalls`), and makes a run only for what the step before looked at.
+//! sweep recalls up to 2^20 outcomes of up to 4,096 bytes (`Recalls`), and makes a run only for what the step before looked at or
+//! overwrote.
 //!
 //! # Where the definitions are
 //!

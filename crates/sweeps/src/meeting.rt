@@ -1,10 +1,7 @@
 //! The changes of one place, one at a time.
-ghost use Rattle.std.specs.Prelude.{◌≡◌, ◌≤◌, ◌∷◌, [], IsTrue, OnOk, Some, true};
+ghost use Rattle.std.specs.Prelude.{◌≡◌, ◌≤◌, ◌∷◌, [], OnOk, Some};
 ghost use Rattle.std.specs.List.{All};
 ghost use Rattle.checkpoints.specs.Forks.{IsForkFor};
-ghost use Rattle.guest_machine.specs.Exec.{is_running};
-ghost use Rattle.guest_machine.specs.Shows.{Shows};
-ghost use Rattle.guest_machine.specs.State.{State};
 ghost use Rattle.scenario.specs.Edits.{row};
 ghost use Rattle.scenario.specs.Limits.{most_steps};
 ghost use Rattle.scenario.specs.Scenario.{run_of};
@@ -14,13 +11,13 @@ ghost use Rattle.sweeps.specs.Spots.{Continues};
 ghost use Rattle.sweeps.specs.Standing.{IsAt, IsBelow, Stands, all_changes};
 ghost use Rattle.sweeps.specs.Sweeps.{CountsMore};
 
+use crate::accesses::is_running;
 use crate::counting::Counts;
 use crate::memory::meet_memory;
 use crate::outcomes::outcome_of;
 use crate::pairs::meet_pairs;
 use crate::spots::Spot;
 use crate::striking::meet_step;
-use guest_machine::{Machine, Status};
 use scenario::Scenario;
 use std::alloc::{AllocError, Global};
 use sweep_plans::{Change, Plan, Standing};
@@ -68,13 +65,6 @@ pub(crate) fn meet_each(
     Ok(())
 }
 
-/// Returns whether a machine runs.
-fn runs(machine: &Machine) -> bool
-    ensures { IsTrue result → (s : State) → Shows machine.now s → is_running s.core.status ≡ true }
-{
-    matches!(machine.status(), Status::Running)
-}
-
 /// Does the same at the place of a spot; at a step, outcomes that are recalled come without a run.
 fn meet_there(
     alloc: Global,
@@ -94,7 +84,7 @@ fn meet_there(
     ensures met { OnOk result (CountsMore counts.old counts.new with_output scenario.old changes.now out.old.items out.new.items) }
 {
     if let Standing::Step { step, .. } = spot.standing {
-        if runs(&spot.fork.machine) {
+        if is_running(&spot.fork.machine) {
             return meet_step(
                 alloc,
                 scenario,

@@ -1,4 +1,4 @@
-use Rattle.std.proofs.Common.{refl}
+use Rattle.std.proofs.Common.{◌∙◌, sym}
 use Rattle.sweeps.specs.Standing.{state_before}
 use Rattle.sweeps.proofs.RecallSteps.{before-there}
 use Rattle.sweeps.proofs.meeting.meet_there.Goals as goal
@@ -10,6 +10,6 @@ meet_step-requires-clause-before c =
 
 pub meet_step-requires-clause-runs : goal.meet_step-requires-clause-runs
 meet_step-requires-clause-runs c =
-    c.if-runs.ensures refl (state_before c.args.scenario.now c.in-Step.step)
+    sym (c.is_running.ensures (state_before c.args.scenario.now c.in-Step.step)
     (before-there c.args.scenario.now c.in-Step.step c.in-Step.pc c.args.spot.now c.in-Step.is c.requires.unmarked
-    c.requires.stands c.requires.below c.requires.fork).shows
+    c.requires.stands c.requires.below c.requires.fork).shows) ∙ c.if-is_running.true
