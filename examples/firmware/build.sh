@@ -1,9 +1,9 @@
 #!/usr/bin/env bash
 # usage: examples/firmware/build.sh [FOLDER [MARCH]]
 #
-# Builds the programs of this folder and of the one above, each beside its source, or all of them into FOLDER, there perhaps for other
-# instructions than rv32im, such as rv32imac. One version of the tools makes the same bytes each time, wherever the folders lie; the
-# section .comment says which compiler it was.
+# Builds the programs of this folder and of the one above, each beside its source, and some for rv32imc into rv32imc/; or all of them
+# into FOLDER, there perhaps for other instructions than rv32im, such as rv32imac. One version of the tools makes the same bytes each
+# time, wherever the folders lie; the section .comment says which compiler it was.
 #
 # The files that are checked in hold code of this repository alone. average.elf, labels.elf and library.elf have picolibc in them,
 # and are left to who has it. Wants gcc-riscv64-unknown-elf and picolibc-riscv64-unknown-elf.
@@ -15,6 +15,7 @@ esac
 march=${2:-rv32im}
 into=${1:+$(mkdir -p "$1" && cd "$1" && pwd)}
 cd "$(dirname "$(readlink -f "$0")")"
+short=(boot boot-twice differences kinds station) # what rv32imc/ has
 gcc=riscv64-unknown-elf-gcc
 command -v $gcc >/dev/null || { echo "build.sh: no $gcc" >&2; exit 2; }
 
@@ -62,3 +63,11 @@ linked "${into:-.}/board.elf" board/board.ld -nostdlib board-{start,names,heap}.
 firmware average average.o console.o -DPICOLIBC_INTEGER_PRINTF_SCANF
 firmware library library.o console.o heap_by_name.o -lm
 firmware labels labels.o heap_by_name.o --picolibc-buildtype=release
+
+if [ -z "$into" ]; then
+  ./build.sh "$objects/rv32imc" rv32imc
+  mkdir -p rv32imc
+  for name in "${short[@]}"; do
+    mv "$objects/rv32imc/$name.elf" rv32imc
+  done
+fi

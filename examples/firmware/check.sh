@@ -59,6 +59,16 @@ verdicts() {
   done
 }
 
+# same_short NAME LINES: whether the program that is built for rv32imc says the same in a session, but for addresses. Lines are left out
+# that begin so.
+said_without_addresses() {
+  ../../tools/bin/replaycheck-talk "${@:2}" --input "$1.input" "$room/lines" | sed -E 's/0x[0-9a-f]{8}/0x/g'
+}
+same_short() {
+  grep -v "^$2" "$1.session" >"$room/lines"
+  diff <(said_without_addresses "$1" "$1.elf") <(said_without_addresses "$1" "rv32imc/$1.elf" --isa=rv32imc)
+}
+
 # The remarks of a session are those of the cases in the program.
 same_cases() {
   diff <(sed -nE 's|^    case ([0-9]+): .* /\* (.*) \*/$|\1: \2|p' "$1.c") <(sed -nE 's/^# ([0-9]+: .*)$/\1/p' "$1.session")
@@ -69,6 +79,14 @@ for program in kinds differences; do
   check "each case of $program.c" same $program ../../tools/bin/replaycheck-talk $program.elf --input $program.input $program.session
   check "the remarks of $program.session" same_cases $program
 done
+# Marks and patches have addresses of rv32im. Case 23 of kinds.c jumps to a multiple of 2.
+while read -r program lines; do
+  check "the same for rv32imc: $program" same_short "$program" "$lines"
+done <<'ROWS'
+station \(patch\|mark\|unmark\)
+kinds input 0 23
+differences patch
+ROWS
 check 'which runs are clean' same clean verdicts ../*.elf *.elf
 check 'each byte of station.input' same sweep explored
 if command -v riscv64-unknown-elf-addr2line riscv64-linux-gnu-addr2line addr2line >"$room/found"; then
@@ -159,6 +177,10 @@ else
   if [ "$(compiled_by station.elf)" != "$(compiled_by "$room/station.elf")" ]; then
     left_out 'comparing the programs, and those with picolibc' "the compiler isn't that of station.elf"
   else
+    check 'building the programs for rv32imc' ./build.sh "$room/rv32imc" rv32imc
+    for program in rv32imc/*.elf; do
+      check "the same bytes of $program" cmp "$program" "$room/$program"
+    done
     for program in ../*.elf {board,polled,kinds,differences,station,station-by-number,boot,boot-twice}.elf; do
       check "the same bytes of $program" cmp "$program" "$room/${program##*/}"
     done

@@ -21,6 +21,8 @@ SOURCES = {
     "break": f"{SAY} ebreak",
     "misaligned": f"{SAY} li t0, {ENTRY + 2}; jalr ra, 0(t0)",
     "null": f"{SAY} jalr ra, 0(zero)",
+    # Jumps to a multiple of 2, where an EBREAK begins.
+    "half": f"{SAY} .word 0x0060006f; .word 0x00730000; .word 0x00000010",
     "hangs": f"{SAY} again: nop; j again",
     "idles": f"{SAY} again: j again",
     "loud": f"li s0, 17; again: li a7, 64; li a0, 1; li a1, {DATA}; li a2, 2048; li a3, 2048; add a2, a2, a3; ecall; addi s0, s0, -1; "

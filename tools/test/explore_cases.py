@@ -13,13 +13,14 @@ SUM = hashlib.sha256(b"").hexdigest()
 class Made:
     """A sweep of so many bytes, words and steps, each edit of which has an outcome by chance."""
 
-    def __init__(self, places, words=0, values="3,5,7", seed=1, outcomes=OUTCOMES, steps=0):
+    def __init__(self, places, words=0, values="3,5,7", seed=1, outcomes=OUTCOMES, steps=0, isa="rv32im"):
         chance = random.Random(seed)
-        self.head = [f"program 9 {SUM}", f"input {places} {SUM}", f"supp 0 {SUM}", f"bytes 0..{places - 1} {values}"]
+        self.head = [f"isa {isa}"] if isa != "rv32im" else []
+        self.head += [f"program 9 {SUM}", f"input {places} {SUM}", f"supp 0 {SUM}", f"bytes 0..{places - 1} {values}"]
         self.head += [f"words 0x00010000..0x{0x10000 + 4 * words - 1:08x} flips"] if words else []
         self.head += [f"steps 0..{steps - 1} pc,skip"] if steps else []
         self.head += ["step 100", "output no"]
-        self.version = 2 if steps else 1
+        self.version = 2 if steps or isa != "rv32im" else 1
         self.outcomes = outcomes
         self.rows = []  # for each place its edits, each with an outcome
         for at in range(places):
@@ -75,6 +76,11 @@ WRONG_TABLES = [
     ("a version for steps", changed(b"sweep 1", b"sweep 2"), "`steps A..B MODELS`, as in each table of `sweep 2`, comes here"),
     ("steps in the version before", changed(b"bytes 0..5", b"steps 0..5 skip\nbytes 0..5"),
      "line 5: a line of `sweep 2` in a table of `sweep 1`: steps 0..5 skip"),
+    ("an instruction set in the version before", changed(b"program 9", b"isa rv32imc\nprogram 9"),
+     "line 2: a line of `sweep 2` in a table of `sweep 1`: isa rv32imc"),
+    ("another instruction set", changed(b"sweep 1\n", b"sweep 2\nisa rv32imac\n"), "line 2: not one of rv32imc: isa rv32imac"),
+    ("the usual instruction set", changed(b"sweep 1\n", b"sweep 2\nisa rv32im\n"), "line 2: not one of rv32imc: isa rv32im"),
+    ("no instruction set", changed(b"sweep 1\n", b"sweep 2\nisa \n"), "line 2: `isa NAME` comes here, and not isa "),
     ("a line of the head that there is not", changed(b"step 100", b"places 5\nstep 100"), "`step N` comes here, and not places 5"),
     ("the form before this one", lambda it: b"#\tinput\tall\t9\tx\ty\t1:2\t\t0..1\t3\nunedited\t-\n",
      "replaycheck explore --table"),
@@ -126,6 +132,9 @@ REFUSED = [
     ("no word", [], "no FILE"), ("an option twice", ["p.elf", "--step=1", "--step=2"], "--step is given twice"),
     ("two files", ["p.elf", "q.elf"], "unrecognized arguments: q.elf"),
     ("an option that there was once", ["p.elf", "--exits"], "unrecognized arguments: --exits"),
+    ("an instruction set that there isn't", ["p.elf", "--isa=rv32imac"],
+     "--isa: invalid choice: 'rv32imac': choose from rv32im, rv32imc"),
+    ("an instruction set without a file", ["--from", "a", "--isa=rv32imc"], "--isa goes with a FILE"),
     ("values that there were once", ["p.elf", "--bytes=0", "--values=nops"], "neither all, flips, edges nor a list"),
     ("values of bytes for words", ["p.elf", "--code=main", "--values=flips"], "--words-values"),
     ("values of words for bytes", ["p.elf", "--words-values=flips"], "goes with --words or --code"),

@@ -8,6 +8,9 @@ import shutil
 import signal
 import subprocess
 
+from replaycheck.guest_files import ENTRY, elf
+from tool_rows import HALF
+
 TOOLS = pathlib.Path(__file__).resolve().parent.parent
 EXPLORE = str(TOOLS / "bin" / "replaycheck-explore")
 EXAMPLES = TOOLS.parent / "examples"
@@ -91,6 +94,7 @@ class Tests:
 def furnish(room):
     for path in [*EXAMPLES.glob("*.elf"), EXAMPLES / "packet.input"]:
         shutil.copy(path, room)
+    (room / "half.elf").write_bytes(elf(HALF, symbols=[("main", ENTRY, 4 * len(HALF))]))
     (room / "packet-2.elf").write_bytes((room / "packet.elf").read_bytes() + b"\0")
     (room / "a name\nin two lines.elf").write_bytes((room / "packet.elf").read_bytes())
     (room / "linked.input").symlink_to("packet.input")

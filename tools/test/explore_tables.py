@@ -28,7 +28,8 @@ def test_merge(tests):
     """Parts are the whole, whatever their number and order."""
     sweeps = [("a list", Made(43)), ("bytes and words", Made(17, 23, "flips")), ("all values", Made(3, 0, "all")),
               ("one place", Made(1)), ("words that aren't loaded", Made(1, 40)),
-              ("bytes, words and steps", Made(5, 7, "flips", steps=30))]
+              ("bytes, words and steps", Made(5, 7, "flips", steps=30)), ("bytes for rv32imc", Made(5, isa="rv32imc")),
+              ("steps for rv32imc", Made(5, steps=9, isa="rv32imc"))]
     for label, made in sweeps:
         whole, chance = made.part(), random.Random(3)
         for count in range(1, 51) if label in ("a list", "bytes and words", "bytes, words and steps") else (1, 2, 7, 50):
@@ -52,7 +53,8 @@ def test_parts_refused(tests):
     made = Made(20)
     tables = {f"p{index}": made.part(index, 5) for index in range(1, 6)}
     tables.update(half=made.part(2, 2), first=made.part(1, 2), third=made.part(3, 4), other=Made(20, seed=2).part(2, 5),
-                  values=Made(20, values="3,5,8").part(3, 5), step=made.part(3, 5).replace(b"step 100", b"step 99"),
+                  short=Made(20, isa="rv32imc").part(3, 5), values=Made(20, values="3,5,8").part(3, 5),
+                  step=made.part(3, 5).replace(b"step 100", b"step 99"),
                   digest=changed(b"program 9 e3", b"program 9 e4")(made.part(3, 5)),
                   unedited=changed(b"outcome 0\nexited 0", b"outcome 0\nexited 9")(Made(20, seed=4, outcomes=["exited 0"]).part(3, 5)))
     tables["same"] = tables["p2"].replace(b"input 5 3 0", b"input 5 3 1", 1)
@@ -68,6 +70,7 @@ def test_parts_refused(tests):
             ("an overlap of cuts", [*five, "half"], "an overlap: the places from"),
             ("other values", [*five[:2], "values", *five[3:]], "of another sweep"),
             ("another step", [*five[:2], "step", *five[3:]], "step"),
+            ("another instruction set", [*five[:2], "short", *five[3:]], "--isa rv32imc, not rv32im"),
             ("another program", [*five[:2], "digest", *five[3:]], "another program, 9 bytes with the digest"),
             ("another unedited run", [*five[:2], "unedited", *five[3:]], "its unedited run is another one")]])
 

@@ -78,8 +78,8 @@ class Halves:
 class Program:
     """The file's content of the random program of a seed."""
 
-    def __init__(self, seed: int, halves: Halves, has_atomics: bool) -> None:
-        self.random, self.halves, self.has_atomics = random.Random(seed), halves, has_atomics
+    def __init__(self, seed: int, halves: Halves, has_atomics: bool, fence: int = FENCE_I) -> None:
+        self.random, self.halves, self.has_atomics, self.fence = random.Random(seed), halves, has_atomics, fence
         pieces = [bytes_of(*load_number(KEPT, DATA), addi(SP, KEPT, STACK))]
         for register in range(1, 32):
             if register not in (SP, KEPT):
@@ -238,7 +238,7 @@ class Program:
             old, new, at, width = self.two(), int.from_bytes(self.two(), "little"), 0, 2
         before = [auipc(base), *load_number(value, new)]
         start = 4 * (len(before) + 2) + len(pad)
-        return bytes_of(*before, store(width, value, base, start + at), FENCE_I) + pad + old
+        return bytes_of(*before, store(width, value, base, start + at), self.fence) + pad + old
 
     def two(self) -> bytes:
         """Four bytes: two short instructions or a long one."""

@@ -2,7 +2,7 @@
 """Writes the table of `replaycheck sweep` by text sessions alone: a line for an edit, its report, and the line that takes
 it back. It shares no code with the program's own sweep, and is what that is compared with.
 
-usage: tools/test/sweep_by_sessions.py PROGRAM FILE [--input F] [--supp F] [--step N] [--bytes A..B]
+usage: tools/test/sweep_by_sessions.py PROGRAM FILE [--input F] [--supp F] [--isa NAME] [--step N] [--bytes A..B]
        [--values all|flips|edges|LIST] [--words A..B] [--words-values skip|flips|LIST] [--with-output] [--part I/N]
 
 In: a built replaycheck, and the options of its `sweep`.
@@ -82,6 +82,7 @@ def options_of(words):
     reader.add_argument("file")
     for name in ("--input", "--supp", "--bytes", "--words"):
         reader.add_argument(name)
+    reader.add_argument("--isa", default="rv32im")
     reader.add_argument("--step", type=lambda it: int(it, 0), default=1048576)
     reader.add_argument("--values", default="all")
     reader.add_argument("--words-values", default="skip")
@@ -106,7 +107,7 @@ def options_of(words):
 
 def reply_to(options, room, lines):
     """What a session says to lines."""
-    words = [options.program, "session", f"{room}/program"]
+    words = [options.program, "session", f"{room}/program", f"--isa={options.isa}"]
     words += ["--input", f"{room}/input"] if options.input is not None else []
     words += ["--supp", f"{room}/supp"] if options.supp is not None else []
     done = subprocess.run(words, input="".join(f"{line}\n" for line in lines).encode(), capture_output=True)
@@ -258,7 +259,7 @@ def last_unread(options, room, offsets, end):
 
 
 def head(options, files):
-    yield "sweep 1"
+    yield from ["sweep 1"] if options.isa == "rv32im" else ["sweep 2", f"isa {options.isa}"]
     for name, content in files.items():
         yield f"{name} {len(content)} {hashlib.sha256(content).hexdigest()}"
     if options.bytes:

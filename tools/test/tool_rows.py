@@ -8,6 +8,10 @@ ADDR2LINE = ["riscv64-unknown-elf-addr2line"]
 BINUTILS = ["riscv64-unknown-elf-as", "riscv64-unknown-elf-objdump"]
 PACKET = ["packet.elf", "--input", "packet.input"]
 KINDS = ["kinds.elf", "--input", "kinds.input"]
+# Jumps to a multiple of 2, where an EBREAK begins: it is misaligned for rv32im.
+HALF = [0x0060006F, 0x00730000, 0x00000010]
+SHORT = ["half.elf", "--isa=rv32imc"]
+NO_SET = "*--isa: invalid choice: 'rv32imac': choose from rv32im, rv32imc*"
 SUPPRESSED = ["run", "undefined-branches.elf", "--supp=undefined-branches.supp"]
 # Tools that wait for a child, and the variables that name the child.
 SLOW = [
@@ -81,6 +85,9 @@ def talk_rows():
     yield Row("talk: a script", ["talk", "three-words.elf", "script"], 0, TALKED)
     yield Row("talk: from standard input", ["talk", "three-words.elf", "-"], 1, f"> hello\n{NO_LINE}\n> goto 1\nok\n",
               given=b"hello\ngoto 1\n")
+    yield Row("talk: for rv32imc", ["talk", *SHORT, "-"], 0, "> look last run 0x10006 4 0\nnone\n> goto 9\nok\n"
+              "> look last run 0x10006 4 0\nstep 1\n", given=b"look last run 0x10006 4 0\ngoto 9\nlook last run 0x10006 4 0\n")
+    yield Row("talk: another instruction set", ["talk", "three-words.elf", "-", "--isa=rv32imac"], 2, "", NO_SET)
     yield Row("talk: a line with a return", ["talk", "three-words.elf", "-"], 0, "> goto 1\nok\n", given=b"goto 1\r\n")
     yield Row("talk: an input", ["talk", "packet.elf", "--input=packet.input", "--", "-"], 0, "> input 7 1\nok\n",
               given=b"input 7 1")
@@ -116,6 +123,11 @@ def when_rows():
               "*two lines in one argument*")
     yield Row("when: a text of two lines", [*when, "state\nexited"], 2, "", "*two lines in one argument*")
     yield Row("when: no edit", ["when", *PACKET, "--line", "goto 8", "Invalid"], 2, "", "*not an edit: 'goto 8'*")
+    yield Row("when: for rv32imc", ["when", *SHORT, "stopped break 0x00010006"], 0, "2\n")
+    yield Row("when: for rv32im", ["when", "half.elf", "--isa", "rv32im", "stopped break"], 1)
+    yield Row("when: another instruction set", [*when, "--isa=rv32imac", "x"], 2, "", NO_SET)
+    yield Row("when: an instruction set twice", ["when", *SHORT, *SHORT[1:], "x"], 2, "", "*--isa is given twice*")
+    yield Row("when: no instruction set", [*when, "x", "--isa"], 2, "", "*--isa: its value is missing*")
     yield Row("when: a step that is too great", [*when, "--last", "4194305", "x"], 2, "",
               "*not a number from 0 to 4194304*")
     yield Row("when: a refused file", ["when", "script", "x"], 2, "", "replaycheck: image refused 20: no ELF file\n")
@@ -130,6 +142,9 @@ def compare_rows():
               "*-error 1: Invalid read of size 4*")
     yield Row("compare: lines that take one another back", [*compare, "input 0 8", "input 0 3"], 0)
     yield Row("compare: a suppression", [*compare, "--supp", "free.supp", "option redzone 32"], 0)
+    yield Row("compare: for rv32imc", ["compare", *SHORT, "patch 0x10004 0"], 1,
+              "*-state stopped break 0x00010006\n+state stopped illegal 0x00010006\n*")
+    yield Row("compare: another instruction set", [*compare, "--isa", "rv32imac", "input 0 8"], 2, "", NO_SET)
     yield Row("compare: a step that is too great", [*compare, "--step", "5000000", "input 0 8"], 2, "",
               "*not a number from 0*")
     yield Row("compare: a missing program", ["compare", "missing", "input 0 8"], 2, "",
@@ -193,6 +208,16 @@ def word_rows():
     yield Row("word: no word", ["word", ""], 1, "", "*0 words, not one*", needs=BINUTILS)
     yield Row("word: no instruction", ["word", "hello a0"], 1, "", "*Error*", needs=BINUTILS)
     yield Row("word: not of RV32IM", ["word", "c.nop"], 1, "", "*Error*", needs=BINUTILS)
+    short = ["word", "--isa=rv32imc"]
+    for word, instruction in (("0x00150513", "addi a0,a0,1"), ("0x00010001", "c.nop; c.nop"), ("0x45050001", "c.nop;c.li a0,1"),
+                              ("0xa0010001", "C.NOP; c.j .")):
+        yield Row(f"word: of rv32imc, {instruction}", [*short, instruction], 0, f"{word}\n", needs=BINUTILS)
+    for instruction in ("c.nop", "c.nop; c.nop; c.nop", "c.nop; ecall"):
+        yield Row(f"word: of rv32imc, refused, {instruction}", [*short, instruction], 1, "",
+                  "replaycheck word: not a word: two instructions of 16 bits are one, such as 'c.nop; c.nop'\n", needs=BINUTILS)
+    yield Row("word: of rv32imc, two words", [*short, "li a0,70000"], 1, "", "*2 words, not one*", needs=BINUTILS)
+    yield Row("word: not of rv32imc", [*short, "c.flw fa0,0(a0)"], 1, "", "*Error*", needs=BINUTILS)
+    yield Row("word: another instruction set", ["word", "nop", "--isa=rv32imac"], 2, "", NO_SET)
     yield Row("word: two lines", ["word", "nop\nnop"], 2, "", "*two lines in one argument*", needs=BINUTILS)
     yield Row("word: no assembler", ["word", "nop"], 2, "", "*cannot run missing-as*binutils*",
               environment={"AS": "missing-as"})
@@ -250,6 +275,14 @@ def run_rows():
     yield Row("run: an error", [*freed, "--error-exitcode=7"], 7, None)
     yield Row("run: an error, and no status", [*freed, "--error-exitcode", "0"], 0, None)
     yield Row("run: no error", ["run", "three-words.elf", "--error-exitcode=7"], 0, None)
+    yield Row("run: for rv32imc", ["run", *SHORT], 0, "*state stopped break 0x00010006\n*")
+    yield Row("run: for rv32imc, as a report", ["run", *SHORT, "--error-exitcode=7"], 7, "*state stopped break 0x00010006\n*")
+    yield Row("run: for rv32imc, by a session", ["run", *SHORT, "--redzone-size=8"], 0, "*state stopped break 0x00010006\n*")
+    yield Row("run: for rv32imc, as json", ["run", *SHORT, "--format=json"], 0,
+              '*"input": null,\n "isa": "rv32imc",\n "step": 4194304*"why": "break"*"clean": true*')
+    yield Row("run: for rv32im, as json", ["run", "half.elf", "--isa=rv32im", "--format=json"], 0,
+              '*"input": null,\n "step": 4194304*"why": "misaligned"*')
+    yield Row("run: another instruction set", ["run", "half.elf", "--isa=rv32imac", "--format=json"], 2, "", NO_SET)
     for label, case, kinds, status in LEAKS:
         yield Row(f"run: {label}", ["run", "kinds.elf", f"--input=case-{case}", f"--errors-for-leak-kinds={kinds}",
                                     "--error-exitcode=7"], status, None)

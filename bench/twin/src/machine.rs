@@ -547,6 +547,10 @@ impl Machine {
         }
         let (taken, len) = self.take::<UNIT>();
         if let Some(bad) = taken.bad {
+            // The first half of a word says that there is a second one, so it is tested.
+            if UNIT == HALF && len == WORD && taken.undef & 0xFFFF != 0 {
+                self.raise(Kind::Value);
+            }
             self.raise_at(Kind::Jump, bad);
             self.status = Status::Jump;
             return;

@@ -85,6 +85,10 @@ fn an_instruction_that_is_cut_at_the_end_of_memory_stops_at_its_second_half() {
     machine.step();
     machine.step();
     assert_eq!((machine.status, machine.errors.at(Kind::Jump, START + 2)), (Status::Jump, 1));
+    let mut machine = of_halves(Isa::Rv32imc, &[0x0013], 2);
+    machine.memory.set_range(START, 2, RangeKind::Undefined);
+    machine.step();
+    assert_eq!((machine.errors.at(Kind::Value, START), machine.errors.at(Kind::Jump, START)), (1, 1));
 }
 
 #[test]

@@ -1,5 +1,6 @@
 //! Call stacks.
-ghost use Rattle.std.specs.Prelude.{◌≡◌, ◌==◌, [], IfOk, position};
+ghost use Rattle.std.specs.Prelude.{◌≡◌, ◌==◌, [], IfOk, IsTrue, position};
+ghost use Rattle.std.specs.Option.{option_copied};
 ghost use Rattle.call_stacks.specs.Frames.{called, returned, trace_at};
 
 use crate::trace::{LONGEST_TRACE, Trace};
@@ -34,6 +35,16 @@ impl Model for CallStack {
     ghost view = { λ s. s.frames.items };
 
     ghost invariant = { λ s. s.frames.capacity ≡ 256 };
+}
+
+/// Returns whether there are two frames, and they are the same.
+fn are_same(one: Option<&Frame>, other: Option<&Frame>) -> bool
+    ensures { IsTrue result → option_copied one.entry ≡ option_copied other.entry }
+{
+    match (one, other) {
+        (Some(one), Some(other)) => *one == *other,
+        _ => false,
+    }
 }
 
 #[tactic(auto, unfolding(crate::specs::Frames::returned, crate::specs::Frames::trace_at))]
@@ -104,5 +115,20 @@ impl CallStack {
         frames.extend_from_slice(newer);
         frames.extend_from_slice(older);
         Ok(CallStack { frames })
+    }
+
+    /// Returns whether another stack has the same frames. Allocates nothing, and costs one pass over the frames.
+    pub fn is_same(&self, other: &CallStack) -> bool
+        ensures { IsTrue result → self.now ≡ other.now }
+    {
+        if self.frames.len() != other.frames.len() {
+            return false;
+        }
+        for i in 0..self.frames.len() {
+            if !are_same(self.frames.get(i), other.frames.get(i)) {
+                return false;
+            }
+        }
+        true
     }
 }

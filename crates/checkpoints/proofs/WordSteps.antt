@@ -12,7 +12,8 @@ use Rattle.guest_machine.specs.Spans.{covers}
 use Rattle.run_values.specs.declared.span.Span.{Span}
 use Rattle.guest_machine.specs.declared.setup.Touched.{Touched}
 use Rattle.guest_machine.specs.Exec.{has_touched}
-use Rattle.checkpoints.specs.Words.{meets, has_address, is_among, is_from, IsWordIn, words_in, words_of, has_word}
+use Rattle.checkpoints.specs.Words.{AreWords, meets, has_address, is_among, is_from, IsWordIn, words_in, words_of}
+use Rattle.checkpoints.specs.Words.{has_word}
 use Rattle.checkpoints.specs.Words.{place_in, IsPlaced, AreEntered, never}
 
 -- words in and out of a range
@@ -228,6 +229,9 @@ none-in (suc n) (suc k) = none-in n k
 
 pub none-remembered : (ranges : List Span) (steps : List ℕ) (n : ℕ) → AreEntered ranges steps (replicate n never)
 none-remembered ranges steps n k few = let none = none-in n k in absurd (omega arith)
+
+pub no-words : (n : ℕ) → AreWords (replicate n never)
+no-words n k other = absurd (other (none-in n k))
 
 -- a range inside of a word meets that one
 pub meets-one : (span : Span) (w : ℕ) → span.start < 2 ^ 32 → w < 2 ^ 30 → 0 < span.len

@@ -7,7 +7,7 @@ ghost use Rattle.checkpoints.specs.declared.uses.Row.{Row as RowOf};
 ghost use Rattle.checkpoints.specs.declared.uses.Place.TheVariants.{At};
 ghost use Rattle.guest_elf.specs.Segments.{has_address};
 ghost use Rattle.guest_machine.specs.Exec.{has_touched};
-ghost use Rattle.guest_machine.specs.Spans.{covers, span_at, IsWord};
+ghost use Rattle.guest_machine.specs.Spans.{covers, span_at, IsCodeSpan};
 ghost use Rattle.guest_elf.specs.declared.segment.Segment.{Segment as SegmentOf};
 ghost use Rattle.checkpoints.specs.Words.{meets, is_among, is_from, words_in, word_end, words_of, IsPlaced, IsPlace, never, kept_below, group_size, AreBelowBounds, DropsAt, IsEntered, is_in_group};
 ghost use Rattle.checkpoints.specs.Entries.{ranges_of, entry_of, below, EntersAt, IsClean};
@@ -22,8 +22,6 @@ use std::alloc::{AllocError, Global};
 const NEVER: u32 = u32::MAX;
 /// The greatest number of rows that are looked at individually.
 const FEW: usize = 8;
-/// The number of bytes of a word.
-const WORD: u32 = 4;
 /// The number of all words.
 const ALL_WORDS: u32 = 1 << 30;
 
@@ -190,6 +188,7 @@ impl FirstUses {
     /// that are then done.
     #[tactic(auto, unfolding(crate::specs::Entries::ranges_of, crate::specs::Entries::entry_of))]
     fn enter(&mut self, word: u32, most: u32, step: u32) -> u32
+        requires { word < 2 ^ 30 }
         ensures ranges { ranges_of self.new ≡ ranges_of self.old }
         ensures clean { IsClean self.old (step + 1) → IsClean self.new (step + 1) }
         ensures some { 0 < most → word < 2 ^ 30 → 0 < result }
@@ -214,6 +213,7 @@ impl FirstUses {
     #[inline(always)]
     #[tactic(auto, unfolding(crate::specs::Entries::ranges_of, crate::specs::Entries::entry_of))]
     fn enter_word(&mut self, word: u32, step: u32)
+        requires { word < 2 ^ 30 }
         ensures ranges { ranges_of self.new ≡ ranges_of self.old }
         ensures clean { IsClean self.old (step + 1) → IsClean self.new (step + 1) }
         ensures entries { (w : ℕ) → w < 2 ^ 30 → IsPlaced (ranges_of self.old) w
@@ -229,6 +229,7 @@ impl FirstUses {
     #[inline(always)]
     #[tactic(auto, unfolding(crate::specs::Entries::ranges_of, crate::specs::Entries::entry_of))]
     fn enter_at(&mut self, word: u32, place: usize, step: u32)
+        requires small { word < 2 ^ 30 }
         requires place { IsPlace (ranges_of self.old) word (At place) }
         ensures ranges { ranges_of self.new ≡ ranges_of self.old }
         ensures clean { IsClean self.old (step + 1) → IsClean self.new (step + 1) }
@@ -248,7 +249,8 @@ impl FirstUses {
     #[inline(always)]
     #[tactic(auto, unfolding(crate::specs::Entries::ranges_of, crate::specs::Entries::entry_of))]
     fn remember(&mut self, word: u32)
-        requires { IsEntered (ranges_of self.old) self.old.steps.items word }
+        requires small { word < 2 ^ 30 }
+        requires entered { IsEntered (ranges_of self.old) self.old.steps.items word }
         ensures ranges { ranges_of self.new ≡ ranges_of self.old }
         ensures clean { (n : ℕ) → IsClean self.old n → IsClean self.new n }
         ensures steps { self.new.steps.items ≡ self.old.steps.items }
@@ -292,26 +294,43 @@ impl FirstUses {
         span.len <= 4 - span.start % 4 && self.remembers(span)
     }
 
-    /// Enters a step for the word that was fetched, if one was.
+    /// Whether a code begins at a multiple of 4, and its word is remembered. It costs no more than for a word: a remembered word is a
+    /// quarter of an address, and what is compared is none where the code begins at another multiple of 2.
+    #[inline(always)]
+    #[tactic(auto, unfolding(crate::specs::Entries::ranges_of, crate::specs::Entries::entry_of))]
+    fn remembers_code(&self, code: Span) -> bool
+        requires { IsCodeSpan code }
+        ensures { IsTrue result → (step : ℕ) → IsClean self.now (step + 1) → EntersAt step (covers (Some code)) self.now self.now }
+    {
+        let turned = code.start / 4 + code.start % 4 * ALL_WORDS;
+        self.remembered[turned as usize % REMEMBERED] == turned
+    }
+
+    /// Enters a step for each word that the code meets which was fetched, if one was.
     #[inline(always)]
     fn enter_fetch(&mut self, fetch: Option<Span>, step: u32)
         requires clean { IsClean self.old (step + 1) }
-        requires word { IfSome fetch IsWord }
+        requires code { IfSome fetch IsCodeSpan }
         ensures ranges { ranges_of self.new ≡ ranges_of self.old }
         ensures clean { IsClean self.new (step + 1) }
         ensures entries { EntersAt step (covers fetch) self.old self.new }
     {
-        if let Some(word) = fetch {
-            if !self.remembers(word) {
-                self.enter_unknown(
-                    Span {
-                        start: word.start,
-                        len: WORD,
-                    },
-                    step,
-                );
+        if let Some(code) = fetch {
+            if !self.remembers_code(code) {
+                self.enter_code(code, step);
             }
         }
+    }
+
+    /// Enters a step for each word that a code meets which wasn't found at once. Out of line, since that is rare where all codes are words.
+    #[inline(never)]
+    fn enter_code(&mut self, code: Span, step: u32)
+        requires { IsClean self.old (step + 1) }
+        ensures ranges { ranges_of self.new ≡ ranges_of self.old }
+        ensures clean { IsClean self.new (step + 1) }
+        ensures entries { EntersAt step (covers (Some code)) self.old self.new }
+    {
+        self.enter_span(Some(code), step);
     }
 
     /// Enters a step for each word that a range meets.
@@ -366,7 +385,7 @@ impl FirstUses {
     #[inline(always)]
     fn enter_each(&mut self, touched: &Touched, step: u32)
         requires clean { IsClean self.old (step + 1) }
-        requires word { IfSome touched.now.fetch IsWord }
+        requires code { IfSome touched.now.fetch IsCodeSpan }
         ensures ranges { ranges_of self.new ≡ ranges_of self.old }
         ensures clean { IsClean self.new (step + 1) }
         ensures entries { EntersAt step (has_touched touched.now) self.old self.new }
@@ -376,12 +395,12 @@ impl FirstUses {
         self.enter_span(touched.writes, step);
     }
 
-    /// The same. Out of line, for a step that fetched no word, which is rare.
+    /// The same. Out of line, for a step that fetched nothing, which is rare.
     #[cold]
     #[inline(never)]
     fn enter_apart(&mut self, touched: Touched, step: u32)
         requires clean { IsClean self.old (step + 1) }
-        requires word { IfSome touched.fetch IsWord }
+        requires code { IfSome touched.fetch IsCodeSpan }
         ensures ranges { ranges_of self.new ≡ ranges_of self.old }
         ensures clean { IsClean self.new (step + 1) }
         ensures entries { EntersAt step (has_touched touched) self.old self.new }
@@ -389,12 +408,12 @@ impl FirstUses {
         self.enter_each(&touched, step);
     }
 
-    /// Enters a step for each word that it touched. No later step was entered before. Returns whether the step fetched a word, which no
-    /// step of a halted machine does.
+    /// Enters a step for each word that it touched. No later step was entered before. Returns whether the step fetched a code, or the
+    /// first half of one, which no step of a halted machine does.
     #[inline(always)]
     pub(crate) fn enter_touched(&mut self, touched: &Touched, step: u32) -> bool
         requires clean { IsClean self.old (step + 1) }
-        requires word { IfSome touched.now.fetch IsWord }
+        requires code { IfSome touched.now.fetch IsCodeSpan }
         ensures ranges { ranges_of self.new ≡ ranges_of self.old }
         ensures clean { IsClean self.new (step + 1) }
         ensures entries { EntersAt step (has_touched touched.now) self.old self.new }

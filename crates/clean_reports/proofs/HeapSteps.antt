@@ -17,7 +17,7 @@ use Rattle.guest_heap.specs.declared.released.Released.TheVariants.{Done, Nothin
 use Rattle.guest_elf.specs.declared.hook.Hook.{Hook}
 use Rattle.guest_elf.specs.declared.hook.Hook.TheVariants.{Malloc, Free, Calloc, Realloc}
 use Rattle.error_events.specs.declared.parameter.Parameter.{Parameter}
-use Rattle.instructions.specs.Instructions.{row_of}
+use Rattle.instructions.specs.Codes.{len_of, row_of_code}
 use Rattle.instructions.specs.declared.hint.StackHint.{StackHint}
 use Rattle.instructions.specs.declared.instruction.Instruction.{Instruction}
 use Rattle.instructions.specs.declared.instruction.Instruction.TheVariants.{LoadUpper, AddUpper, Jump, JumpRegister}
@@ -29,7 +29,7 @@ use Rattle.guest_elf.specs.Profiles.{is_aligned}
 use Rattle.guest_machine.specs.State.{Core, State}
 use Rattle.guest_machine.specs.Registers.{known, register, set_register, tested, defined}
 use Rattle.guest_machine.specs.Errors.{here}
-use Rattle.guest_machine.specs.Effects.{after_word, moved_to, stopped, exited, stored_core, target}
+use Rattle.guest_machine.specs.Effects.{next_of, moved_to, stopped, exited, stored_core, target}
 use Rattle.guest_machine.specs.Effects.{jumped, branch_tested}
 use Rattle.guest_machine.specs.Effects.{is_undefined, branched, followed, linked_jump, quiet, stops}
 use Rattle.guest_machine.specs.StackPointer.{stack_ruled, stack_moved, framed, ranged, is_stack_pointer, is_in_stack}
@@ -48,7 +48,7 @@ use Rattle.guest_machine.specs.HeapCalls.{placed, carved, block_at, freed, relea
 use Rattle.guest_machine.specs.HeapCalls.{Refuses, Frees, Keeps, Moves, resizing, copied, moved_block, resized}
 use Rattle.guest_machine.specs.HeapCalls.{heap_work, heap_call}
 use Rattle.guest_machine.specs.NamedCalls.{named_by, returns, returned_to, return_address}
-use Rattle.guest_machine.specs.Exec.{Deed, Takes, CallsByName, Halts, Terms, outcome, row_effect}
+use Rattle.guest_machine.specs.Exec.{Deed, Takes, Cut, CallsByName, Halts, Terms, outcome, row_effect, word_fault}
 use Rattle.guest_machine.specs.Exec.{call_effect, unfetched, jump_fault, is_running}
 use Rattle.guest_machine.specs.Exec.{fetch_fault, deed_at, exec, effect_at}
 use Rattle.guest_machine.specs.declared.setup.Setup.{Setup}
@@ -489,12 +489,18 @@ none-taken c = go (is_running c.status) (is_aligned c.isa c.pc) (fetch_fault c)
     go true false o = record { blocks = refl; same = λ a low high. refl }
     go false d o = as-is c
 
+fault-left : (c : Core) (fault : Option ℕ) → LeavesHeap c (jump_fault c fault).core
+fault-left c None = as-is c
+fault-left c (Some n) = record { blocks = refl; same = λ a low high. refl }
+
 deeds : (b : Bool) (c : Core) → Stands b c → (terms : Terms) (deed : Deed) (given : List ℕ) (taken : ℕ → ℕ)
     → Stands b (outcome c terms deed given taken).core
-deeds b c h terms (Takes word) given taken =
-    let row = rows b c h (after_word c) terms given taken (row_of word) in
-    on b (row_effect c (after_word c) (row_of word) terms given taken).core _
-    (rules (row_effect c (after_word c) (row_of word) terms given taken).core (register c 2)) row
+deeds b c h terms (Takes code) given taken =
+    let next = next_of c (len_of code) in
+    let row = rows b c h next terms given taken (row_of_code code) in
+    on b (row_effect c next (row_of_code code) terms given taken).core _
+    (rules (row_effect c next (row_of_code code) terms given taken).core (register c 2)) row
+deeds b c h terms Cut given taken = on b c _ (fault-left c (word_fault c)) h
 deeds b c h terms (CallsByName function) given taken =
     named-calls b (returns c) function c h terms.redzone terms.volume taken
 deeds b c h terms Halts given taken = on b c _ (none-taken c) h

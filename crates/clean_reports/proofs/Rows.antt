@@ -1,9 +1,10 @@
 -- Effects that agree, of each row of the instruction table.
 use Rattle.std.proofs.Common.{◌≡◌, ℕ, ◌^◌, ◌<◌, min, Bool, true, false, cond, refl}
 use Rattle.std.proofs.Common.{sym, subst, arith, List, [], ◌∷◌, length, drop, Option, Some, None}
-use Rattle.std.proofs.Common.{slice_index, All, ◌==◌, inl, inr}
+use Rattle.std.proofs.Common.{slice_index, All, Any, IfSome, ◌==◌, ◌≤◌, ◌-◌, inl, inr}
 use Rattle.std.specs.Prelude.{find}
 use Rattle.std.specs.Option.{option_map}
+use Rattle.std.proofs.Math.Pow.{pow_mono}
 use Rattle.std.proofs.lemmas.Bool.{cases_lt, cases_eq, ne_eqb}
 use Rattle.std.proofs.lemmas.List.{get_or_past}
 use Rattle.std.proofs.lemmas.List.Elements.{All-get_or, All-take, All-drop}
@@ -11,7 +12,15 @@ use Rattle.definedness.specs.declared.Bits.{Bits}
 use Rattle.rv_decode.specs.declared.Op.{Op}
 use Rattle.rv_decode.specs.Table.{Form, R, I, Shift, S, B, U, J, Bare, Row, rows, has_fixed_bits, with_fields, insn_of}
 use Rattle.rv_decode.specs.Table.{insn}
-use Rattle.instructions.specs.Instructions.{instruction_by, instruction_of, if_row, row_of}
+use Rattle.rv_decode.specs.Table.{rows as lines}
+use Rattle.rv_decode.specs.declared.Insn.{Insn}
+use Rattle.rv_compressed.specs.Table.{expansion}
+use Rattle.rv_compressed.specs.Laws.{HasOperands, IsOfLine, IsSigned}
+use Rattle.rv_compressed.proofs.Expansions.{expansion-IsOfLine}
+use Rattle.instructions.specs.Codes.{row_of_code}
+use Rattle.instructions.specs.Instructions.{instruction_by, instruction_of, if_row, row_of, row_of_half}
+use Rattle.instructions.specs.declared.code.Code.{Code}
+use Rattle.instructions.specs.declared.code.Code.TheVariants.{Word, Half}
 use Rattle.instructions.specs.declared.instruction.Instruction.{Instruction}
 use Rattle.instructions.specs.declared.instruction.Instruction.TheVariants.{LoadUpper, AddUpper, Jump, JumpRegister}
 use Rattle.instructions.specs.declared.instruction.Instruction.TheVariants.{Branch, Load, Store, Immediate, Registers}
@@ -74,7 +83,7 @@ small-by Op.Srli rd rs1 rs2 imm h = h
 small-by Op.Srai rd rs1 rs2 imm h = h
 small-by _ rd rs1 rs2 imm h = tt
 
-pub row-small : (word : ℕ) → IfSmall (row_of word)
+row-small : (word : ℕ) → IfSmall (row_of word)
 unfolding row_of insn instruction_of
 row-small word = go (find (has_fixed_bits word) rows)
   where
@@ -82,6 +91,37 @@ row-small word = go (find (has_fixed_bits word) rows)
     go None = tt
     go (Some row) =
         let i = insn_of row word in small-by i.op i.rd i.rs1 i.rs2 i.imm (small-fields row.form row.op word)
+
+-- an immediate of an instruction that a half stands for is less than 2^32
+small-signed : (width n : ℕ) → width ≤ 32 → IsSigned width n → n < 2 ^ 32
+small-signed width n few (inl low) =
+    let less : 2 ^ (width - 1) ≤ 2 ^ 32 = pow_mono {i = width - 1} {j = 32} (omega arith) in omega arith
+small-signed width n few (inr high) = high.1
+
+small-operands : (form : Form) (i : Insn) → HasOperands form i → i.imm < 2 ^ 32
+small-operands R i h = omega arith
+small-operands I i h = small-signed 12 i.imm (omega arith) h.1
+small-operands Shift i h = let few : i.imm < 32 = h.1 in omega arith
+small-operands S i h = small-signed 12 i.imm (omega arith) h.1
+small-operands B i h = small-signed 13 i.imm (omega arith) h.1
+small-operands U i h = h.2
+small-operands J i h = small-signed 21 i.imm (omega arith) h.2
+small-operands Bare i h = let none : i.imm ≡ 0 = h.3 in omega arith
+
+small-line : (i : Insn) → Any (IsOfLine i) lines → i.imm < 2 ^ 32
+small-line i (k, line, within, at, (op, operands, registers)) = small-operands line.form i operands
+
+half-small : (half : ℕ) → IfSmall (row_of_half half)
+unfolding row_of_half instruction_of
+half-small half = go (expansion half) (expansion-IsOfLine half)
+  where
+    go : (found : Option Insn) → IfSome found (λ i. Any (IsOfLine i) lines) → IfSmall (if_row found)
+    go None any = tt
+    go (Some i) any = small-by i.op i.rd i.rs1 i.rs2 i.imm (small-line i any)
+
+pub code-small : (code : Code) → IfSmall (row_of_code code)
+code-small (Word word) = row-small word
+code-small (Half half) = half-small half
 
 -- the bytes that a read is given --
 

@@ -1,5 +1,5 @@
--- The stack pointer rule and the fetched word agree.
-use Rattle.std.proofs.Common.{◌≡◌, ℕ, ◌-◌, ◌&&◌, Bool, true, false, cond, refl, sym, ap}
+-- The stack pointer rule and the fetched code agree.
+use Rattle.std.proofs.Common.{◌≡◌, ℕ, ◌*◌, ◌-◌, ◌<◌, ◌&&◌, Bool, true, false, cond, refl, sym, ap}
 use Rattle.std.proofs.Common.{◌∙◌, subst, subst₂, inl, inr, arith, List, Option, Some, None, ◌==◌, nat_le, nat_lt}
 use Rattle.std.proofs.Common.{ne_eqb}
 use Rattle.std.specs.Prelude.{is_none}
@@ -10,7 +10,10 @@ use Rattle.definedness.specs.declared.Bits.{Bits}
 use Rattle.shadow_memory.specs.Ranges.{window, little_word}
 use Rattle.shadow_memory.specs.declared.cells.RangeKind.{RangeKind}
 use Rattle.shadow_memory.specs.declared.cells.RangeKind.TheVariants.{NoAccess, Undefined, Defined}
-use Rattle.instructions.specs.declared.width.Width.TheVariants.{Word}
+use Rattle.instructions.specs.Widths.{width_len}
+use Rattle.instructions.specs.declared.width.Width.{Width}
+use Rattle.instructions.specs.declared.width.Width.TheVariants.{Byte, Half, Word}
+use Rattle.shadow_memory.specs.Shadows.{first_inaccessible}
 use Rattle.guest_elf.specs.Profiles.{is_aligned}
 use Rattle.guest_machine.specs.State.{Core}
 use Rattle.guest_machine.specs.Registers.{register}
@@ -18,7 +21,7 @@ use Rattle.guest_machine.specs.Errors.{fetch_undef}
 use Rattle.guest_machine.specs.StackPointer.{is_stack_pointer, is_in_stack, framed, stack_moved, stack_ruled}
 use Rattle.guest_machine.specs.StackPointer.{largest_frame}
 use Rattle.guest_machine.specs.StackPointer.{ranged}
-use Rattle.guest_machine.specs.Exec.{fetches, fetch_fault, is_running}
+use Rattle.guest_machine.specs.Exec.{half_at, word_at, word_fault}
 use Rattle.clean_reports.specs.Agreement.{ValuesAgree, RegistersAgree, MemoriesAgree}
 use Rattle.clean_reports.proofs.Bits.{window-lt}
 use Rattle.clean_reports.proofs.Values.{same-bits}
@@ -47,6 +50,12 @@ pointer-known x e = eqb-true x.undef 0 (and_parts (x.undef == 0) (is_in_stack x.
 is-none : (o : Option ℕ) → is_none o ≡ true → o ≡ None
 is-none None e = refl
 is-none (Some n) e = absurd (false≢true e)
+
+-- an access has at most 32 bits
+few-bits : (width : Width) (i : ℕ) → i < 8 * width_len width → i < 32
+few-bits Byte i h = omega arith
+few-bits Half i h = omega arith
+few-bits Word i h = omega arith
 
 module _ (c : Core) (qs : List Bits) (a : RegistersAgree c.registers qs) (f g : ℕ → ℕ)
     (m : MemoriesAgree c.shadow f g) where
@@ -104,23 +113,21 @@ module _ (c : Core) (qs : List Bits) (a : RegistersAgree c.registers qs) (f g : 
           (λ i. stack_moved (swap c qs) (p i).value (q i).value) (moves x.value (register c 2).value)
       go false e = unshaded
 
-  -- a fetched word that is defined is the same
-  pub word-same : fetches c ≡ true → fetch_undef c ≡ 0
-      → little_word (window f c.pc 4) ≡ little_word (window g c.pc 4)
-  unfolding fetches
-  word-same may none =
-      let opened : first-none c = fault c may in
-      same_from_bits_below 32 (little_word (window f c.pc 4)) (little_word (window g c.pc 4))
-      (window-lt Word (window f c.pc 4) (window-bytes f c.pc 4 m.one) (λ i past. window-past f c.pc 4 i past))
-      (window-lt Word (window g c.pc 4) (window-bytes g c.pc 4 m.other) (λ i past. window-past g c.pc 4 i past))
-      (λ i h. numbers-agree c.shadow f g m c.pc 4 (accessible-from c.shadow c.pc 4 opened) i h
+  -- the number in accessible bytes at pc that are defined is the same
+  pub number-same : (width : Width) → first_inaccessible c.shadow c.pc (width_len width) ≡ None
+      → fetch_undef c (width_len width) ≡ 0
+      → little_word (window f c.pc (width_len width)) ≡ little_word (window g c.pc (width_len width))
+  number-same width opened none =
+      let n = width_len width in
+      same_from_bits_below (8 * n) (little_word (window f c.pc n)) (little_word (window g c.pc n))
+      (window-lt width (window f c.pc n) (window-bytes f c.pc n m.one) (λ i past. window-past f c.pc n i past))
+      (window-lt width (window g c.pc n) (window-bytes g c.pc n m.other) (λ i past. window-past g c.pc n i past))
+      (λ i h. numbers-agree c.shadow f g m c.pc n (accessible-from c.shadow c.pc n opened) i (few-bits width i h)
       (ap (λ n. bit_at n i) none ∙ bit_at_above 0 0 i (omega arith) (omega arith)))
-    where
-      first-none : Core → Type 0
-      first-none d = fetch_fault d ≡ None
 
-      fault : (d : Core) → (is_running d.status && (is_aligned d.isa d.pc && is_none (fetch_fault d))) ≡ true
-          → first-none d
-      fault d e =
-          is-none (fetch_fault d) (and_parts (is_aligned d.isa d.pc) (is_none (fetch_fault d))
-          (and_parts (is_running d.status) (is_aligned d.isa d.pc && is_none (fetch_fault d)) e).1).1
+  -- so is a half, and a word
+  pub half-same : first_inaccessible c.shadow c.pc 2 ≡ None → fetch_undef c 2 ≡ 0 → half_at c f ≡ half_at c g
+  half-same opened none = number-same Half opened none
+
+  pub word-same : word_fault c ≡ None → fetch_undef c 4 ≡ 0 → word_at c f ≡ word_at c g
+  word-same opened none = number-same Word opened none

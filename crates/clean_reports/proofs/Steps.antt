@@ -4,23 +4,26 @@ use Rattle.std.proofs.Common.{◌∙◌, subst, subst₂, List, ◌++◌, length
 use Rattle.std.proofs.lemmas.Nat.{mod_below}
 use Rattle.definedness.specs.declared.Bits.{Bits}
 use Rattle.error_events.specs.declared.kind.Kind.TheVariants.{Value}
-use Rattle.shadow_memory.specs.Ranges.{window, little_word}
 use Rattle.guest_elf.specs.declared.hook.Hook.{Hook}
-use Rattle.instructions.specs.Instructions.{row_of}
+use Rattle.error_events.specs.declared.event.Event.{Event}
+use Rattle.instructions.specs.Codes.{len_of, row_of_code}
+use Rattle.instructions.specs.declared.code.Code.TheVariants.{Word, Half}
 use Rattle.run_values.specs.declared.span.Span.{Span}
 use Rattle.run_values.specs.declared.status.Stop.TheVariants.{Misaligned}
-use Rattle.guest_elf.specs.Profiles.{is_aligned}
+use Rattle.std.specs.Prelude.{is_none}
+use Rattle.guest_elf.specs.Profiles.{is_aligned, is_half}
 use Rattle.guest_machine.specs.State.{Core, State}
 use Rattle.guest_machine.specs.Registers.{register}
 use Rattle.guest_machine.specs.Errors.{here, fetch_undef, fetch_errors}
-use Rattle.guest_machine.specs.Effects.{Effect, after_word, quiet, stops}
+use Rattle.guest_machine.specs.Effects.{Effect, next_of, quiet, stops}
 use Rattle.guest_machine.specs.StackPointer.{stack_ruled}
 use Rattle.guest_machine.specs.NamedCalls.{returns, named_by}
-use Rattle.guest_machine.specs.Exec.{Deed, Takes, CallsByName, Halts, Terms, terms_of, deed_terms, plan, outcome}
+use Rattle.guest_machine.specs.Exec.{Deed, Takes, Cut, CallsByName, Halts, Terms, terms_of, deed_terms, plan, outcome}
 use Rattle.guest_machine.specs.Exec.{rounded}
 use Rattle.guest_machine.specs.Exec.{is_heap_deed, given_at, taken_from, written_to, named_uses_by, unfetched}
 use Rattle.guest_machine.specs.Exec.{jump_fault, is_running, fetch_fault, fetches, fetched, called_here}
-use Rattle.guest_machine.specs.Exec.{deed_by}
+use Rattle.guest_machine.specs.Exec.{deed_by, fetch_by, half_at, word_at, word_fault}
+use Rattle.guest_machine.proofs.Fetching.{half-by-word, two_there}
 use Rattle.guest_machine.specs.Exec.{deed_at, exec, intake_at, uses_at, effect_at, seen_also, counted}
 use Rattle.guest_machine.specs.declared.setup.Setup.{Setup}
 use Rattle.clean_reports.specs.Agreement.{RegistersAgree, MemoriesAgree, StatesAgree}
@@ -30,26 +33,35 @@ use Rattle.clean_reports.specs.Disturbed.{HasBytes}
 use Rattle.clean_reports.proofs.Registers.{swap, register-agrees, left-none, right-none, no-event}
 use Rattle.clean_reports.proofs.Effects.{EffectsAgree}
 use Rattle.clean_reports.proofs.HeapCalls.{named-first, named-calls, same-return}
-use Rattle.clean_reports.proofs.Stack.{rules, word-same}
-use Rattle.clean_reports.proofs.Rows.{BothAgree, row-agrees, row-small}
+use Rattle.clean_reports.proofs.Stack.{half-same, rules, word-same}
+use Rattle.clean_reports.proofs.Rows.{BothAgree, code-small, row-agrees}
 
 module _ (c : Core) (qs : List Bits) (a : RegistersAgree c.registers qs) (f g : ℕ → ℕ)
     (m : MemoriesAgree c.shadow f g) (opened : BlocksAreOpen c) (position written : ℕ) (setup : Setup)
     (bytes : HasBytes setup) where
   -- the stack pointer rule keeps agreement
-  rounds : (u v : Option Span) (e h : Effect) → EffectsAgree f g u v e h
-      → EffectsAgree f g u v (rounded c e) (rounded (swap c qs) h)
-  rounds u v e h x =
+  rounds : (len : ℕ) (u v : Option Span) (e h : Effect) → EffectsAgree f g u v e h
+      → EffectsAgree f g u v (rounded c len e) (rounded (swap c qs) len h)
+  rounds len u v e h x =
       let rule = rules e.core x.registers x.agree (written_to f u e.made) (written_to g v h.made) x.memory
       (register c 2) (register (swap c qs) 2) (register-agrees c qs a 2) in
       record {
         registers = x.registers;
         core = ap (stack_ruled (register (swap c qs) 2)) x.core ∙ rule.core;
         agree = subst (λ rs. RegistersAgree rs x.registers) (sym rule.registers) x.agree;
-        raised = ap (λ r. fetch_errors c ++ r) x.raised;
+        raised = ap (λ r. fetch_errors c len ++ r) x.raised;
         output = x.output;
         memory = rule.memory;
       }
+
+  -- a step that fetches half a word
+  cut-fetched : (fault : Option ℕ) → EffectsAgree f g None None
+      (let e = jump_fault c fault in
+      record { core = e.core; raised = fetch_errors c 2 ++ e.raised; made = e.made; output = e.output })
+      (let e = jump_fault (swap c qs) fault in
+      record { core = e.core; raised = fetch_errors c 2 ++ e.raised; made = e.made; output = e.output })
+  cut-fetched None = record { registers = qs; core = refl; agree = a; raised = refl; output = refl; memory = m }
+  cut-fetched (Some n) = record { registers = qs; core = refl; agree = a; raised = refl; output = refl; memory = m }
 
   -- a step that fetches nothing
   none-fetched : EffectsAgree f g None None (unfetched c) (unfetched (swap c qs))
@@ -80,11 +92,13 @@ module _ (c : Core) (qs : List Bits) (a : RegistersAgree c.registers qs) (f g : 
       (deed-leaves (swap c qs) deed g)
 
   pub deeds-agree : (deed : Deed) → NoUse (deed-leaves c deed f).raised → DeedsAgree deed
-  deeds-agree (Takes word) none =
-      let r = row-agrees c qs a f g m opened position written setup bytes (after_word c)
-      (mod_below (c.pc + 4) (2 ^ 32) (omega arith)) (row_of word) (row-small word)
-      (right-none (fetch_errors c) _ none) in
-      record { heap = r.heap; terms = r.terms; effects = rounds _ _ _ _ r.effects }
+  deeds-agree (Takes code) none =
+      let len = len_of code in
+      let r = row-agrees c qs a f g m opened position written setup bytes (next_of c len)
+      (mod_below (c.pc + len) (2 ^ 32) (omega arith)) (row_of_code code) (code-small code)
+      (right-none (fetch_errors c len) _ none) in
+      record { heap = r.heap; terms = r.terms; effects = rounds len _ _ _ _ r.effects }
+  deeds-agree Cut none = record { heap = refl; terms = refl; effects = cut-fetched (word_fault c) }
   deeds-agree (CallsByName function) none =
       let one = named-first (returns c) c function _ _ _ none in
       let same : returns c ≡ returns (swap c qs) = ap (is_aligned c.isa) (same-return c qs a one) in
@@ -107,22 +121,47 @@ module _ (c : Core) (qs : List Bits) (a : RegistersAgree c.registers qs) (f g : 
       })
   deeds-agree Halts none = record { heap = refl; terms = refl; effects = none-fetched }
 
-  -- both steps do the same, since the fetched word is the same
+  undefined-none : (len : ℕ) (es : List Event) → NoUse (fetch_errors c len ++ es) → fetch_undef c len ≡ 0
+  undefined-none len es none =
+      Rattle.std.proofs.lemmas.Bool.eqb-true (fetch_undef c len) 0
+      (no-event (fetch_undef c len == 0) (here c) Value refl (left-none (fetch_errors c len) es none))
+
+  -- what is fetched is the same, since all of it that decides that is defined
+  fetched-same : NoUse (deed-leaves c (fetched c f) f).raised → fetched c f ≡ fetched (swap c qs) g
+  unfolding fetched fetches
+  fetched-same none = go (fetches c) (is_half c.isa (half_at c f)) (word_fault c) refl refl refl none
+    where
+      go : (may short : Bool) (fault : Option ℕ) → fetches c ≡ may → is_half c.isa (half_at c f) ≡ short
+          → word_fault c ≡ fault
+          → NoUse (deed-leaves c (fetch_by may short (is_none fault) (half_at c f) (word_at c f)) f).raised
+          → fetch_by may short (is_none fault) (half_at c f) (word_at c f)
+          ≡ fetch_by may (is_half c.isa (half_at c g)) (is_none fault) (half_at c g) (word_at c g)
+      go false short fault e k n none = refl
+      go true true fault e k n none =
+          let half = half-same c qs a f g m (two_there c e) (undefined-none 2 _ none) in
+          ap (λ h. Takes (Half h)) half
+          ∙ ap (λ b. fetch_by true b (is_none fault) (half_at c g) (word_at c g))
+          (sym (ap (is_half c.isa) (sym half) ∙ k))
+      go true false None e k n none =
+          let word = word-same c qs a f g m n (undefined-none 4 _ none) in
+          ap (λ h. Takes (Word h)) word
+          ∙ ap (λ b. fetch_by true b true (half_at c g) (word_at c g))
+          (sym (half-by-word c.isa f g c.pc word ∙ k))
+      go true false (Some x) e k n none =
+          let half = half-same c qs a f g m (two_there c e) (undefined-none 2 _ none) in
+          ap (λ b. fetch_by true b false (half_at c g) (word_at c g))
+          (sym (ap (is_half c.isa) (sym half) ∙ k))
+
+  -- both steps do the same
   deed-same : NoUse (deed-leaves c (deed_at c f setup.hooks) f).raised
       → deed_at c f setup.hooks ≡ deed_at (swap c qs) g setup.hooks
-  unfolding called_here fetched fetches
-  deed-same none =
-      go (called_here c setup.hooks) (fetches c) refl none
+  unfolding called_here
+  deed-same none = go (called_here c setup.hooks) none
     where
-      go : (function : Option Hook) (b : Bool) → fetches c ≡ b
-          → NoUse (deed-leaves c (deed_by function (cond b (Some (little_word (window f c.pc 4))) None)) f).raised
-          → deed_by function (cond b (Some (little_word (window f c.pc 4))) None)
-          ≡ deed_by function (cond b (Some (little_word (window g c.pc 4))) None)
-      go (Some function) b e none = refl
-      go None false e none = refl
-      go None true e none =
-          ap Takes (word-same c qs a f g m e (Rattle.std.proofs.lemmas.Bool.eqb-true (fetch_undef c) 0
-          (no-event (fetch_undef c == 0) (here c) Value refl (left-none (fetch_errors c) _ none))))
+      go : (function : Option Hook) → NoUse (deed-leaves c (deed_by function (fetched c f)) f).raised
+          → deed_by function (fetched c f) ≡ deed_by function (fetched (swap c qs) g)
+      go (Some function) none = refl
+      go None none = fetched-same none
 
 -- the state after a step, by what it does
 abbrev stepped : State → Setup → Deed → State

@@ -36,9 +36,18 @@ option name = record (new_rule name) { long = Some name; value_names = 1 }
 abbrev pub file_argument : Rule
 file_argument = record (new_rule (codes "FILE")) { required = true }
 
--- a command on a program with an input: its file and an option
+-- an option with a value, and a default for it
+abbrev pub default_option : Text → Text → Rule
+default_option name default = record (option name) { defaults = default ∷ [] }
+
+-- `--isa`, of which any text is taken here
+abbrev pub isa_option : Rule
+isa_option = default_option (codes "isa") (codes "rv32im")
+
+-- a command on a program with an input and an instruction set: its file and options
 abbrev pub input_command : Text → App
-input_command name = with_rule (with_rule (new_app name) file_argument) (option (codes "input"))
+input_command name =
+    with_rule (with_rule (with_rule (new_app name) file_argument) (option (codes "input"))) isa_option
 
 -- and one with suppressions too
 abbrev pub program_command : Text → App
@@ -69,10 +78,6 @@ with_session = with_subcommand with_run (program_command (codes "session")).top
 -- with `look`
 abbrev pub with_look : App
 with_look = with_subcommand with_session (program_command (codes "look")).top
-
--- an option with a value, and a default for it
-abbrev pub default_option : Text → Text → Rule
-default_option name default = record (option name) { defaults = default ∷ [] }
 
 -- a flag
 abbrev pub output_flag : Rule
@@ -216,6 +221,7 @@ pub record IsOrderOf (name : Text) (rows : List Row) (order : Order) : Type 0 wh
   pub file : Some order.file.now ≡ first_of (codes "FILE") rows
   pub input : input_path order ≡ first_of (codes "input") rows
   pub rules : rules_path order ≡ first_of (codes "supp") rows
+  pub isa : Some order.isa.now ≡ first_of (codes "isa") rows
   pub task : IsTaskOf name rows order.task
 
 -- the order of a command line's arguments: of what was found for the command in them

@@ -2,7 +2,7 @@
 ghost use Rattle.std.specs.Prelude.{◌≡◌, IfErr, IfOk, IfSome, IsSomeAnd, false, map, string_bytes, true};
 ghost use Rattle.clap.specs.Words.{FailsBy, app_of, fault_of, found_of, kind_of, rows_of, rule_of, subcommand_rows_of, takes};
 ghost use Rattle.clap.specs.declared.builder.command.Command.TheViews.{out-Command};
-ghost use Rattle.command_line.specs.Orders.{IsOrderFor, IsOrderOf, IsStepOf, IsSweepOf, IsTaskOf, certify_command, command_line, default_option, file_argument, input_command, option, output_flag, program_command, run_command, step_option, sweep_command, sweep_of_bytes, sweep_of_steps, sweep_of_words, with_certify, with_look, with_run, with_session, with_sweep};
+ghost use Rattle.command_line.specs.Orders.{IsOrderFor, IsOrderOf, IsStepOf, IsSweepOf, IsTaskOf, certify_command, command_line, default_option, file_argument, input_command, isa_option, option, output_flag, program_command, run_command, step_option, sweep_command, sweep_of_bytes, sweep_of_steps, sweep_of_words, with_certify, with_look, with_run, with_session, with_sweep};
 
 use crate::exec::{exec_command, exec_of};
 use crate::help::{
@@ -22,9 +22,9 @@ fn file_argument<'a>(alloc: Global) -> Arg<'a>
     ensures rule { rule_of result ≡ file_argument }
     ensures local { result.global ≡ false }
 {
-    Arg::new(alloc, "FILE")
-        .required(true)
-        .help("A static ELF32 program for RV32IM")
+    Arg::new(alloc, "FILE").required(true).help(
+        "A static ELF32 program, for RV32IM unless --isa names another set",
+    )
 }
 
 /// An option with a value, under its long name.
@@ -38,10 +38,33 @@ pub(crate) fn option<'a>(alloc: Global, name: &'a str, value: &'a str, help: &'a
         .help(help)
 }
 
+/// An option with a value, and a default for it.
+pub(crate) fn default_option<'a>(
+    alloc: Global,
+    name: &'a str,
+    value: &'a str,
+    default: &'a str,
+    help: &'a str,
+) -> Arg<'a>
+    ensures rule { rule_of result ≡ default_option name.entry.now default.entry.now }
+    ensures local { result.global ≡ false }
+{
+    option(alloc, name, value, help).default_value(default)
+}
+
+/// The option for the instruction set.
+fn isa_option<'a>(alloc: Global) -> Arg<'a>
+    ensures rule { rule_of result ≡ isa_option }
+    ensures local { result.global ≡ false }
+{
+    let help = "The instruction set: rv32im, or rv32imc, which has 16-bit instructions too";
+    default_option(alloc, "isa", "NAME", "rv32im", help)
+}
+
 /// What the help says of an input, unless a command has another one without it.
 const INPUT: &str = "A file with the bytes that the program can read; none without it";
 
-/// A command on a program, with an input, of which its help says this.
+/// A command on a program, with an input, of which its help says this, and an instruction set.
 fn input_command<'a>(
     alloc: Global,
     name: &'a str,
@@ -54,10 +77,11 @@ fn input_command<'a>(
 {
     let command = Command::new(alloc, name).about(about).after_help(after);
     let command = command.arg(file_argument(alloc))?;
-    command.arg(option(alloc, "input", "F", input))
+    let command = command.arg(option(alloc, "input", "F", input))?;
+    command.arg(isa_option(alloc))
 }
 
-/// A command on a program, with an input, of which its help says this, and suppressions.
+/// A command on a program, with an input, of which its help says this, an instruction set, and suppressions.
 pub(crate) fn program_command<'a>(
     alloc: Global,
     name: &'a str,
@@ -118,20 +142,6 @@ fn with_look<'a>(alloc: Global) -> Result<Command<'a>, AllocError>
 {
     let look = program_command(alloc, "look", LOOK, AFTER_LOOK, INPUT)?;
     with_session(alloc)?.subcommand(look)
-}
-
-/// An option with a value, and a default for it.
-pub(crate) fn default_option<'a>(
-    alloc: Global,
-    name: &'a str,
-    value: &'a str,
-    default: &'a str,
-    help: &'a str,
-) -> Arg<'a>
-    ensures rule { rule_of result ≡ default_option name.entry.now default.entry.now }
-    ensures local { result.global ≡ false }
-{
-    option(alloc, name, value, help).default_value(default)
 }
 
 /// The flag of `sweep`.
@@ -297,6 +307,7 @@ fn order_within<'a>(name: &str, chosen: &ArgMatches<'a>) -> Option<Order<'a>>
         file: chosen.get_str("FILE")?,
         input: chosen.get_str("input"),
         suppressions: chosen.get_str("supp"),
+        isa: chosen.get_str("isa")?,
         task: task_of(name, chosen)?,
     })
 }

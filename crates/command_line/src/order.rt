@@ -9,6 +9,8 @@ pub struct Order<'a> {
     pub input: Option<&'a str>,
     /// The file of suppressions.
     pub suppressions: Option<&'a str>,
+    /// The name of the instruction set that the file is read for, as it was given.
+    pub isa: &'a str,
     /// The command.
     pub task: Task<'a>,
 }

@@ -6,10 +6,11 @@ use Rattle.std.specs.Io.KnownBytes.{Appends, Consumes}
 use Rattle.command_line.specs.Orders.{input_path, rules_path}
 use Rattle.command_line.specs.declared.order.Order.{Order}
 use Rattle.command_line.specs.declared.order.SweepWords.{SweepWords}
-use Rattle.guest_elf.specs.File.{IsImageOf, early_refusal, refusal}
+use Rattle.guest_elf.specs.File.{IsImageFor, early_refusal, refusal}
 use Rattle.guest_elf.specs.declared.fault.ElfFault.{ElfFault}
 use Rattle.guest_elf.specs.declared.fault.ElfFault.TheVariants.{Memory}
 use Rattle.guest_elf.specs.declared.image.Image.{Image as ProgramImage}
+use Rattle.guest_elf.specs.declared.profile.Profile.{Profile}
 use Rattle.line_server.specs.Lines.{closed_lines}
 use Rattle.line_server.specs.Answers.{Relation, joined}
 use Rattle.line_server.specs.Served.{StoppedBy}
@@ -17,8 +18,8 @@ use Rattle.line_server.specs.declared.fault.ServeFault.{ServeFault}
 use Rattle.line_server.specs.declared.fault.ServeFault.TheVariants.{ReadFailed, WriteFailed, Endless}
 use Rattle.line_server.specs.declared.fault.ServeFault.TheVariants.{NoMemory as ServedNoMemory}
 use Rattle.driver.specs.Carried.{Carried, CarriedWithImage, Does, Reports, Serves}
-use Rattle.program_files.specs.Files.{Giving, HasInput, HasRules, IsFront, NoBytes, NoImage, Streams, Untouched}
-use Rattle.program_files.specs.Files.{most_judged, streams}
+use Rattle.program_files.specs.Files.{Giving, HasInput, HasRules, IsFront, NoBytes, NoImage, NoProgram, Streams}
+use Rattle.program_files.specs.Files.{Untouched, most_judged, profile_named, streams}
 use Rattle.ends.specs.Ends.{end_of_serve}
 use Rattle.driver.specs.Certified.{Certifies}
 use Rattle.driver.specs.Once.{IsReportOnce}
@@ -41,36 +42,45 @@ use Rattle.suppressions.specs.Rules.{Rule}
 pub untouched : (left held : Option (List ℕ)) → Untouched (streams left held) (streams left held)
 untouched left held = (Consumes-nil left, Appends-nil held)
 
-pub no-image : {T : Type 0} (gives : Giving) (path front bytes : List ℕ) (fault : ElfFault)
-    → IsFront gives path most_judged front → bytes ≡ front
+-- a file that was read for a named instruction set, and that is rejected
+pub no-image : {T : Type 0} (gives : Giving) (name path front bytes : List ℕ) (profile : Profile) (fault : ElfFault)
+    → profile_named name ≡ Some profile → IsFront gives path most_judged front → bytes ≡ front
     → ((fault ≡ Memory) ⊎ (refusal bytes ≡ Some fault))
     → ((early : ElfFault) → early_refusal bytes ≡ Some early → ◌≡◌ {A = Result T ElfFault} (Err fault) (Err early))
-    → NoImage gives path (Image fault)
-no-image gives path front bytes fault read same refused least = (
-  front,
-  read,
+    → NoImage gives name path (Image fault)
+no-image gives name path front bytes profile fault named read same refused least = inr (
+  profile,
+  named,
   (
-    subst (λ (xs : List ℕ). (fault ≡ Memory) ⊎ (refusal xs ≡ Some fault)) same refused,
-    λ early e. let told = least early (subst (λ (xs : List ℕ). early_refusal xs ≡ Some early) (sym same) e) in cc,
+    front,
+    read,
+    (
+      subst (λ (xs : List ℕ). (fault ≡ Memory) ⊎ (refusal xs ≡ Some fault)) same refused,
+      λ early e. let told = least early (subst (λ (xs : List ℕ). early_refusal xs ≡ Some early) (sym same) e) in cc,
+    ),
   ),
 )
 
 -- where the file gives a program, its outcome is that of the command
-pub with-image : (gives : Giving) (order : Order) (action : Action) (front bytes : List ℕ) (image : ProgramImage)
-    (old new : Streams) (end : End)
-    → IsFront gives order.file.now most_judged front → bytes ≡ front → IsImageOf bytes image
+pub with-image : (gives : Giving) (order : Order) (action : Action) (profile : Profile) (front bytes : List ℕ)
+    (image : ProgramImage) (old new : Streams) (end : End) → profile_named order.isa.now ≡ Some profile
+    → IsFront gives order.file.now most_judged front → bytes ≡ front → IsImageFor profile bytes image
     → CarriedWithImage gives order action image old new end → Carried gives order action old new end
-with-image gives order action front bytes image old new end read same is carried =
-    inr (image, (front, read, subst (λ (xs : List ℕ). IsImageOf xs image) same is), carried)
+with-image gives order action profile front bytes image old new end named read same is carried = inr (
+  image,
+  (profile, front, named, read, subst (λ (xs : List ℕ). IsImageFor profile xs image) same is),
+  carried,
+)
 
 -- if all files give what the order names, what it asks for is done
-pub with-all : (gives : Giving) (order : Order) (action : Action) (front bytes : List ℕ) (image : ProgramImage)
-    (list : List Rule) (input : List ℕ) (old new : Streams) (end : End)
-    → IsFront gives order.file.now most_judged front → bytes ≡ front → IsImageOf bytes image
+pub with-all : (gives : Giving) (order : Order) (action : Action) (profile : Profile) (front bytes : List ℕ)
+    (image : ProgramImage) (list : List Rule) (input : List ℕ) (old new : Streams) (end : End)
+    → profile_named order.isa.now ≡ Some profile
+    → IsFront gives order.file.now most_judged front → bytes ≡ front → IsImageFor profile bytes image
     → HasRules gives (rules_path order) list → HasInput gives (input_path order) input
     → Does action image list input old new end → Carried gives order action old new end
-with-all gives order action front bytes image list input old new end read same is rules given does =
-    with-image gives order action front bytes image old new end read same is
+with-all gives order action profile front bytes image list input old new end named read same is rules given does =
+    with-image gives order action profile front bytes image old new end named read same is
     (inr (list, rules, inr (input, given, does)))
 
 pub does-report : (action : Action) (step : ℕ) (image : ProgramImage) (list : List Rule) (input : List ℕ)
@@ -138,22 +148,29 @@ module _ (session : Session) (turn : Turn) (said : turn_of session ≡ turn) (wo
       stopped)
 
 -- a file that gives no bytes gives no program
-pub no-file : (gives : Giving) (path : List ℕ) (end : End) → NoBytes gives path end → NoImage gives path end
-no-file gives path (Image fault) none = absurd none
-no-file gives path end none = none
+no-program : (gives : Giving) (path : List ℕ) (end : End) → NoBytes gives path end → NoProgram gives path end
+no-program gives path (Image fault) none = absurd none
+no-program gives path end none = none
+
+pub no-file : (gives : Giving) (name path : List ℕ) (profile : Profile) (end : End)
+    → profile_named name ≡ Some profile → NoBytes gives path end → NoImage gives name path end
+no-file gives name path profile end named none = inr (profile, named, no-program gives path end none)
 
 -- where the file gives a program, the outcome of a sweep of it is that of the request; the bytes as they were read, as
 -- the program was read from them, and as they are swept
-pub with-program : (gives : Giving) (order : Order) (words : SweepWords) (request : Request) (front bytes file : List ℕ)
-    (image : ProgramImage) (old : Streams) (held : Option (List ℕ)) (end : End)
-    → IsFront gives order.file.now most_judged front → bytes ≡ front → IsImageOf bytes image → file ≡ front
+pub with-program : (gives : Giving) (order : Order) (words : SweepWords) (request : Request) (profile : Profile)
+    (front bytes file : List ℕ) (image : ProgramImage) (old : Streams) (held : Option (List ℕ)) (end : End)
+    → profile_named order.isa.now ≡ Some profile
+    → IsFront gives order.file.now most_judged front → bytes ≡ front → IsImageFor profile bytes image → file ≡ front
     → SweepsImage gives order words request file image old held end
     → SweepsRequest gives order words request old held end
-with-program gives order words request front bytes file image old held end read same is given swept =
+with-program gives order words request profile front bytes file image old held end named read same is given swept =
     inr (
+      profile,
       front,
       image,
+      named,
       read,
-      subst (λ xs. IsImageOf xs image) same is,
+      subst (λ xs. IsImageFor profile xs image) same is,
       subst (λ xs. SweepsImage gives order words request xs image old held end) given swept,
     )

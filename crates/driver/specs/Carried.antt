@@ -6,9 +6,6 @@ use Rattle.command_line.specs.Orders.{input_path, rules_path}
 use Rattle.program_files.specs.Files.{Giving, HasImage, HasInput, HasRules, NoImage, NoInput, NoRules, Streams}
 use Rattle.program_files.specs.Files.{Untouched}
 use Rattle.command_line.specs.declared.order.Order.{Order}
-use Rattle.guest_elf.specs.File.{IsImageOf, refusal, early_refusal}
-use Rattle.guest_elf.specs.declared.fault.ElfFault.{ElfFault}
-use Rattle.guest_elf.specs.declared.fault.ElfFault.TheVariants as Elf
 use Rattle.guest_elf.specs.declared.image.Image.{Image as ProgramImage}
 use Rattle.line_server.specs.Answers.{Relation}
 use Rattle.line_server.specs.Served.{ServedAll, ServedRead, StoppedBy}
@@ -73,10 +70,10 @@ CarriedWithImage gives order action image old new end =
     ⊎ ((list : List Rule) × HasRules gives (rules_path order) list
     × CarriedWithRules gives order action image list old new end)
 
--- an order for the report of a step, or for a session, was carried out: the program is read, and then its suppressions
--- and its input, or the program's file ends the program
+-- an order for the report of a step, or for a session, was carried out: the program is read for the instruction set
+-- that the order names, and then its suppressions and its input, or that name or the program's file ends the program
 abbrev pub Carried : Giving → Order → Action → Streams → Streams → End → Type 0
 Carried gives order action old new end =
-    (NoImage gives order.file.now end × Untouched old new)
-    ⊎ ((image : ProgramImage) × HasImage gives order.file.now image
+    (NoImage gives order.isa.now order.file.now end × Untouched old new)
+    ⊎ ((image : ProgramImage) × HasImage gives order.isa.now order.file.now image
     × CarriedWithImage gives order action image old new end)

@@ -9,15 +9,16 @@ use Rattle.command_line.specs.declared.order.Order.{Order}
 use Rattle.command_line.specs.declared.order.SweepWords.{SweepWords}
 use Rattle.command_line.specs.declared.order.Task.{Task}
 use Rattle.command_line.specs.declared.order.Task.TheVariants.{Report, Session, Look, Sweep, Certify, Exec}
-use Rattle.guest_elf.specs.File.{IsImageOf}
+use Rattle.guest_elf.specs.File.{IsImageFor}
 use Rattle.guest_elf.specs.declared.image.Image.{Image as ProgramImage}
+use Rattle.guest_elf.specs.declared.profile.Profile.{Profile}
 use Rattle.scenario.specs.Limits.{longest_input, most_steps}
 use Rattle.suppressions.specs.Texts.{faults, rules, IsLeast}
 use Rattle.suppressions.specs.declared.fault.SuppFault.TheVariants as Supp
 use Rattle.driver.specs.declared.carrying.Action.TheVariants as Action
 use Rattle.driver.specs.Carried.{Carried}
 use Rattle.program_files.specs.Files.{Giving, HasSweepInput, HasText, IsFront, NoImage, NoRulesIn, NoSweepInput, NoText}
-use Rattle.program_files.specs.Files.{Streams, Untouched, most_judged}
+use Rattle.program_files.specs.Files.{Streams, Untouched, most_judged, profile_named}
 use Rattle.sweep_plans.specs.Planned.{IsNoRequest, IsRequestOf}
 use Rattle.sweep_tables.specs.Swept.{Sweeps}
 use Rattle.ends.specs.declared.ends.End.{End}
@@ -50,12 +51,13 @@ SweepsImage gives order words request file image old held end =
     ⊎ ((text : List ℕ) × HasText gives (rules_path order) text
     × SweepsText gives order words request file image text old held end)
 
--- with the request: the program is read and judged, and then the suppressions and the input, or the program's file ends
--- the program
+-- with the request: the program is read for the instruction set that the order names and judged, and then the
+-- suppressions and the input, or that name or the program's file ends the program
 abbrev pub SweepsRequest : Giving → Order → SweepWords → Request → Streams → Option (List ℕ) → End → Type 0
 SweepsRequest gives order words request old held end =
-    (NoImage gives order.file.now end × Appends old.held held [])
-    ⊎ ((file : List ℕ) × (image : ProgramImage) × IsFront gives order.file.now most_judged file × IsImageOf file image
+    (NoImage gives order.isa.now order.file.now end × Appends old.held held [])
+    ⊎ ((profile : Profile) × (file : List ℕ) × (image : ProgramImage) × (profile_named order.isa.now ≡ Some profile)
+    × IsFront gives order.file.now most_judged file × IsImageFor profile file image
     × SweepsImage gives order words request file image old held end)
 
 -- with a step that may be asked for: the arguments are read, and then the files, or the arguments make no request

@@ -16,9 +16,10 @@ use crate::certifying::print_verdict;
 use crate::reporting::run_once;
 use command_line::{Order, SweepWords, Task};
 use ends::End;
-use guest_elf::{Image, read};
+use guest_elf::{Image, read_for};
 use program_files::{
-    Files, MOST_READ, read_front, read_input, read_named_text, read_suppressions, read_sweep_input,
+    Files, MOST_READ, profile_named, read_front, read_input, read_named_text, read_suppressions,
+    read_sweep_input,
 };
 use replay_session::{MOST_STEPS, Session, serve};
 use std::alloc::Global;
@@ -89,8 +90,8 @@ pub(crate) enum Action {
     Certify(u32),
 }
 
-/// Carries out an order for the report or the verdict of a step, or for a session: the program is read, then the suppressions, then the
-/// input, each judged before the next is read.
+/// Carries out an order for the report or the verdict of a step, or for a session: the name of the instruction set is judged, then the program
+/// is read, then the suppressions, then the input, each judged before the next is read.
 fn follow_order<'a, F: Files, R: Read, W: Write>(
     alloc: Global,
     order: &Order<'a>,
@@ -102,8 +103,9 @@ fn follow_order<'a, F: Files, R: Read, W: Write>(
     ensures { Carried (F.gives files.now) order.now action
         (streams (R.remaining reader.old) (W.contents writer.old)) (streams (R.remaining reader.new) (W.contents writer.new)) (end_of result) }
 {
+    let profile = profile_named(order.isa)?;
     let file = read_front(alloc, files, order.file, MOST_READ)?;
-    let image = read(alloc, &file)?;
+    let image = read_for(alloc, &file, profile)?;
     let suppressions = read_suppressions(alloc, files, order.suppressions)?;
     let input = read_input(alloc, files, order.input)?;
     match action {
@@ -147,8 +149,8 @@ fn sweep_image<'a, F: Files, R: Read, W: Write>(
     )
 }
 
-/// Carries out an order for a sweep: its arguments are read, and then the program, the suppressions and the input, each judged before the
-/// next is read.
+/// Carries out an order for a sweep: its arguments are read, the name of the instruction set last, and then the program, the suppressions and
+/// the input, each judged before the next is read.
 fn follow_sweep<'a, F: Files, R: Read, W: Write>(
     alloc: Global,
     order: &Order<'a>,
@@ -163,8 +165,9 @@ fn follow_sweep<'a, F: Files, R: Read, W: Write>(
         return Err(End::Usage);
     }
     let request = Request::of(alloc, words)?;
+    let profile = profile_named(order.isa)?;
     let file = read_front(alloc, files, order.file, MOST_READ)?;
-    let image = read(alloc, &file)?;
+    let image = read_for(alloc, &file, profile)?;
     sweep_image(
         alloc, order, words, request, &file, image, files, reader, writer,
     )

@@ -122,7 +122,7 @@ fn assert_told(rt: &impl Abort, alloc: Global, rows: &[Told]) {
     }
 }
 
-const ENDS: [Told; 7] = [
+const ENDS: [Told; 8] = [
     (End::Done, 0, b""),
     (End::NotClean, 5, b""),
     (
@@ -137,6 +137,11 @@ const ENDS: [Told; 7] = [
     ),
     (End::CannotWrite, 1, b"replaycheck: cannot write\n"),
     (End::Usage, 2, b""),
+    (
+        End::BadIsa("rv64"),
+        2,
+        b"replaycheck: not one of rv32im, rv32imc: --isa rv64\n",
+    ),
     (
         End::NotText,
         2,
@@ -316,14 +321,15 @@ fn status_of(alloc: Global, order: &Order<'_>, shelf: &Shelf<'_>, writer: &mut R
     tell(&end, &mut line)
 }
 
-/// Whether an order on a program ends in this way.
-fn is_carried_on(alloc: Global, program: &[u8], case: &Case) -> bool {
+/// Whether an order on a program, for an instruction set, ends in this way.
+fn is_carried_on(alloc: Global, program: &[u8], isa: &str, case: &Case) -> bool {
     let (_, (file, has_rules, asked), rules, status, written) = case;
     let (input, task) = task_of(asked);
     let order = Order {
         file,
         input,
         suppressions: if *has_rules { Some("rules") } else { None },
+        isa,
         task,
     };
     let mut writer = Room::new(alloc, 1 << 20);
@@ -332,15 +338,77 @@ fn is_carried_on(alloc: Global, program: &[u8], case: &Case) -> bool {
 }
 
 /// Whether one on a new program does.
-fn is_carried(alloc: Global, case: &Case) -> Result<bool, AllocError> {
+fn is_carried(alloc: Global, isa: &str, case: &Case) -> Result<bool, AllocError> {
     let file = program(alloc, &EXITS)?;
-    Ok(is_carried_on(alloc, &file, case))
+    Ok(is_carried_on(alloc, &file, isa, case))
 }
 
 /// Asserts that orders are carried out.
 fn assert_carried(rt: &impl Abort, alloc: Global, cases: &[Case]) {
     for case in cases {
-        assert!(rt; matches!(is_carried(alloc, case), Ok(true)), "{}", case.0);
+        assert!(rt;
+            matches!(is_carried(alloc, "rv32im", case), Ok(true)),
+            "{}",
+            case.0
+        );
+    }
+}
+
+/// The name of an instruction set, and an order for it.
+type Named = (&'static str, Case);
+
+/// Orders for an instruction set. One that there isn't ends them before the file is read, and after the arguments of a sweep.
+const NAMED: [Named; 4] = [
+    (
+        "rv32imc",
+        (
+            "a report for rv32imc",
+            ("program", false, Asked::Task(Task::Report(3))),
+            b"",
+            0,
+            Written::Around(b"", b""),
+        ),
+    ),
+    (
+        "rv32imac",
+        (
+            "a session for another set",
+            ("prog", false, Asked::Task(Task::Session)),
+            b"",
+            2,
+            Written::Nothing,
+        ),
+    ),
+    (
+        "RV32IM",
+        (
+            "a sweep for another set",
+            ("prog", false, Asked::Sweep(None, None, "1/1")),
+            b"",
+            2,
+            Written::Nothing,
+        ),
+    ),
+    (
+        "",
+        (
+            "a verdict for none",
+            ("program", false, Asked::Task(Task::Certify(3))),
+            b"",
+            2,
+            Written::Nothing,
+        ),
+    ),
+];
+
+#[test]
+fn sets_are_judged(rt: HostRuntime) {
+    for row in &NAMED {
+        assert!(rt;
+            matches!(is_carried(rt.alloc(), row.0, &row.1), Ok(true)),
+            "{}",
+            row.1.0
+        );
     }
 }
 

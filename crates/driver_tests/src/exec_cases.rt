@@ -73,11 +73,12 @@ const ENOUGH: Rooms = Rooms {
     opens: true,
 };
 
-/// A label; a program's words, its arguments, standard input and the rooms; the exit status, the output, and the front of the report.
+/// A label; a program's words, the name of its instruction set, its arguments, standard input and the rooms; the exit status, the output, and the front of the report.
 #[derive(Clone, Copy)]
 struct Case {
     label: &'static str,
     words: &'static [u32],
+    isa: &'static str,
     asked: ExecWords<'static>,
     input: &'static [u8],
     rooms: Rooms,
@@ -90,6 +91,7 @@ struct Case {
 const QUIET: Case = Case {
     label: "",
     words: &WRITES,
+    isa: "rv32im",
     asked: PLAIN,
     input: b"",
     rooms: ENOUGH,
@@ -104,6 +106,7 @@ fn comes_out(alloc: Global, file: &[u8], case: &Case) -> bool {
         file: "program",
         input: None,
         suppressions: None,
+        isa: case.isa,
         task: Task::Exec(case.asked),
     };
     let shelf = Shelf {
@@ -138,7 +141,7 @@ fn is_executed(alloc: Global, case: &Case) -> Result<bool, AllocError> {
     Ok(comes_out(alloc, &file, case))
 }
 
-const RUNS: [Case; 7] = [
+const RUNS: [Case; 9] = [
     Case {
         label: "output and status",
         status: 7,
@@ -153,6 +156,19 @@ const RUNS: [Case; 7] = [
         },
         status: 9,
         output: b"ok!\n",
+        ..QUIET
+    },
+    Case {
+        label: "a named instruction set",
+        isa: "rv32imc",
+        status: 7,
+        output: b"ok!\n",
+        ..QUIET
+    },
+    Case {
+        label: "an unknown instruction set",
+        isa: "rv32imac",
+        status: 125,
         ..QUIET
     },
     Case {

@@ -55,6 +55,7 @@ fn is_order(asked: &Order<'_>, want: &Order<'_>) -> bool {
     asked.file == want.file
         && is_text(asked.input, want.input)
         && is_text(asked.suppressions, want.suppressions)
+        && asked.isa == want.isa
         && is_task(&asked.task, &want.task)
 }
 
@@ -90,6 +91,7 @@ const REPORTS: [Line; 4] = [
             file: "program",
             input: None,
             suppressions: None,
+            isa: "rv32im",
             task: Task::Report(1_048_576),
         },
     ),
@@ -100,6 +102,7 @@ const REPORTS: [Line; 4] = [
             file: "f",
             input: None,
             suppressions: None,
+            isa: "rv32im",
             task: Task::Report(4_194_304),
         },
     ),
@@ -110,6 +113,7 @@ const REPORTS: [Line; 4] = [
             file: "f",
             input: None,
             suppressions: None,
+            isa: "rv32im",
             task: Task::Report(0),
         },
     ),
@@ -120,6 +124,7 @@ const REPORTS: [Line; 4] = [
             file: "f",
             input: Some("i"),
             suppressions: None,
+            isa: "rv32im",
             task: Task::Certify(7),
         },
     ),
@@ -130,7 +135,18 @@ fn reports_are_ordered(rt: HostRuntime) {
     assert_given(&rt, rt.alloc(), &REPORTS);
 }
 
-const SESSIONS: [Line; 2] = [
+const SESSIONS: [Line; 3] = [
+    (
+        "a name of an instruction set, whatever it is",
+        &["session", "f", "--isa", "rv32"],
+        Order {
+            file: "f",
+            input: None,
+            suppressions: None,
+            isa: "rv32",
+            task: Task::Session,
+        },
+    ),
     (
         "a session with files",
         &["session", "f", "--supp", "s", "--input=i"],
@@ -138,6 +154,7 @@ const SESSIONS: [Line; 2] = [
             file: "f",
             input: Some("i"),
             suppressions: Some("s"),
+            isa: "rv32im",
             task: Task::Session,
         },
     ),
@@ -148,6 +165,7 @@ const SESSIONS: [Line; 2] = [
             file: "f",
             input: Some("i"),
             suppressions: None,
+            isa: "rv32im",
             task: Task::Look,
         },
     ),
@@ -166,6 +184,7 @@ const SWEEPS: [Line; 3] = [
             file: "f",
             input: None,
             suppressions: None,
+            isa: "rv32im",
             task: Task::Sweep(SweepWords {
                 step: 1_048_576,
                 bytes: None,
@@ -198,6 +217,7 @@ const SWEEPS: [Line; 3] = [
             file: "f",
             input: None,
             suppressions: None,
+            isa: "rv32im",
             task: Task::Sweep(SweepWords {
                 step: 9,
                 bytes: Some("1..2"),
@@ -227,6 +247,7 @@ const SWEEPS: [Line; 3] = [
             file: "f",
             input: None,
             suppressions: None,
+            isa: "rv32im",
             task: Task::Sweep(SweepWords {
                 step: 1_048_576,
                 bytes: None,
@@ -252,7 +273,17 @@ fn sweeps_are_ordered(rt: HostRuntime) {
 /// A label, the arguments of a line, and why it has no order.
 type NoOrder = (&'static str, &'static [&'static str], ErrorKind);
 
-const NO_ORDERS: [NoOrder; 9] = [
+const NO_ORDERS: [NoOrder; 11] = [
+    (
+        "an instruction set twice",
+        &["look", "f", "--isa=rv32im", "--isa=rv32im"],
+        ErrorKind::ArgumentConflict,
+    ),
+    (
+        "no name of an instruction set",
+        &["certify", "f", "--isa"],
+        ErrorKind::InvalidValue,
+    ),
     ("nothing", &[], ErrorKind::MissingSubcommand),
     ("help", &["--help"], ErrorKind::DisplayHelp),
     (

@@ -7,7 +7,7 @@ use Rattle.guest_elf.specs.declared.fault.ElfFault.TheVariants.{Memory}
 use Rattle.ends.specs.declared.ends.End.{End}
 use Rattle.ends.specs.declared.ends.End.TheVariants.{Done, CannotRead, CannotReadInput, CannotWrite, Usage, NotText}
 use Rattle.ends.specs.declared.ends.End.TheVariants.{BadText, Lone, BytesRefused, WordsRefused, StepsRefused, Image}
-use Rattle.ends.specs.declared.ends.End.TheVariants.{Suppressions}
+use Rattle.ends.specs.declared.ends.End.TheVariants.{BadIsa, Suppressions}
 use Rattle.ends.specs.declared.ends.End.TheVariants.{SuppressionsTooLong, InputTooLarge, NoMemory, NotClean}
 use Rattle.ends.specs.declared.ends.SweepOption.{SweepOption}
 use Rattle.ends.specs.declared.ends.SweepOption.TheVariants as Sweep
@@ -28,6 +28,7 @@ status_of CannotReadInput = 1
 status_of CannotWrite = 1
 status_of Usage = 2
 status_of NotText = 2
+status_of (BadIsa name) = 2
 status_of (BadText option text) = 2
 status_of (Lone option) = 2
 status_of BytesRefused = 3
@@ -82,6 +83,7 @@ line_of CannotReadInput = line_with (codes "replaycheck: cannot read standard in
 line_of CannotWrite = line_with (codes "replaycheck: cannot write") []
 line_of Usage = []
 line_of NotText = line_with (codes "error: invalid UTF-8 was detected in one or more arguments") []
+line_of (BadIsa name) = line_with (codes "replaycheck: not one of rv32im, rv32imc: --isa ") name.now
 line_of (BadText option text) = line_with (complaint option) text.now
 line_of (Lone option) = line_with (lone_text option) []
 line_of BytesRefused = line_with (codes "replaycheck: bytes refused 3") []

@@ -83,6 +83,8 @@ pub enum End<'a> {
     Usage,
     /// An argument isn't UTF-8.
     NotText,
+    /// No instruction set has this name.
+    BadIsa(&'a str),
     /// The text of an option of a sweep is no range, list or part.
     BadText { option: SweepOption, text: &'a str },
     /// An option of a sweep needs another one.
@@ -152,7 +154,7 @@ pub fn tell<W: Write>(end: &End, writer: &mut W) -> u8
     match end {
         End::Done => 0,
         End::CannotRead(_) | End::CannotReadInput | End::CannotWrite => 1,
-        End::Usage | End::NotText | End::BadText { .. } | End::Lone(_) => 2,
+        End::Usage | End::NotText | End::BadIsa(_) | End::BadText { .. } | End::Lone(_) => 2,
         End::Image(ElfFault::Memory) | End::Suppressions(SuppFault::Memory) | End::NoMemory => 4,
         End::Image(_)
         | End::Suppressions(SuppFault::BadSuppression(_))
@@ -210,6 +212,10 @@ fn pieces_of<'a>(end: End<'a>, digits: &'a mut Buffer) -> Option<(&'a str, &'a [
         End::WordsRefused => ("replaycheck: words refused 4", NOTHING),
         End::StepsRefused => ("replaycheck: steps refused 5", NOTHING),
         End::Lone(option) => (option.line(), NOTHING),
+        End::BadIsa(name) => (
+            "replaycheck: not one of rv32im, rv32imc: --isa ",
+            name.as_bytes(),
+        ),
         End::BadText { option, text } => (option.complaint(), text.as_bytes()),
     };
     Some(pieces)

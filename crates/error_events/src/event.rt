@@ -1,3 +1,5 @@
+ghost use Rattle.std.specs.Prelude.{◌≡◌, IsTrue};
+
 use crate::kind::Kind;
 use call_stacks::Trace;
 use heap_blocks::Near;
@@ -13,6 +15,23 @@ pub enum Note {
     Stack(u32),
     /// The address is in no known region.
     Elsewhere(u32),
+}
+
+impl Note {
+    /// Returns whether another note is the same.
+    pub fn is_same(&self, other: &Note) -> bool
+        ensures { IsTrue result → self.now ≡ other.now }
+    {
+        match (self, other) {
+            (Note::Absent, Note::Absent) => true,
+            (Note::Near(address, near), Note::Near(another, nearby)) => {
+                *address == *another && near.is_same(nearby)
+            }
+            (Note::Stack(address), Note::Stack(another)) => *address == *another,
+            (Note::Elsewhere(address), Note::Elsewhere(another)) => *address == *another,
+            _ => false,
+        }
+    }
 }
 
 /// An error.
@@ -37,6 +56,18 @@ pub struct Group {
     pub count: u64,
     /// The note of the first one.
     pub note: Note,
+}
+
+impl Group {
+    /// Returns whether another group is the same.
+    pub fn is_same(&self, other: &Group) -> bool
+        ensures { IsTrue result → self.now ≡ other.now }
+    {
+        self.count == other.count
+            && self.kind == other.kind
+            && self.trace.is_same(&other.trace)
+            && self.note.is_same(&other.note)
+    }
 }
 
 /// What the errors of a group have in common.

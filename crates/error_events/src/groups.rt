@@ -1,4 +1,4 @@
-ghost use Rattle.std.specs.Prelude.{◌≡◌, [], ◌∷◌, ◌++◌, map, None, position, length, take, List, ◌≤◌, ◌+◌, ◌<◌, slice_get, OnOk, OnErr, IfOk};
+ghost use Rattle.std.specs.Prelude.{◌≡◌, [], ◌∷◌, ◌++◌, map, None, position, length, take, List, ◌≤◌, ◌+◌, ◌<◌, slice_get, OnOk, OnErr, IfOk, IsTrue};
 ghost use Rattle.std.specs.List.{filter_map, range_with_len};
 ghost use Rattle.std.specs.Option.{option_map};
 ghost use Rattle.error_events.specs.Counts.{raised_at};
@@ -31,6 +31,19 @@ fn cut(key: &Key, callers: u32) -> Key
     Key {
         kind: key.kind,
         trace: key.trace.front(callers),
+    }
+}
+
+/// The greatest number of groups that are compared.
+const MOST_COMPARED: usize = 64;
+
+/// Returns whether there are two groups, and they are the same.
+fn are_same(one: &Option<Group>, other: &Option<Group>) -> bool
+    ensures { IsTrue result → one.now ≡ other.now }
+{
+    match (one, other) {
+        (Some(one), Some(other)) => one.is_same(other),
+        _ => false,
     }
 }
 
@@ -186,6 +199,22 @@ impl Groups {
         (0..self.len())
             .filter_map(|index| self.get(index))
             .collect(self.counts.allocator())
+    }
+
+    /// Returns whether other groups are the same, in the same order. May also return `false` for such groups, if there are many.
+    pub fn are_same(&self, others: &Groups) -> bool
+        ensures { IsTrue result → groups_of self.now ≡ groups_of others.now }
+    {
+        let len = self.len();
+        if len != others.len() || len > MOST_COMPARED {
+            return false;
+        }
+        for index in 0..len {
+            if !are_same(&self.get(index), &others.get(index)) {
+                return false;
+            }
+        }
+        true
     }
 
     /// Returns a copy, which later errors of the original don't reach.

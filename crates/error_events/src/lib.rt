@@ -16,6 +16,7 @@
 //! | [`Groups::len`], [`Groups::get`] | return the number of groups, and the group at a place |
 //! | [`Groups::regroup`] | returns the errors of the groups that are kept, grouped by fewer addresses |
 //! | [`Groups::regrouped`] | returns the same as [`Groups`], not as a list |
+//! | [`Groups::are_same`], [`Group::is_same`], [`Note::is_same`] | return whether others are the same |
 //! | [`Groups::share`] | returns a copy, which later errors of the original don't reach |
 //! | [`Parameter::text`] | returns the text by which reports and suppressions name a parameter of a call |
 //! | [`laws::groups_grow`], [`laws::kept_by_test`] | do nothing; their contracts are laws of the definitions |

@@ -5,6 +5,7 @@ use Rattle.std.proofs.Common.{subst, Result, Ok, Err, IfOk, IfErr, OnOk}
 use Rattle.std.proofs.Common.{is_none, is_some, not, option_map, take}
 use Rattle.std.proofs.KnownBytes.{Appends-nil, Appends-trans, Consumes-nil}
 use Rattle.std.specs.Io.KnownBytes.{Appends}
+use Rattle.ends.specs.declared.ends.End.{End}
 use Rattle.ends.specs.declared.ends.End.TheVariants.{NoMemory}
 use Rattle.ends.specs.declared.exec_ends.Codes.{Codes}
 use Rattle.ends.specs.declared.exec_ends.ExecEnd.TheVariants.{Early, NoReport, Ran}
@@ -15,8 +16,10 @@ use Rattle.commands.specs.declared.edit.Edit.{Edit}
 use Rattle.commands.specs.declared.edit.Edit.TheVariants.{Patch}
 use Rattle.ends.specs.declared.exec_ends.ExecEnd.{ExecEnd}
 use Rattle.guest_elf.specs.declared.image.Image.{Image}
+use Rattle.guest_elf.specs.declared.profile.Profile.{Profile}
 use Rattle.guest_machine.specs.State.{State}
-use Rattle.program_files.specs.Files.{Giving, HasInput, IsFront, NoImage, most_judged}
+use Rattle.program_files.specs.Files.{Giving, HasInput, IsFront, NoBytes, NoImage, NoProgram, most_judged}
+use Rattle.program_files.specs.Files.{profile_named}
 use Rattle.replay_report.specs.Findings.{HasFindings}
 use Rattle.run_values.specs.declared.alteration.Alteration.{Alteration}
 use Rattle.scenario.specs.Edits.{IsTaken, row}
@@ -28,7 +31,7 @@ use Rattle.exec_orders.specs.declared.executing.Choices.{Choices}
 use Rattle.command_line.specs.declared.order.Order.{Order}
 use Rattle.command_line.specs.declared.order.ExecWords.{ExecWords}
 use Rattle.ends.specs.declared.ends.End.TheVariants.{Image as Refused}
-use Rattle.guest_elf.specs.File.{IsImageOf, refusal, early_refusal}
+use Rattle.guest_elf.specs.File.{IsImageFor, refusal, early_refusal}
 use Rattle.guest_elf.specs.declared.fault.ElfFault.{ElfFault}
 use Rattle.guest_elf.specs.declared.fault.ElfFault.TheVariants.{Memory}
 use Rattle.exec_orders.specs.Prepared.{KeepsRun, IsEdited, IsNoPatch, IsOptionRefused, IsPatched, IsPatchedBy}
@@ -160,30 +163,45 @@ no-input gives (Some path) input none has = absurd (some-none path none)
 
 -- ---- the program
 
-pub no-image : {T : Type 0} (gives : Giving) (path front bytes : List ℕ) (fault : ElfFault)
-    → IsFront gives path most_judged front → bytes ≡ front → ((fault ≡ Memory) ⊎ (refusal bytes ≡ Some fault))
+pub no-image : {T : Type 0} (gives : Giving) (name path front bytes : List ℕ) (profile : Profile) (fault : ElfFault)
+    → profile_named name ≡ Some profile → IsFront gives path most_judged front → bytes ≡ front
+    → ((fault ≡ Memory) ⊎ (refusal bytes ≡ Some fault))
     → ((early : ElfFault) → early_refusal bytes ≡ Some early → ◌≡◌ {A = Result T ElfFault} (Err fault) (Err early))
-    → NoImage gives path (Refused fault)
-no-image gives path front bytes fault read same refused least = (
-  front,
-  read,
+    → NoImage gives name path (Refused fault)
+no-image gives name path front bytes profile fault named read same refused least = inr (
+  profile,
+  named,
   (
-    subst (λ (xs : List ℕ). (fault ≡ Memory) ⊎ (refusal xs ≡ Some fault)) same refused,
-    λ early e. let told = least early (subst (λ (xs : List ℕ). early_refusal xs ≡ Some early) (sym same) e) in cc,
+    front,
+    read,
+    (
+      subst (λ (xs : List ℕ). (fault ≡ Memory) ⊎ (refusal xs ≡ Some fault)) same refused,
+      λ early e. let told = least early (subst (λ (xs : List ℕ). early_refusal xs ≡ Some early) (sym same) e) in cc,
+    ),
   ),
 )
 
+-- there is no file
+no-program : (gives : Giving) (path : List ℕ) (end : End) → NoBytes gives path end → NoProgram gives path end
+no-program gives path (Refused fault) none = absurd none
+no-program gives path end none = none
+
+pub no-file : (gives : Giving) (name path : List ℕ) (profile : Profile) (end : End)
+    → profile_named name ≡ Some profile → NoBytes gives path end → NoImage gives name path end
+no-file gives name path profile end named none = inr (profile, named, no-program gives path end none)
+
 -- with its options judged, and its program read
 pub with-image : (gives : Giving) (order : Order) (asked : ExecWords) (show : LeakKinds) (choices : Choices)
-    (front bytes : List ℕ) (image : Image) (old new : Pipes) (end : ExecEnd) → IsChoice asked show choices
-    → IsFront gives order.file.now most_judged front → bytes ≡ front → IsImageOf bytes image
+    (profile : Profile) (front bytes : List ℕ) (image : Image) (old new : Pipes) (end : ExecEnd)
+    → IsChoice asked show choices → profile_named order.isa.now ≡ Some profile
+    → IsFront gives order.file.now most_judged front → bytes ≡ front → IsImageFor profile bytes image
     → WithImage gives order asked show choices.count image old new end → Executed gives order asked old new end
-with-image gives order asked show choices front bytes image old new end choice read same is h = inr (
+with-image gives order asked show choices profile front bytes image old new end choice named read same is h = inr (
   show,
   choices.count,
   choice.show,
   choice.count,
-  inr (image, (front, read, subst (λ (xs : List ℕ). IsImageOf xs image) same is), h),
+  inr (image, (profile, front, named, read, subst (λ (xs : List ℕ). IsImageFor profile xs image) same is), h),
 )
 
 -- and its scenario made

@@ -196,11 +196,12 @@ WithImage gives order asked show count image old new end =
     ⊎ ((sc : Scenario) × Makes gives order asked show image sc
     × WithScenario (waits_for order) asked.quiet (codes_of asked) count asked.report sc old new end)
 
--- with options that are none that end it: the program's file is read
+-- with options that are none that end it: the program's file is read for the instruction set that the order names
 abbrev pub WithKinds : Giving → Order → ExecWords → LeakKinds → LeakKinds → Pipes → Pipes → ExecEnd → Type 0
 WithKinds gives order asked show count old new end =
-    ((why : End) × (end ≡ Early why) × NoImage gives order.file.now why × IsUntouched old new)
-    ⊎ ((image : Image) × HasImage gives order.file.now image × WithImage gives order asked show count image old new end)
+    ((why : End) × (end ≡ Early why) × NoImage gives order.isa.now order.file.now why × IsUntouched old new)
+    ⊎ ((image : Image) × HasImage gives order.isa.now order.file.now image
+    × WithImage gives order asked show count image old new end)
 
 -- an order for `exec` was carried out
 abbrev pub Executed : Giving → Order → ExecWords → Pipes → Pipes → ExecEnd → Type 0

@@ -7,8 +7,8 @@ use crate::log::Log;
 use crate::preparing::{kinds_of, prepare};
 use command_line::{ExecWords, Order};
 use ends::{Codes, ExecEnd};
-use guest_elf::read;
-use program_files::{Files, MOST_READ, read_front};
+use guest_elf::read_for;
+use program_files::{Files, MOST_READ, profile_named, read_front};
 use scenario::Scenario;
 use std::alloc::Global;
 use std::io::{Read, Write};
@@ -102,8 +102,9 @@ fn follow<'a, F: Files, R: Read, W: Write, L: Log>(
         (pipes (R.remaining reader.new) (W.contents writer.new) (L.contents log.new))) }
 {
     let (show, choices) = choices_of(order, asked)?;
+    let profile = profile_named(order.isa)?;
     let file = read_front(alloc, files, order.file, MOST_READ)?;
-    let image = read(alloc, &file)?;
+    let image = read_for(alloc, &file, profile)?;
     let mut scenario = prepare(alloc, image, order, asked, show, files)?;
     let waits = order.input.is_none();
     Ok(open_and_execute(

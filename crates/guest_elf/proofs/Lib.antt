@@ -5,3 +5,4 @@ pub mod Meeting
 pub mod Nearest
 pub mod Steps
 pub mod Strings
+pub mod Aligning

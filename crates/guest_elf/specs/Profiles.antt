@@ -1,17 +1,23 @@
 -- What a file is read for, besides its own bytes: an instruction set (RISC-V Unprivileged ISA 20191213, chapter
 -- 27, "ISA Extension Naming Conventions").
-use Rattle.std.specs.Prelude.{ℕ, ◌%◌, ◌==◌, Bool}
+use Rattle.std.specs.Prelude.{ℕ, ◌%◌, ◌==◌, Bool, false, not}
 use Rattle.guest_elf.specs.declared.profile.Isa.{Isa}
-use Rattle.guest_elf.specs.declared.profile.Isa.TheVariants.{Rv32im}
+use Rattle.guest_elf.specs.declared.profile.Isa.TheVariants.{Rv32im, Rv32imc}
 use Rattle.guest_elf.specs.declared.profile.Profile.{Profile}
 
 -- where nothing is said of it
 abbrev pub usual : Profile
 usual = record { isa = Rv32im }
 
--- IALIGN in bytes: each instruction begins at a multiple of it (section 1.5)
+-- IALIGN in bytes: each instruction begins at a multiple of it (sections 1.5 and 16.1)
 unfoldable pub unit : Isa → ℕ
 unit Rv32im = 4
+unit Rv32imc = 2
+
+-- has an instruction 16 bits? With C it has if its two lowest bits aren't both set (section 1.5, figure 1.1)
+unfoldable pub is_half : Isa → ℕ → Bool
+is_half Rv32im first = false
+is_half Rv32imc first = not (first % 4 == 3)
 
 -- may an instruction begin at an address?
 abbrev pub is_aligned : Isa → ℕ → Bool

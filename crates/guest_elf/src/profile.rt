@@ -1,23 +1,53 @@
 //! What a file is read for.
 ghost use Rattle.std.specs.Prelude.{◌≡◌};
-ghost use Rattle.guest_elf.specs.Profiles.{is_aligned};
+ghost use Rattle.guest_elf.specs.Profiles.{is_aligned, is_half, unit};
 
 /// An instruction set, named as the RISC-V ISA manual names it (volume I, 20191213, chapter 27).
 #[derive(Clone, Copy, PartialEq, Eq)]
 pub enum Isa {
     /// RV32I, the base, with M: products and quotients.
     Rv32im,
+    /// The same with C: instructions of 16 bits too, at each multiple of 2.
+    Rv32imc,
 }
 
 impl Isa {
-    /// Returns whether an instruction may begin at an address.
+    /// Returns the number of bytes of its shortest instructions, each of which begins at a multiple of that.
     #[inline(always)]
     #[tactic(auto, unfolding(crate::specs::Profiles::unit))]
+    pub fn unit(self) -> u32
+        ensures { result ≡ unit self }
+    {
+        match self {
+            Isa::Rv32im => 4,
+            Isa::Rv32imc => 2,
+        }
+    }
+
+    /// Returns whether an instruction whose first two bytes are this number has no further ones. Only the two lowest bits count.
+    #[inline(always)]
+    #[tactic(auto, unfolding(crate::specs::Profiles::is_half))]
+    pub fn is_half(self, first: u32) -> bool
+        ensures { result ≡ is_half self first }
+    {
+        match self {
+            Isa::Rv32im => false,
+            Isa::Rv32imc => first % 4 != 3,
+        }
+    }
+
+    /// Returns whether an instruction may begin at an address. Each may at a multiple of 4, which is looked at first.
+    #[inline(always)]
+    #[tactic(auto, unfolding(crate::specs::Profiles::unit), using(crate::proofs::Aligning::word_aligned))]
     pub fn aligns(self, addr: u32) -> bool
         ensures { result ≡ is_aligned self addr }
     {
+        if addr % 4 == 0 {
+            return true;
+        }
         match self {
-            Isa::Rv32im => addr % 4 == 0,
+            Isa::Rv32im => false,
+            Isa::Rv32imc => addr % 2 == 0,
         }
     }
 }

@@ -15,3 +15,4 @@ pub mod Firsts
 pub mod StepLaws
 pub mod LawSteps
 pub mod ApartLaws
+pub mod Comparing

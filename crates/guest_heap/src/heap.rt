@@ -13,6 +13,7 @@ use crate::traces::{RecentTraces, SharedTrace};
 use call_stacks::Trace;
 use std::alloc::{AllocError, Global};
 
+pub(crate) mod comparing;
 pub(crate) mod placing;
 pub(crate) mod reading;
 pub(crate) mod releasing;

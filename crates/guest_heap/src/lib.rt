@@ -13,6 +13,7 @@
 //! | [`Heap::release`] | frees a block and returns it; the queue is then the longest suffix whose sizes sum to at most the volume |
 //! | [`Heap::live`] | returns the live block with the least start that isn't below an address |
 //! | [`Heap::block_near`] | returns the kept block whose interval holds an address, and where in it the address lies |
+//! | [`Heap::is_same`] | returns whether another heap has the same blocks |
 //! | [`Heap::share`] | returns a copy, which later changes of the original don't reach |
 //! | [`Heap::in_region`], [`Heap::apart`] | do nothing; their contracts say what the laws require of a heap's blocks |
 //! | [`laws`] | do nothing; their contracts say what the functions of the definitions mean |

@@ -1,6 +1,7 @@
 //! The freed blocks, oldest first. Copies share all but the newest few.
-ghost use Rattle.std.specs.Prelude.{◌≡◌, ◌<◌, ◌≤◌};
-ghost use Rattle.guest_heap.specs.Runs.{IsWithin};
+ghost use Rattle.std.specs.Prelude.{◌≡◌, ◌<◌, ◌≤◌, IsTrue, map};
+ghost use Rattle.guest_heap.specs.Entries.{block_of};
+ghost use Rattle.guest_heap.specs.Runs.{IsWithin, values};
 
 use crate::entry::Entry;
 use crate::queue::runs::entry_at;
@@ -12,6 +13,19 @@ pub(crate) mod runs;
 
 /// The number of freed blocks in a run. A share copies a reference for each run, and for each block of the last one.
 const RUN: usize = 256;
+
+/// Returns whether entries have the same blocks as others, in order.
+fn are_same(entries: &[Rc<Entry>], others: &[Rc<Entry>]) -> bool
+    ensures { IsTrue result → map block_of (values entries.now) ≡ map block_of (values others.now) }
+{
+    let Some((entry, later)) = entries.split_first() else {
+        return others.is_empty();
+    };
+    let Some((other, rest)) = others.split_first() else {
+        return false;
+    };
+    entry.has_block_of(other) && are_same(later, rest)
+}
 
 #[derive(Drop)]
 pub(crate) struct Queue {
@@ -110,6 +124,23 @@ impl Queue {
         if self.runs.pop_front().is_none() {
             self.tail.clear();
         }
+    }
+
+    /// Returns whether the blocks are those of another queue, in order. May also return `false` for such a queue, as it does if one of them
+    /// has many blocks.
+    pub(crate) fn is_same(&self, other: &Queue) -> bool
+        ensures { IsTrue result → map block_of (queued self.now) ≡ map block_of (queued other.now) }
+    {
+        if self.runs.len() > 0 {
+            return false;
+        }
+        if other.runs.len() > 0 {
+            return false;
+        }
+        if self.skipped != other.skipped {
+            return false;
+        }
+        are_same(&self.tail, &other.tail)
     }
 
     pub(crate) fn share(&self) -> Result<Queue, AllocError>

@@ -10,7 +10,7 @@ use Rattle.shadow_memory.specs.Shadows.{stored_undef}
 use Rattle.shadow_memory.specs.declared.cells.RangeKind.{RangeKind}
 use Rattle.shadow_memory.specs.declared.memory.Memory.{Memory}
 use Rattle.definedness.specs.declared.Bits.{Bits}
-use Rattle.guest_machine.specs.DecodeCaches.{AreLeft, HasEach}
+use Rattle.guest_machine.specs.DecodeCaches.{AreLeft, HasBoth}
 use Rattle.guest_machine.specs.declared.decode_cache.DecodeCache.{DecodeCache}
 use Rattle.guest_machine.proofs.DecodeSteps.{SameOutside, each-kept, fewer, unchanged}
 
@@ -124,14 +124,21 @@ poke-alters r old new start word shadows whole front =
       shadows = same-outside _ _ start k shadows;
     }) whole front
 
--- so the memory has the words of the entries that are left of a cache
+-- so the memory has the codes of the entries that are left of a cache
 pub kept : (old new : Memory) (cache left : DecodeCache) (start n : ℕ) → Alters old new start n
-    → AreLeft cache.entries.items left.entries.items start n
-    → HasEach (bytes_in old) (shadows_in old) cache.entries.items
-    → HasEach (bytes_in new) (shadows_in new) left.entries.items
-kept old new cache left start n alters are has =
-    each-kept (bytes_in old) (bytes_in new) (shadows_in old) (shadows_in new) cache.entries.items left.entries.items
-    start n cache.low cache.high cache.right cache.flat are alters.bytes alters.shadows has
+    → AreLeft cache.words.items left.words.items start n 4
+    → AreLeft cache.halves.items left.halves.items start n 2
+    → HasBoth (bytes_in old) (shadows_in old) cache.words.items cache.halves.items
+    → HasBoth (bytes_in new) (shadows_in new) left.words.items left.halves.items
+kept old new cache left start n alters words halves has = record {
+  words =
+      each-kept (bytes_in old) (bytes_in new) (shadows_in old) (shadows_in new) 4 cache.words.items left.words.items
+      start n cache.low cache.high cache.words_right cache.flat words alters.bytes alters.shadows has.words;
+  halves =
+      each-kept (bytes_in old) (bytes_in new) (shadows_in old) (shadows_in new) 2 cache.halves.items
+      left.halves.items start n cache.low cache.high cache.halves_right cache.flat halves alters.bytes alters.shadows
+      has.halves;
+}
 
 -- a store at once changes its range, or nothing
 pub at-once-alters : (done : Bool) (old new : Memory) (start n : ℕ) (bits : Bits)

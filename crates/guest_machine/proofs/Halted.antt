@@ -4,11 +4,11 @@ use Rattle.std.proofs.Common.{append-nil}
 use Rattle.std.specs.Prelude.{is_none}
 use Rattle.guest_elf.specs.declared.hook.Hook.{Hook}
 use Rattle.guest_elf.specs.Hooks.{hook_at}
-use Rattle.guest_elf.specs.Profiles.{is_aligned}
-use Rattle.shadow_memory.specs.Ranges.{window, little_word}
+use Rattle.guest_elf.specs.Profiles.{is_aligned, is_half}
 use Rattle.guest_machine.specs.State.{State, Core}
 use Rattle.guest_machine.specs.Exec.{exec, touches, touched_at, uses_at, intake_at, effect_at, has_touched, Deed}
 use Rattle.guest_machine.specs.Exec.{deed_by, deed_at, called_here, fetched, fetches}
+use Rattle.guest_machine.specs.Exec.{fetch_by, half_at, word_at, word_fault}
 use Rattle.guest_machine.specs.Exec.{fetch_span, fetch_fault, unfetched, jump_fault, is_running}
 use Rattle.guest_machine.specs.Exec.{is_heap_deed, plan, outcome, deed_terms, deed_asks}
 use Rattle.guest_machine.specs.Exec.{intake_of, left_at, given_at, taken_from, written_to, seen_also, counted}
@@ -22,8 +22,8 @@ pub halts : (core : Core) (bytes : ℕ → ℕ) (hooks : List (ℕ × Hook)) →
 unfolding called_here fetched fetches
 halts core bytes hooks h =
     ap (λ b. deed_by (cond (b && is_aligned core.isa core.pc) (hook_at hooks core.pc) None) (fetched core bytes)) h
-    ∙ ap (λ b. deed_by None (cond (b && (is_aligned core.isa core.pc && is_none (fetch_fault core)))
-    (Some (little_word (window bytes core.pc 4))) None)) h
+    ∙ ap (λ b. fetch_by (b && (is_aligned core.isa core.pc && is_none (fetch_fault core)))
+    (is_half core.isa (half_at core bytes)) (is_none (word_fault core)) (half_at core bytes) (word_at core bytes)) h
 
 touches-nothing : (s : State) (setup : Setup) (a : ℕ) → is_running s.core.status ≡ false → touches s setup a ≡ false
 unfolding touches touched_at uses_at

@@ -1,18 +1,24 @@
 -- A state that rests in a jump to itself stays as it is.
 use Rattle.std.proofs.Common.{◌≡◌, inl, inr, ℕ, ◌+◌, ◌%◌, ◌^◌, ◌<◌, ◌&&◌, ◌==◌, nat_lt, Bool, true}
 use Rattle.std.proofs.Common.{false, cond, List, [], ◌∷◌}
-use Rattle.std.proofs.Common.{◌++◌, length, append-nil, Option, Some, None, refl, ap, ◌∙◌, arith}
+use Rattle.std.proofs.Common.{◌++◌, length, append-nil, Option, Some, None, refl, ap, sym, ◌∙◌, arith}
 use Rattle.std.proofs.Common.{add-zero}
 use Rattle.std.proofs.lemmas.Bool.Decides.{nat_tests}
 use Rattle.guest_elf.specs.Profiles.{is_aligned}
 use Rattle.guest_elf.specs.declared.hook.Hook.{Hook}
-use Rattle.instructions.specs.Instructions.{instruction_of, row_of}
-use Rattle.rv_decode.specs.Table.{insn, rows}
+use Rattle.instructions.specs.Codes.{len_of, row_of_code}
+use Rattle.instructions.specs.Instructions.{instruction_of, row_of, row_of_half}
+use Rattle.instructions.specs.declared.code.Code.{Code}
+use Rattle.instructions.specs.declared.code.Code.TheVariants.{Word, Half}
+use Rattle.rv_compressed.specs.Table as halves
+use Rattle.rv_compressed.specs.Table.{expansion}
+use Rattle.rv_decode.specs.Table as words
+use Rattle.rv_decode.specs.Table.{insn}
 use Rattle.instructions.specs.CallStack.{hint_by, hinted, jal_hint}
 use Rattle.instructions.specs.declared.instruction.Instruction.{Instruction}
 use Rattle.instructions.specs.declared.instruction.Instruction.TheVariants.{Jump}
 use Rattle.guest_machine.specs.State.{Core, State}
-use Rattle.guest_machine.specs.Effects.{Effect, after_word, linked_jump, stopped}
+use Rattle.guest_machine.specs.Effects.{Effect, linked_jump, next_of, stopped}
 use Rattle.guest_machine.specs.Errors.{fetch_undef, fetch_errors, event_of, event_unless, here}
 use Rattle.error_events.specs.declared.kind.Kind.TheVariants.{Value}
 use Rattle.error_events.specs.declared.event.Note.TheVariants.{Absent}
@@ -20,15 +26,16 @@ use Rattle.guest_machine.specs.Registers.{register, set_register}
 use Rattle.guest_machine.specs.StackPointer.{framed, stack_moved, stack_ruled}
 use Rattle.shadow_memory.specs.declared.cells.RangeKind.TheVariants.{NoAccess, Undefined}
 use Rattle.run_values.specs.declared.status.Stop.TheVariants.{Misaligned}
-use Rattle.guest_machine.specs.Exec.{Deed, Takes, CallsByName, Halts, deed_at, deed_by, deed_terms, exec}
+use Rattle.guest_machine.specs.Exec.{Deed, Takes, Cut, CallsByName, Halts, deed_at, deed_by, deed_terms, exec}
 use Rattle.guest_machine.specs.Exec.{outcome}
-use Rattle.guest_machine.specs.Exec.{called_here, fetched, fetches, intake_at, intake_of, left_at, deed_asks}
+use Rattle.guest_machine.specs.Exec.{called_here, fetched, intake_at, intake_of, left_at, deed_asks}
 use Rattle.guest_machine.specs.Exec.{given_at, taken_from, plan, row_asks, row_effect, row_uses, uses_at, effect_at}
 use Rattle.guest_machine.specs.Exec.{is_heap_deed, calls_heap, counted, is_running, rounded, seen_also, terms_of}
 use Rattle.guest_machine.specs.Exec.{written_to}
-use Rattle.guest_machine.specs.Streams.{calls_out, is_idle, jumps_to_itself, row_at, row_in, self_jump, StaysAtRest}
+use Rattle.guest_machine.specs.Streams.{calls_out, is_defined, is_idle, is_self_jump, jumps_to_itself, row_at, row_in}
+use Rattle.guest_machine.specs.Streams.{self_jump, short_self_jump, StaysAtRest}
 use Rattle.guest_machine.specs.declared.setup.Setup.{Setup}
-use Rattle.guest_machine.proofs.Fetching.{at_start}
+use Rattle.guest_machine.proofs.Fetching.{at_start, may_fetch}
 use Rattle.guest_machine.proofs.Halted.{halts, stays-halted}
 
 both : (p q : Bool) → p && q ≡ true → (p ≡ true) × (q ≡ true)
@@ -38,28 +45,32 @@ both false q h = cc
 number : (m n : ℕ) → (m == n) ≡ true → m ≡ n
 number m n h = grind (arith, nat_tests)
 
--- it is `jal x0, 0`
-self-row : row_of self_jump ≡ Some (Jump 0 0)
-unfolding row_of insn rows instruction_of
+-- they are jumps to themselves without a link
+self-row : row_of_code (Word self_jump) ≡ Some (Jump 0 0)
+unfolding row_of insn words.rows instruction_of
 self-row = refl
 
-idle-deed : (deed : Deed) → jumps_to_itself deed ≡ true → deed ≡ Takes self_jump
+short-self-row : row_of_code (Half short_self_jump) ≡ Some (Jump 0 0)
+unfolding row_of_half expansion halves.rows instruction_of
+short-self-row = refl
+
+idle-code : (code : Code) → is_self_jump code ≡ true → row_of_code code ≡ Some (Jump 0 0)
+idle-code (Word word) h = ap (λ n. row_of_code (Word n)) (number word self_jump h) ∙ self-row
+idle-code (Half half) h = ap (λ n. row_of_code (Half n)) (number half short_self_jump h) ∙ short-self-row
+
+idle-deed : (deed : Deed) → jumps_to_itself deed ≡ true
+    → (code : Code) × ((deed ≡ Takes code) × (row_of_code code ≡ Some (Jump 0 0)))
 unfolding jumps_to_itself
-idle-deed (Takes word) h = ap Takes (number word self_jump h)
+idle-deed (Takes code) h = (code, (refl, idle-code code h))
+idle-deed Cut h = cc
 idle-deed (CallsByName function) h = cc
 idle-deed Halts h = cc
 
--- a word is only taken where it may be
-taken-by : (function : Option Hook) (may : Bool) (at word : ℕ)
-    → deed_by function (cond may (Some at) None) ≡ Takes word → may ≡ true
-taken-by (Some function) may at word h = cc
-taken-by None true at word h = refl
-taken-by None false at word h = cc
-
-may-fetch : (core : Core) (bytes : ℕ → ℕ) (hooks : List (ℕ × Hook)) (word : ℕ) → deed_at core bytes hooks ≡ Takes word
-    → fetches core ≡ true
-unfolding fetched
-may-fetch core bytes hooks word h = taken-by (called_here core hooks) (fetches core) _ word h
+-- a code is only taken where it is fetched
+taken-by : (function : Option Hook) (deed : Deed) (code : Code) → deed_by function deed ≡ Takes code
+    → deed ≡ Takes code
+taken-by (Some function) deed code h = cc
+taken-by None deed code h = h
 
 -- ---- the stack pointer stays
 
@@ -116,14 +127,14 @@ by s setup deed =
       events = s.events ++ effect.raised;
     }
 
--- by the instruction that is carried out
-by-row : State → Setup → Option Instruction → State
-by-row s setup row =
+-- by the instruction that is carried out, and the length of its code
+by-row : State → Setup → ℕ → Option Instruction → State
+by-row s setup len row =
     let terms = terms_of (calls_heap s.core row) (row_asks s.core row) s.position (length s.output) setup in
     let uses = row_uses s.core row terms in
     let effect =
-    rounded s.core (row_effect s.core (after_word s.core) row terms (given_at s.position terms.intake.count setup)
-    (taken_from s.bytes uses.reads)) in
+    rounded s.core len (row_effect s.core (next_of s.core len) row terms
+    (given_at s.position terms.intake.count setup) (taken_from s.bytes uses.reads)) in
     let intake = intake_of (row_asks s.core row) (left_at s.position setup) in
     record {
       bytes = written_to s.bytes uses.writes effect.made;
@@ -135,16 +146,16 @@ by-row s setup row =
       events = s.events ++ effect.raised;
     }
 
-jumped-state : (s : State) (setup : Setup) → s.core.pc < 2 ^ 32 → is_aligned s.core.isa s.core.pc ≡ true
-    → (fetch_undef s.core == 0) ≡ true
-    → by-row s setup (Some (Jump 0 0)) ≡ s
+jumped-state : (s : State) (setup : Setup) (len : ℕ) → s.core.pc < 2 ^ 32 → is_aligned s.core.isa s.core.pc ≡ true
+    → (fetch_undef s.core len == 0) ≡ true
+    → by-row s setup len (Some (Jump 0 0)) ≡ s
 unfolding by-row row_asks row_uses row_effect calls_heap event_unless after
-jumped-state s setup small aligned defined =
-    let there = jumps-here s.core (after_word s.core) small aligned in
+jumped-state s setup len small aligned defined =
+    let there = jumps-here s.core (next_of s.core len) small aligned in
     let core : stack_ruled (register s.core 2)
-    (linked_jump s.core (after_word s.core) (jal_hint 0) 0 ((s.core.pc + 0) % 2 ^ 32)) ≡ s.core =
+    (linked_jump s.core (next_of s.core len) (jal_hint 0) 0 ((s.core.pc + 0) % 2 ^ 32)) ≡ s.core =
     ap (λ core. stack_ruled (register s.core 2) core) there ∙ stack-stands s.core in
-    let raised : fetch_errors s.core ++ [] ≡ [] =
+    let raised : fetch_errors s.core len ++ [] ≡ [] =
     ap (λ b. cond b [] (event_of (here s.core) Value Absent ∷ []) ++ []) defined in
     λ i. record {
       bytes = s.bytes;
@@ -159,14 +170,20 @@ jumped-state s setup small aligned defined =
 idle-step : (setup : Setup) (s : State) → s.core.pc < 2 ^ 32 → is_idle s setup ≡ true → exec s setup ≡ s
 unfolding exec intake_at uses_at effect_at is_idle by by-row
 idle-step setup s small idle =
-    let parts = both (jumps_to_itself (deed_at s.core s.bytes setup.hooks)) (fetch_undef s.core == 0) idle in
-    let found = idle-deed (deed_at s.core s.bytes setup.hooks) parts.0 in
-    let aligned = at_start s.core (may-fetch s.core s.bytes setup.hooks self_jump found) in
-    ap (by s setup) found ∙ ap (by-row s setup) self-row ∙ jumped-state s setup small aligned parts.1
+    let deed = deed_at s.core s.bytes setup.hooks in
+    let parts = both (jumps_to_itself deed) (is_defined s.core deed) idle in
+    let found = idle-deed deed parts.0 in
+    let defined = ap (is_defined s.core) (sym found.1.0) ∙ parts.1 in
+    let fetch = taken-by (called_here s.core setup.hooks) (fetched s.core s.bytes) found.0 found.1.0 in
+    let aligned = at_start s.core (may_fetch s.core s.bytes found.0 fetch) in
+    ap (by s setup) found.1.0 ∙ ap (by-row s setup (len_of found.0)) found.1.1
+    ∙ jumped-state s setup (len_of found.0) small aligned defined
 
 quiet-jump : (deed : Deed) → jumps_to_itself deed ≡ true → calls_out (row_in deed) ≡ false
 unfolding calls_out row_in
-quiet-jump deed h = ap (λ d. calls_out (row_in d)) (idle-deed deed h) ∙ ap calls_out self-row
+quiet-jump deed h =
+    let found = idle-deed deed h in
+    ap (λ d. calls_out (row_in d)) found.1.0 ∙ ap calls_out found.1.1
 
 quiet-halt : (s : State) (setup : Setup) → is_running s.core.status ≡ false → calls_out (row_at s setup) ≡ false
 unfolding row_at row_in calls_out
@@ -178,5 +195,6 @@ stays-at-rest setup s (inl halted) = ((stays-halted setup s halted).0, quiet-hal
 stays-at-rest setup s (inr idle) = (
   idle-step setup s idle.0 idle.1,
   quiet-jump (deed_at s.core s.bytes setup.hooks)
-      (both (jumps_to_itself (deed_at s.core s.bytes setup.hooks)) (fetch_undef s.core == 0) idle.1).0,
+      (both (jumps_to_itself (deed_at s.core s.bytes setup.hooks))
+      (is_defined s.core (deed_at s.core s.bytes setup.hooks)) idle.1).0,
 )

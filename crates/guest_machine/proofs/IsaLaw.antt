@@ -1,10 +1,11 @@
 -- No step changes the instruction set; and where an instruction of RV32IM may begin.
 use Rattle.std.proofs.Common.{◌≡◌, ℕ, ◌+◌, ◌-◌, ◌*◌, ◌/◌, ◌%◌, ◌^◌, ◌==◌, ◌&&◌, nat_lt, nat_le, Bool, true, false, cond}
-use Rattle.std.proofs.Common.{refl, ◌∙◌, List, [], ◌∷◌, Option, Some, None}
+use Rattle.std.proofs.Common.{refl, ap, sym, ◌∙◌, List, [], ◌∷◌, Option, Some, None}
 use Rattle.error_events.specs.declared.parameter.Parameter.{Parameter}
 use Rattle.std.specs.Prelude.{is_none}
 use Rattle.guest_elf.specs.Hooks.{hook_at}
-use Rattle.guest_elf.specs.Profiles.{is_aligned, unit}
+use Rattle.guest_elf.specs.Profiles.{is_aligned, is_half, unit}
+use Rattle.shadow_memory.specs.Shadows.{first_inaccessible}
 use Rattle.guest_elf.specs.declared.hook.Hook.{Hook}
 use Rattle.guest_elf.specs.declared.hook.Hook.TheVariants.{Malloc, Free, Calloc, Realloc}
 use Rattle.guest_elf.specs.declared.profile.Isa.{Isa}
@@ -14,7 +15,8 @@ use Rattle.guest_heap.specs.declared.released.Released.{Released}
 use Rattle.guest_heap.specs.declared.released.Released.TheVariants.{Done, Nothing, Invalid}
 use Rattle.instructions.specs.Alu.{passes}
 use Rattle.instructions.specs.CallStack.{jal_hint, jalr_hint}
-use Rattle.instructions.specs.Instructions.{row_of}
+use Rattle.instructions.specs.Codes.{len_of, row_of_code}
+use Rattle.instructions.specs.declared.code.Code.TheVariants.{Word}
 use Rattle.instructions.specs.declared.hint.StackHint.{StackHint}
 use Rattle.instructions.specs.declared.instruction.Comparison.{Comparison}
 use Rattle.instructions.specs.declared.instruction.Instruction.{Instruction}
@@ -29,14 +31,16 @@ use Rattle.guest_machine.specs.State.{Core}
 use Rattle.guest_machine.specs.Registers.{defined, known, register, set_register, tested}
 use Rattle.guest_machine.specs.StackPointer.{framed, is_stack_pointer, largest_frame, ranged, stack_moved, stack_ruled}
 use Rattle.guest_machine.specs.Effects.{Effect, branch_tested, branched, followed, is_undefined, jumped, linked_jump}
-use Rattle.guest_machine.specs.Effects.{after_word, moved_to, quiet, stopped, stops, target}
+use Rattle.guest_machine.specs.Effects.{moved_to, next_of, quiet, stopped, stops, target}
 use Rattle.guest_machine.specs.Calls.{answers, argument, call_at, call_tested, ebadf, enospc, failure, heap_parameters}
 use Rattle.guest_machine.specs.Calls.{is_output, moved_len, output_room, parameters_of, read_call, tested_from}
 use Rattle.guest_machine.specs.Calls.{write_call}
 use Rattle.guest_machine.specs.HeapCalls.{Resizing, Allocates, Refuses, Frees, Keeps, Moves, block_at, freed, heap_work}
 use Rattle.guest_machine.specs.HeapCalls.{released_here, resized, resizing}
 use Rattle.guest_machine.specs.NamedCalls.{named_by, named_tested, return_address, returns}
-use Rattle.guest_machine.specs.Exec.{Deed, Takes, CallsByName, Halts, Terms, call_effect, effect_at, exec, fetch_fault}
+use Rattle.guest_machine.specs.Exec.{Deed, Takes, Cut, CallsByName, Halts, Terms, call_effect, effect_at, exec}
+use Rattle.guest_machine.specs.Exec.{fetch_by}
+use Rattle.guest_machine.specs.Exec.{fetch_fault, fetched, half_at, word_at, word_fault}
 use Rattle.guest_machine.specs.Exec.{called_here, deed_at, fetches, is_running, jump_fault, outcome}
 use Rattle.guest_machine.specs.Exec.{row_effect, unfetched}
 use Rattle.guest_machine.specs.Laws.{GoesByFours, IsByFours, KeepsIsa}
@@ -207,9 +211,10 @@ none-taken c =
 
 deed-keeps : (c : Core) (terms : Terms) (deed : Deed) (given : List ℕ) (taken : ℕ → ℕ)
     → (outcome c terms deed given taken).core.isa ≡ c.isa
-deed-keeps c terms (Takes word) given taken =
-    rules (register c 2) (row_effect c (after_word c) (row_of word) terms given taken).core
-    ∙ row-keeps c (after_word c) (row_of word) terms given taken
+deed-keeps c terms (Takes code) given taken =
+    rules (register c 2) (row_effect c (next_of c (len_of code)) (row_of_code code) terms given taken).core
+    ∙ row-keeps c (next_of c (len_of code)) (row_of_code code) terms given taken
+deed-keeps c terms Cut given taken = fault-keeps c (word_fault c)
 deed-keeps c terms (CallsByName function) given taken =
     named (returns c) function c terms.redzone terms.volume taken
 deed-keeps c terms Halts given taken = none-taken c
@@ -220,17 +225,38 @@ keeps-isa setup s = deed-keeps s.core _ (deed_at s.core s.bytes setup.hooks) _ _
 
 -- ---- where an instruction may begin
 
+-- a word is whole where its four bytes are fetched first
+whole : (may : Bool) (fault : Option ℕ) (half word : ℕ) → (may ≡ true → is_none fault ≡ true)
+    → fetch_by may false (is_none fault) half word ≡ cond may (Takes (Word word)) Halts
+whole false fault half word h = refl
+whole true fault half word h = ap (λ b. fetch_by true false b half word) (h refl)
+
+last-true : (p q r : Bool) → p && (q && r) ≡ true → r ≡ true
+last-true true true r h = h
+last-true true false r h = cc
+last-true false q r h = cc
+
 by-fours : (core : Core) → core.isa ≡ Rv32im → IsByFours core
-unfolding jumped linked_jump called_here fetches unfetched unit
+unfolding jumped linked_jump called_here fetched fetches unfetched unit is_half first_inaccessible
 by-fours core is = record {
   jumps = λ to. (λ i. cond (is_aligned (is i) to) (moved_to core to) (stopped core Misaligned));
   links = λ next hint rd to. (λ i. cond (is_aligned (is i) to)
       (moved_to (set_register (followed core next hint to) rd (known next)) to) (stopped core Misaligned));
   returns = λ i. is_aligned (is i) (return_address core);
   calls = λ hooks. (λ i. cond (is_running core.status && is_aligned (is i) core.pc) (hook_at hooks core.pc) None);
-  fetches = λ i. is_running core.status && (is_aligned (is i) core.pc && is_none (fetch_fault core));
+  fetches = λ i. is_running core.status && (is_aligned (is i) core.pc
+      && is_none (first_inaccessible core.shadow core.pc (unit (is i))));
+  takes = λ bytes.
+      (λ i. fetch_by (fetches core) (is_half (is i) (half_at core bytes)) (is_none (word_fault core))
+      (half_at core bytes) (word_at core bytes))
+      ∙ whole (fetches core) (word_fault core) (half_at core bytes) (word_at core bytes)
+      (λ may. ap (λ isa. is_none (first_inaccessible core.shadow core.pc (unit isa))) (sym is)
+      ∙ last-true (is_running core.status) (is_aligned core.isa core.pc) (is_none (fetch_fault core)) may)
+      ∙ (λ i. cond (is_running core.status && (is_aligned (is i) core.pc
+      && is_none (first_inaccessible core.shadow core.pc (unit (is i))))) (Takes (Word (word_at core bytes))) Halts);
   halts = λ i. cond (is_running core.status)
-      (cond (is_aligned (is i) core.pc) (jump_fault core (fetch_fault core)) (stops core Misaligned)) (quiet core);
+      (cond (is_aligned (is i) core.pc)
+      (jump_fault core (first_inaccessible core.shadow core.pc (unit (is i)))) (stops core Misaligned)) (quiet core);
 }
 
 pub goes-by-fours : GoesByFours

@@ -14,9 +14,10 @@ pub mod Running
 pub mod DecodeSteps
 pub mod Altering
 pub mod AtOnce
-pub mod SameWords
+pub mod SameCodes
 pub mod Fetching
 pub mod StreamLaw
 pub mod IsaLaw
 pub mod IdleLaw
 pub mod StreamSteps
+pub mod FetchLaw

@@ -7,7 +7,7 @@ use Rattle.guest_elf.specs.declared.hook.Hook.{Hook}
 use Rattle.guest_elf.specs.declared.hook.Hook.TheVariants.{Malloc, Free, Calloc, Realloc}
 use Rattle.shadow_memory.specs.Ranges.{window}
 use Rattle.run_values.specs.declared.span.Span.{Span}
-use Rattle.instructions.specs.Instructions.{row_of}
+use Rattle.instructions.specs.Codes.{len_of, row_of_code}
 use Rattle.instructions.specs.declared.instruction.Instruction.{Instruction}
 use Rattle.instructions.specs.declared.instruction.Instruction.TheVariants.{LoadUpper, AddUpper, Jump, JumpRegister}
 use Rattle.instructions.specs.declared.instruction.Instruction.TheVariants.{Branch, Load, Store, Immediate, Registers}
@@ -17,14 +17,14 @@ use Rattle.std.specs.Prelude.{slice_index}
 use Rattle.error_events.specs.declared.parameter.Parameter.TheVariants.{ReadBuffer, WriteBuffer}
 use Rattle.run_values.specs.declared.status.Stop.TheVariants.{Misaligned}
 use Rattle.guest_machine.specs.Errors.{buffer_errors}
-use Rattle.guest_machine.specs.Effects.{Effect, after_word, moved_to, no_bytes, quiet, stops, stored_core}
+use Rattle.guest_machine.specs.Effects.{Effect, moved_to, next_of, no_bytes, quiet, stops, stored_core}
 use Rattle.guest_machine.specs.Calls.{answered, argument, answers, appends, bytes_taken, call_at, is_output}
 use Rattle.guest_machine.specs.Calls.{moved_len, failure}
 use Rattle.guest_machine.specs.Calls.{call_errors, call_tested, ebadf, enospc}
 use Rattle.guest_machine.specs.Calls.{read_call, write_call, output_room}
 use Rattle.guest_machine.specs.HeapCalls.{heap_work}
 use Rattle.guest_machine.specs.NamedCalls.{named_by, returns}
-use Rattle.guest_machine.specs.Exec.{Deed, Takes, CallsByName, Halts, Terms, Uses}
+use Rattle.guest_machine.specs.Exec.{Deed, Takes, Cut, CallsByName, Halts, Terms, Uses, word_fault}
 use Rattle.guest_machine.specs.Exec.{call_effect, call_uses, row_asks, row_effect, row_uses, exec}
 use Rattle.guest_machine.specs.Exec.{deed_at, deed_asks, deed_terms, effect_at, uses_at, intake_at, intake_of, left_at}
 use Rattle.guest_machine.specs.Exec.{given_at, outcome, plan, taken_from, written_to, touched_at, unfetched}
@@ -183,7 +183,9 @@ deed-spoken : (core : Core) (deed : Deed) (terms : Terms) (given : List ℕ) (by
     → Spoken bytes (plan core terms deed)
     (outcome core terms deed given (taken_from bytes (plan core terms deed).reads)).output
 unfolding Spoken
-deed-spoken core (Takes word) terms given bytes = row-spoken core (after_word core) (row_of word) terms given bytes
+deed-spoken core (Takes code) terms given bytes =
+    row-spoken core (next_of core (len_of code)) (row_of_code code) terms given bytes
+deed-spoken core Cut terms given bytes = inl (fault-silent core (word_fault core))
 deed-spoken core (CallsByName function) terms given bytes =
     inl (named-silent (returns core) function core terms.redzone terms.volume _)
 deed-spoken core Halts terms given bytes = inl (halt-silent core)
@@ -206,8 +208,10 @@ deed-quiet : (core : Core) (deed : Deed) (terms : Terms) (given : List ℕ) (tak
     → (deed_asks core deed ≡ None) × ((outcome core terms deed given taken).output ≡ [])
     × ((written : ℕ) → refuses_row core (row_in deed) written ≡ false)
 unfolding row_in refuses_row
-deed-quiet core (Takes word) terms given taken h =
-    let q = silent core (after_word core) (row_of word) terms given taken h in (q.asks, q.output, q.fits)
+deed-quiet core (Takes code) terms given taken h =
+    let q = silent core (next_of core (len_of code)) (row_of_code code) terms given taken h in
+    (q.asks, q.output, q.fits)
+deed-quiet core Cut terms given taken h = (refl, fault-silent core (word_fault core), λ n. refl)
 deed-quiet core (CallsByName function) terms given taken h =
     (refl, named-silent (returns core) function core terms.redzone terms.volume taken, λ n. refl)
 deed-quiet core Halts terms given taken h = (refl, halt-silent core, λ n. refl)

@@ -4,12 +4,13 @@ use Rattle.std.proofs.Common.{cond, List, []}
 use Rattle.std.proofs.Common.{Option, Some, None, refl, ap, sym, subst, ◌∙◌, arith}
 use Rattle.std.proofs.lemmas.Bool.Decides.{nat_tests}
 use Rattle.guest_elf.specs.declared.hook.Hook.{Hook}
-use Rattle.instructions.specs.Instructions.{row_of}
+use Rattle.instructions.specs.Codes.{code_of, row_of_code}
+use Rattle.instructions.specs.declared.code.Code.{Code}
 use Rattle.instructions.specs.declared.instruction.Instruction.{Instruction}
 use Rattle.shadow_memory.specs.Ranges.{little_word, window}
 use Rattle.guest_machine.specs.State.{Core, State}
-use Rattle.guest_machine.specs.Exec.{Deed, Takes, CallsByName, Halts, called_here, deed_asks, deed_at, deed_by, exec}
-use Rattle.guest_machine.specs.Exec.{fetched, fetches, row_asks}
+use Rattle.guest_machine.specs.Exec.{Deed, Takes, Cut, CallsByName, Halts, called_here, deed_asks, deed_at, deed_by}
+use Rattle.guest_machine.specs.Exec.{exec, row_asks}
 use Rattle.guest_machine.specs.Run.{pre}
 use Rattle.guest_machine.specs.Shows.{core_of, bytes_of, Holds}
 use Rattle.guest_machine.specs.Doing.{IsDecoded}
@@ -19,27 +20,26 @@ use Rattle.guest_machine.specs.declared.setup.Setup.{Setup}
 
 -- ---- the next instruction
 
--- where a word is taken, or a function called in its place
-quiet-by : (function : Option Hook) (word : ℕ) → calls_out (row_of word) ≡ false
-    → calls_out (row_in (deed_by function (Some word))) ≡ false
+-- where a code is taken, or a function called in its place
+quiet-by : (function : Option Hook) (code : Code) → calls_out (row_of_code code) ≡ false
+    → calls_out (row_in (deed_by function (Takes code))) ≡ false
 unfolding row_in calls_out
-quiet-by (Some function) word h = refl
-quiet-by None word h = h
+quiet-by (Some function) code h = refl
+quiet-by None code h = h
 
-pub quiet-decoded : (core : Core) (bytes : ℕ → ℕ) (row : Instruction) → IsDecoded core bytes row
+pub quiet-decoded : (core : Core) (bytes : ℕ → ℕ) (len : ℕ) (row : Instruction) → IsDecoded core bytes len row
     → calls_out (Some row) ≡ false → (hooks : List (ℕ × Hook)) → calls_out (row_in (deed_at core bytes hooks)) ≡ false
-unfolding fetched
-quiet-decoded core bytes row d h hooks =
-    let word = little_word (window bytes core.pc 4) in
-    let other : calls_out (row_of word) ≡ false = ap calls_out d.row ∙ h in
-    let taken : fetched core bytes ≡ Some word = ap (λ b. cond b (Some word) None) d.taken in
-    subst (λ found. calls_out (row_in (deed_by (called_here core hooks) found)) ≡ false) (sym taken)
-    (quiet-by (called_here core hooks) word other)
+quiet-decoded core bytes len row d h hooks =
+    let code = code_of len (little_word (window bytes core.pc len)) in
+    let other : calls_out (row_of_code code) ≡ false = ap calls_out d.row ∙ h in
+    subst (λ found. calls_out (row_in (deed_by (called_here core hooks) found)) ≡ false) (sym d.taken)
+    (quiet-by (called_here core hooks) code other)
 
 -- what is asked for follows from the instruction
 pub asks_by_row : (core : Core) (deed : Deed) → row_asks core (row_in deed) ≡ deed_asks core deed
 unfolding row_asks row_in
-asks_by_row core (Takes word) = refl
+asks_by_row core (Takes code) = refl
+asks_by_row core Cut = refl
 asks_by_row core (CallsByName function) = refl
 asks_by_row core Halts = refl
 

@@ -1,16 +1,21 @@
 -- A step does the same on states that differ in bytes that it doesn't touch. No instruction is named here.
-use Rattle.std.proofs.Common.{◌≡◌, ℕ, ◌+◌, ◌<◌, ◌||◌, ◌++◌, Bool, true, false, cond, refl, ap, ap₂, ◌∙◌, List, Option}
+use Rattle.std.proofs.Common.{◌≡◌, ℕ, ◌+◌, ◌<◌, ◌||◌, ◌++◌, Bool, true, false, cond, refl, ap, ap₂, sym, ◌∙◌, ◌≤◌, List}
+use Rattle.std.proofs.Common.{Option}
 use Rattle.std.proofs.Common.{Some, None, subst, nat_lt, arith, length}
 use Rattle.std.proofs.Math.Path.{fun_ext}
 use Rattle.std.proofs.lemmas.Bool.Decides.{nat_tests}
 use Rattle.shadow_memory.specs.Ranges.{above, offset, is_in, window, written, changed_in, little_word}
 use Rattle.guest_machine.specs.Spans.{covers}
 use Rattle.guest_machine.specs.State.{Core, State}
-use Rattle.guest_machine.specs.Exec.{exec, Takes, plan, outcome, uses_at, effect_at, touches, touched_at, has_touched}
+use Rattle.guest_machine.specs.Exec.{exec, Takes, Cut, Halts, plan, outcome, uses_at, effect_at, touches, touched_at}
+use Rattle.guest_machine.specs.Exec.{has_touched}
 use Rattle.guest_machine.specs.Exec.{called_here, deed_by, deed_at, deed_terms}
 use Rattle.guest_machine.specs.Exec.{is_heap_deed, given_at, taken_from, written_to, counted, fetched, fetches}
 use Rattle.guest_machine.specs.Exec.{fetch_span, seen_also, intake_of, intake_at, deed_asks}
-use Rattle.guest_machine.specs.Exec.{left_at}
+use Rattle.guest_machine.specs.Exec.{left_at, fetch_by, half_at, word_at, word_fault}
+use Rattle.guest_elf.specs.Profiles.{is_half}
+use Rattle.instructions.specs.declared.code.Code.TheVariants.{Word, Half}
+use Rattle.std.specs.Prelude.{is_none}
 use Rattle.guest_machine.specs.Laws.{DifferWithin, TouchesNone, InWord, KeepsWords}
 use Rattle.run_values.specs.declared.span.Span.{Span}
 use Rattle.guest_machine.specs.declared.setup.Setup.{Setup}
@@ -62,23 +67,55 @@ written-outside W f g None made e a n = e a n
 written-outside W f g (Some span) made e a n =
     ap (λ x. cond (is_in span.start span.len a) (made (offset span.start a)) x) (e a n)
 
--- the word at pc, by whether it may be taken
-abbrev word_by : Bool → Core → (ℕ → ℕ) → Option ℕ
-word_by b core f = cond b (Some (little_word (window f core.pc 4))) None
+in-more : (start n m a : ℕ) → n ≤ m → is_in start m a ≡ false → is_in start n a ≡ false
+in-more start n m a less h = grind (arith, nat_tests)
 
--- what is done is the same: it looks only at the word at pc, and only if no function is called by name
+-- the first half at pc is in what is fetched, whatever its length
+half-outside : (W : ℕ → Type 0) (core : Core) (f g : ℕ → ℕ) (len : ℕ) → 2 ≤ len → EqualOutside W f g
+    → ((a : ℕ) → W a → is_in core.pc len a ≡ false) → half_at core f ≡ half_at core g
+half-outside W core f g len more e h =
+    ap little_word (window-outside W f g core.pc 2 e (λ a w. in-more core.pc 2 len a more (h a w)))
+
+-- what is fetched is the same: that looks only at the code at pc
+fetch-outside : (W : ℕ → Type 0) (core : Core) (f g : ℕ → ℕ) → EqualOutside W f g
+    → Avoids W (fetch_span core (fetched core f)) → fetched core f ≡ fetched core g
+unfolding fetched Avoids
+fetch-outside W core f g e h = go (fetches core) (is_half core.isa (half_at core f)) (is_none (word_fault core)) refl h
+  where
+    go : (may short whole : Bool) → is_half core.isa (half_at core f) ≡ short
+        → ((a : ℕ) → W a
+        → covers (fetch_span core (fetch_by may short whole (half_at core f) (word_at core f))) a ≡ false)
+        → fetch_by may short whole (half_at core f) (word_at core f)
+        ≡ fetch_by may (is_half core.isa (half_at core g)) whole (half_at core g) (word_at core g)
+    go false short whole k avoid = refl
+    go true true whole k avoid =
+        let half = half-outside W core f g 2 (omega arith) e avoid in
+        ap (λ n. Takes (Half n)) half
+        ∙ ap (λ b. fetch_by true b whole (half_at core g) (word_at core g))
+        (sym (ap (is_half core.isa) (sym half) ∙ k))
+    go true false true k avoid =
+        let half = half-outside W core f g 4 (omega arith) e avoid in
+        let word = ap little_word (window-outside W f g core.pc 4 e avoid) in
+        ap (λ n. Takes (Word n)) word
+        ∙ ap (λ b. fetch_by true b true (half_at core g) (word_at core g))
+        (sym (ap (is_half core.isa) (sym half) ∙ k))
+    go true false false k avoid =
+        let half = half-outside W core f g 2 (omega arith) e avoid in
+        ap (λ b. fetch_by true b false (half_at core g) (word_at core g))
+        (sym (ap (is_half core.isa) (sym half) ∙ k))
+
+-- what is done is the same
 deed-outside : (W : ℕ → Type 0) (core : Core) (hooks : List (ℕ × Hook)) (f g : ℕ → ℕ) → EqualOutside W f g
     → Avoids W (fetch_span core (deed_at core f hooks))
     → deed_at core f hooks ≡ deed_at core g hooks
-unfolding fetched Avoids
-deed-outside W core hooks f g e h = go (called_here core hooks) (fetches core) h
+unfolding Avoids
+deed-outside W core hooks f g e h = go (called_here core hooks) h
   where
-    go : (function : Option Hook) (b : Bool)
-        → ((a : ℕ) → W a → covers (fetch_span core (deed_by function (word_by b core f))) a ≡ false)
-        → deed_by function (word_by b core f) ≡ deed_by function (word_by b core g)
-    go (Some function) b k = refl
-    go None true k = ap (λ x. Takes (little_word x)) (window-outside W f g core.pc 4 e k)
-    go None false k = refl
+    go : (function : Option Hook)
+        → ((a : ℕ) → W a → covers (fetch_span core (deed_by function (fetched core f))) a ≡ false)
+        → deed_by function (fetched core f) ≡ deed_by function (fetched core g)
+    go (Some function) k = refl
+    go None k = fetch-outside W core f g e k
 
 -- the step of a state with these byte values
 module _ (W : ℕ → Type 0) (core : Core) (position output : ℕ) (setup : Setup) (f g : ℕ → ℕ) (e : EqualOutside W f g)

@@ -7,7 +7,7 @@ use Rattle.shadow_memory.specs.Ranges.{written, byte_of, little_word, window}
 use Rattle.shadow_memory.specs.Shadows.{made_so}
 use Rattle.guest_machine.specs.State.{Core, State}
 use Rattle.guest_machine.specs.Registers.{register, set_register}
-use Rattle.guest_machine.specs.Effects.{after_word, moved_to, stored_core}
+use Rattle.guest_machine.specs.Effects.{moved_to, next_of, stored_core}
 use Rattle.guest_machine.specs.Exec.{is_running}
 use Rattle.run_values.specs.declared.alteration.Act.{Act}
 use Rattle.run_values.specs.declared.alteration.Act.TheVariants.{Make, Set, Flip, Jump, FlipPc, Write, Turn, Skip}
@@ -31,7 +31,7 @@ core_by (Jump target) core = moved_to core target
 core_by (FlipPc mask) core = moved_to core (xor_of core.pc mask)
 core_by (Write addr width value) core = stored_core core addr (width_len width) 0
 core_by (Turn addr mask) core = core
-core_by Skip core = moved_to core (after_word core)
+core_by Skip core = moved_to core (next_of core 4)
 
 -- and of the byte values
 abbrev pub bytes_by : Act → (ℕ → ℕ) → ℕ → ℕ

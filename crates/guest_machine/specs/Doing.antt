@@ -1,7 +1,7 @@
 -- What the machine's private functions do to the parts that it shows.
 use Rattle.std.specs.Prelude.{◌≡◌, ℕ, ◌+◌, ◌%◌, ◌^◌, true, false, Bool, length, List, [], ◌∷◌, Option, Some, None}
 use Rattle.guest_machine.specs.State.{Core}
-use Rattle.guest_machine.specs.Effects.{Effect, moved_to, stored_core}
+use Rattle.guest_machine.specs.Effects.{Effect, moved_to, next_of, stored_core}
 use Rattle.run_values.specs.declared.span.Span.{Span}
 use Rattle.guest_machine.specs.Calls.{read_call, write_call}
 use Rattle.guest_machine.specs.HeapCalls.{Resizing, heap_work, heap_call}
@@ -10,9 +10,9 @@ use Rattle.guest_machine.specs.Exec.{Uses, Terms, Intake, no_intake, intake_of, 
 use Rattle.guest_machine.specs.Exec.{call_asks, counted, written_to, row_uses, row_effect, rounded, calls_heap}
 use Rattle.guest_machine.specs.Exec.{read_uses, write_uses, work_uses, heap_uses, named_uses, moved_from, moved_into}
 use Rattle.guest_machine.specs.Exec.{terms_of, given_at, taken_from, is_heap_deed, deed_at, uses_at, effect_at}
-use Rattle.guest_machine.specs.Exec.{touched_at, fetches}
+use Rattle.guest_machine.specs.Exec.{Deed, Takes, Cut, Halts, fetched, touched_at}
 use Rattle.guest_machine.specs.Errors.{fetch_undef}
-use Rattle.instructions.specs.Instructions.{row_of}
+use Rattle.instructions.specs.Codes.{code_of, len_of, row_of_code}
 use Rattle.shadow_memory.specs.Ranges.{byte_of, little_word, window}
 use Rattle.guest_machine.specs.Shows.{core_of, bytes_of}
 use Rattle.definedness.specs.declared.Bits.{Bits}
@@ -25,6 +25,8 @@ use Rattle.guest_machine.specs.declared.environment_call.EnvironmentCall.TheVari
 use Rattle.instructions.specs.declared.instruction.Instruction.{Instruction}
 use Rattle.guest_machine.specs.declared.machine.Guest.{Guest}
 use Rattle.guest_machine.specs.declared.machine.Noted.{Noted}
+use Rattle.guest_machine.specs.declared.machine.fetching.Fetch.{Fetch}
+use Rattle.guest_machine.specs.declared.machine.fetching.Fetch.TheVariants.{Whole, First, Nothing}
 use Rattle.guest_machine.specs.declared.machine.step.Used.{Used}
 use Rattle.guest_machine.specs.declared.setup.Setup.{Setup}
 use Rattle.guest_machine.specs.declared.setup.Touched.{Touched}
@@ -82,15 +84,18 @@ pub record Does (old new : Guest) (effect : Effect) (uses : Uses) (heap : Bool) 
   pub heap_calls : new.progress.heap_calls ≡ counted old.progress.heap_calls heap
   pub noted : Raises old new effect.raised
 
--- the address after an instruction of this length at pc
-abbrev pub next_of : Core → ℕ → ℕ
-next_of core len = (core.pc + len) % 2 ^ 32
+-- this is what may be fetched at pc, with its undefined bits
+abbrev pub IsFetch : Core → (ℕ → ℕ) → Fetch → Type 0
+IsFetch core bytes (Whole code undef) =
+    (fetched core bytes ≡ Takes code) × (undef ≡ fetch_undef core (len_of code))
+IsFetch core bytes (First undef) = (fetched core bytes ≡ Cut) × (undef ≡ fetch_undef core 2)
+IsFetch core bytes Nothing = fetched core bytes ≡ Halts
 
--- the word at pc may be fetched, is defined, and decodes to this instruction
-pub record IsDecoded (core : Core) (bytes : ℕ → ℕ) (instruction : Instruction) : Type 0 where
-  pub taken : fetches core ≡ true
-  pub row : row_of (little_word (window bytes core.pc 4)) ≡ Some instruction
-  pub undef : fetch_undef core ≡ 0
+-- a code of this length may be fetched at pc, is defined, and decodes to this instruction
+pub record IsDecoded (core : Core) (bytes : ℕ → ℕ) (len : ℕ) (instruction : Instruction) : Type 0 where
+  pub taken : fetched core bytes ≡ Takes (code_of len (little_word (window bytes core.pc len)))
+  pub row : row_of_code (code_of len (little_word (window bytes core.pc len))) ≡ Some instruction
+  pub undef : fetch_undef core len ≡ 0
 
 -- the effect of a store of a number at n bytes, with these errors; and without errors
 abbrev pub storing : Core → ℕ → ℕ → ℕ → Bits → List Event → Effect
@@ -134,15 +139,16 @@ DoesRow old new next row setup =
     (row_effect (core_of old) next row (row_terms old row setup) given (taken_from (bytes_of old) uses.reads)) uses
     (calls_heap (core_of old) row) intake
 
--- the same between the test of its word and the stack pointer rule
+-- the same between the test of its code, of this length, and the stack pointer rule
 abbrev pub DoesRound : Guest → Guest → ℕ → Option Instruction → Setup → Type 0
-DoesRound old new next row setup =
+DoesRound old new len row setup =
     let uses = uses_by old row setup in
     let intake = (row_terms old row setup).intake in
     let given = given_at old.progress.position intake.count setup in
     let effect =
-    row_effect (core_of old) next row (row_terms old row setup) given (taken_from (bytes_of old) uses.reads) in
-    Does old new (rounded (core_of old) effect) uses (calls_heap (core_of old) row) intake
+    row_effect (core_of old) (next_of (core_of old) len) row (row_terms old row setup) given
+    (taken_from (bytes_of old) uses.reads) in
+    Does old new (rounded (core_of old) len effect) uses (calls_heap (core_of old) row) intake
 
 -- a whole step of a machine, and what it touches
 abbrev pub DoesStep : Guest → Guest → Setup → Type 0

@@ -44,9 +44,9 @@ raising core events = record { core = core; raised = events; made = no_bytes; ou
 abbrev pub moved_to : Core → ℕ → Core
 moved_to core to = record core { pc = to }
 
--- the address after the word at pc
-abbrev pub after_word : Core → ℕ
-after_word core = (core.pc + 4) % 2 ^ 32
+-- the address after an instruction of this length at pc
+abbrev pub next_of : Core → ℕ → ℕ
+next_of core len = (core.pc + len) % 2 ^ 32
 
 abbrev pub stopped : Core → Stop → Core
 stopped core stop = record core { status = Stopped stop }

@@ -87,10 +87,10 @@ buffer_errors core parameter need_defined start n =
 abbrev pub taken_undef : Core → ℕ → ℕ → ℕ
 taken_undef core start n = little_word (window (λ a. loaded_undef (core.shadow a)) start n)
 
--- and of the word at pc
-abbrev pub fetch_undef : Core → ℕ
-fetch_undef core = taken_undef core core.pc 4
+-- and of the first bytes at pc
+abbrev pub fetch_undef : Core → ℕ → ℕ
+fetch_undef core len = taken_undef core core.pc len
 
--- the word at pc has an undefined bit
-abbrev pub fetch_errors : Core → List Event
-fetch_errors core = event_unless (fetch_undef core == 0) (here core) Value
+-- one of the first bytes at pc, which are fetched, has an undefined bit
+abbrev pub fetch_errors : Core → ℕ → List Event
+fetch_errors core len = event_unless (fetch_undef core len == 0) (here core) Value

@@ -1,4 +1,4 @@
--- One step, in three parts: what it does, by the word at pc and the functions that are called by name; what it uses, by
+-- One step, in three parts: what it does, by the code at pc and the functions that are called by name; what it uses, by
 -- this and what decides the step; and what it leaves, by these, the input that it gets and the bytes that it reads. It
 -- depends on no other byte value and no other part of the setup.
 use Rattle.std.specs.Prelude.{nat_lt, ◌≡◌, ℕ, ◌+◌, ◌-◌, ◌*◌, ◌==◌, ◌&&◌, ◌||◌, Bool, true, false, if◌then◌else◌}
@@ -8,18 +8,17 @@ use Rattle.guest_machine.specs.Spans.{span_at, covers}
 use Rattle.shadow_memory.specs.Shadows.{first_inaccessible}
 use Rattle.instructions.specs.Widths.{width_len}
 use Rattle.guest_machine.specs.State.{Core, State}
-use Rattle.instructions.specs.Instructions.{row_of}
+use Rattle.instructions.specs.Codes.{len_of, row_of_code}
 use Rattle.guest_machine.specs.Effects.{Effect, no_bytes, quiet, raising, moved_to, stopped, target, load_upper}
 use Rattle.guest_machine.specs.Effects.{add_upper, compute_immediate, compute, load, store, branch, jump, jump_register}
-use Rattle.guest_machine.specs.Effects.{after_word, stops}
+use Rattle.guest_machine.specs.Effects.{next_of, stops}
 use Rattle.guest_machine.specs.Calls.{argument, call_at, is_heap, moved_len, appends, read_call, write_call, exit_call}
 use Rattle.guest_machine.specs.Calls.{unknown_call}
 use Rattle.guest_elf.specs.Hooks.{hook_at}
-use Rattle.guest_elf.specs.Profiles.{is_aligned}
+use Rattle.guest_elf.specs.Profiles.{is_aligned, is_half, unit}
 use Rattle.guest_machine.specs.NamedCalls.{returns, named_call}
 use Rattle.guest_machine.specs.Errors.{here, event_about, fetch_undef, fetch_errors}
 use Rattle.guest_machine.specs.StackPointer.{stack_ruled}
-use Rattle.definedness.specs.declared.Bits.{Bits}
 use Rattle.guest_machine.specs.Registers.{register}
 use Rattle.guest_machine.specs.declared.environment_call.EnvironmentCall.{EnvironmentCall}
 use Rattle.guest_machine.specs.declared.environment_call.EnvironmentCall.TheVariants.{Read as ReadCall}
@@ -35,6 +34,8 @@ use Rattle.guest_heap.specs.Blocks.{Blocks}
 use Rattle.guest_heap.specs.Steps.{place}
 use Rattle.guest_machine.specs.HeapCalls.{Resizing, Moves, resizing, moved_size, heap_call}
 use Rattle.instructions.specs.declared.width.Width.{Width}
+use Rattle.instructions.specs.declared.code.Code.{Code}
+use Rattle.instructions.specs.declared.code.Code.TheVariants.{Word, Half}
 use Rattle.run_values.specs.declared.span.Span.{Span}
 use Rattle.guest_machine.specs.declared.setup.Setup.{Setup}
 use Rattle.guest_machine.specs.declared.setup.Touched.{Touched}
@@ -48,52 +49,72 @@ use Rattle.run_values.specs.declared.status.Status.TheVariants.{Running, Exited,
 use Rattle.run_values.specs.declared.status.Stop.TheVariants.{Jump as JumpStop, Break, Illegal, Misaligned}
 use Rattle.error_events.specs.declared.kind.Kind.TheVariants.{Jump as JumpError}
 
--- the word at pc --
+-- the code at pc --
 
 abbrev pub is_running : Status → Bool
 is_running Running = true
 is_running (Exited code) = false
 is_running (Stopped stop) = false
 
--- the first inaccessible one of the four bytes at pc
-abbrev pub fetch_fault : Core → Option ℕ
-fetch_fault core = first_inaccessible core.shadow core.pc 4
+-- the number in the first two bytes at pc, and in the first four
+abbrev pub half_at : Core → (ℕ → ℕ) → ℕ
+half_at core bytes = little_word (window bytes core.pc 2)
 
--- may the word at pc be fetched?
+abbrev pub word_at : Core → (ℕ → ℕ) → ℕ
+word_at core bytes = little_word (window bytes core.pc 4)
+
+-- the first inaccessible one of as many bytes at pc as the shortest instructions have, and of the four there
+abbrev pub fetch_fault : Core → Option ℕ
+fetch_fault core = first_inaccessible core.shadow core.pc (unit core.isa)
+
+abbrev pub word_fault : Core → Option ℕ
+word_fault core = first_inaccessible core.shadow core.pc 4
+
+-- may as many be fetched?
 unfoldable pub fetches : Core → Bool
 fetches core = is_running core.status && (is_aligned core.isa core.pc && is_none (fetch_fault core))
 
--- the word at pc, if it may be fetched
-unfoldable pub fetched : Core → (ℕ → ℕ) → Option ℕ
-fetched core bytes = if fetches core then Some (little_word (window bytes core.pc 4)) else None
-
--- this is the word that may be fetched, with its undefined bits
-pub record IsFetched (core : Core) (bytes : ℕ → ℕ) (word : Bits) : Type 0 where
-  pub taken : fetches core ≡ true
-  pub value : word.value ≡ little_word (window bytes core.pc 4)
-  pub undef : word.undef ≡ fetch_undef core
-
 -- what a step does --
 
--- it fetches a word, and executes it; or it does the heap call in place of a function, which is called by name; or
--- neither
+-- it fetches a code, and executes it; or it fetches the first half of a word and can't fetch the second; or it does the
+-- heap call in place of a function, which is called by name; or none of these
 pub data Deed : Type 0 where
-  Takes : ℕ → Deed
+  Takes : Code → Deed
+  Cut : Deed
   CallsByName : Hook → Deed
   Halts : Deed
+
+-- by whether a first part may be fetched, whether it is a half, and whether the whole word may be fetched
+abbrev pub fetch_by : Bool → Bool → Bool → ℕ → ℕ → Deed
+fetch_by false short whole half word = Halts
+fetch_by true true whole half word = Takes (Half half)
+fetch_by true false true half word = Takes (Word word)
+fetch_by true false false half word = Cut
+
+-- what a step does that calls no function by name
+unfoldable pub fetched : Core → (ℕ → ℕ) → Deed
+fetched core bytes =
+    fetch_by (fetches core) (is_half core.isa (half_at core bytes)) (is_none (word_fault core)) (half_at core bytes)
+    (word_at core bytes)
 
 -- the function that is called by name: the one that begins at pc
 unfoldable pub called_here : Core → List (ℕ × Hook) → Option Hook
 called_here core hooks = if is_running core.status && is_aligned core.isa core.pc then hook_at hooks core.pc else None
 
--- a function is called before its word is looked at
-abbrev pub deed_by : Option Hook → Option ℕ → Deed
-deed_by (Some function) word = CallsByName function
-deed_by None (Some word) = Takes word
-deed_by None None = Halts
+-- a function is called before its code is looked at
+abbrev pub deed_by : Option Hook → Deed → Deed
+deed_by (Some function) deed = CallsByName function
+deed_by None deed = deed
 
 abbrev pub deed_at : Core → (ℕ → ℕ) → List (ℕ × Hook) → Deed
 deed_at core bytes hooks = deed_by (called_here core hooks) (fetched core bytes)
+
+-- the code that is fetched, if it is
+abbrev pub code_in : Deed → Option Code
+code_in (Takes code) = Some code
+code_in Cut = None
+code_in (CallsByName function) = None
+code_in Halts = None
 
 -- what a step uses --
 
@@ -254,7 +275,13 @@ abbrev pub jump_fault : Core → Option ℕ → Effect
 jump_fault core None = quiet core
 jump_fault core (Some a) = raising (stopped core JumpStop) (event_about core.blocks (here core) JumpError (Some a))
 
--- what a step leaves that does neither: a stopped or exited machine is its own successor
+-- a fetch of a word of which only the first half may be accessed; the half is tested, as it says that there is a second
+abbrev pub cut : Core → Effect
+cut core =
+    let e = jump_fault core (word_fault core) in
+    record { core = e.core; raised = fetch_errors core 2 ++ e.raised; made = e.made; output = e.output }
+
+-- what a step leaves that does none of these: a stopped or exited machine is its own successor
 unfoldable pub unfetched : Core → Effect
 unfetched core =
     if is_running core.status
@@ -265,35 +292,40 @@ unfetched core =
 
 -- is it a heap call? A call by name is one if it returns
 abbrev pub is_heap_deed : Core → Deed → Bool
-is_heap_deed core (Takes word) = calls_heap core (row_of word)
+is_heap_deed core (Takes code) = calls_heap core (row_of_code code)
+is_heap_deed core Cut = false
 is_heap_deed core (CallsByName function) = returns core
 is_heap_deed core Halts = false
 
 abbrev pub plan : Core → Terms → Deed → Uses
-plan core terms (Takes word) = row_uses core (row_of word) terms
+plan core terms (Takes code) = row_uses core (row_of_code code) terms
+plan core terms Cut = nothing
 plan core terms (CallsByName function) = named_uses function core terms.redzone
 plan core terms Halts = nothing
 
--- between the test of the word and the stack pointer rule
-abbrev pub rounded : Core → Effect → Effect
-rounded core e =
+-- between the test of a code of this length and the stack pointer rule
+abbrev pub rounded : Core → ℕ → Effect → Effect
+rounded core len e =
     record {
       core = stack_ruled (register core 2) e.core;
-      raised = fetch_errors core ++ e.raised;
+      raised = fetch_errors core len ++ e.raised;
       made = e.made;
       output = e.output;
     }
 
 -- a call by name leaves the stack pointer, and so needs no rule for it
 abbrev pub outcome : Core → Terms → Deed → List ℕ → (ℕ → ℕ) → Effect
-outcome core terms (Takes word) given taken =
-    rounded core (row_effect core (after_word core) (row_of word) terms given taken)
+outcome core terms (Takes code) given taken =
+    rounded core (len_of code)
+    (row_effect core (next_of core (len_of code)) (row_of_code code) terms given taken)
+outcome core terms Cut given taken = cut core
 outcome core terms (CallsByName function) given taken = named_call function core terms.redzone terms.volume taken
 outcome core terms Halts given taken = unfetched core
 
 -- how much of the input a step asks for, if it asks
 abbrev pub deed_asks : Core → Deed → Option ℕ
-deed_asks core (Takes word) = row_asks core (row_of word)
+deed_asks core (Takes code) = row_asks core (row_of_code code)
+deed_asks core Cut = None
 deed_asks core (CallsByName function) = None
 deed_asks core Halts = None
 
@@ -375,9 +407,10 @@ exec s setup =
 
 -- which addresses a step touches --
 
--- the four addresses at pc, if the word there is fetched
+-- the addresses of the code at pc, if it is fetched, and of a half that is; what that holds decides the step
 abbrev pub fetch_span : Core → Deed → Option Span
-fetch_span core (Takes word) = Some (span_at core.pc 4)
+fetch_span core (Takes code) = Some (span_at core.pc (len_of code))
+fetch_span core Cut = Some (span_at core.pc 2)
 fetch_span core (CallsByName function) = None
 fetch_span core Halts = None
 

@@ -18,7 +18,9 @@ use Rattle.guest_machine.specs.MarkedRun.{alterations_of}
 use Rattle.run_values.specs.Alterations.{alteration_of}
 use Rattle.run_values.specs.declared.mark.Mark.{Mark}
 use Rattle.guest_machine.specs.Exec.{exec, touches, counted, is_heap_deed, is_running, deed_at}
-use Rattle.guest_machine.specs.Exec.{called_here, fetch_fault, fetches, jump_fault, unfetched}
+use Rattle.guest_machine.specs.Exec.{Takes, Halts, called_here, fetched, fetches, jump_fault, unfetched, word_at}
+use Rattle.guest_machine.specs.Exec.{word_fault}
+use Rattle.instructions.specs.declared.code.Code.TheVariants.{Word}
 use Rattle.guest_machine.specs.declared.setup.Setup.{Setup}
 
 -- the addresses of the word at an address
@@ -120,10 +122,13 @@ pub record IsByFours (core : Core) : Type 0 where
   pub returns : returns core ≡ (return_address core % 4 == 0)
   pub calls : (hooks : List (ℕ × Hook)) → called_here core hooks
       ≡ if is_running core.status && core.pc % 4 == 0 then hook_at hooks core.pc else None
-  pub fetches : fetches core ≡ (is_running core.status && (core.pc % 4 == 0 && is_none (fetch_fault core)))
+  pub fetches : fetches core ≡ (is_running core.status && (core.pc % 4 == 0 && is_none (word_fault core)))
+  pub takes : (bytes : ℕ → ℕ) → fetched core bytes
+      ≡ if is_running core.status && (core.pc % 4 == 0 && is_none (word_fault core))
+      then Takes (Word (word_at core bytes)) else Halts
   pub halts : unfetched core
       ≡ if is_running core.status
-      then (if core.pc % 4 == 0 then jump_fault core (fetch_fault core) else stops core Misaligned)
+      then (if core.pc % 4 == 0 then jump_fault core (word_fault core) else stops core Misaligned)
       else quiet core
 
 -- a core whose instruction set is RV32IM is one

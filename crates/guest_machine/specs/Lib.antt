@@ -9,6 +9,7 @@ pub mod Calls
 pub mod HeapCalls
 pub mod NamedCalls
 pub mod Exec
+pub mod Fetches
 pub mod Loading
 pub mod Alterations
 pub mod Run

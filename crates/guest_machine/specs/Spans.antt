@@ -1,5 +1,5 @@
 -- Ranges of addresses, as a step names them.
-use Rattle.std.specs.Prelude.{◌≡◌, ◌%◌, ℕ, Bool, Option, Some, None, false}
+use Rattle.std.specs.Prelude.{◌≡◌, ◌%◌, ◌≤◌, ℕ, Bool, Option, Some, None, false}
 use Rattle.shadow_memory.specs.Ranges.{is_in}
 use Rattle.run_values.specs.declared.span.Span.{Span}
 
@@ -11,7 +11,7 @@ abbrev pub covers : Option Span → ℕ → Bool
 covers None a = false
 covers (Some span) a = is_in span.start span.len a
 
--- a range is one word: four bytes from a multiple of 4 on
-pub record IsWord (span : Span) : Type 0 where
-  pub aligned : span.start % 4 ≡ 0
-  pub whole : span.len ≡ 4
+-- a range is that of a code: at most four bytes, from a multiple of 2 on
+pub record IsCodeSpan (span : Span) : Type 0 where
+  pub even : span.start % 2 ≡ 0
+  pub few : span.len ≤ 4

@@ -5,9 +5,12 @@ use Rattle.shadow_memory.specs.Ranges.{window}
 use Rattle.guest_machine.specs.State.{Core, State}
 use Rattle.guest_machine.specs.Calls.{argument, appends, bytes_taken, call_at, is_output}
 use Rattle.guest_machine.specs.Errors.{fetch_undef}
-use Rattle.guest_machine.specs.Exec.{Deed, Takes, CallsByName, Halts, deed_at, exec, intake_at, is_running, touched_of}
+use Rattle.guest_machine.specs.Exec.{Deed, Takes, Cut, CallsByName, Halts, deed_at, exec, intake_at, is_running}
+use Rattle.guest_machine.specs.Exec.{touched_of}
 use Rattle.guest_machine.specs.Run.{pre}
-use Rattle.instructions.specs.Instructions.{row_of}
+use Rattle.instructions.specs.Codes.{len_of, row_of_code}
+use Rattle.instructions.specs.declared.code.Code.{Code}
+use Rattle.instructions.specs.declared.code.Code.TheVariants.{Word, Half}
 use Rattle.instructions.specs.declared.instruction.Instruction.{Instruction}
 use Rattle.instructions.specs.declared.instruction.Instruction.TheVariants.{CallEnvironment as CallRow}
 use Rattle.guest_machine.specs.declared.environment_call.EnvironmentCall.{EnvironmentCall}
@@ -19,7 +22,8 @@ use Rattle.guest_machine.specs.declared.setup.Setup.{Setup}
 
 -- the instruction that is carried out, if one is
 unfoldable pub row_in : Deed → Option Instruction
-row_in (Takes word) = row_of word
+row_in (Takes code) = row_of_code code
+row_in Cut = None
 row_in (CallsByName function) = None
 row_in Halts = None
 
@@ -31,13 +35,22 @@ unfoldable pub calls_out : Option Instruction → Bool
 calls_out (Some CallRow) = true
 calls_out _ = false
 
--- `jal x0, 0`: a jump to itself that leaves no link (RISC-V Unprivileged ISA 20191213, section 2.5)
+-- `jal x0, 0`, and `c.j 0`, which stands for it: a jump to itself that leaves no link (RISC-V Unprivileged ISA
+-- 20191213, sections 2.5 and 16.4)
 abbrev pub self_jump : ℕ
 self_jump = 0x6F
 
--- is it the word that is taken?
+abbrev pub short_self_jump : ℕ
+short_self_jump = 0xA001
+
+-- is it the code that is taken?
+abbrev pub is_self_jump : Code → Bool
+is_self_jump (Word word) = word == self_jump
+is_self_jump (Half half) = half == short_self_jump
+
 unfoldable pub jumps_to_itself : Deed → Bool
-jumps_to_itself (Takes word) = word == self_jump
+jumps_to_itself (Takes code) = is_self_jump code
+jumps_to_itself Cut = false
 jumps_to_itself (CallsByName function) = false
 jumps_to_itself Halts = false
 
@@ -65,9 +78,14 @@ refused_writes start setup zero = 0
 refused_writes start setup (suc n) =
     refused_writes start setup n + (if refuses_write (pre start setup [] n) setup then 1 else 0)
 
--- is a state in a jump to itself, whose word is defined?
+-- does a jump to itself, whose code is defined?
+abbrev pub is_defined : Core → Deed → Bool
+is_defined core (Takes code) = fetch_undef core (len_of code) == 0
+is_defined core _ = false
+
+-- is a state in a jump to itself, whose code is defined?
 abbrev pub idles_in : Core → Deed → Bool
-idles_in core deed = jumps_to_itself deed && (fetch_undef core == 0)
+idles_in core deed = jumps_to_itself deed && is_defined core deed
 
 unfoldable pub is_idle : State → Setup → Bool
 is_idle s setup = idles_in s.core (deed_at s.core s.bytes setup.hooks)

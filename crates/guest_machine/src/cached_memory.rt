@@ -1,7 +1,7 @@
 //! A memory, with the instructions that were decoded from it recently.
 ghost use Rattle.std.specs.Prelude.{◌≡◌};
 ghost use Rattle.shadow_memory.specs.Memories.{bytes_in, shadows_in};
-ghost use Rattle.guest_machine.specs.DecodeCaches.{HasEach};
+ghost use Rattle.guest_machine.specs.DecodeCaches.{HasBoth};
 
 use crate::decode_cache::{DecodeCache, Decoded};
 use definedness::Bits;
@@ -17,7 +17,7 @@ use std::mem;
 pub(crate) struct CachedMemory {
     memory: Memory,
     cache: DecodeCache,
-    ghost kept: { HasEach (bytes_in memory) (shadows_in memory) cache.entries.items },
+    ghost kept: { HasBoth (bytes_in memory) (shadows_in memory) cache.words.items cache.halves.items },
 }
 
 impl Model for CachedMemory {
@@ -57,22 +57,41 @@ impl CachedMemory {
         &self.memory
     }
 
-    /// Returns the instruction of the word at a multiple of 4, if it is known; the word may then be accessed, and is defined.
+    /// Returns the instruction of the word at a multiple of 2, if it is known; the word may then be accessed, and is defined.
     #[inline(always)]
-    pub(crate) fn decoded(&self, addr: u32) -> Option<Instruction>
-        requires { addr % 4 ≡ 0 }
-        ensures { IfSome result (λ row. HasRow (bytes_in self.now) (shadows_in self.now) addr row) }
+    pub(crate) fn decoded_word(&self, addr: u32) -> Option<Instruction>
+        requires { addr % 2 ≡ 0 }
+        ensures { IfSome result (λ row. HasRow (bytes_in self.now) (shadows_in self.now) 4 addr row) }
     {
-        self.cache.at(addr)
+        self.cache.word_at(addr)
     }
 
-    /// Keeps the instruction of the word at a multiple of 4, all of which may be accessed and is defined.
-    pub(crate) fn keep(&mut self, addr: u32, row: Instruction)
-        requires aligned { addr % 4 ≡ 0 }
-        requires there { HasRow (bytes_in self.old) (shadows_in self.old) addr row }
+    /// Returns the instruction of the half at a multiple of 2, if it is known; the half may then be accessed, and is defined.
+    #[inline(always)]
+    pub(crate) fn decoded_half(&self, addr: u32) -> Option<Instruction>
+        requires { addr % 2 ≡ 0 }
+        ensures { IfSome result (λ row. HasRow (bytes_in self.now) (shadows_in self.now) 2 addr row) }
+    {
+        self.cache.half_at(addr)
+    }
+
+    /// Keeps the instruction of the word at an address, all of which may be accessed and is defined; not of one that goes on at address 0.
+    pub(crate) fn keep_word(&mut self, addr: u32, row: Instruction)
+        requires { HasRow (bytes_in self.old) (shadows_in self.old) 4 addr row }
         ensures { self.new ≡ self.old }
     {
-        self.cache.put(Decoded { addr, row });
+        if addr <= u32::MAX - 3 {
+            self.cache.put_word(Decoded { addr, row });
+        }
+    }
+
+    /// Keeps the instruction of the half at a multiple of 2, all of which may be accessed and is defined.
+    pub(crate) fn keep_half(&mut self, addr: u32, row: Instruction)
+        requires aligned { addr % 2 ≡ 0 }
+        requires there { HasRow (bytes_in self.old) (shadows_in self.old) 2 addr row }
+        ensures { self.new ≡ self.old }
+    {
+        self.cache.put_half(Decoded { addr, row });
     }
 
     /// See [`Memory::load`].
@@ -141,7 +160,7 @@ impl CachedMemory {
         ensures bytes { bytes_in self.new ≡ bytes_in self.old }
         ensures shadows { OnOk result (shadows_in self.new ≡ made_so (shadows_in self.old) addr len kind) }
     {
-        self.cache.forget_range(addr, len);
+        self.cache.forget(addr, len);
         self.memory.set_range(addr, len, kind)
     }
 
@@ -150,7 +169,7 @@ impl CachedMemory {
         ensures bytes { OnOk result (bytes_in self.new ≡ written (bytes_in self.old) addr len (slice_index bytes.now)) }
         ensures shadows { OnOk result (shadows_in self.new ≡ made_so (shadows_in self.old) addr len RangeKind.Defined) }
     {
-        self.cache.forget_range(addr, len);
+        self.cache.forget(addr, len);
         self.memory.fill(addr, len, bytes)
     }
 
@@ -160,7 +179,7 @@ impl CachedMemory {
         ensures bytes { OnOk result (bytes_in self.new ≡ written (bytes_in self.old) addr (length bytes.now) (slice_index bytes.now)) }
         ensures shadows { OnOk result (shadows_in self.new ≡ stored_undef (shadows_in self.old) addr (length bytes.now) 0) }
     {
-        self.cache.forget_range(addr, bytes.len() as u32);
+        self.cache.forget(addr, bytes.len() as u32);
         self.memory.store_bytes(addr, bytes)
     }
 
@@ -175,7 +194,7 @@ impl CachedMemory {
         ensures bytes { OnOk result (bytes_in self.new ≡ copied (bytes_in self.old) from to len) }
         ensures shadows { OnOk result (shadows_in self.new ≡ copied_undef (shadows_in self.old) from to len) }
     {
-        self.cache.forget_range(to, len);
+        self.cache.forget(to, len);
         self.memory.copy_with_shadow(from, to, len)
     }
 
@@ -207,8 +226,8 @@ impl CachedMemory {
         Ok(CachedMemory { memory, cache })
     }
 
-    /// Copies what another memory has decoded, for the words that are the same in both.
-    #[tactic(auto, using(crate::proofs::SameWords::each_left))]
+    /// Copies what another memory has decoded, for the codes that are the same in both.
+    #[tactic(auto, using(crate::proofs::SameCodes::both_left))]
     pub(crate) fn learn(&mut self, alloc: Global, other: &CachedMemory)
         ensures { self.new ≡ self.old }
     {
@@ -217,7 +236,7 @@ impl CachedMemory {
         self.cache = cache;
     }
 
-    /// Takes over what another memory has decoded, for the words that are the same in both, unless this one has decoded something itself.
+    /// Takes over what another memory has decoded, for the codes that are the same in both, unless this one has decoded something itself.
     pub(crate) fn take_over(&mut self, alloc: Global, other: &mut CachedMemory)
         ensures same { self.new ≡ self.old }
         ensures other { other.new ≡ other.old }

@@ -1,21 +1,16 @@
-//! Instructions that were decoded recently, by the addresses of their words.
+//! Instructions that were decoded recently, by the addresses of their codes.
 ghost use Rattle.std.specs.Prelude.{◌≡◌, ◌^◌, ◌%◌, ◌<◌, ◌≤◌};
-ghost use Rattle.guest_machine.specs.DecodeCaches.{place_of, AreEntries};
+ghost use Rattle.guest_machine.specs.DecodeCaches.{AreEntries};
 
+use crate::decode_table::{FEW, clear_all, drop_met, entry_in, put_in};
 use instructions::Instruction;
 use run_values::Span;
 use std::alloc::Global;
 
-/// The greatest number of instructions in the table.
-const ROOM: usize = 4096;
-/// The number of instructions for which room is made at once.
-const AT_ONCE: usize = 256;
-/// The greatest number of bytes of a range whose words are removed individually.
-const FEW: u32 = 1024;
-/// The greatest number of bytes, from the first word of a table to the last one, that are compared at once with those of another memory.
-const NEAR: u64 = 16 * ROOM as u64;
+/// The greatest number of bytes, from the first code of a table to the last one, that are compared at once with those of another memory.
+const NEAR: u64 = 1 << 16;
 
-/// An instruction, and the address of the word that it was decoded from.
+/// An instruction, and the address of the code that it was decoded from.
 #[derive(Clone, Copy)]
 pub(crate) struct Decoded {
     pub(crate) addr: u32,
@@ -23,57 +18,58 @@ pub(crate) struct Decoded {
 }
 
 /// No entry: no instruction begins at address 1.
-const NO_ENTRY: Decoded = Decoded {
+pub(crate) const NO_ENTRY: Decoded = Decoded {
     addr: 1,
     row: Instruction::Fence,
 };
 
-/// A table of instructions, each in the place of its address. It reaches as far as one was put in.
+/// Two tables of instructions, each in the place of its address: those of words, and those of halves. A table reaches as far as one was
+/// put in.
 #[derive(Drop)]
 pub(crate) struct DecodeCache {
-    pub(crate) entries: Vec<Decoded>,
+    pub(crate) words: Vec<Decoded>,
+    pub(crate) halves: Vec<Decoded>,
     /// The least address of an entry.
     low: u32,
-    /// The greatest end of an entry's word.
+    /// The greatest end of an entry's code.
     high: u64,
-    ghost right: { AreEntries entries.items low high },
+    ghost words_right: { AreEntries 4 words.items low high },
+    ghost halves_right: { AreEntries 2 halves.items low high },
     ghost flat: { high ≤ 2 ^ 32 },
 }
 
-/// The place of an address.
-#[inline(always)]
-fn place_of(addr: u32) -> usize
-    ensures value { result ≡ place_of addr }
-    ensures within { result < 4096 }
-{
-    addr as usize / 4 % ROOM
-}
-
 impl DecodeCache {
-    ghost use Rattle.std.specs.Prelude.{ℕ, ◌+◌, ◌⊎◌, IfSome, IsTrue, length, nat_eq, slice_set, vec_len};
-    ghost use Rattle.guest_machine.specs.DecodeCaches.{entry_at, no_entry, AreLeft, AreLeftBut, CoversEntries, IsEntry};
+    ghost use Rattle.std.specs.Prelude.{ℕ, ◌+◌, ◌⊎◌, ◌&&◌, IfSome, IsTrue, length, nat_eq, slice_set, vec_len};
+    ghost use Rattle.guest_machine.specs.DecodeCaches.{entry_at, no_entry, place_of, AreLeft, CoversEntries, IsEntry};
 
-    /// An empty table.
+    /// Empty tables.
     pub(crate) fn new(alloc: Global) -> Self
-        ensures { (k : ℕ) → IsEntry (entry_at result.entries.items k) → ⊥ }
+        ensures words { (k : ℕ) → IsEntry (entry_at result.words.items k) → ⊥ }
+        ensures halves { (k : ℕ) → IsEntry (entry_at result.halves.items k) → ⊥ }
     {
         DecodeCache {
-            entries: Vec::new(alloc),
+            words: Vec::new(alloc),
+            halves: Vec::new(alloc),
             low: u32::MAX,
             high: 0,
         }
     }
 
-    /// A table of its own with the same entries. If memory runs out for them, it has none.
+    /// Tables of its own with the same entries. If memory runs out for them, they have none.
     pub(crate) fn share(&self, alloc: Global) -> Self
-        ensures { (k : ℕ) → IsEntry (entry_at result.entries.items k) → entry_at result.entries.items k ≡ entry_at self.now.entries.items k }
+        ensures words { (k : ℕ) → IsEntry (entry_at result.words.items k) → entry_at result.words.items k ≡ entry_at self.now.words.items k }
+        ensures halves { (k : ℕ) → IsEntry (entry_at result.halves.items k) → entry_at result.halves.items k ≡ entry_at self.now.halves.items k }
     {
-        let mut entries = Vec::new(alloc);
-        if entries.extend_from_slice(&self.entries).is_err() {
+        let mut words = Vec::new(alloc);
+        let mut halves = Vec::new(alloc);
+        if words.extend_from_slice(&self.words).is_err()
+            || halves.extend_from_slice(&self.halves).is_err()
+        {
             return DecodeCache::new(alloc);
         }
         DecodeCache {
-            entries,
+            words,
+            halves,
             low: self.low,
             high: self.high,
         }
@@ -81,120 +77,95 @@ impl DecodeCache {
 
     /// Is there no place for an entry?
     pub(crate) fn is_unused(&self) -> bool
-        ensures { result ≡ nat_eq (vec_len self.now.entries) 0 }
+        ensures { result ≡ (nat_eq (vec_len self.now.words) 0 && nat_eq (vec_len self.now.halves) 0) }
     {
-        self.entries.is_empty()
+        self.words.is_empty() && self.halves.is_empty()
     }
 
-    /// A range of whole words that has the words of all entries, if there are entries and they lie near each other.
+    /// A range that has the codes of all entries, if there are entries and they lie near each other.
     pub(crate) fn range(&self) -> Option<Span>
-        ensures { IfSome result (λ range. CoversEntries range self.now.entries.items) }
+        ensures flat { IfSome result (λ range. range.start + range.len ≤ 2 ^ 32) }
+        ensures words { IfSome result (λ range. CoversEntries range 4 self.now.words.items) }
+        ensures halves { IfSome result (λ range. CoversEntries range 2 self.now.halves.items) }
     {
-        let start = self.low / 4 * 4;
-        let end = (self.high + 3) / 4 * 4;
-        let len = end.checked_sub(u64::from(start))?;
+        let len = self.high.checked_sub(u64::from(self.low))?;
         if len > NEAR {
             return None;
         }
         Some(Span {
-            start,
+            start: self.low,
             len: len as u32,
         })
     }
 
-    /// The instruction of an address, if there is one.
+    /// The instruction of the word at an address, if there is one.
     #[inline(always)]
-    pub(crate) fn at(&self, addr: u32) -> Option<Instruction>
-        ensures { IfSome result (λ row. (row ≡ (entry_at self.now.entries.items (place_of addr)).row)
-            × ((entry_at self.now.entries.items (place_of addr)).addr ≡ addr)) }
+    pub(crate) fn word_at(&self, addr: u32) -> Option<Instruction>
+        ensures { IfSome result (λ row. (row ≡ (entry_at self.now.words.items (place_of 4 addr)).row)
+            × ((entry_at self.now.words.items (place_of 4 addr)).addr ≡ addr)) }
     {
-        let place = place_of(addr);
-        if place < self.entries.len() && self.entries[place].addr == addr {
-            return Some(self.entries[place].row);
-        }
-        None
+        entry_in(&self.words, 4, addr)
     }
 
-    /// Empties the table. Its room stays.
-    pub(crate) fn clear(&mut self)
-        ensures { (k : ℕ) → IsEntry (entry_at self.new.entries.items k) → ⊥ }
+    /// The instruction of the half at an address, if there is one.
+    #[inline(always)]
+    pub(crate) fn half_at(&self, addr: u32) -> Option<Instruction>
+        ensures { IfSome result (λ row. (row ≡ (entry_at self.now.halves.items (place_of 2 addr)).row)
+            × ((entry_at self.now.halves.items (place_of 2 addr)).addr ≡ addr)) }
     {
-        self.entries.clear();
+        entry_in(&self.halves, 2, addr)
+    }
+
+    /// Empties the tables. Their room stays.
+    pub(crate) fn clear(&mut self)
+        ensures words { (k : ℕ) → IsEntry (entry_at self.new.words.items k) → ⊥ }
+        ensures halves { (k : ℕ) → IsEntry (entry_at self.new.halves.items k) → ⊥ }
+    {
+        clear_all(&mut self.words);
+        clear_all(&mut self.halves);
         self.low = u32::MAX;
         self.high = 0;
     }
 
-    /// Makes room for a place and those around it. If memory runs out, there is no room afterwards either.
-    fn make_room(&mut self, place: usize)
-        requires { place < 4096 }
-        ensures { (k : ℕ) → entry_at self.new.entries.items k ≡ entry_at self.old.entries.items k }
-    {
-        if place < self.entries.len() {
-            return;
-        }
-        let _grown = self
-            .entries
-            .resize(place / AT_ONCE * AT_ONCE + AT_ONCE, NO_ENTRY);
-    }
-
-    /// Writes an entry over another one.
-    fn write(&mut self, place: usize, entry: Decoded)
-        requires within { place < length self.old.entries.items }
-        requires aligned { entry.addr % 4 ≡ 0 }
-        requires place { place ≡ place_of entry.addr }
-        ensures { (k : ℕ) → (entry_at self.new.entries.items k ≡ entry_at self.old.entries.items k) ⊎ (entry_at self.new.entries.items k ≡ entry) }
+    /// Puts the entry of a word in its place, where there is room.
+    pub(crate) fn put_word(&mut self, entry: Decoded)
+        requires { entry.addr + 4 ≤ 2 ^ 32 }
+        ensures words { (k : ℕ) → IsEntry (entry_at self.new.words.items k)
+            → (entry_at self.new.words.items k ≡ entry_at self.old.words.items k) ⊎ (entry_at self.new.words.items k ≡ entry) }
+        ensures halves { self.new.halves.items ≡ self.old.halves.items }
     {
         self.low = self.low.min(entry.addr);
         self.high = self.high.max(u64::from(entry.addr) + 4);
-        self.entries[place] = entry;
+        put_in(&mut self.words, 4, entry);
     }
 
-    /// Puts an entry in its place, where there is room.
-    pub(crate) fn put(&mut self, entry: Decoded)
-        requires aligned { entry.addr % 4 ≡ 0 }
-        ensures { (k : ℕ) → IsEntry (entry_at self.new.entries.items k)
-            → (entry_at self.new.entries.items k ≡ entry_at self.old.entries.items k) ⊎ (entry_at self.new.entries.items k ≡ entry) }
+    /// Puts the entry of a half in its place, where there is room.
+    pub(crate) fn put_half(&mut self, entry: Decoded)
+        requires { entry.addr + 2 ≤ 2 ^ 32 }
+        ensures words { self.new.words.items ≡ self.old.words.items }
+        ensures halves { (k : ℕ) → IsEntry (entry_at self.new.halves.items k)
+            → (entry_at self.new.halves.items k ≡ entry_at self.old.halves.items k) ⊎ (entry_at self.new.halves.items k ≡ entry) }
     {
-        let place = place_of(entry.addr);
-        self.make_room(place);
-        if place < self.entries.len() {
-            self.write(place, entry);
-        }
+        self.low = self.low.min(entry.addr);
+        self.high = self.high.max(u64::from(entry.addr) + 2);
+        put_in(&mut self.halves, 2, entry);
     }
 
-    /// Removes the entry of a place.
-    pub(crate) fn drop_at(&mut self, place: usize)
-        requires { place < length self.old.entries.items }
-        ensures { self.new.entries.items ≡ slice_set self.old.entries.items place no_entry }
-    {
-        self.entries[place] = NO_ENTRY;
-    }
-
-    /// Removes the entry of a word, by a quarter of its address.
-    fn drop_word(&mut self, word: u32)
-        requires { word < 2 ^ 30 }
-        ensures { AreLeftBut self.old.entries.items self.new.entries.items word (word + 1) }
-    {
-        let place = word as usize % ROOM;
-        if place < self.entries.len() && self.entries[place].addr / 4 == word {
-            self.drop_at(place);
-        }
-    }
-
-    /// Whether the bounds of the table show that no entry's word has one of the `len` bytes from an address on.
+    /// Whether the bounds of the tables show that no entry's code has one of the `len` bytes from an address on.
     #[inline(always)]
     fn lies_apart(&self, start: u32, len: u32) -> bool
-        ensures { IsTrue result → AreLeft self.now.entries.items self.now.entries.items start len }
+        ensures words { IsTrue result → AreLeft self.now.words.items self.now.words.items start len 4 }
+        ensures halves { IsTrue result → AreLeft self.now.halves.items self.now.halves.items start len 2 }
     {
         let end = u64::from(start) + u64::from(len);
         end <= u64::from(self.low) || (self.high <= u64::from(start) && end <= 1 << 32)
     }
 
-    /// Removes the entries whose words have one of at most four bytes from an address on.
+    /// Removes the entries whose codes have one of the bytes of a range; all entries, if the range is long.
     #[inline(always)]
     pub(crate) fn forget(&mut self, start: u32, len: u32)
-        requires { len ≤ 4 }
-        ensures { AreLeft self.old.entries.items self.new.entries.items start len }
+        ensures words { AreLeft self.old.words.items self.new.words.items start len 4 }
+        ensures halves { AreLeft self.old.halves.items self.new.halves.items start len 2 }
     {
         if !self.lies_apart(start, len) {
             self.forget_near(start, len);
@@ -204,38 +175,14 @@ impl DecodeCache {
     #[cold]
     #[inline(never)]
     fn forget_near(&mut self, start: u32, len: u32)
-        requires { len ≤ 4 }
-        ensures { AreLeft self.old.entries.items self.new.entries.items start len }
+        ensures words { AreLeft self.old.words.items self.new.words.items start len 4 }
+        ensures halves { AreLeft self.old.halves.items self.new.halves.items start len 2 }
     {
-        if start > u32::MAX - 3 {
-            self.clear();
-        } else {
-            self.drop_word(start / 4);
-            self.drop_word((start + 3) / 4);
-        }
-    }
-
-    /// Removes the entries whose words have one of the bytes of a range; all entries, if the range is long.
-    #[inline(always)]
-    pub(crate) fn forget_range(&mut self, start: u32, len: u32)
-        ensures { AreLeft self.old.entries.items self.new.entries.items start len }
-    {
-        if !self.lies_apart(start, len) {
-            self.forget_words(start, len);
-        }
-    }
-
-    #[cold]
-    #[inline(never)]
-    fn forget_words(&mut self, start: u32, len: u32)
-        ensures { AreLeft self.old.entries.items self.new.entries.items start len }
-    {
-        if len > FEW || start > u32::MAX - FEW - 3 {
+        if len > FEW || start > u32::MAX - len {
             self.clear();
             return;
         }
-        for word in start / 4..(start + len + 3) / 4 {
-            self.drop_word(word);
-        }
+        drop_met(&mut self.words, 4, start, len);
+        drop_met(&mut self.halves, 2, start, len);
     }
 }

@@ -21,9 +21,10 @@
 //! | [`Machine::share`] | returns a copy, which later changes of the original don't reach |
 //! | [`Machine::hand_on`] | likewise, for the copy that continues the run: what was decoded moves to it |
 //! | [`Machine::share_ready`] | likewise, for one of several such copies: it has decoded what this one has |
-//! | [`Machine::learn`], [`Machine::take_over`] | copy or move what another machine has decoded, for the words that are the same in both |
+//! | [`Machine::learn`], [`Machine::take_over`] | copy or move what another machine has decoded, for the codes that are the same in both |
+//! | [`Machine::is_same`] | returns whether another machine shows the same |
 //! | [`Machine::status`], [`Machine::pc`], [`Machine::register`] | return whether it runs, and its registers |
-//! | [`Machine::isa`] | returns the instruction set, which is the image's |
+//! | [`Machine::isa`], [`Machine::code`] | return the instruction set, which is the image's, and the code at pc |
 //! | [`Machine::position`], [`Machine::end_seen`] | return how much of the input was read so far, and whether its end was seen |
 //! | [`Machine::output_len`], [`Machine::heap_calls`] | return the number of bytes written and of heap calls so far |
 //! | [`Machine::has_raised`] | returns whether the last step by [`Machine::step`] raised an error |
@@ -50,7 +51,8 @@
 //! shows:
 //!
 //! - `shows`: the machine after the step shows `exec` of that state and the setup;
-//! - `touched`: the returned spans are those that the step touches (`touched_of`): its word's, what it reads besides that, what it writes;
+//! - `touched`: the returned spans are those that the step touches (`touched_of`): its code's, what it reads besides that, what it writes;
+//! - `code`: its code's span has at most four bytes, from a multiple of 2 on;
 //! - `raised`: the machine after the step says, by `has_raised`, whether the step's errors are more than those before it;
 //! - `meter`: the meter has risen by one, up to the greatest `u64`;
 //! - `unmoved`: if memory ran out, the meter is where it was.
@@ -68,7 +70,7 @@
 //! - `Run`: the state at the start, marks, pokes, and the states before and after the alterations of each step. `Alterations`: what each of
 //!   these does. `MarkedRun`: the run with only marks.
 //! - `Exec`: one step (`exec`) and what it touches (`touched_of`, `touches`), in three parts: what the step does (`deed_at`: it fetches the
-//!   word at pc, calls a function by name, or neither), what it uses, and what it leaves. It depends on no other byte and no other part of
+//!   code at pc, calls a function by name, or neither), what it uses, and what it leaves. It depends on no other byte and no other part of
 //!   the setup; the laws follow from this form.
 //! - `Effects` and `Calls`: what each class of instruction and each call of the environment leaves; `Alu`: what instructions
 //!   compute; `Instructions`: the class of each row of the instruction table; `Widths`: of accesses.
@@ -77,16 +79,17 @@
 //! - `Errors`: what each test notes, with its note; `CallStack`: the frames by the hints of JAL and JALR; `StackPointer`: what a
 //!   move of the stack pointer makes inaccessible or undefined.
 //! - `State`, `Registers`, `Spans`: what a state is, and how registers and ranges of addresses change.
-//! - `Laws`: the laws of one step.
+//! - `Laws`: the laws of one step. `Fetches`: where a code that is fetched begins.
 //! - `Shows`: that a machine shows a state. `Loading`, `Sieve`, `Doing`, `Acting` and `DecodeCaches` are for this crate's proofs.
 //!
-//! Sources: RISC-V Unprivileged ISA 20191213, chapters 1, 2 and 7; the Memcheck manual, chapter 4; Seward and Nethercote,
+//! Sources: RISC-V Unprivileged ISA 20191213, chapters 1, 2, 7 and 16; the Memcheck manual, chapter 4; Seward and Nethercote,
 //! "Using Valgrind to detect undefined value errors with bit-precision" (USENIX 2005). The undefined bits of a result are those
 //! of the crate `definedness`, the instruction table that of `rv_decode`, the image that of `guest_elf`.
 #![tactic(auto)]
 
 mod cached_memory;
 mod decode_cache;
+mod decode_table;
 mod environment_call;
 mod fitting;
 mod hooks;

@@ -23,9 +23,9 @@ pub struct Setup {
 /// The addresses whose bytes a step read or wrote.
 #[derive(Clone, Copy, PartialEq, Eq)]
 pub struct Touched {
-    /// The word at pc, if it was fetched.
+    /// The code at pc, if it was fetched, or the first half of a word there if no more of it could be.
     pub fetch: Option<Span>,
-    /// What the step read besides its word.
+    /// What the step read besides its code.
     pub reads: Option<Span>,
     /// What it wrote.
     pub writes: Option<Span>,

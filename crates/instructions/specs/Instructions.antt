@@ -1,6 +1,7 @@
 -- The instructions in classes: each of the 48 names of the instruction table, with what distinguishes it from the
 -- others of its class.
 use Rattle.std.specs.Prelude.{ℕ, true, false, Option, Some, None}
+use Rattle.rv_compressed.specs.Table.{expansion}
 use Rattle.rv_decode.specs.Table.{insn}
 use Rattle.rv_decode.specs.declared.Insn.{Insn}
 use Rattle.rv_decode.specs.declared.Op.{Op}
@@ -73,3 +74,7 @@ if_row (Some i) = Some (instruction_of i)
 -- the instruction of a word, if it is one
 unfoldable pub row_of : ℕ → Option Instruction
 row_of word = if_row (insn word)
+
+-- the instruction of a half, if it is one: that of the row that it stands for
+unfoldable pub row_of_half : ℕ → Option Instruction
+row_of_half half = if_row (expansion half)

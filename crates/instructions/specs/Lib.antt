@@ -1,4 +1,5 @@
 pub mod Widths
+pub mod Codes
 pub mod Instructions
 pub mod CallStack
 pub mod Alu

@@ -1,9 +1,10 @@
 //! The instructions in classes, and the class of each row of the instruction table.
 ghost use Rattle.std.specs.Prelude.{◌≡◌, ◌<◌};
-ghost use Rattle.instructions.specs.Instructions.{instruction_of, row_of};
+ghost use Rattle.instructions.specs.Instructions.{instruction_of, row_of, row_of_half};
 
 use crate::register::Register;
 use crate::width::Width;
+use rv_compressed::expand;
 use rv_decode::{Insn, Op, decode};
 
 /// What a branch compares (RISC-V Unprivileged ISA 20191213, section 2.5).
@@ -248,4 +249,12 @@ pub fn row_of(word: u32) -> Option<Instruction>
     ensures { result ≡ row_of word }
 {
     Some(instruction_of(decode(word)?))
+}
+
+/// Returns the instruction of a half, if it is one.
+#[tactic(auto, unfolding(crate::specs::Instructions::row_of_half))]
+pub fn row_of_half(half: u16) -> Option<Instruction>
+    ensures { result ≡ row_of_half half }
+{
+    Some(instruction_of(expand(half)?))
 }

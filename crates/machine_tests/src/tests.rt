@@ -1,9 +1,10 @@
 //! The public calls of the machine, once each with ample memory, and a few short programs. Other behaviour of programs is tested from
 //! outside (`tools/test/test-guests`).
-use crate::trials::{COUNT, NO_STREAMS, Row, Trial, are_hooks, assert_so};
+use crate::trials::{COUNT, NO_STREAMS, Row, Trial, are_hooks, assert_so, assert_so_for};
+use guest_elf::Isa;
 use guest_machine::laws::{
-    alters_as_marked, end_stays, goes_by_fours, keeps_end, keeps_heap, keeps_input, keeps_isa,
-    keeps_pokes, keeps_words, reads_on, runs_as_marked, stays_halted,
+    alters_as_marked, end_stays, fetches_codes, goes_by_fours, keeps_end, keeps_heap, keeps_input,
+    keeps_isa, keeps_pokes, keeps_words, reads_on, runs_as_marked, stays_halted,
 };
 use guest_machine::{Input, Span, Status, Stop};
 use std::alloc::{AllocError, Global};
@@ -268,6 +269,112 @@ const OTHERS: [Row; 5] = [
     ),
 ];
 
+// `c.li a0, 5; c.addi a0, 2; addi a0, a0, 1; c.nop; addi a0, a0, 300; c.ebreak`, and `c.nop` before the first half of `addi`
+const SHORT: [Row; 3] = [
+    (
+        "16-bit instructions, and one of 32 bits at a multiple of 2",
+        &[0x0509_4515, 0x0015_0513, 0x0513_0001, 0x9002_12C5],
+        b"",
+        false,
+        Trial::Steps(
+            &[
+                (
+                    Some(Span {
+                        start: 0x10000,
+                        len: 2,
+                    }),
+                    None,
+                    None,
+                ),
+                (
+                    Some(Span {
+                        start: 0x10002,
+                        len: 2,
+                    }),
+                    None,
+                    None,
+                ),
+                (
+                    Some(Span {
+                        start: 0x10004,
+                        len: 4,
+                    }),
+                    None,
+                    None,
+                ),
+                (
+                    Some(Span {
+                        start: 0x10008,
+                        len: 2,
+                    }),
+                    None,
+                    None,
+                ),
+                (
+                    Some(Span {
+                        start: 0x1000A,
+                        len: 4,
+                    }),
+                    None,
+                    None,
+                ),
+                (
+                    Some(Span {
+                        start: 0x1000E,
+                        len: 2,
+                    }),
+                    None,
+                    None,
+                ),
+            ],
+            3,
+            (Status::Stopped(Stop::Break), 0x1000E, 308, 0, 0),
+            NO_STREAMS,
+        ),
+    ),
+    (
+        "a word that is cut",
+        &[0x0513_0001],
+        b"",
+        false,
+        Trial::Steps(
+            &[
+                (
+                    Some(Span {
+                        start: 0x10000,
+                        len: 2,
+                    }),
+                    None,
+                    None,
+                ),
+                (
+                    Some(Span {
+                        start: 0x10002,
+                        len: 2,
+                    }),
+                    None,
+                    None,
+                ),
+            ],
+            3,
+            (Status::Stopped(Stop::Jump), 0x10002, 0, 1, 0),
+            NO_STREAMS,
+        ),
+    ),
+    (
+        "the code at the entry",
+        &[0x0509_4515],
+        b"",
+        false,
+        Trial::Begins(0x4515),
+    ),
+];
+
+#[test]
+fn halves_are_executed(rt: HostRuntime) {
+    assert_so_for(&rt, rt.alloc(), Isa::Rv32imc, &SHORT);
+}
+
 #[test]
 fn machines_rest_and_are_copied(rt: HostRuntime) {
     assert_so(&rt, rt.alloc(), &OTHERS);
@@ -290,6 +397,7 @@ fn the_laws_can_be_called() {
     stays_halted();
     keeps_isa();
     goes_by_fours();
+    fetches_codes();
     alters_as_marked();
     runs_as_marked();
 }

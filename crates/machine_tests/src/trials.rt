@@ -1,10 +1,11 @@
 //! Trials of programs' machines.
 use definedness::Bits;
-use guest_elf::{Hook, Image, Isa, read};
+use guest_elf::{Hook, Image, Isa, Profile, read_for};
 use guest_machine::{
     Act, Alteration, Hooks, Input, Machine, Mark, Meter, Register, Setup, Span, Status, Touched,
 };
 use guest_programs::program;
+use instructions::Code;
 use shadow_memory::RangeKind;
 use std::alloc::{AllocError, Global};
 use std::process::Abort;
@@ -29,6 +30,8 @@ pub(crate) enum Trial {
     Registers,
     /// What each step touches; the number of steps after that; and the state and streams then.
     Steps(&'static [Touches], u32, State, Streams),
+    /// The code at the entry is this half.
+    Begins(u16),
     /// It stays where it has ended.
     Rests,
     /// A mark and a written word take effect.
@@ -314,6 +317,9 @@ fn goes_well(
             goes(start, setup, touches, *steps, (state, streams))
         }
         Trial::Registers => Ok(has_registers(&start)),
+        Trial::Begins(half) => Ok(
+            matches!(start.code(), Some(Code::Half(first)) if first == *half),
+        ),
         Trial::Rests => rests(start, setup),
         Trial::Marks => marks(start, setup),
         Trial::Alters => alters(start),
@@ -322,24 +328,29 @@ fn goes_well(
     }
 }
 
-/// Returns whether a row holds for a file.
-fn is_so_of(alloc: Global, file: &[u8], row: &Row) -> Result<bool, AllocError> {
+/// Returns whether a row holds for a file, under an instruction set.
+fn is_so_of(alloc: Global, file: &[u8], isa: Isa, row: &Row) -> Result<bool, AllocError> {
     let setup = setup_of(alloc, row)?;
-    match read(alloc, file) {
+    match read_for(alloc, file, Profile { isa }) {
         Ok(image) => goes_well(alloc, &image, &setup, &row.4),
         Err(_) => Ok(false),
     }
 }
 
 /// Returns whether it holds for a new file.
-fn is_so(alloc: Global, row: &Row) -> Result<bool, AllocError> {
+fn is_so(alloc: Global, isa: Isa, row: &Row) -> Result<bool, AllocError> {
     let file = program(alloc, row.1)?;
-    is_so_of(alloc, &file, row)
+    is_so_of(alloc, &file, isa, row)
 }
 
-/// Asserts that rows hold.
+/// Asserts that rows hold under RV32IM.
 pub(crate) fn assert_so(rt: &impl Abort, alloc: Global, rows: &[Row]) {
+    assert_so_for(rt, alloc, Isa::Rv32im, rows);
+}
+
+/// Asserts that rows hold under an instruction set.
+pub(crate) fn assert_so_for(rt: &impl Abort, alloc: Global, isa: Isa, rows: &[Row]) {
     for row in rows {
-        assert!(rt; matches!(is_so(alloc, row), Ok(true)), "{}", row.0);
+        assert!(rt; matches!(is_so(alloc, isa, row), Ok(true)), "{}", row.0);
     }
 }

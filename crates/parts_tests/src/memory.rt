@@ -161,21 +161,21 @@ fn split_and_fold(memory: &mut Memory) -> Result<bool, AllocError> {
     fold(memory)
 }
 
-/// Returns whether the words of two pages are found to be those of a copy, also up to one that differs, and not if one differs or has an
-/// undefined byte.
+/// Returns whether the bytes of two pages are found to be those of a copy, also from and up to one that differs, and not if one differs
+/// or is undefined.
 fn are_told(memory: &Memory, copy: &mut Memory) -> Result<bool, AllocError> {
     copy.poke_word(0x6FFC, 1)?;
     copy.set_range(0x5005, 1, RangeKind::Undefined)?;
     Ok(
-        memory.has_words_of(copy, 0x5004, 0x1FF8)
-            && !memory.has_words_of(copy, 0x5004, 0x1FFC)
-            && !copy.has_words_of(memory, 0x5004, 0x1FF8)
-            && copy.has_words_of(memory, 0x5008, 0x1FF4),
+        memory.has_bytes_of(copy, 0x5003, 0x1FF9)
+            && !memory.has_bytes_of(copy, 0x5003, 0x1FFA)
+            && !copy.has_bytes_of(memory, 0x5003, 0x1FF9)
+            && copy.has_bytes_of(memory, 0x5006, 0x1FF6),
     )
 }
 
 /// Returns the same for a new copy.
-fn tells_words(memory: &mut Memory) -> Result<bool, AllocError> {
+fn tells_bytes(memory: &mut Memory) -> Result<bool, AllocError> {
     memory.fill(0x5000, 0x2000, b"words of code")?;
     memory.poke_word(0x6004, 7)?;
     let mut copy = memory.share()?;
@@ -313,7 +313,7 @@ fn goes_well(alloc: Global, memory: &mut Memory, trial: &Trial) -> Result<bool, 
         Trial::SharesApart => shares_are_apart(alloc, memory),
         Trial::Accesses(addr, next) => accesses(memory, *addr, *next),
         Trial::SplitAndFold => split_and_fold(memory),
-        Trial::Words => tells_words(memory),
+        Trial::Words => tells_bytes(memory),
         Trial::FromOutside => are_stored_and_poked(memory),
         Trial::Searches => searches(memory),
     }

@@ -1,15 +1,18 @@
 -- What the files that a command names give: a program, suppressions and an input, each judged, or why there is none.
 use Rattle.std.specs.Prelude.{ℕ, ◌≡◌, ◌+◌, ◌<◌, ◌≤◌, ◌⊎◌, Bool, true, false, List, [], Option, Some, None, codes}
-use Rattle.std.specs.Prelude.{IfSome, length, take}
+use Rattle.std.specs.Prelude.{IfSome, length, option_map, take}
 use Rattle.std.specs.Io.KnownBytes.{Appends, Consumes}
 use Rattle.std.specs.Str.{bytes_eq}
-use Rattle.guest_elf.specs.File.{IsImageOf, refusal, early_refusal}
+use Rattle.command_line.specs.Isas.{isa_named}
+use Rattle.guest_elf.specs.File.{IsImageFor, refusal, early_refusal}
 use Rattle.guest_elf.specs.declared.fault.ElfFault.{ElfFault}
 use Rattle.guest_elf.specs.declared.fault.ElfFault.TheVariants as Elf
 use Rattle.guest_elf.specs.declared.image.Image.{Image as ProgramImage}
+use Rattle.guest_elf.specs.declared.profile.Isa.{Isa}
+use Rattle.guest_elf.specs.declared.profile.Profile.{Profile}
 use Rattle.scenario.specs.Limits.{longest_input}
 use Rattle.ends.specs.declared.ends.End.{End}
-use Rattle.ends.specs.declared.ends.End.TheVariants.{CannotRead, CannotReadInput, Image}
+use Rattle.ends.specs.declared.ends.End.TheVariants.{BadIsa, CannotRead, CannotReadInput, Image}
 use Rattle.ends.specs.declared.ends.End.TheVariants.{Suppressions, SuppressionsTooLong, InputTooLarge, NoMemory}
 use Rattle.suppressions.specs.Rules.{Rule}
 use Rattle.suppressions.specs.Texts.{faults, rules, IsLeast}
@@ -56,13 +59,28 @@ IsRefusedBy fault front =
     ((fault ≡ Elf.Memory) ⊎ (refusal front ≡ Some fault)) × ((early : ElfFault) → early_refusal front ≡ Some early
     → fault ≡ early)
 
--- the program of a file
-abbrev pub HasImage : Giving → List ℕ → ProgramImage → Type 0
-HasImage gives path image = (front : List ℕ) × IsFront gives path most_judged front × IsImageOf front image
+-- what a file is read for, by the name of an instruction set, and a name that none has
+abbrev pub profile_named : List ℕ → Option Profile
+profile_named name = option_map (λ (isa : Isa). record { isa = isa }) (isa_named name)
 
-abbrev pub NoImage : Giving → List ℕ → End → Type 0
-NoImage gives path (Image fault) = (front : List ℕ) × IsFront gives path most_judged front × IsRefusedBy fault front
-NoImage gives path end = NoBytes gives path end
+abbrev pub NoIsa : List ℕ → End → Type 0
+NoIsa name (BadIsa given) = (given.now ≡ name) × (isa_named name ≡ None)
+NoIsa name end = ⊥
+
+-- a file's program, whatever it is read for, is refused, or there is no file
+abbrev pub NoProgram : Giving → List ℕ → End → Type 0
+NoProgram gives path (Image fault) = (front : List ℕ) × IsFront gives path most_judged front × IsRefusedBy fault front
+NoProgram gives path end = NoBytes gives path end
+
+-- the program of a file for an instruction set: its name is judged, and then the file read
+abbrev pub HasImage : Giving → List ℕ → List ℕ → ProgramImage → Type 0
+HasImage gives name path image =
+    (profile : Profile) × (front : List ℕ) × (profile_named name ≡ Some profile) × IsFront gives path most_judged front
+    × IsImageFor profile front image
+
+abbrev pub NoImage : Giving → List ℕ → List ℕ → End → Type 0
+NoImage gives name path end =
+    NoIsa name end ⊎ ((profile : Profile) × (profile_named name ≡ Some profile) × NoProgram gives path end)
 
 -- the suppressions of a file's text, or none if no file is named
 abbrev pub HasRules : Giving → Option (List ℕ) → List Rule → Type 0

@@ -2,6 +2,7 @@
 //!
 //! | Call | What it returns |
 //! |---|---|
+//! | [`profile_named`] | what a program's file is read for, by the name of an instruction set |
 //! | [`read_front`] | the bytes of a file up to a limit, and one more if it has more |
 //! | [`read_suppressions`], [`read_named_text`] | the suppressions of a file, or its text, if one is named |
 //! | [`read_input`], [`read_stream`], [`read_sweep_input`] | the input: of a file if one is named, of standard input, of either |
@@ -22,6 +23,6 @@ mod reading;
 
 pub use files::{Files, ReadFault, read_opened};
 pub use reading::{
-    MOST_READ, read_front, read_input, read_named_text, read_stream, read_suppressions,
-    read_sweep_input,
+    MOST_READ, profile_named, read_front, read_input, read_named_text, read_stream,
+    read_suppressions, read_sweep_input,
 };

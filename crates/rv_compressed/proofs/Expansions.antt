@@ -344,6 +344,17 @@ pub expansion-HasRegisters : (half : ℕ) → IfSome (expansion half) HasRegiste
 expansion-HasRegisters half =
     IfSome_then (expansion half) (expansion-Any half) (λ insn. IsOfRow-HasRegisters half insn)
 
+-- the line of the listing that an expansion is of
+pub expansion-IsOfLine : (half : ℕ) → IfSome (expansion half) (λ insn. Any (IsOfLine insn) lines)
+expansion-IsOfLine half =
+    IfSome_then (expansion half) (expansion-Any half)
+    (λ insn any. of_row half insn any)
+  where
+    of_row : (half : ℕ) (insn : Insn) → Any (IsOfRow half insn) rows → Any (IsOfLine insn) lines
+    of_row half insn (k, row, within, at, (of, is)) =
+        subst (λ (i : Insn). Any (IsOfLine i) lines) (sym is)
+        (All-contains Expands rows row rows-AllExpand (k, within, at) half)
+
 -- the clause of `short_registers`
 pub short_registers-ShortRegisters : ShortRegisters
 short_registers-ShortRegisters half = (omega arith, omega arith, omega arith, omega arith)

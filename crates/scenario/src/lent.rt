@@ -2,6 +2,7 @@
 ghost use Rattle.std.specs.Prelude.{◌≡◌, ◌≤◌, IfOk, OnOk, OnErr};
 ghost use Rattle.guest_machine.specs.Shows.{Shows};
 ghost use Rattle.guest_machine.specs.State.{State};
+ghost use Rattle.replay_report.specs.Outlines.{IsOutline};
 ghost use Rattle.replay_report.specs.Report.{AppendsReport};
 ghost use Rattle.scenario.specs.Lent.{lent};
 ghost use Rattle.scenario.specs.Limits.{most_callers};
@@ -91,6 +92,28 @@ impl<'a> ScenarioRef<'a> {
         requires some { 1 ≤ self.now.options.now.callers }
         requires few { self.now.options.now.callers ≤ most_callers }
         ensures { IfOk result (λ text. Shows machine.now (chosen_state (lent self.now)) → IsOutlineOf with_output (lent self.now) text.items) }
+    {
+        outline(
+            alloc,
+            machine,
+            self.image,
+            self.suppressions,
+            self.options,
+            with_output,
+        )
+    }
+
+    /// Returns the outline of a machine, at whatever step of whatever run it is.
+    pub(crate) fn outline_any(
+        &self,
+        alloc: Global,
+        machine: &Machine,
+        with_output: bool,
+    ) -> Result<Vec<u8>, AllocError>
+        requires some { 1 ≤ self.now.options.now.callers }
+        requires few { self.now.options.now.callers ≤ most_callers }
+        ensures { IfOk result (λ text. (s : State) → Shows machine.now s
+            → IsOutline s (lent self.now).image (lent self.now).rules (lent self.now).options with_output text.items) }
     {
         outline(
             alloc,

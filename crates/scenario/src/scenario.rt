@@ -1,6 +1,8 @@
 //! A scenario, and its report.
 ghost use Rattle.std.specs.Prelude.{◌≡◌, ◌≤◌, IfOk, OnOk, OnErr, length};
 ghost use Rattle.guest_machine.specs.Shows.{Shows};
+ghost use Rattle.guest_machine.specs.State.{State};
+ghost use Rattle.replay_report.specs.Outlines.{IsOutline};
 ghost use Rattle.replay_report.specs.Report.{AppendsReport};
 ghost use Rattle.scenario.specs.Lent.{lent};
 ghost use Rattle.scenario.specs.Limits.{longest_input, most_callers};
@@ -170,5 +172,13 @@ impl<'a> Scenario<'a> {
         ensures { IfOk result (λ text. Shows machine.now (chosen_state self.now) → IsOutlineOf with_output self.now text.items) }
     {
         self.lent().outline(self.alloc, machine, with_output)
+    }
+
+    /// Returns the outline of a machine, at whatever step of whatever run it is, as this scenario shows machines.
+    pub fn outline_any(&self, machine: &Machine, with_output: bool) -> Result<Vec<u8>, AllocError>
+        ensures { IfOk result (λ text. (s : State) → Shows machine.now s
+            → IsOutline s self.now.image self.now.rules self.now.options with_output text.items) }
+    {
+        self.lent().outline_any(self.alloc, machine, with_output)
     }
 }

@@ -184,6 +184,13 @@ impl Codes {
         part(self.packed[at / 4], at % 4)
     }
 
+    /// Returns whether the numbers are those of others.
+    pub(crate) fn are_same(&self, others: &Codes) -> bool
+        ensures { IsTrue result → (at : ℕ) → code_at self.now at ≡ code_at others.now at }
+    {
+        *self.packed == *others.packed
+    }
+
     /// Returns whether each of the numbers is this one.
     pub(crate) fn are_all(&self, code: u8) -> bool
         requires { code < 4 }

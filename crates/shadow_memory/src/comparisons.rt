@@ -1,5 +1,5 @@
 //! Comparisons of two memories, page by page.
-ghost use Rattle.std.specs.Prelude.{◌≡◌, ℕ, ◌+◌, ◌%◌, ◌^◌, ◌≤◌, IsTrue};
+ghost use Rattle.std.specs.Prelude.{◌≡◌, ℕ, ◌+◌, ◌^◌, ◌≤◌, IsTrue};
 ghost use Rattle.shadow_memory.specs.Memories.{bytes_in, shadows_in};
 ghost use Rattle.shadow_memory.specs.Ranges.{little_word, window};
 ghost use Rattle.shadow_memory.specs.Shadows.{HasDefined};
@@ -9,14 +9,12 @@ use crate::pages::PAGE;
 use crate::ranges::count_in_page;
 
 impl Memory {
-    /// Returns whether the words of a range are the same in another memory, and all its bytes are accessible and defined here. May also
-    /// return `false` for such ranges, as it does for a page that is blank in either memory. The range begins and ends at a multiple of 4.
-    pub fn has_words_of(&self, other: &Memory, from: u32, len: u32) -> bool
-        requires aligned { from % 4 ≡ 0 }
-        requires whole { len % 4 ≡ 0 }
-        requires flat { from + len ≤ 2 ^ 32 }
-        ensures { IsTrue result → (a : ℕ) → from ≤ a → a + 4 ≤ from + len → a % 4 ≡ 0
-            → HasDefined (bytes_in self.now) (shadows_in self.now) a 4 (little_word (window (bytes_in other.now) a 4)) }
+    /// Returns whether the bytes of a range are the same in another memory, and all of them are accessible and defined here. May also
+    /// return `false` for such ranges, as it does for a page that is blank in either memory.
+    pub fn has_bytes_of(&self, other: &Memory, from: u32, len: u32) -> bool
+        requires { from + len ≤ 2 ^ 32 }
+        ensures { IsTrue result → (a n : ℕ) → n ≤ 4 → from ≤ a → a + n ≤ from + len
+            → HasDefined (bytes_in self.now) (shadows_in self.now) a n (little_word (window (bytes_in other.now) a n)) }
     {
         let mut done = 0;
         while done < len {
@@ -24,7 +22,7 @@ impl Memory {
             let count = count_in_page(at, len - done);
             let place = at as usize % PAGE;
             let end = place + count as usize;
-            if !self.view(at).has_words_of(other.view(at), place, end) {
+            if !self.view(at).has_bytes_of(other.view(at), place, end) {
                 return false;
             }
             done += count;

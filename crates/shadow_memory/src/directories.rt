@@ -4,6 +4,7 @@ ghost use Rattle.shadow_memory.specs.Changes.{received};
 ghost use Rattle.shadow_memory.specs.Places.{page_len};
 
 use crate::cells::RangeKind;
+use crate::contents::are_same;
 use crate::edits::{Each, PageEdit};
 use crate::pages::PAGE;
 use crate::slots::PageSlot;
@@ -12,6 +13,9 @@ use std::alloc::{AllocError, Global};
 
 /// The number of pages of a directory.
 pub(crate) const DIRECTORY_PAGES: usize = 1024;
+
+/// The greatest number of pages of a directory that are compared with those of another.
+const MOST_COMPARED: usize = 64;
 
 /// 1,024 pages in a row. Those from the first to the last that was changed are kept.
 #[derive(Drop)]
@@ -103,6 +107,16 @@ impl Directory {
             Some(place) => Ok(self.pages[place].clone()?),
             None => Ok(PageSlot::Blank(RangeKind::NoAccess)),
         }
+    }
+
+    /// Returns whether the pages are those of another directory. May also return `false` for such pages, as it does if many are kept.
+    pub(crate) fn is_same(&self, other: &Directory) -> bool
+        ensures { IsTrue result → cells_under other.now ≡ cells_under self.now }
+    {
+        if self.first != other.first || self.pages.len() > MOST_COMPARED {
+            return false;
+        }
+        are_same(&self.pages, &other.pages)
     }
 
     /// Stores bytes in one page, if no other memory shares it and the bytes there are all accessible. Returns whether it did.

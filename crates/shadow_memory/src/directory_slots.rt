@@ -9,6 +9,7 @@ ghost use Rattle.shadow_memory.specs.Views.{cells_seen};
 ghost use Rattle.shadow_memory.specs.Shelves.{cells_below};
 
 use crate::cells::RangeKind;
+use crate::contents::HasCells;
 use crate::directories::{DIRECTORY_PAGES, Directory};
 use crate::edits::{Each, PageEdit};
 use crate::slots::PageSlot;
@@ -162,6 +163,21 @@ impl DirectorySlot {
                 *self = DirectorySlot::Held(Rc::new(alloc, directory)?);
                 Ok(count)
             }
+        }
+    }
+}
+
+#[tactic(auto, unfolding(crate::specs::Shelves::cells_below))]
+impl HasCells for DirectorySlot {
+    ghost cells = { cells_below };
+
+    fn is_same(&self, other: &DirectorySlot) -> bool {
+        match (self, other) {
+            (DirectorySlot::Blank, DirectorySlot::Blank) => true,
+            (DirectorySlot::Held(directory), DirectorySlot::Held(another)) => {
+                directory.is_same(another)
+            }
+            _ => false,
         }
     }
 }

@@ -22,7 +22,8 @@
 //! | [`Memory::first_bad`] | returns the first byte of a range that is inaccessible or, if asked, not defined | no |
 //! | [`Memory::next_word`] | returns the next multiple of 4 whose four bytes are accessible and defined | no |
 //! | [`Memory::next_in_range`] | returns the next of these whose value lies in a range of numbers above 0 | no |
-//! | [`Memory::has_words_of`] | returns whether the words of a range are those of another memory, all accessible and defined | no |
+//! | [`Memory::has_bytes_of`] | returns whether the bytes of a range are those of another memory, all accessible and defined | no |
+//! | [`Memory::is_same`] | returns whether another memory has the same contents | no |
 //! | [`Memory::share`] | returns a memory with the same contents; a later change of one of the two doesn't reach the other | yes |
 //! | [`laws::first_not`], [`laws::all_are`] | scans of bytes, sixteen at a time | no |
 //!
@@ -86,6 +87,7 @@ mod access;
 mod cells;
 mod codes;
 mod comparisons;
+mod contents;
 mod copies;
 mod directories;
 mod directory_slots;

@@ -286,6 +286,13 @@ impl Mixed {
         None
     }
 
+    // Returns whether the marks are those of others. May also return `false` for such marks, if a byte was once partly defined.
+    fn are_same(&self, others: &Mixed) -> bool
+        ensures { IsTrue result → Agree (marks_mixed self.now) (marks_mixed others.now) }
+    {
+        self.codes.are_same(&others.codes) && self.partly == others.partly
+    }
+
     /// Returns whether each byte is of this kind.
     pub(crate) fn are_all(&self, kind: RangeKind) -> bool
         ensures { IsTrue result → AgreeInPage (marks_mixed self.now) (λ k. mark_of kind) }
@@ -327,7 +334,7 @@ impl Clone for PageShadows {
 impl PageShadows {
     ghost use Rattle.std.specs.Prelude.{if◌then◌else◌};
     ghost use Rattle.shadow_memory.specs.Pages.{marks_in, marks_mixed, AreWhole};
-    ghost use Rattle.shadow_memory.specs.Places.{AgreeInPage};
+    ghost use Rattle.shadow_memory.specs.Places.{Agree, AgreeInPage};
 
     pub(crate) fn mark(&self, at: usize) -> ByteShadow
         requires { at < page_len }
@@ -337,6 +344,17 @@ impl PageShadows {
         match self {
             PageShadows::Uniform(kind) => mark_of_kind(*kind),
             PageShadows::Mixed(mixed) => mixed.mark(at),
+        }
+    }
+
+    /// Returns whether the marks are those of others. May also return `false` for such marks, if they are kept in other ways.
+    pub(crate) fn are_same(&self, others: &PageShadows) -> bool
+        ensures { IsTrue result → Agree (marks_in self.now) (marks_in others.now) }
+    {
+        match (self, others) {
+            (PageShadows::Uniform(kind), PageShadows::Uniform(other)) => *kind == *other,
+            (PageShadows::Mixed(mixed), PageShadows::Mixed(other)) => mixed.are_same(other),
+            _ => false,
         }
     }
 

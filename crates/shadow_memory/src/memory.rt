@@ -11,6 +11,7 @@ ghost use Rattle.shadow_memory.specs.Views.{cells_seen};
 ghost use Rattle.shadow_memory.specs.Memories.{bytes_in, shadows_in, cells_of};
 
 use crate::cells::{Cell, RangeKind};
+use crate::contents::are_same;
 use crate::edits::{Each, PageEdit};
 use crate::pages::PAGE;
 use crate::shelves::{SHELF, SHELF_PAGES, Shelf};
@@ -209,6 +210,15 @@ impl Memory {
         self.grow(number)?;
         let count = self.shelves[number].change_some(self.alloc, at, most, each)?;
         Ok(count as u32)
+    }
+
+    /// Returns whether another memory has the same contents. May also return `false` for such a memory, as it does if many pages are kept,
+    /// or if they are kept in another way.
+    pub fn is_same(&self, other: &Memory) -> bool
+        ensures bytes { IsTrue result → bytes_in self.now ≡ bytes_in other.now }
+        ensures shadows { IsTrue result → shadows_in self.now ≡ shadows_in other.now }
+    {
+        are_same(&self.shelves, &other.shelves)
     }
 
     /// Returns a memory with the same contents. Later changes of one of the two don't reach the other.

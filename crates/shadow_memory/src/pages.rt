@@ -9,7 +9,7 @@ ghost use Rattle.shadow_memory.specs.Ranges.{byte_of, little_word};
 ghost use Rattle.shadow_memory.specs.Firsts.{IsFirst, NonePass};
 ghost use Rattle.shadow_memory.specs.Shadows.{is_bad, HoldNoWord, IsNextWord};
 ghost use Rattle.shadow_memory.specs.Values.{holds_in_range, HoldNoneInRange, IsNextInRange};
-ghost use Rattle.shadow_memory.specs.Comparisons.{HaveWordsOf};
+ghost use Rattle.shadow_memory.specs.Comparisons.{HaveBytesOf};
 
 use crate::cells::{ByteShadow, Cell, Loaded, RangeKind, marked_cell};
 use crate::edits::{Each, PageEdit};
@@ -34,7 +34,7 @@ pub(crate) struct Page {
 #[tactic(auto, unfolding(crate::specs::Pages::cells_in, crate::specs::Pages::marks_in, crate::specs::Edits::count_of, crate::specs::Edits::change_of, crate::specs::Edits::each_of, crate::specs::Edits::Fits, crate::specs::Loads::loaded_at, crate::specs::Ranges::little_word, crate::specs::Ranges::first_from))]
 impl Page {
     ghost use Rattle.std.specs.Prelude.{if◌then◌else◌};
-    ghost use Rattle.shadow_memory.specs.Places.{is_between};
+    ghost use Rattle.shadow_memory.specs.Places.{Agree, is_between};
     ghost use Rattle.shadow_memory.specs.Changes.{filled, ranged, received, taken_cell};
     ghost use Rattle.shadow_memory.specs.Edits.{change_of, count_of, each_of, Fits};
     ghost use Rattle.shadow_memory.specs.Pages.{cells_in, AreWhole};
@@ -239,19 +239,24 @@ impl Page {
         self.marks.first_bad(from, to, need_defined)
     }
 
-    /// Returns whether the words from one place up to, but not including, another are those of another page there, and all their bytes are
-    /// accessible and defined. Both places are multiples of 4.
-    pub(crate) fn has_words_of(&self, other: &Page, from: usize, to: usize) -> bool
+    /// Returns whether the bytes from one place up to, but not including, another are those of another page there, and all of them are
+    /// accessible and defined.
+    pub(crate) fn has_bytes_of(&self, other: &Page, from: usize, to: usize) -> bool
         requires order { from < to }
         requires within { to ≤ page_len }
-        requires aligned { from % 4 ≡ 0 }
-        requires whole { to % 4 ≡ 0 }
-        ensures { IsTrue result → HaveWordsOf (cells_in self.now) (cells_in other.now) from to }
+        ensures { IsTrue result → HaveBytesOf (cells_in self.now) (cells_in other.now) from to }
     {
         if self.first_bad(from, to, true).is_some() {
             return false;
         }
         self.bytes[from..to] == other.bytes[from..to]
+    }
+
+    /// Returns whether the cells are those of another page. May also return `false` for such pages.
+    pub(crate) fn is_same(&self, other: &Page) -> bool
+        ensures { IsTrue result → Agree (cells_in self.now) (cells_in other.now) }
+    {
+        self.marks.are_same(&other.marks) && *self.bytes == *other.bytes
     }
 
     fn set(&mut self, alloc: Global, at: usize, cell: Cell) -> Result<(), AllocError>

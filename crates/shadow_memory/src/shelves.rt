@@ -2,6 +2,7 @@
 ghost use Rattle.std.specs.Prelude.{◌≡◌, ℕ, ◌+◌, ◌/◌, ◌%◌, ◌<◌, ◌≤◌, true, IfOk, IsTrue, IsFalse, OnOk, OnErr, length, slice_index, vec_len};
 
 use crate::cells::RangeKind;
+use crate::contents::{HasCells, are_same};
 use crate::directories::DIRECTORY_PAGES;
 use crate::directory_slots::{DIRECTORY, DirectorySlot};
 use crate::edits::{Each, PageEdit};
@@ -170,6 +171,17 @@ impl Shelf {
         let place = at % DIRECTORY;
         self.grow(number)?;
         self.directories[number].change_some(alloc, place, most.min(DIRECTORY - place), each)
+    }
+}
+
+#[tactic(auto, unfolding(crate::specs::Shelves::cells_on))]
+impl HasCells for Shelf {
+    ghost use Rattle.shadow_memory.specs.Shelves.{cells_on};
+
+    ghost cells = { cells_on };
+
+    fn is_same(&self, other: &Shelf) -> bool {
+        are_same(&self.directories, &other.directories)
     }
 }
 

@@ -9,6 +9,7 @@ ghost use Rattle.shadow_memory.specs.Marks.{blank};
 ghost use Rattle.shadow_memory.specs.Pages.{cells_in};
 
 use crate::cells::RangeKind;
+use crate::contents::HasCells;
 use crate::edits::{Each, PageEdit};
 use crate::pages::{PAGE, Page};
 use crate::views::View;
@@ -147,6 +148,19 @@ impl PageSlot {
                 *self = PageSlot::Held(Rc::new(alloc, page)?);
                 Ok(())
             }
+        }
+    }
+}
+
+#[tactic(auto, unfolding(crate::specs::Directories::cells_at))]
+impl HasCells for PageSlot {
+    ghost cells = { cells_at };
+
+    fn is_same(&self, other: &PageSlot) -> bool {
+        match (self, other) {
+            (PageSlot::Blank(kind), PageSlot::Blank(another)) => *kind == *another,
+            (PageSlot::Held(page), PageSlot::Held(another)) => page.is_same(another),
+            _ => false,
         }
     }
 }

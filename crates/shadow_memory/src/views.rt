@@ -8,7 +8,7 @@ ghost use Rattle.shadow_memory.specs.Firsts.{IsFirst, NonePass};
 ghost use Rattle.shadow_memory.specs.Shadows.{is_bad, HoldNoWord, IsNextWord};
 ghost use Rattle.shadow_memory.specs.Values.{holds_in_range, HoldNoneInRange, IsNextInRange};
 ghost use Rattle.shadow_memory.specs.Views.{cells_seen};
-ghost use Rattle.shadow_memory.specs.Comparisons.{HaveWordsOf};
+ghost use Rattle.shadow_memory.specs.Comparisons.{HaveBytesOf};
 ghost use Rattle.shadow_memory.specs.Places.{page_len};
 
 use crate::cells::{Cell, Loaded, RangeKind, blank_cell};
@@ -130,17 +130,15 @@ impl View<'_> {
         }
     }
 
-    /// Returns whether both pages are held, and the words from one place up to, but not including, another are those of the other page
-    /// there, with all their bytes accessible and defined. Both places are multiples of 4.
-    pub(crate) fn has_words_of(self, other: View<'_>, from: usize, to: usize) -> bool
+    /// Returns whether both pages are held, and the bytes from one place up to, but not including, another are those of the other page
+    /// there, and all of them are accessible and defined.
+    pub(crate) fn has_bytes_of(self, other: View<'_>, from: usize, to: usize) -> bool
         requires order { from < to }
         requires within { to ≤ page_len }
-        requires aligned { from % 4 ≡ 0 }
-        requires whole { to % 4 ≡ 0 }
-        ensures { IsTrue result → HaveWordsOf (cells_seen self.entry) (cells_seen other.entry) from to }
+        ensures { IsTrue result → HaveBytesOf (cells_seen self.entry) (cells_seen other.entry) from to }
     {
         match (self, other) {
-            (View::Held(page), View::Held(others)) => page.has_words_of(others, from, to),
+            (View::Held(page), View::Held(others)) => page.has_bytes_of(others, from, to),
             _ => false,
         }
     }

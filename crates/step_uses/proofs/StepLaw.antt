@@ -3,21 +3,22 @@ use Rattle.std.proofs.Common.{◌≡◌, ℕ, ◌+◌, ◌≤◌, ◌==◌, ◌&
 use Rattle.std.proofs.Common.{Some, None, refl, ap, ap₂, sym, subst, ◌∙◌, arith}
 use Rattle.std.proofs.lemmas.Bool.Decides.{nat_tests}
 use Rattle.definedness.specs.declared.Bits.{Bits}
-use Rattle.instructions.specs.Instructions.{row_of}
+use Rattle.error_events.specs.declared.event.Event.{Event}
+use Rattle.instructions.specs.Codes.{len_of, row_of_code}
 use Rattle.instructions.specs.declared.instruction.Instruction.{Instruction}
 use Rattle.run_values.specs.declared.status.Stop.TheVariants.{Misaligned}
 use Rattle.std.specs.Prelude.{is_none}
 use Rattle.guest_elf.specs.declared.hook.Hook.{Hook}
 use Rattle.guest_elf.specs.Hooks.{hook_at}
-use Rattle.shadow_memory.specs.Ranges.{window, little_word}
-use Rattle.guest_machine.specs.Exec.{deed_by}
-use Rattle.guest_elf.specs.Profiles.{is_aligned}
+use Rattle.guest_machine.specs.Exec.{code_in, cut, deed_by, fetch_by, half_at, word_at, word_fault}
+use Rattle.guest_elf.specs.Profiles.{is_aligned, is_half}
 use Rattle.guest_machine.specs.State.{Core, State}
 use Rattle.guest_machine.specs.Registers.{register}
-use Rattle.guest_machine.specs.Effects.{Effect, after_word, quiet, stops}
-use Rattle.guest_machine.specs.Errors.{event_about}
+use Rattle.guest_machine.specs.Effects.{Effect, next_of, quiet, stops}
+use Rattle.guest_machine.specs.Errors.{event_about, fetch_errors}
 use Rattle.guest_machine.specs.StackPointer.{stack_ruled}
-use Rattle.guest_machine.specs.Exec.{Deed, Takes, CallsByName, Halts, Terms, Uses, called_here, calls_heap, counted}
+use Rattle.guest_machine.specs.Exec.{Deed, Takes, Cut, CallsByName, Halts, Terms, Uses, called_here, calls_heap}
+use Rattle.guest_machine.specs.Exec.{counted}
 use Rattle.guest_machine.specs.Exec.{deed_asks, deed_at, deed_terms, effect_at, exec, fetch_fault, fetched, fetches}
 use Rattle.guest_machine.specs.Exec.{given_at, intake_at, intake_of, is_heap_deed, is_running, jump_fault}
 use Rattle.guest_machine.specs.Exec.{left_at, outcome, plan, rounded, row_asks, row_effect, row_uses, seen_also}
@@ -82,8 +83,8 @@ none-of : (whole write : Bool) → write ≡ false → whole && write ≡ false
 none-of true write h = h
 none-of false write h = refl
 
-module _ (core : Core) (next : ℕ) (row : Option Instruction) (r : ℕ) (bits : Bits) (terms : Terms) (given : List ℕ)
-    (taken : ℕ → ℕ) where
+module _ (core : Core) (len next : ℕ) (row : Option Instruction) (r : ℕ) (bits : Bits) (terms : Terms)
+    (given : List ℕ) (taken : ℕ → ℕ) where
   abbrev before : Effect
   before = row_effect core next row terms given taken
 
@@ -121,25 +122,32 @@ module _ (core : Core) (next : ℕ) (row : Option Instruction) (r : ℕ) (bits :
           ∙ ruled-other (register core 2) before.core r bits h
 
   rounded-kept : IsKept core row r
-      → rounded (put core r bits) (row_effect (put core r bits) next row terms given taken)
-      ≡ over (rounded core before) r bits
+      → rounded (put core r bits) len (row_effect (put core r bits) next row terms given taken)
+      ≡ over (rounded core len before) r bits
   rounded-kept k =
-      ap (λ e. rounded (put core r bits) e) (row-other core next row r bits terms given taken k.unread k.unwritten)
-      ∙ ap (λ c. record { core = c; raised = (rounded core before).raised; made = before.made; output = before.output })
+      ap (λ e. rounded (put core r bits) len e) (row-other core next row r bits terms given taken k.unread k.unwritten)
+      ∙ ap (λ c. record {
+        core = c;
+        raised = (rounded core len before).raised;
+        made = before.made;
+        output = before.output;
+      })
       (ruled-kept k)
 
   rounded-replaced : 1 ≤ r → IsReplaced core row r
-      → rounded (put core r bits) (row_effect (put core r bits) next row terms given taken) ≡ rounded core before
+      → rounded (put core r bits) len (row_effect (put core r bits) next row terms given taken)
+      ≡ rounded core len before
   rounded-replaced one k =
-      ap (λ e. rounded (put core r bits) e) (row-again core next row r bits terms given taken one k.unread k.written)
+      ap (λ e. rounded (put core r bits) len e)
+      (row-again core next row r bits terms given taken one k.unread k.written)
       ∙ ap (λ x. record {
         core = stack_ruled x before.core;
-        raised = (rounded core before).raised;
+        raised = (rounded core len before).raised;
         made = before.made;
         output = before.output;
       }) (register-other core r 2 bits k.other)
 
-  rounded-stays : IsKept core row r → register (rounded core before).core r ≡ register core r
+  rounded-stays : IsKept core row r → register (rounded core len before).core r ≡ register core r
   rounded-stays k =
       ruled-stays (register core 2) before.core r ∙ row-stays core next row r terms given taken k.unread k.unwritten
 
@@ -167,11 +175,11 @@ by s setup deed =
     }
 
 -- by the instruction that is carried out, what it asks for, and whether it calls the heap
-by-row : State → Setup → Option Instruction → Bool → Option ℕ → State
-by-row s setup row heap asks =
+by-row : State → Setup → ℕ → Option Instruction → Bool → Option ℕ → State
+by-row s setup len row heap asks =
     let terms = terms_of heap asks s.position (length s.output) setup in
     let uses = row_uses s.core row terms in
-    let effect = rounded s.core (row_effect s.core (after_word s.core) row terms
+    let effect = rounded s.core len (row_effect s.core (next_of s.core len) row terms
     (given_at s.position terms.intake.count setup) (taken_from s.bytes uses.reads)) in
     let intake = intake_of asks (left_at s.position setup) in
     record {
@@ -184,75 +192,76 @@ by-row s setup row heap asks =
       events = s.events ++ effect.raised;
     }
 
-module _ (s : State) (setup : Setup) (row : Option Instruction) (r : ℕ) (bits : Bits) (asks : Option ℕ) (heap : Bool)
-  where
-    abbrev terms : Terms
-    terms = terms_of heap asks s.position (length s.output) setup
+module _ (s : State) (setup : Setup) (len : ℕ) (row : Option Instruction) (r : ℕ) (bits : Bits) (asks : Option ℕ)
+    (heap : Bool) where
+  abbrev terms : Terms
+  terms = terms_of heap asks s.position (length s.output) setup
 
-    abbrev given : List ℕ
-    given = given_at s.position terms.intake.count setup
+  abbrev given : List ℕ
+  given = given_at s.position terms.intake.count setup
 
-    abbrev uses : Uses
-    uses = row_uses s.core row terms
+  abbrev uses : Uses
+  uses = row_uses s.core row terms
 
-    abbrev effect : Effect
-    effect = rounded s.core (row_effect s.core (after_word s.core) row terms given (taken_from s.bytes uses.reads))
+  abbrev effect : Effect
+  effect = rounded s.core len (row_effect s.core (next_of s.core len) row terms given (taken_from s.bytes uses.reads))
 
-    abbrev other : Effect
-    other =
-        rounded (put s.core r bits) (row_effect (put s.core r bits) (after_word s.core) row terms given
-        (taken_from s.bytes (row_uses (put s.core r bits) row terms).reads))
+  abbrev other : Effect
+  other =
+      rounded (put s.core r bits) len (row_effect (put s.core r bits) (next_of s.core len) row terms given
+      (taken_from s.bytes (row_uses (put s.core r bits) row terms).reads))
 
-    -- with the other bits, as far as the ranges read
-    under : reads row r ≡ false → other ≡ rounded (put s.core r bits)
-        (row_effect (put s.core r bits) (after_word s.core) row terms given (taken_from s.bytes uses.reads))
-    under h =
-        let far = put s.core r bits in
-        ap (λ u. rounded far (row_effect far (after_word s.core) row terms given (taken_from s.bytes u.reads)))
-        (uses-other s.core row r bits terms h)
+  -- with the other bits, as far as the ranges read
+  under : reads row r ≡ false → other ≡ rounded (put s.core r bits) len
+      (row_effect (put s.core r bits) (next_of s.core len) row terms given (taken_from s.bytes uses.reads))
+  under h =
+      let far = put s.core r bits in
+      ap (λ u. rounded far len (row_effect far (next_of s.core len) row terms given (taken_from s.bytes u.reads)))
+      (uses-other s.core row r bits terms h)
 
-    row-kept : IsKept s.core row r
-        → by-row (swapped s r bits) setup row heap asks ≡ swapped (by-row s setup row heap asks) r bits
-    unfolding by-row swapped
-    row-kept k =
-        let u = uses-other s.core row r bits terms k.unread in
-        let e = under k.unread
-        ∙ rounded-kept s.core (after_word s.core) row r bits terms given (taken_from s.bytes uses.reads) k in
-        let intake = intake_of asks (left_at s.position setup) in
-        λ i. record {
-          bytes = written_to s.bytes (u i).writes (e i).made;
-          core = (e i).core;
-          position = s.position + intake.count;
-          end_seen = seen_also s.end_seen intake.ends;
-          output = s.output ++ (e i).output;
-          heap_calls = counted s.heap_calls heap;
-          events = s.events ++ (e i).raised;
-        }
+  row-kept : IsKept s.core row r
+      → by-row (swapped s r bits) setup len row heap asks ≡ swapped (by-row s setup len row heap asks) r bits
+  unfolding by-row swapped
+  row-kept k =
+      let u = uses-other s.core row r bits terms k.unread in
+      let e = under k.unread
+      ∙ rounded-kept s.core len (next_of s.core len) row r bits terms given (taken_from s.bytes uses.reads) k in
+      let intake = intake_of asks (left_at s.position setup) in
+      λ i. record {
+        bytes = written_to s.bytes (u i).writes (e i).made;
+        core = (e i).core;
+        position = s.position + intake.count;
+        end_seen = seen_also s.end_seen intake.ends;
+        output = s.output ++ (e i).output;
+        heap_calls = counted s.heap_calls heap;
+        events = s.events ++ (e i).raised;
+      }
 
-    row-replaced : 1 ≤ r → IsReplaced s.core row r
-        → by-row (swapped s r bits) setup row heap asks ≡ by-row s setup row heap asks
-    unfolding by-row swapped
-    row-replaced one k =
-        let u = uses-other s.core row r bits terms k.unread in
-        let e = under k.unread
-        ∙ rounded-replaced s.core (after_word s.core) row r bits terms given (taken_from s.bytes uses.reads) one k in
-        let intake = intake_of asks (left_at s.position setup) in
-        λ i. record {
-          bytes = written_to s.bytes (u i).writes (e i).made;
-          core = (e i).core;
-          position = s.position + intake.count;
-          end_seen = seen_also s.end_seen intake.ends;
-          output = s.output ++ (e i).output;
-          heap_calls = counted s.heap_calls heap;
-          events = s.events ++ (e i).raised;
-        }
+  row-replaced : 1 ≤ r → IsReplaced s.core row r
+      → by-row (swapped s r bits) setup len row heap asks ≡ by-row s setup len row heap asks
+  unfolding by-row swapped
+  row-replaced one k =
+      let u = uses-other s.core row r bits terms k.unread in
+      let e = under k.unread
+      ∙ rounded-replaced s.core len (next_of s.core len) row r bits terms given (taken_from s.bytes uses.reads) one
+      k in
+      let intake = intake_of asks (left_at s.position setup) in
+      λ i. record {
+        bytes = written_to s.bytes (u i).writes (e i).made;
+        core = (e i).core;
+        position = s.position + intake.count;
+        end_seen = seen_also s.end_seen intake.ends;
+        output = s.output ++ (e i).output;
+        heap_calls = counted s.heap_calls heap;
+        events = s.events ++ (e i).raised;
+      }
 
 -- neither asks for input nor calls the heap
-plain : (s : State) (setup : Setup) (row : Option Instruction) (r : ℕ) → reads row r ≡ false
-    → by-row s setup row (calls_heap s.core row) (row_asks s.core row) ≡ by-row s setup row false None
-plain s setup row r h = ap₂ (by-row s setup row) (no-heap s.core row r h) (asks-none s.core row r h)
+plain : (s : State) (setup : Setup) (len : ℕ) (row : Option Instruction) (r : ℕ) → reads row r ≡ false
+    → by-row s setup len row (calls_heap s.core row) (row_asks s.core row) ≡ by-row s setup len row false None
+plain s setup len row r h = ap₂ (by-row s setup len row) (no-heap s.core row r h) (asks-none s.core row r h)
 
--- ---- a step that takes no word
+-- ---- a step that takes no code
 
 unfetched-other : (core : Core) (r : ℕ) (bits : Bits) → unfetched (put core r bits) ≡ over (unfetched core) r bits
 unfolding unfetched event_about
@@ -295,35 +304,80 @@ halt-kept s setup r bits =
       events = s.events ++ e.raised;
     }) (unfetched-other s.core r bits)
 
+-- one that fetches half a word
+
+cut-other : (core : Core) (r : ℕ) (bits : Bits) → cut (put core r bits) ≡ over (cut core) r bits
+unfolding event_about
+cut-other core r bits = go (word_fault core)
+  where
+    changed : Core
+    changed = put core r bits
+
+    raised : List Event → List Event
+    raised es = fetch_errors core 2 ++ es
+
+    go : (fault : Option ℕ)
+        → (let e = jump_fault changed fault in
+        record { core = e.core; raised = raised e.raised; made = e.made; output = e.output })
+        ≡ (let e = jump_fault core fault in
+        over (record { core = e.core; raised = raised e.raised; made = e.made; output = e.output }) r bits)
+    go None = refl
+    go (Some a) = refl
+
+fault-stays : (core : Core) (r : ℕ) (fault : Option ℕ) → register (jump_fault core fault).core r ≡ register core r
+unfolding register
+fault-stays core r None = refl
+fault-stays core r (Some a) = refl
+
+cut-kept : (s : State) (setup : Setup) (r : ℕ) (bits : Bits)
+    → by (swapped s r bits) setup Cut ≡ swapped (by s setup Cut) r bits
+unfolding by swapped
+cut-kept s setup r bits =
+    ap (λ e. record {
+      bytes = s.bytes;
+      core = e.core;
+      position = s.position + 0;
+      end_seen = s.end_seen;
+      output = s.output ++ e.output;
+      heap_calls = s.heap_calls;
+      events = s.events ++ e.raised;
+    }) (cut-other s.core r bits)
+
 -- ---- each deed
 
 by-kept : (s : State) (setup : Setup) (r : ℕ) (bits : Bits) (deed : Deed) → passing_deed s.core deed r ≡ Keeps
     → by (swapped s r bits) setup deed ≡ swapped (by s setup deed) r bits
 unfolding by by-row passing_deed
-by-kept s setup r bits (Takes word) h =
-    let row = row_of word in
+by-kept s setup r bits (Takes code) h =
+    let len = len_of code in
+    let row = row_of_code code in
     let k = kept s.core row r h in
-    plain (swapped s r bits) setup row r k.unread ∙ row-kept s setup row r bits None false k
-    ∙ ap (λ t. swapped t r bits) (sym (plain s setup row r k.unread))
+    plain (swapped s r bits) setup len row r k.unread ∙ row-kept s setup len row r bits None false k
+    ∙ ap (λ t. swapped t r bits) (sym (plain s setup len row r k.unread))
+by-kept s setup r bits Cut h = cut-kept s setup r bits
 by-kept s setup r bits (CallsByName function) h = cc
 by-kept s setup r bits Halts h = halt-kept s setup r bits
 
 by-stays : (s : State) (setup : Setup) (r : ℕ) (deed : Deed) → passing_deed s.core deed r ≡ Keeps
     → register (by s setup deed).core r ≡ register s.core r
 unfolding by passing_deed
-by-stays s setup r (Takes word) h =
-    rounded-stays s.core (after_word s.core) (row_of word) r (register s.core r) _ _ _ (kept s.core (row_of word) r h)
+by-stays s setup r (Takes code) h =
+    rounded-stays s.core (len_of code) (next_of s.core (len_of code)) (row_of_code code) r (register s.core r) _ _ _
+    (kept s.core (row_of_code code) r h)
+by-stays s setup r Cut h = fault-stays s.core r (word_fault s.core)
 by-stays s setup r (CallsByName function) h = cc
 by-stays s setup r Halts h = unfetched-stays s.core r
 
 by-replaced : (s : State) (setup : Setup) (r : ℕ) (bits : Bits) (deed : Deed) → 1 ≤ r
     → passing_deed s.core deed r ≡ Overwrites → by (swapped s r bits) setup deed ≡ by s setup deed
 unfolding by by-row passing_deed
-by-replaced s setup r bits (Takes word) one h =
-    let row = row_of word in
+by-replaced s setup r bits (Takes code) one h =
+    let len = len_of code in
+    let row = row_of_code code in
     let k = replaced s.core row r h in
-    plain (swapped s r bits) setup row r k.unread ∙ row-replaced s setup row r bits None false one k
-    ∙ sym (plain s setup row r k.unread)
+    plain (swapped s r bits) setup len row r k.unread ∙ row-replaced s setup len row r bits None false one k
+    ∙ sym (plain s setup len row r k.unread)
+by-replaced s setup r bits Cut one h = cc
 by-replaced s setup r bits (CallsByName function) one h = cc
 by-replaced s setup r bits Halts one h = cc
 
@@ -333,9 +387,9 @@ deed-halts : (core : Core) (bytes : ℕ → ℕ) (hooks : List (ℕ × Hook)) �
     → deed_at core bytes hooks ≡ Halts
 unfolding called_here fetched fetches
 deed-halts core bytes hooks h =
-    let word = little_word (window bytes core.pc 4) in
     ap (λ b. deed_by (cond (b && is_aligned core.isa core.pc) (hook_at hooks core.pc) None)
-    (cond (b && (is_aligned core.isa core.pc && is_none (fetch_fault core))) (Some word) None)) h
+    (fetch_by (b && (is_aligned core.isa core.pc && is_none (fetch_fault core)))
+    (is_half core.isa (half_at core bytes)) (is_none (word_fault core)) (half_at core bytes) (word_at core bytes))) h
 
 halted-core : (core : Core) → is_running core.status ≡ false → (unfetched core).core ≡ core
 unfolding unfetched
@@ -374,3 +428,18 @@ unfolding exec intake_at uses_at effect_at called_here fetched fetches passing b
 overwrites-registers s setup r bits one h =
     ap (λ t. exec t setup) (with-is s r bits one)
     ∙ by-replaced s setup r bits (deed_at s.core s.bytes setup.hooks) one h
+
+-- ---- a step that fetches no code
+
+-- keeps each register, unless it calls a function
+pub no_code : (core : Core) (bytes : ℕ → ℕ) (r : ℕ) → code_in (fetched core bytes) ≡ None
+    → passing_deed core (fetched core bytes) r ≡ Keeps
+unfolding fetched passing_deed
+no_code core bytes r h = go (fetches core) (is_half core.isa (half_at core bytes)) (is_none (word_fault core)) _ _ h
+  where
+    go : (may short whole : Bool) (half word : ℕ) → code_in (fetch_by may short whole half word) ≡ None
+        → passing_deed core (fetch_by may short whole half word) r ≡ Keeps
+    go false short whole half word h = refl
+    go true true whole half word h = cc
+    go true false true half word h = cc
+    go true false false half word h = refl

@@ -3,7 +3,7 @@
 use Rattle.std.specs.Prelude.{ℕ, ◌+◌, ◌*◌, ◌/◌, ◌%◌, ◌^◌, ◌==◌, ◌&&◌, ◌||◌, Bool, true, false, if◌then◌else◌}
 use Rattle.std.specs.Prelude.{Option, Some}
 use Rattle.definedness.specs.declared.Bits.{Bits}
-use Rattle.instructions.specs.Instructions.{row_of}
+use Rattle.instructions.specs.Codes.{row_of_code}
 use Rattle.instructions.specs.declared.instruction.Instruction.{Instruction}
 use Rattle.instructions.specs.declared.instruction.Instruction.TheVariants.{LoadUpper, AddUpper, Jump, JumpRegister}
 use Rattle.instructions.specs.declared.instruction.Instruction.TheVariants.{Branch, Load, Store, Immediate, Registers}
@@ -12,7 +12,7 @@ use Rattle.guest_elf.specs.Profiles.{is_aligned}
 use Rattle.guest_machine.specs.State.{Core, State}
 use Rattle.guest_machine.specs.Registers.{set_register}
 use Rattle.guest_machine.specs.Effects.{target}
-use Rattle.guest_machine.specs.Exec.{Deed, Takes, CallsByName, Halts, deed_at}
+use Rattle.guest_machine.specs.Exec.{Deed, Takes, Cut, CallsByName, Halts, deed_at}
 use Rattle.guest_machine.specs.declared.setup.Setup.{Setup}
 use Rattle.step_uses.specs.declared.passing.Passing.{Passing}
 use Rattle.step_uses.specs.declared.passing.Passing.TheVariants.{Looks, Keeps, Overwrites}
@@ -61,7 +61,8 @@ passing_row core row r =
 -- and to a step, by what this does. A heap call by name looks at the return address and at its parameters: like an
 -- environment call, it counts as one that looks at each register. A step that does neither keeps them all
 unfoldable pub passing_deed : Core → Deed → ℕ → Passing
-passing_deed core (Takes word) r = passing_row core (row_of word) r
+passing_deed core (Takes code) r = passing_row core (row_of_code code) r
+passing_deed core Cut r = Keeps
 passing_deed core (CallsByName function) r = Looks
 passing_deed core Halts r = Keeps
 

@@ -1,14 +1,13 @@
 //! What a register is to the next step of a machine.
-ghost use Rattle.std.specs.Prelude.{◌≡◌, ◌&&◌, Some};
+ghost use Rattle.std.specs.Prelude.{◌≡◌, Some};
 ghost use Rattle.guest_machine.specs.State.{State};
 ghost use Rattle.guest_machine.specs.Shows.{Shows};
-ghost use Rattle.guest_elf.specs.Profiles.{is_aligned};
-ghost use Rattle.guest_machine.specs.Exec.{called_here, fetched, is_running};
+ghost use Rattle.guest_machine.specs.Exec.{called_here};
 ghost use Rattle.step_uses.specs.Passing.{completes, passing, passing_row, reads, writes};
 
 use guest_elf::Hook;
 use guest_machine::{Hooks, Machine, Register, Setup, Status};
-use instructions::{Instruction, row_of};
+use instructions::{Instruction, row_of_code};
 
 /// What a register is to a step.
 #[derive(Clone, Copy, PartialEq, Eq)]
@@ -75,37 +74,15 @@ fn completes(machine: &Machine, row: &Instruction) -> bool
     }
 }
 
-/// Whether a machine runs, and an instruction may begin at pc.
-fn is_ready(machine: &Machine) -> bool
-    ensures { (s : State) → Shows machine.now s → result ≡ (is_running s.core.status && is_aligned s.core.isa s.core.pc) }
-{
-    matches!(machine.status(), Status::Running) && machine.isa().aligns(machine.pc())
-}
-
 /// The function of the heap that the next step calls by name.
 #[tactic(auto, unfolding(guest_machine::specs::Exec::called_here))]
 fn called_here(machine: &Machine, hooks: &Hooks) -> Option<Hook>
     ensures { (s : State) → Shows machine.now s → result ≡ called_here s.core hooks.now }
 {
-    if is_ready(machine) {
+    if matches!(machine.status(), Status::Running) && machine.isa().aligns(machine.pc()) {
         hooks.at(machine.pc())
     } else {
         None
-    }
-}
-
-/// The word at pc, if it may be fetched.
-#[tactic(auto, unfolding(guest_machine::specs::Exec::fetched, guest_machine::specs::Exec::fetches))]
-fn fetched(machine: &Machine) -> Option<u32>
-    ensures { (s : State) → Shows machine.now s → result ≡ fetched s.core s.bytes }
-{
-    if !is_ready(machine) {
-        return None;
-    }
-    let word = machine.memory().load(machine.pc(), 4);
-    match word.bad {
-        None => Some(word.value),
-        Some(_) => None,
     }
 }
 
@@ -135,8 +112,8 @@ pub fn passing_of(machine: &Machine, setup: &Setup, register: Register) -> Passi
     if called_here(machine, &setup.hooks).is_some() {
         return Passing::Looks;
     }
-    match fetched(machine) {
-        Some(word) => match row_of(word) {
+    match machine.code() {
+        Some(code) => match row_of_code(code) {
             Some(row) => passing_row(machine, &row, register),
             None => Passing::Keeps,
         },

@@ -1,13 +1,18 @@
 -- The table of a sweep as it is written: its head, how much of it is written, and what is swept.
-use Rattle.std.specs.Prelude.{◌≡◌, ℕ, ◌-◌, ◌≤◌, ◌⊎◌, Bool, if◌then◌else◌, nat_lt, List, [], ◌++◌, codes, length, map}
+use Rattle.std.specs.Prelude.{◌≡◌, ℕ, ◌-◌, ◌≤◌, ◌⊎◌, ◌||◌, Bool, true, false, if◌then◌else◌, nat_lt, List, []}
+use Rattle.std.specs.Prelude.{◌++◌, codes, length, map}
 use Rattle.std.specs.Prelude.{Option, Some, None, unwrap_or}
 use Rattle.std.specs.Fmt.{decimal}
 use Rattle.std.specs.Io.KnownBytes.{Appends}
 use Rattle.hex.specs.Hex.{encode_lower}
 use Rattle.sha2.specs.Sha256.{sha256}
+use Rattle.command_line.specs.Isas.{isa_name}
 use Rattle.command_line.specs.Orders.{text_of}
 use Rattle.command_line.specs.declared.order.SweepWords.{SweepWords}
+use Rattle.guest_elf.specs.Images.{profile_of}
 use Rattle.guest_elf.specs.declared.image.Image.{Image as ProgramImage}
+use Rattle.guest_elf.specs.declared.profile.Isa.{Isa}
+use Rattle.guest_elf.specs.declared.profile.Isa.TheVariants.{Rv32im}
 use Rattle.report_lines.specs.Text.{address_text, newline}
 use Rattle.scenario.specs.Scenario.{Scenario, IsOutlineOf, at_step, begun}
 use Rattle.suppressions.specs.Rules.{Rule}
@@ -51,9 +56,20 @@ words_line (Some range) values =
     codes "words " ++ address_text range.first ++ codes ".." ++ address_text (unwrap_or range.last 4294967295)
     ++ codes " " ++ values ++ newline
 
--- the format of the table: the second one has lines that the first doesn't have, those of faults at steps
-abbrev pub version_line : Places → List ℕ
-version_line steps = if nat_lt steps.first steps.end then codes "sweep 2\n" else codes "sweep 1\n"
+-- is it another instruction set than the usual one?
+abbrev pub is_other : Isa → Bool
+is_other Rv32im = false
+is_other _ = true
+
+-- the format of the table: the second one has lines that the first doesn't have, those of faults at steps and that of
+-- another instruction set
+abbrev pub version_line : Places → Isa → List ℕ
+version_line steps isa =
+    if nat_lt steps.first steps.end || is_other isa then codes "sweep 2\n" else codes "sweep 1\n"
+
+-- the instruction set, if it is another one
+unfoldable pub isa_line : Isa → List ℕ
+isa_line isa = if is_other isa then codes "isa " ++ isa_name isa ++ newline else []
 
 -- the steps at which faults strike, if there are any, the fault models as they were given, the code to which pc is
 -- limited, and whether pairs are tried
@@ -86,10 +102,10 @@ step_lines step with_output part =
     ++ newline
 
 -- the head of a table
-unfoldable pub head_text : List ℕ → List ℕ → List ℕ → SweepWords → Plan → Option Range → Part → List ℕ
-head_text program input rules words plan named part =
-    version_line plan.steps ++ file_lines program input rules ++ bytes_line plan.bytes words.byte_values.now
-    ++ words_line named words.word_values.now
+unfoldable pub head_text : List ℕ → List ℕ → List ℕ → Isa → SweepWords → Plan → Option Range → Part → List ℕ
+head_text program input rules isa words plan named part =
+    version_line plan.steps isa ++ isa_line isa ++ file_lines program input rules
+    ++ bytes_line plan.bytes words.byte_values.now ++ words_line named words.word_values.now
     ++ steps_line plan.steps (fault_text (text_of words.faults)) plan.code plan.pairs
     ++ step_lines words.step words.with_output part
 
@@ -148,11 +164,11 @@ Reached case n old now sweep =
 -- ---- what is swept
 
 -- the sweep of a program with an input and suppressions, of which these bytes were read, by a plan: with words, if some
--- are named, and a part of the places
+-- are named, and a part of the places; the instruction set is the program's
 abbrev pub case_with : List ℕ → List ℕ → ProgramImage → List ℕ → List Rule → SweepWords → Option Range → Part → Plan
     → Case
 case_with file text image input list words named part plan = record {
-  head = head_text file input text words plan named part;
+  head = head_text file input text (profile_of image).isa words plan named part;
   with_output = words.with_output;
   sc = at_step (begun image input list) words.step;
   plan = plan;

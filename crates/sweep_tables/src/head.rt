@@ -4,9 +4,10 @@ ghost use Rattle.hex.specs.Hex.{encode_lower};
 ghost use Rattle.sha2.specs.Sha256.{sha256};
 ghost use Rattle.report_lines.specs.Text.{newline};
 ghost use Rattle.command_line.specs.Orders.{text_of};
-ghost use Rattle.sweep_tables.specs.Swept.{bytes_line, code_text, fault_text, file_line, file_lines, head_text, output_line, pairs_text, step_lines, steps_line, version_line, words_line};
+ghost use Rattle.sweep_tables.specs.Swept.{bytes_line, code_text, fault_text, file_line, file_lines, head_text, is_other, isa_line, output_line, pairs_text, step_lines, steps_line, version_line, words_line};
 
-use command_line::SweepWords;
+use command_line::{SweepWords, isa_name};
+use guest_elf::Isa;
 use report_lines::{push_address, push_number, push_text};
 use sha2::{Digest, Sha256};
 use std::alloc::{AllocError, Global};
@@ -89,15 +90,35 @@ fn push_words(out: &mut Vec<u8>, words: Option<Range>, values: &str) -> Result<(
     push_values(out, values)
 }
 
-/// Returns the line of the table's format: the second one, if faults strike at steps.
-fn version_line(steps: Places) -> &'static [u8]
-    ensures { result.now ≡ version_line steps }
+/// Returns whether an instruction set is another one than the usual one.
+fn is_other(isa: Isa) -> bool
+    ensures { result ≡ is_other isa }
 {
-    if steps.first < steps.end {
+    !matches!(isa, Isa::Rv32im)
+}
+
+/// Returns the line of the table's format: the second one, if faults strike at steps or a line names the instruction set.
+fn version_line(steps: Places, isa: Isa) -> &'static [u8]
+    ensures { result.now ≡ version_line steps isa }
+{
+    if steps.first < steps.end || is_other(isa) {
         b"sweep 2\n"
     } else {
         b"sweep 1\n"
     }
+}
+
+/// Appends the line on the instruction set, if it isn't the usual one.
+#[tactic(auto, unfolding(crate::specs::Swept::isa_line), using(std::proofs::Common::append_assoc))]
+fn push_isa(out: &mut Vec<u8>, isa: Isa) -> Result<(), AllocError>
+    ensures { OnOk result (out.new.items ≡ out.old.items ++ isa_line isa) }
+{
+    if !is_other(isa) {
+        return Ok(());
+    }
+    push_text(out, b"isa ")?;
+    push_text(out, isa_name(isa).as_bytes())?;
+    push_text(out, b"\n")
 }
 
 /// Appends the range of code, if one is named.
@@ -186,15 +207,17 @@ pub(crate) fn push_head(
     alloc: Global,
     out: &mut Vec<u8>,
     sources: &Sources,
+    isa: Isa,
     words: &SweepWords,
     plan: &Plan,
     named: Option<Range>,
     part: Part,
 ) -> Result<(), AllocError>
     ensures { OnOk result (out.new.items ≡ out.old.items
-        ++ head_text sources.now.program.now sources.now.input.now sources.now.suppressions.now words.now plan.now named part) }
+        ++ head_text sources.now.program.now sources.now.input.now sources.now.suppressions.now isa words.now plan.now named part) }
 {
-    push_text(out, version_line(plan.steps))?;
+    push_text(out, version_line(plan.steps, isa))?;
+    push_isa(out, isa)?;
     push_files(alloc, out, sources)?;
     push_bytes(out, plan.bytes, words.byte_values)?;
     push_words(out, named, words.word_values)?;

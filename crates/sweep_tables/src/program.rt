@@ -1,6 +1,7 @@
 //! A sweep of a program with an input and suppressions.
 ghost use Rattle.std.specs.Prelude.{◌≡◌, ◌≤◌, ◌-◌, ◌++◌, [], ℕ, List, Option, IfOk, length};
 ghost use Rattle.ends.specs.Ends.{end_of};
+ghost use Rattle.guest_elf.specs.Images.{profile_of};
 ghost use Rattle.sweep_plans.specs.Planned.{IsPart, part_from, part_to};
 ghost use Rattle.sweep_tables.specs.Swept.{Case, Sweeps, Writes, case_with, head_text};
 ghost use Rattle.scenario.specs.Limits.{longest_input, most_steps};
@@ -39,14 +40,15 @@ fn begin_table<'p>(
     ensures scenario { IfOk result (λ sweep. scenario_of sweep ≡ at_step (begun image.entry input.items suppressions.items) words.now.step) }
     ensures output { IfOk result (λ sweep. tells_output sweep ≡ words.now.with_output) }
     ensures met { IfOk result (λ sweep. (first : List ℕ) × HasMet sweep first []
-        × (out.new.items ≡ head_text file.now input.items text.now words.now plan.now named part ++ rows_text first [])) }
+        × (out.new.items ≡ head_text file.now input.items text.now (profile_of image.entry).isa words.now plan.now named part ++ rows_text first [])) }
 {
     let sources = Sources {
         program: file,
         input: &input,
         suppressions: text,
     };
-    push_head(alloc, out, &sources, words, plan, named, part)?;
+    let isa = image.profile().isa;
+    push_head(alloc, out, &sources, isa, words, plan, named, part)?;
     Sweep::begin(
         alloc,
         image,

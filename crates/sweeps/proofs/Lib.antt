@@ -8,6 +8,7 @@ pub mod OneMet
 pub mod PartSteps
 pub mod PairSteps
 pub mod RecallSteps
+pub mod LoneSteps
 pub mod AccessSteps
 pub mod MemorySteps
 pub mod ReadSteps

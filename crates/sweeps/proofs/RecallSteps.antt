@@ -29,6 +29,7 @@ use Rattle.sweeps.specs.Recall.{AreKnown, IsGone, IsKept, Passes, Recalls, Regis
 use Rattle.sweeps.specs.Spots.{Continues, IsBefore}
 use Rattle.sweeps.specs.Standing.{IsAt, IsBelow, Stands, state_before}
 use Rattle.sweeps.specs.declared.recall.Recall.{Recall}
+use Rattle.sweeps.proofs.LoneSteps.{none-foreseen}
 use Rattle.sweeps.proofs.MemorySteps.{fork-there}
 use Rattle.sweeps.specs.declared.spots.Spot.{Spot}
 
@@ -157,11 +158,12 @@ before-there sc step pc spot is unmarked stands under goes =
 
 -- before the first place the outcome of the unedited run is recalled alone
 pub begun-recall : (with_output : Bool) (sc : Scenario) (recall : Recall) → IsOutlineOf with_output sc recall.unedited
-    → recall.here.items ≡ [] → recall.next.items ≡ [] → Recalls with_output sc recall
-begun-recall with_output sc recall unedited here next = record {
+    → recall.here.items ≡ [] → recall.next.items ≡ [] → recall.lone.rows.items ≡ [] → Recalls with_output sc recall
+begun-recall with_output sc recall unedited here next lone = record {
   unedited = unedited;
   here = subst (AreKnown with_output sc recall.step) (sym here) (λ i d less. absurd (omega arith));
   next = λ runs. subst (AreKnown with_output sc (recall.step + 1)) (sym next) (λ i d less. absurd (omega arith));
+  lone = none-foreseen with_output sc recall.lone lone;
 }
 
 -- what is so of a value that was found

@@ -16,6 +16,7 @@ use Rattle.scenario.specs.Scenario.{Scenario, IsOutlineOf}
 use Rattle.sweep_plans.specs.declared.change.Change.TheVariants.{Once}
 use Rattle.sweep_plans.specs.declared.change.Glitch.{Glitch}
 use Rattle.sweep_plans.specs.declared.change.Glitch.TheVariants.{Flip, Set, Turn}
+use Rattle.sweeps.specs.LoneSkips.{AreForeseen}
 use Rattle.sweeps.specs.Outcomes.{IsOutcome}
 use Rattle.sweeps.specs.Standing.{state_before}
 use Rattle.sweeps.specs.declared.recall.Known.{Known}
@@ -59,6 +60,7 @@ pub record Recalls (with_output : Bool) (sc : Scenario) (recall : Recall) : Type
   pub here : AreKnown with_output sc recall.step recall.here.items
   pub next : is_running (state_before sc (recall.step + 1)).core.status ≡ true
       → AreKnown with_output sc (recall.step + 1) recall.next.items
+  pub lone : AreForeseen with_output sc recall.lone
 
 -- with what is recalled, and what is known of a glitch's part in the step, this is the glitch's outcome just before the
 -- step

@@ -38,6 +38,7 @@ mod accesses;
 mod beginning;
 mod counting;
 pub mod laws;
+mod lone_skips;
 mod meeting;
 mod memory;
 mod outcomes;

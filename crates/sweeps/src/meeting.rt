@@ -142,5 +142,5 @@ pub(crate) fn meet_place(
 {
     meet_all(alloc, scenario, counts, plan, spot, with_output, out)?;
     meet_memory(alloc, scenario, counts, plan, spot, with_output, out)?;
-    meet_pairs(scenario, counts, plan, spot, with_output, out)
+    meet_pairs(alloc, scenario, counts, plan, spot, with_output, out)
 }

@@ -1,15 +1,18 @@
 //! Pairs of instructions that are left out.
-ghost use Rattle.std.specs.Prelude.{◌≡◌, ◌≤◌, ◌<◌, ◌+◌, ◌-◌, ◌∷◌, [], ℕ, IfOk, OnOk, Some, length, min};
+ghost use Rattle.std.specs.Prelude.{◌≡◌, ◌≤◌, ◌<◌, ◌+◌, ◌-◌, ◌∷◌, [], ℕ, List, IfOk, OnOk, Some, length, min};
 ghost use Rattle.checkpoints.specs.Forks.{IsForkFor};
 ghost use Rattle.checkpoints.specs.declared.effect.Effect.TheVariants.{After};
+ghost use Rattle.guest_machine.specs.Shows.{Shows};
 ghost use Rattle.scenario.specs.Limits.{most_marks, most_steps};
 ghost use Rattle.scenario.specs.Scenario.{Scenario as ScenarioOf, run_of};
 ghost use Rattle.sweep_plans.specs.declared.change.Change.TheVariants.{Once, Twice};
 ghost use Rattle.sweep_plans.specs.declared.change.Glitch.TheVariants.{Skip};
-ghost use Rattle.sweeps.specs.Outcomes.{TakesSteps};
+ghost use Rattle.sweeps.specs.LoneSkips.{Joins, NoneFrom};
+ghost use Rattle.sweeps.specs.Outcomes.{IsOutcome, TakesSteps};
 ghost use Rattle.sweeps.specs.Spots.{Continues, IsLed};
-ghost use Rattle.sweeps.specs.Standing.{IsBelow, pair_by, pairs_at, pairs_from, skipped, standing_step};
+ghost use Rattle.sweeps.specs.Standing.{IsBelow, pair_by, pairs_at, pairs_from, skipped, standing_step, state_before};
 ghost use Rattle.sweeps.specs.Sweeps.{CountsMore};
+ghost use Rattle.sweeps.specs.declared.counting.Counts.{Counts as CountsOf};
 
 use crate::counting::Counts;
 use crate::outcomes::{outcome_of_one, unmark};
@@ -17,7 +20,7 @@ use crate::spots::{Spot, standing_step};
 use checkpoints::Fork;
 use scenario::Scenario;
 use scenario::laws::edits_follow;
-use std::alloc::AllocError;
+use std::alloc::{AllocError, Global};
 use sweep_plans::{Change, Glitch, Plan, Range, Standing};
 
 /// The first instruction of some pairs.
@@ -30,6 +33,29 @@ pub(crate) struct First {
     /// The addresses to which pc is limited at the second one.
     pub(crate) code: Option<Range>,
     pub(crate) with_output: bool,
+}
+
+/// Counts the outcome of a pair, and appends its row.
+fn count_pair(
+    counts: &mut Counts,
+    first: First,
+    later: u32,
+    outcome: &[u8],
+    out: &mut Vec<u8>,
+) -> Result<(), AllocError>
+    ensures recall { OnOk result (counts.new.recall ≡ counts.old.recall) }
+    ensures met { OnOk result ((sc : ScenarioOf) → IsOutcome first.with_output (skipped sc first.step) (Once later Skip) outcome.now
+        → TakesSteps sc (Once first.step Skip) first.steps
+        → CountsMore counts.old counts.new first.with_output sc (Twice first.step Skip later Skip ∷ []) out.old.items out.new.items) }
+{
+    let pair = Change::Twice {
+        step: first.step,
+        glitch: Glitch::Skip,
+        later,
+        other: Glitch::Skip,
+    };
+    counts.count(pair, outcome, first.steps, out)?;
+    Ok(())
 }
 
 /// Leaves out the instruction of a later step, too, counts the outcome, and appends the row of the pair. Afterwards the scenario is as it was.
@@ -53,15 +79,8 @@ fn meet_pair(
         step: later,
         glitch: Glitch::Skip,
     };
-    let pair = Change::Twice {
-        step: first.step,
-        glitch: Glitch::Skip,
-        later,
-        other: Glitch::Skip,
-    };
     let outcome = outcome_of_one(scenario, fork, standing, second, first.with_output)?;
-    counts.count(pair, &outcome, first.steps, out)?;
-    Ok(())
+    count_pair(counts, first, later, &outcome, out)
 }
 
 /// Does the same if a fault may strike the later step. Returns the fork before it, given one before the step before it.
@@ -90,6 +109,62 @@ fn meet_later(
     Ok(fork)
 }
 
+/// Does the same by the table of skips, without a run, if that has the outcome of the skip of the step after the later one.
+fn meet_foreseen(
+    scenario: &Scenario,
+    counts: &mut Counts,
+    fork: &Fork,
+    first: First,
+    later: u32,
+    end: u32,
+    out: &mut Vec<u8>,
+) -> Result<(), AllocError>
+    requires joins { Joins counts.old.recall.lone fork.now.machine fork.now.step end }
+    requires shows { Shows fork.now.machine (state_before scenario.now fork.now.step) }
+    requires from { fork.now.step ≤ later }
+    requires past { first.step < fork.now.step }
+    requires below { later < end }
+    requires within { end ≤ scenario.now.step }
+    requires quiet { NoneFrom (first.step + 1) scenario.now.marks }
+    ensures recall { OnOk result (counts.new.recall ≡ counts.old.recall) }
+    ensures met { OnOk result ((sc : ScenarioOf) → scenario.now ≡ skipped sc first.step → TakesSteps sc (Once first.step Skip) first.steps
+        → CountsMore counts.old counts.new first.with_output sc (pair_by first.step (standing_step scenario.now first.code later)) out.old.items out.new.items) }
+{
+    let found = counts.recall.lone.outcome_at(later + 1, first.code)?;
+    match found {
+        Some(outcome) => count_pair(counts, first, later, outcome.text(), out),
+        None => Ok(()),
+    }
+}
+
+/// Does the same for each step from one on up to another.
+fn meet_rest(
+    scenario: &Scenario,
+    counts: &mut Counts,
+    fork: &Fork,
+    first: First,
+    from: u32,
+    end: u32,
+    out: &mut Vec<u8>,
+) -> Result<(), AllocError>
+    requires joins { Joins counts.old.recall.lone fork.now.machine fork.now.step end }
+    requires shows { Shows fork.now.machine (state_before scenario.now fork.now.step) }
+    requires from { fork.now.step ≤ from }
+    requires past { first.step < fork.now.step }
+    requires forward { from ≤ end }
+    requires within { end ≤ scenario.now.step }
+    requires quiet { NoneFrom (first.step + 1) scenario.now.marks }
+    ensures met { OnOk result ((sc : ScenarioOf) (begun : CountsOf) (before : List ℕ) → scenario.now ≡ skipped sc first.step
+        → TakesSteps sc (Once first.step Skip) first.steps
+        → CountsMore begun counts.old first.with_output sc (pairs_from sc first.code first.step (from - (first.step + 1))) before out.old.items
+        → CountsMore begun counts.new first.with_output sc (pairs_from sc first.code first.step (end - (first.step + 1))) before out.new.items) }
+{
+    for later in from..end {
+        meet_foreseen(scenario, counts, fork, first, later, end, out)?;
+    }
+    Ok(())
+}
+
 /// Does the same for each later step below another.
 fn meet_until(
     scenario: &mut Scenario,
@@ -106,6 +181,7 @@ fn meet_until(
     requires room { length scenario.old.marks < most_marks }
     requires before { fork.now.step ≤ first.step }
     requires led { IsLed first.step scenario.old fork.now }
+    requires quiet { NoneFrom (first.step + 1) scenario.old.marks }
     ensures same { scenario.new ≡ scenario.old }
     ensures met { OnOk result ((sc : ScenarioOf) → scenario.old ≡ skipped sc first.step → TakesSteps sc (Once first.step Skip) first.steps
         → CountsMore counts.old counts.new first.with_output sc (pairs_from sc first.code first.step (end - (first.step + 1))) out.old.items out.new.items) }
@@ -113,6 +189,9 @@ fn meet_until(
     let mut scout = fork.go_on(first.step, scenario.setup(), scenario.marks())?;
     for later in first.step + 1..end {
         scout = meet_later(scenario, counts, &scout, first, later, out)?;
+        if counts.recall.lone.joins(&scout, later, end) {
+            return meet_rest(scenario, counts, &scout, first, later + 1, end, out);
+        }
     }
     Ok(())
 }
@@ -158,6 +237,7 @@ fn lesser(x: u32, y: u32) -> u32
 /// Tries the pairs at a spot, if they were asked for.
 #[tactic(auto, unfolding(crate::specs::Standing::pairs_at))]
 pub(crate) fn meet_pairs(
+    alloc: Global,
     scenario: &mut Scenario,
     counts: &mut Counts,
     plan: &Plan,
@@ -189,5 +269,8 @@ pub(crate) fn meet_pairs(
         code: plan.code,
         with_output,
     };
+    counts
+        .recall
+        .foresee(alloc, scenario, &spot.fork, end, with_output)?;
     meet_after(scenario, counts, &spot.fork, first, end, out)
 }

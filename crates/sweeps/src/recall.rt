@@ -1,12 +1,16 @@
 //! Outcomes that are known without a run. A glitch of a register or a word of memory that a step keeps has the same outcome before the step
 //! and after it. One of a register that the step overwrites has the outcome of the unedited run.
-ghost use Rattle.std.specs.Prelude.{◌≡◌, ◌+◌, [], Bool, IfOk, IfSome, IsTrue, OnOk, length, true};
+ghost use Rattle.std.specs.Prelude.{◌≡◌, ◌+◌, [], Bool, IfOk, IfSome, IsTrue, OnOk, length, true, ◌≤◌};
 ghost use Rattle.guest_machine.specs.Exec.{is_running};
+ghost use Rattle.scenario.specs.Limits.{most_steps};
 ghost use Rattle.scenario.specs.Scenario.{Scenario as ScenarioOf};
 ghost use Rattle.sweep_plans.specs.declared.change.Change.TheVariants.{Once};
 ghost use Rattle.sweeps.specs.Outcomes.{IsOutcome};
 ghost use Rattle.sweeps.specs.Standing.{state_before};
 
+use crate::lone_skips::LoneSkips;
+use checkpoints::Fork;
+use scenario::Scenario;
 use std::alloc::{AllocError, Global};
 use std::marker::Model;
 use std::mem;
@@ -16,6 +20,9 @@ use sweep_plans::Glitch;
 /// The length of the longest outcome that is recalled, in bytes. A longer one comes from a run each time, so that what is recalled takes
 /// little memory.
 const LONGEST: usize = 4096;
+
+/// The greatest number of steps whose skips are recalled, so that their table takes little memory.
+const MOST_FORESEEN: u32 = 16384;
 
 /// The most outcomes that are recalled at a step.
 const MOST: usize = 1 << 20;
@@ -86,6 +93,8 @@ pub(crate) struct Recall {
     passed: usize,
     /// Outcomes of glitches just before the next step, if the program still runs there.
     pub(crate) next: Vec<Known>,
+    /// Outcomes of skips one step after the chosen one.
+    pub(crate) lone: LoneSkips,
 }
 
 /// Returns whether two glitches are the same.
@@ -103,6 +112,7 @@ impl Recall {
         ensures unedited { result.unedited ≡ unedited }
         ensures here { result.here.items ≡ [] }
         ensures next { result.next.items ≡ [] }
+        ensures lone { result.lone.rows.items ≡ [] }
     {
         Recall {
             unedited,
@@ -110,7 +120,33 @@ impl Recall {
             here: Vec::new(alloc),
             passed: 0,
             next: Vec::new(alloc),
+            lone: LoneSkips::begin(alloc, 0),
         }
+    }
+
+    /// Has the table of skips have rows from a step on, before which a machine is, up to another step; unless it has them, or these would
+    /// be too many.
+    pub(crate) fn foresee(
+        &mut self,
+        alloc: Global,
+        scenario: &Scenario,
+        before: &Fork,
+        end: u32,
+        with_output: bool,
+    ) -> Result<(), AllocError>
+        requires within { end ≤ scenario.now.step }
+        requires near { scenario.now.step ≤ most_steps }
+        ensures { OnOk result (Recalls with_output scenario.now self.old → Recalls with_output scenario.now self.new) }
+    {
+        let step = before.step;
+        if self.lone.reaches(step, end) {
+            return Ok(());
+        }
+        if end.saturating_sub(step) > MOST_FORESEEN {
+            return Ok(());
+        }
+        self.lone = LoneSkips::along(alloc, scenario, &before.machine, step, end, with_output)?;
+        Ok(())
     }
 
     /// Goes on to a step before which the program runs.

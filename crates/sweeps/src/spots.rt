@@ -57,7 +57,7 @@ fn standing_word(scenario: &Scenario, start: &Machine, addr: u32) -> Option<Stan
 }
 
 /// Returns whether an address is in the code that was named.
-fn is_in_code(code: Option<Range>, pc: u32) -> bool
+pub(crate) fn is_in_code(code: Option<Range>, pc: u32) -> bool
     ensures { result ≡ is_in_code code pc }
 {
     match code {

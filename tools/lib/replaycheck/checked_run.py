@@ -5,7 +5,7 @@ import sys
 from replaycheck.children import outcome
 from replaycheck.endings import Fault, end, flush, write
 from replaycheck.options import LAST_STEP, BadValue, Reader, number
-from replaycheck.programs import path_of, program
+from replaycheck.programs import isa_words, path_of, program
 from replaycheck.refusals import Ended, Refused
 from replaycheck.verdicts import LEAK_KINDS, Verdict
 
@@ -99,6 +99,7 @@ def suppressions_of(options):
 def replies(options, lines, supp, lends):
     """The lines with which the program answers those of a session, or, where there are none, its report."""
     words = [program(), "session"] if lines else [program(), "run", "--step", str(options.step)]
+    words += isa_words(options.isa)
     for name, path in (("--input", options.input), ("--supp", supp)):
         words += [name, path_of(path)] if path is not None else []
     given = "".join(line + "\n" for line in lines).encode()
@@ -148,9 +149,10 @@ def verdict_line(options):
     if not all(os.path.isfile(it) for it in (options.file, options.input) if it is not None):
         return ""
     lines = [f"option {name} {getattr(options, name)}" for name in ("redzone", "queue") if getattr(options, name) is not None]
-    words = [program(), "look", *(["--input", path_of(options.input)] if options.input is not None else []), path_of(options.file)]
-    given = "".join(f"{line}\n" for line in [*lines, f"goto {options.step}", "look certify"]).encode()
-    _, told, _ = outcome(words, given)
+    given = ["--input", path_of(options.input)] if options.input is not None else []
+    words = [program(), "look", *given, *isa_words(options.isa), path_of(options.file)]
+    asked = "".join(f"{line}\n" for line in [*lines, f"goto {options.step}", "look certify"]).encode()
+    _, told, _ = outcome(words, asked)
     return told.decode("utf-8", "surrogateescape").rstrip("\n").rpartition("\n")[2]
 
 
@@ -164,7 +166,8 @@ def formatted(told, options, heap):
     from replaycheck import formats
     from replaycheck.findings import Shown
     from replaycheck.reports import Lines, read_report
-    shown = Shown(read_report(Lines(told)), options.file, options.input, options.errors_for_leak_kinds[1], heap, options.require_heap)
+    counted = options.errors_for_leak_kinds[1]
+    shown = Shown(read_report(Lines(told)), options.file, options.input, counted, heap, options.require_heap, options.isa)
     shown.version = version() if options.format == "sarif" else None
     shown.verdict = verdict_line(options) if options.format == "json" else ""
     return formats.FORMATS[options.format](with_places(shown, options))
@@ -187,7 +190,7 @@ def checked(options):
         verdict = Verdict(told)
     except (IndexError, KeyError, ValueError):
         raise Fault(f"{program()}: what it printed is no report: {told[0][:80]!r}") from None
-    heap = heap_of_run(options.file, options.input, verdict.step, verdict.has_blocks())
+    heap = heap_of_run(options.file, options.input, verdict.step, verdict.has_blocks(), options.isa)
     write("".join(line + "\n" for line in told) if options.format == "text" else formatted(told, options, heap))
     flush()
     for line in notices(options, verdict, heap):

@@ -8,7 +8,7 @@ import struct
 from replaycheck.adopting.heap_names import KNOWN, LEFT
 from replaycheck.allocators import HEAP, RUSTS
 from replaycheck.children import outcome
-from replaycheck.programs import path_of, program
+from replaycheck.programs import ISAS, isa_words, path_of, program
 
 OTHERS = {it.partition("=")[0] for it in KNOWN} - {*HEAP} | {*LEFT}
 NO_TYPE, FUNCTION, SYMBOLS, LOAD = 0, 2, 2, 1
@@ -130,19 +130,19 @@ def heap_in(data):
     return Heap(OTHER_NAMES, others) if others else Heap(NONE)
 
 
-def makes_blocks(file, given, step):
+def makes_blocks(file, given, step, isa):
     """Whether a run makes a block of the heap before a step, whatever its code looks like. It isn't known of an input that can't be read
     twice."""
     if given is not None and not os.path.isfile(given):
         return False
-    words = [program(), "look", *(["--input", path_of(given)] if given is not None else []), path_of(file)]
+    words = [program(), "look", *(["--input", path_of(given)] if given is not None else []), *isa_words(isa), path_of(file)]
     _, told, _ = outcome(words, f"look next shadow 0x{FIRST_BLOCK:x} 1 {step}\n".encode())
     return told.startswith(b"step ")
 
 
-def heap_of_run(file, given, step, has_blocks=False):
+def heap_of_run(file, given, step, has_blocks=False, isa=ISAS[0]):
     """The heap of a program's file, as its run up to a step shows it; None of a file that can't be read twice, such as a pipe. `has_blocks`
-    says that the run has made a block, as far as that is known already."""
+    says that the run has made a block, as far as that is known already. `isa` is the run's instruction set."""
     if not os.path.isfile(file):
         return None
     try:
@@ -150,6 +150,6 @@ def heap_of_run(file, given, step, has_blocks=False):
             heap = heap_in(opened.read(LONGEST_FILE + 1))
     except (OSError, struct.error):  # it has changed since it was run
         return None
-    if heap.is_unseen and (has_blocks or makes_blocks(file, given, step)):
+    if heap.is_unseen and (has_blocks or makes_blocks(file, given, step, isa)):
         return Heap(BY_NUMBER)
     return heap

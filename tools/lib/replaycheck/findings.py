@@ -5,6 +5,7 @@ from replaycheck.allocators import is_of_allocator, is_of_library
 from replaycheck.demangling import Demangler
 from replaycheck.endings import Fault
 from replaycheck.places import NoPlaces, Place, Places
+from replaycheck.programs import ISAS
 from replaycheck.records import Record
 from replaycheck.reports import LEAK_KINDS, Address, Frame, Report
 
@@ -79,8 +80,8 @@ class Shown:
     """A report, the files of its run, and how it is shown: where instructions stand, which leaks count as errors, which heap the file has,
     if that is known, and whether an unseen heap counts as an error."""
 
-    def __init__(self, report: Report, file: str, given: str | None, leaks_that_count, heap=None, needs_heap=False):
-        self.report, self.file, self.given = report, file, given
+    def __init__(self, report: Report, file: str, given: str | None, leaks_that_count, heap=None, needs_heap=False, isa=ISAS[0]):
+        self.report, self.file, self.given, self.isa = report, file, given, isa
         self.leaks_that_count, self.heap, self.needs_heap = leaks_that_count, heap, needs_heap
         self.made, self.places, self.names, self.verdict = {}, None, None, ""
 

@@ -4,6 +4,7 @@ from _json import encode_basestring_ascii as quoted  # the module json, and what
 
 from replaycheck.endings import Fault
 from replaycheck.findings import RULES, RUNNING
+from replaycheck.programs import ISAS
 from replaycheck.records import kept
 from replaycheck.reports import Address, Frame
 from replaycheck.verdicts import LEAK_KINDS, SUMS
@@ -94,7 +95,8 @@ def json_text(shown):
 
     whole = {
         "format": "replaycheck report", "version": JSON_VERSION,
-        "program": printable(shown.file), "input": shown.given and printable(shown.given), "step": report.step,
+        "program": printable(shown.file), "input": shown.given and printable(shown.given),
+        **({"isa": shown.isa} if shown.isa != ISAS[0] else {}), "step": report.step,
         "state": {"name": report.state.name, "why": report.state.why, "address": address_text(report.state.address),
                   "status": report.state.status},
         "ended": report.state.name != "running",

@@ -3,6 +3,7 @@ from dataclasses import dataclass
 from typing import List
 
 from replaycheck.options import LAST_STEP
+from replaycheck.programs import ISAS
 from replaycheck.refusals import with_words
 from replaycheck.reports import reports_in
 from replaycheck.sessions import Refused, Session
@@ -40,8 +41,8 @@ class Bytes:
 class Run:
     """The lines of `replaycheck look` on a program, and the step that is looked at."""
 
-    def __init__(self, file, given, supp):
-        self.files, self.edits, self.session = (file, given, supp), [], None
+    def __init__(self, file, given, supp, isa=ISAS[0]):
+        self.files, self.isa, self.edits, self.session = (file, given, supp), isa, [], None
         self.step = self.chosen = 0
         self.ready()
         self.forget()
@@ -55,7 +56,7 @@ class Run:
     def open(self):
         """Begins a session, with the edits and the chosen step of the one before it."""
         lines = [*self.edits, f"goto {self.chosen}"]
-        self.session, self.lines = Session(*self.files, command="look"), len(lines)
+        self.session, self.lines = Session(*self.files, command="look", isa=self.isa), len(lines)
         self.session.accept_all(lines)
 
     def drop(self):

@@ -2,6 +2,7 @@
 import sys
 
 from replaycheck.endings import Fault, write
+from replaycheck.programs import ISAS
 
 LAST_STEP, USUAL_STEP = 4194304, 1048576
 MANY = {"*": 0, "+": 1}
@@ -81,6 +82,11 @@ class Reader:
         self.add_argument("file")
         self.option("--input")
         self.option("--supp")
+        self.isa_option()
+
+    def isa_option(self):
+        """Adds the instruction set that the program's file is read for."""
+        self.option("--isa", choices=ISAS, default=ISAS[0])
 
     def read(self, words=None):
         """The options of a command line. An argument after `--` is none, whatever it begins with."""

@@ -7,6 +7,8 @@ from replaycheck.endings import Fault
 TOP = os.path.realpath(f"{__file__}/../../../..")
 BUILT_FROM = f"{TOP}/built-from"
 PROGRAM = f"{TOP}/crates/replaycheck/out/replaycheck"
+# The instruction sets that the program has, by their names for its option `--isa`. The first one is the usual one.
+ISAS = ("rv32im", "rv32imc")
 
 
 class Built:
@@ -43,6 +45,11 @@ def tool(variable, names):
     folders = os.environ.get("PATH", os.defpath).split(os.pathsep)
     there = (it for it in names if any(os.access(os.path.join(folder, it), os.X_OK) for folder in folders))
     return os.environ.get(variable) or next(there, names[0])
+
+
+def isa_words(isa):
+    """The option of the program for an instruction set: none for the usual one."""
+    return [] if isa == ISAS[0] else [f"--isa={isa}"]
 
 
 def path_of(path):

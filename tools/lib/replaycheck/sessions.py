@@ -1,6 +1,6 @@
 """A session with the program: a line at a time, with its reply."""
 from replaycheck.children import piped
-from replaycheck.programs import path_of, program
+from replaycheck.programs import ISAS, isa_words, path_of, program
 from replaycheck.refusals import Ended, Refused
 
 # How many lines are sent before their replies are read: those fit into a pipe, so that neither side waits for the other one.
@@ -13,10 +13,10 @@ LONG_LOOKS = {"registers": 32, "memory": 2}
 
 class Session:
     """A session on a program's file with its input and its suppressions, or what another command that answers lines does there. Paths are
-    texts or have the method `__fspath__`. `path` is that of the program, if it isn't the usual one."""
+    texts or have the method `__fspath__`. `path` is that of the program, if it isn't the usual one, and `isa` the instruction set."""
 
-    def __init__(self, file, given=None, supp=None, keeps_status=False, lends=(), command="session", path=None):
-        words = [path or program(), command]
+    def __init__(self, file, given=None, supp=None, keeps_status=False, lends=(), command="session", path=None, isa=ISAS[0]):
+        words = [path or program(), command, *isa_words(isa)]
         words += ["--input", path_of(given)] if given is not None else []
         words += ["--supp", path_of(supp)] if supp is not None else []
         self.keeps_status = keeps_status

@@ -83,14 +83,14 @@ impl Guest {
         self.share_over(memory)
     }
 
-    /// Copies what another guest has decoded, for the words that are the same in both memories.
+    /// Copies what another guest has decoded, for the codes that are the same in both memories.
     fn learn(&mut self, other: &Guest)
         ensures { self.new ≡ self.old }
     {
         self.memory.learn(self.alloc, &other.memory);
     }
 
-    /// Takes over what another guest has decoded, for the words that are the same in both memories, unless this one has decoded something
+    /// Takes over what another guest has decoded, for the codes that are the same in both memories, unless this one has decoded something
     /// itself.
     fn take_over(&mut self, other: &mut Guest)
         ensures same { self.new ≡ self.old }
@@ -193,14 +193,14 @@ impl Machine {
         })
     }
 
-    /// Copies the instructions that another machine has decoded, for the words that are the same in both. What this machine shows stays.
+    /// Copies the instructions that another machine has decoded, for the codes that are the same in both. What this machine shows stays.
     pub fn learn(&mut self, other: &Machine)
         ensures { self.new ≡ self.old }
     {
         self.guest.learn(&other.guest);
     }
 
-    /// Takes over the instructions that another machine has decoded, for the words that are the same in both, unless this one has decoded
+    /// Takes over the instructions that another machine has decoded, for the codes that are the same in both, unless this one has decoded
     /// some itself. The other one's next steps cost more then. What the two show stays.
     pub fn take_over(&mut self, other: &mut Machine)
         ensures same { self.new ≡ self.old }

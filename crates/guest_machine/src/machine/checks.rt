@@ -46,7 +46,7 @@ impl Guest {
         self.noted.add(Event { kind, trace, note })
     }
 
-    /// Records that a word with undefined bits is executed. Out of line, to keep it out of the code of a step.
+    /// Records that a code with undefined bits is executed. Out of line, to keep it out of the code of a step.
     #[cold]
     #[inline(never)]
     #[tactic(auto, unfolding(crate::specs::Errors::event_unless, crate::specs::Doing::note_events))]
@@ -56,7 +56,7 @@ impl Guest {
         self.raise(Kind::Value, Note::Absent)
     }
 
-    /// Tests the undefined bits of a word that is to be executed.
+    /// Tests the undefined bits of a code that is to be executed.
     #[inline(always)]
     #[tactic(auto, unfolding(crate::specs::Errors::event_unless, crate::specs::Doing::note_events))]
     pub(super) fn test_word(&mut self, undef: u32) -> Result<(), AllocError>

@@ -1,10 +1,10 @@
 //! Where a machine goes next: pc, whether it runs, and the frames of the calls that it is in.
 ghost use Rattle.std.specs.Prelude.{◌≡◌};
-ghost use Rattle.guest_machine.specs.Effects.{moved_to, stopped, jumped, linked_jump};
+ghost use Rattle.guest_machine.specs.Effects.{moved_to, next_of, stopped, jumped, linked_jump};
 ghost use Rattle.instructions.specs.CallStack.{hinted};
 ghost use Rattle.guest_machine.specs.NamedCalls.{returned_to};
 ghost use Rattle.guest_machine.specs.Shows.{core_of};
-ghost use Rattle.guest_machine.specs.Doing.{next_of, Sets};
+ghost use Rattle.guest_machine.specs.Doing.{Sets};
 
 use crate::machine::Guest;
 use crate::machine::registers::known;

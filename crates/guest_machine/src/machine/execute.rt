@@ -8,10 +8,10 @@ ghost use Rattle.shadow_memory.specs.Ranges.{little_word, window};
 ghost use Rattle.guest_machine.specs.Errors.{access_errors, taken_undef};
 ghost use Rattle.guest_machine.specs.Spans.{span_at};
 ghost use Rattle.instructions.specs.Widths.{width_len, width_limit};
-ghost use Rattle.guest_machine.specs.Effects.{stored_core, results_in, load, store, branch, jump, jump_register, branched};
+ghost use Rattle.guest_machine.specs.Effects.{next_of, stored_core, results_in, load, store, branch, jump, jump_register, branched};
 ghost use Rattle.guest_machine.specs.Exec.{no_intake, nothing, accessed, writing, taken_from};
 ghost use Rattle.guest_machine.specs.Shows.{core_of, bytes_of};
-ghost use Rattle.guest_machine.specs.Doing.{next_of, Notes, Changes, Does, stored_at};
+ghost use Rattle.guest_machine.specs.Doing.{Notes, Changes, Does, stored_at};
 
 use crate::cached_memory::CachedMemory;
 use crate::machine::Guest;

@@ -1,28 +1,25 @@
 //! One step.
-ghost use Rattle.std.specs.Prelude.{◌≡◌, ◌+◌, ◌%◌, ◌&&◌, ◌≤◌, [], min, length, nat_lt, true, false, Option, Some, None, IfOk, IfSome, IfNone, OnErr, OnOk};
-ghost use Rattle.guest_elf.specs.Profiles.{is_aligned};
+ghost use Rattle.std.specs.Prelude.{◌≡◌, ◌+◌, ◌%◌, ◌≤◌, [], min, length, nat_lt, false, Option, Some, None, IfOk, IfSome, OnErr, OnOk};
 ghost use Rattle.guest_machine.specs.State.{State};
+ghost use Rattle.guest_machine.specs.Effects.{next_of};
 ghost use Rattle.guest_machine.specs.Errors.{fetch_undef};
-ghost use Rattle.instructions.specs.Instructions.{row_of};
-ghost use Rattle.shadow_memory.specs.Ranges.{little_word, window};
-ghost use Rattle.guest_machine.specs.Exec.{no_intake, nothing, reading, writing, is_running, called_here, fetches, unfetched, jump_fault};
-ghost use Rattle.guest_machine.specs.Exec.{exec, touched_of, IsFetched};
+ghost use Rattle.instructions.specs.Codes.{len_of, row_of_code};
+ghost use Rattle.guest_machine.specs.Exec.{nothing, reading, writing, called_here, exec, touched_of};
 ghost use Rattle.guest_machine.specs.Run.{pre};
 ghost use Rattle.guest_machine.specs.Shows.{core_of, bytes_of, Holds, Shows, has_raised};
-ghost use Rattle.guest_machine.specs.Spans.{span_at, IsWord};
-ghost use Rattle.guest_machine.specs.Doing.{next_of, IsDecoded, touched_in, used_of, uses_by, touched_by, Does, DoesRow, DoesRound, DoesStep};
+ghost use Rattle.guest_machine.specs.Spans.{span_at, IsCodeSpan};
+ghost use Rattle.guest_machine.specs.Doing.{touched_in, used_of, uses_by, touched_by, DoesRow, DoesRound, DoesStep, IsFetch};
 
 use crate::hooks::Hooks;
+use crate::machine::fetching::Fetch;
 use crate::machine::registers::known;
 use crate::machine::{Guest, Machine};
 use crate::meter::Meter;
 use crate::setup::{Setup, Touched};
-use definedness::Bits;
-use error_events::Kind;
 use error_events::laws::groups_grow;
 use guest_elf::Hook;
-use instructions::{Instruction, Register, computed, row_of};
-use run_values::{Span, Status, Stop};
+use instructions::{Code, Instruction, Register, computed};
+use run_values::{Span, Stop};
 use std::alloc::AllocError;
 
 /// The ranges whose bytes an instruction read and wrote.
@@ -58,7 +55,7 @@ impl Used {
         }
     }
 
-    /// These, besides the word that was fetched.
+    /// These, besides the code that was fetched.
     #[inline(always)]
     fn touched(self, fetch: Option<Span>) -> Touched
         ensures { result ≡ touched_in self fetch }
@@ -70,14 +67,15 @@ impl Used {
         }
     }
 
-    /// These, besides the word at pc.
+    /// These, besides the first bytes at pc, at most four.
     #[inline(always)]
-    fn touched_at(self, pc: u32) -> Touched
-        requires { pc % 4 ≡ 0 }
-        ensures value { result ≡ touched_in self (Some (span_at pc 4)) }
-        ensures word { IfSome result.fetch IsWord }
+    fn touched_at(self, pc: u32, len: u32) -> Touched
+        requires even { pc % 2 ≡ 0 }
+        requires few { len ≤ 4 }
+        ensures value { result ≡ touched_in self (Some (span_at pc len)) }
+        ensures code { IfSome result.fetch IsCodeSpan }
     {
-        self.touched(Some(Span { start: pc, len: 4 }))
+        self.touched(Some(Span { start: pc, len }))
     }
 }
 
@@ -187,22 +185,6 @@ impl Guest {
         }
     }
 
-    /// Whether it runs.
-    #[inline(always)]
-    pub(super) fn runs(&self) -> bool
-        ensures { result ≡ is_running (core_of self.now).status }
-    {
-        matches!(self.status, Status::Running)
-    }
-
-    /// Whether it runs, and an instruction may begin at pc.
-    #[inline(always)]
-    fn is_ready(&self) -> bool
-        ensures { result ≡ (is_running (core_of self.now).status && is_aligned (core_of self.now).isa (core_of self.now).pc) }
-    {
-        self.runs() && self.isa.aligns(self.pc)
-    }
-
     /// The function of the heap that is called by name.
     #[inline(always)]
     #[tactic(auto, unfolding(crate::specs::Exec::called_here))]
@@ -216,98 +198,7 @@ impl Guest {
         }
     }
 
-    /// The word at pc with its undefined bits, if it may be fetched.
-    #[inline(always)]
-    #[tactic(auto, unfolding(crate::specs::Exec::fetches))]
-    pub(super) fn fetch(&self) -> Option<Bits>
-        ensures none { IfNone result (fetches (core_of self.now) ≡ false) }
-        ensures some { IfSome result (λ word. IsFetched (core_of self.now) (bytes_of self.now) word) }
-    {
-        if !self.is_ready() {
-            return None;
-        }
-        let word = self.memory.load(self.pc, 4);
-        match word.bad {
-            None => Some(Bits {
-                value: word.value,
-                undef: word.undef,
-            }),
-            Some(_) => None,
-        }
-    }
-
-    /// A fetch that meets an inaccessible byte.
-    #[cold]
-    #[inline(never)]
-    #[tactic(auto, unfolding(crate::specs::Errors::event_about, crate::specs::Doing::note_events))]
-    fn jump_fault(&mut self, fault: Option<u32>) -> Result<(), AllocError>
-        ensures { OnOk result (Does self.old self.new (jump_fault (core_of self.old) fault) nothing false no_intake) }
-    {
-        if fault.is_some() {
-            self.raise_about(Kind::Jump, fault)?;
-            self.stop(Stop::Jump);
-        }
-        Ok(())
-    }
-
-    /// A step that fetches no word and calls no function by name.
-    #[inline(always)]
-    #[tactic(auto, unfolding(crate::specs::Exec::unfetched, crate::specs::Doing::note_events))]
-    fn halt(&mut self) -> Result<(), AllocError>
-        ensures { OnOk result (Does self.old self.new (unfetched (core_of self.old)) nothing false no_intake) }
-    {
-        if let Status::Running = self.status {
-            if self.isa.aligns(self.pc) {
-                let fault = self.memory.load(self.pc, 4).bad;
-                self.jump_fault(fault)?;
-            } else {
-                self.stop(Stop::Misaligned);
-            }
-        }
-        Ok(())
-    }
-
-    /// The instruction at pc, if the machine runs and the word there was decoded recently.
-    #[inline(always)]
-    #[tactic(auto, unfolding(crate::specs::Exec::fetches))]
-    pub(super) fn decoded(&self) -> Option<Instruction>
-        ensures { IfSome result (λ row. IsDecoded (core_of self.now) (bytes_of self.now) row) }
-    {
-        if !self.is_ready() {
-            return None;
-        }
-        self.memory.decoded(self.pc)
-    }
-
-    /// Keeps the instruction at pc, if no bit of its word is undefined.
-    #[inline(always)]
-    #[tactic(auto, unfolding(crate::specs::Exec::fetches))]
-    fn keep(&mut self, undef: u32, instruction: Instruction)
-        requires taken { fetches (core_of self.old) ≡ true }
-        requires undef { undef ≡ fetch_undef (core_of self.old) }
-        requires row { row_of (little_word (window (bytes_of self.old) (core_of self.old).pc 4)) ≡ Some instruction }
-        ensures { self.new ≡ self.old }
-    {
-        if undef == 0 {
-            self.memory.keep(self.pc, instruction);
-        }
-    }
-
-    /// The instruction of the word at pc, if it is one, which is kept.
-    #[inline(always)]
-    fn decode(&mut self, word: Bits) -> Option<Instruction>
-        requires { IsFetched (core_of self.old) (bytes_of self.old) word }
-        ensures same { self.new ≡ self.old }
-        ensures row { result ≡ row_of word.value }
-    {
-        let row = row_of(word.value);
-        if let Some(instruction) = &row {
-            self.keep(word.undef, *instruction);
-        }
-        row
-    }
-
-    /// Executes an instruction, between the test of its word's undefined bits and the stack pointer rule.
+    /// Executes an instruction of this length, between the test of its code's undefined bits and the stack pointer rule.
     #[inline(always)]
     #[tactic(auto, using(crate::proofs::Showing::note_events_append))]
     fn round(
@@ -317,8 +208,8 @@ impl Guest {
         len: u32,
         instruction: Instruction,
     ) -> Result<Used, AllocError>
-        requires { undef ≡ fetch_undef (core_of self.old) }
-        ensures does { OnOk result (DoesRound self.old self.new (next_of (core_of self.old) len) (Some instruction) setup.now) }
+        requires { undef ≡ fetch_undef (core_of self.old) len }
+        ensures does { OnOk result (DoesRound self.old self.new len (Some instruction) setup.now) }
         ensures uses { IfOk result (λ used. used ≡ used_of (uses_by self.old (Some instruction) setup.now)) }
     {
         let stack_pointer = self.read_register(Register::new(2));
@@ -328,7 +219,7 @@ impl Guest {
         Ok(used)
     }
 
-    /// Stops at a word that is no instruction.
+    /// Stops at a code that is no instruction.
     #[tactic(auto, unfolding(crate::specs::Exec::row_effect, crate::specs::Exec::row_uses, crate::specs::Exec::calls_heap, crate::specs::Exec::row_asks, crate::specs::Doing::note_events))]
     fn stop_illegal(&mut self, setup: &Setup, len: u32)
         ensures does { DoesRow self.old self.new (next_of (core_of self.old) len) None setup.now }
@@ -337,11 +228,11 @@ impl Guest {
         self.stop(Stop::Illegal);
     }
 
-    /// The same as [`Guest::round`] at a word that is no instruction.
+    /// The same as [`Guest::round`] at a code that is no instruction.
     #[tactic(auto, using(crate::proofs::Showing::note_events_append))]
     fn round_illegal(&mut self, setup: &Setup, undef: u32, len: u32) -> Result<(), AllocError>
-        requires { undef ≡ fetch_undef (core_of self.old) }
-        ensures does { OnOk result (DoesRound self.old self.new (next_of (core_of self.old) len) None setup.now) }
+        requires { undef ≡ fetch_undef (core_of self.old) len }
+        ensures does { OnOk result (DoesRound self.old self.new len None setup.now) }
         ensures uses { OnOk result (uses_by self.old None setup.now ≡ nothing) }
     {
         let stack_pointer = self.read_register(Register::new(2));
@@ -350,39 +241,62 @@ impl Guest {
         self.stack_rule(stack_pointer)
     }
 
-    /// Decodes a word that may be fetched, and executes it.
-    fn round_anew(&mut self, setup: &Setup, len: u32, word: Bits) -> Result<Used, AllocError>
-        requires { IsFetched (core_of self.old) (bytes_of self.old) word }
-        ensures does { OnOk result (DoesRound self.old self.new (next_of (core_of self.old) len) (row_of word.value) setup.now) }
-        ensures uses { IfOk result (λ used. used ≡ used_of (uses_by self.old (row_of word.value) setup.now)) }
+    /// Decodes a code that may be fetched, and executes it.
+    fn round_anew(&mut self, setup: &Setup, code: Code, undef: u32) -> Result<Used, AllocError>
+        requires { IsFetch (core_of self.old) (bytes_of self.old) (Fetch.Whole code undef) }
+        ensures does { OnOk result (DoesRound self.old self.new (len_of code) (row_of_code code) setup.now) }
+        ensures uses { IfOk result (λ used. used ≡ used_of (uses_by self.old (row_of_code code) setup.now)) }
     {
-        match self.decode(word) {
-            Some(instruction) => self.round(setup, word.undef, len, instruction),
+        match self.decode(code, undef) {
+            Some(instruction) => self.round(setup, undef, code.len(), instruction),
             None => {
-                self.round_illegal(setup, word.undef, len)?;
+                self.round_illegal(setup, undef, code.len())?;
                 Ok(NOTHING)
             }
         }
     }
 
-    /// The step if no function of the heap begins at pc, and the word there is still to be decoded, or can't be fetched.
+    /// The step if no function of the heap begins at pc, and the code there is still to be decoded, or can't be fetched.
     #[inline(never)]
-    #[tactic(auto, unfolding(crate::specs::Exec::fetched, crate::specs::Exec::uses_at, crate::specs::Exec::intake_at, crate::specs::Exec::effect_at, crate::specs::Exec::touched_at))]
+    #[tactic(auto, unfolding(instructions::specs::Codes::code_of, crate::specs::Exec::uses_at, crate::specs::Exec::intake_at, crate::specs::Exec::effect_at, crate::specs::Exec::touched_at))]
+    fn perform_fetched(&mut self, setup: &Setup) -> Result<Touched, AllocError>
+        requires { called_here (core_of self.old) setup.now.hooks ≡ None }
+        ensures does { OnOk result (DoesStep self.old self.new setup.now) }
+        ensures touched { IfOk result (λ touched. touched ≡ touched_by self.old setup.now) }
+        ensures code { IfOk result (λ touched. IfSome touched.fetch IsCodeSpan) }
+    {
+        let pc = self.pc;
+        match self.fetch() {
+            Fetch::Nothing => {
+                self.halt()?;
+                Ok(NOTHING.touched(None))
+            }
+            Fetch::First(undef) => {
+                self.cut(undef)?;
+                Ok(NOTHING.touched_at(pc, 2))
+            }
+            Fetch::Whole(code, undef) => {
+                let used = self.round_anew(setup, code, undef)?;
+                Ok(used.touched_at(pc, code.len()))
+            }
+        }
+    }
+
+    /// The step if no function of the heap begins at pc, and no word there was decoded recently.
+    #[inline(never)]
+    #[tactic(auto, unfolding(instructions::specs::Codes::code_of, crate::specs::Exec::uses_at, crate::specs::Exec::intake_at, crate::specs::Exec::effect_at, crate::specs::Exec::touched_at))]
     fn perform_anew(&mut self, setup: &Setup) -> Result<Touched, AllocError>
         requires { called_here (core_of self.old) setup.now.hooks ≡ None }
         ensures does { OnOk result (DoesStep self.old self.new setup.now) }
         ensures touched { IfOk result (λ touched. touched ≡ touched_by self.old setup.now) }
-        ensures word { IfOk result (λ touched. IfSome touched.fetch IsWord) }
+        ensures code { IfOk result (λ touched. IfSome touched.fetch IsCodeSpan) }
     {
         let pc = self.pc;
-        match self.fetch() {
-            None => {
-                self.halt()?;
-                Ok(NOTHING.touched(None))
-            }
-            Some(word) => {
-                let used = self.round_anew(setup, 4, word)?;
-                Ok(used.touched_at(pc))
+        match self.decoded_half() {
+            None => self.perform_fetched(setup),
+            Some(instruction) => {
+                let used = self.round(setup, 0, 2, instruction)?;
+                Ok(used.touched_at(pc, 2))
             }
         }
     }
@@ -393,7 +307,7 @@ impl Guest {
         requires { called_here (core_of self.old) setup.now.hooks ≡ None }
         ensures does { OnOk result (DoesStep self.old self.new setup.now) }
         ensures touched { IfOk result (λ touched. touched ≡ touched_by self.old setup.now) }
-        ensures word { IfOk result (λ touched. IfSome touched.fetch IsWord) }
+        ensures code { IfOk result (λ touched. IfSome touched.fetch IsCodeSpan) }
     {
         let touched = self.perform_anew(setup)?;
         Ok(touched)
@@ -401,24 +315,24 @@ impl Guest {
 
     /// Calls the function of the heap that begins at pc.
     #[inline(always)]
-    #[tactic(auto, unfolding(crate::specs::Exec::fetched, crate::specs::Exec::uses_at, crate::specs::Exec::intake_at, crate::specs::Exec::effect_at, crate::specs::Exec::touched_at))]
+    #[tactic(auto, unfolding(instructions::specs::Codes::code_of, crate::specs::Exec::uses_at, crate::specs::Exec::intake_at, crate::specs::Exec::effect_at, crate::specs::Exec::touched_at))]
     fn perform_by_name(&mut self, function: Hook, setup: &Setup) -> Result<Touched, AllocError>
         requires { called_here (core_of self.old) setup.now.hooks ≡ Some function }
         ensures does { OnOk result (DoesStep self.old self.new setup.now) }
         ensures touched { IfOk result (λ touched. touched ≡ touched_by self.old setup.now) }
-        ensures word { IfOk result (λ touched. IfSome touched.fetch IsWord) }
+        ensures code { IfOk result (λ touched. IfSome touched.fetch IsCodeSpan) }
     {
         let used = self.call_by_name(function, setup)?;
         Ok(used.touched(None))
     }
 
-    /// Calls the function of the heap that begins at pc, executes the word there, or halts. Returns which bytes that read or wrote.
+    /// Calls the function of the heap that begins at pc, executes the code there, or halts. Returns which bytes that read or wrote.
     #[inline(always)]
-    #[tactic(auto, unfolding(crate::specs::Exec::fetched, crate::specs::Exec::uses_at, crate::specs::Exec::intake_at, crate::specs::Exec::effect_at, crate::specs::Exec::touched_at))]
+    #[tactic(auto, unfolding(instructions::specs::Codes::code_of, crate::specs::Exec::uses_at, crate::specs::Exec::intake_at, crate::specs::Exec::effect_at, crate::specs::Exec::touched_at))]
     fn perform(&mut self, setup: &Setup) -> Result<Touched, AllocError>
         ensures does { OnOk result (DoesStep self.old self.new setup.now) }
         ensures touched { IfOk result (λ touched. touched ≡ touched_by self.old setup.now) }
-        ensures word { IfOk result (λ touched. IfSome touched.fetch IsWord) }
+        ensures code { IfOk result (λ touched. IfSome touched.fetch IsCodeSpan) }
     {
         if let Some(function) = self.called_here(&setup.hooks) {
             return self.perform_by_name(function, setup);
@@ -428,7 +342,7 @@ impl Guest {
             None => self.begin_anew(setup),
             Some(instruction) => {
                 let used = self.round(setup, 0, 4, instruction)?;
-                Ok(used.touched_at(pc))
+                Ok(used.touched_at(pc, 4))
             }
         }
     }
@@ -447,7 +361,7 @@ impl Guest {
     pub(super) fn step_on(&mut self, setup: &Setup) -> Result<Touched, AllocError>
         ensures holds { OnOk result ((s : State) → Holds self.old s → Holds self.new (exec s setup.now)) }
         ensures touched { IfOk result (λ t. (s : State) → Holds self.old s → t ≡ touched_of s setup.now) }
-        ensures word { IfOk result (λ t. IfSome t.fetch IsWord) }
+        ensures code { IfOk result (λ t. IfSome t.fetch IsCodeSpan) }
     {
         groups_grow();
         let touched = self.perform(setup)?;
@@ -490,7 +404,7 @@ impl Machine {
     pub fn step_on(self, setup: &Setup) -> Result<(Machine, Touched), AllocError>
         ensures shows { IfOk result (λ r. (s : State) → Shows self s → Shows r.0 (exec s setup.now)) }
         ensures touched { IfOk result (λ r. (s : State) → Shows self s → r.1 ≡ touched_of s setup.now) }
-        ensures word { IfOk result (λ r. IfSome r.1.fetch IsWord) }
+        ensures code { IfOk result (λ r. IfSome r.1.fetch IsCodeSpan) }
     {
         let mut machine = self;
         let touched = machine.guest.step_on(setup)?;

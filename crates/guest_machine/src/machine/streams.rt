@@ -6,18 +6,21 @@ ghost use Rattle.guest_machine.specs.Calls.{call_at};
 ghost use Rattle.guest_machine.specs.Exec.{call_asks, deed_at, intake_at, row_asks};
 ghost use Rattle.guest_machine.specs.Run.{pre};
 ghost use Rattle.guest_machine.specs.Shows.{core_of, bytes_of, Holds, Shows};
-ghost use Rattle.guest_machine.specs.Streams.{calls_out, idles_in, is_idle, is_refused, refuses_row, refuses_write, IsQuietFor, Rests, row_in, sees_end};
+ghost use Rattle.guest_machine.specs.Streams.{calls_out, idles_in, is_idle, is_refused, is_self_jump, refuses_row, refuses_write, IsQuietFor, Rests, row_in, sees_end};
 
 use crate::environment_call::EnvironmentCall;
 use crate::hooks::Hooks;
 use crate::machine::calls::{A0, A7};
+use crate::machine::fetching::Fetch;
 use crate::machine::{Guest, Machine};
 use crate::setup::Setup;
-use instructions::{Instruction, row_of};
+use instructions::{Code, Instruction, row_of_code};
 use std::alloc::AllocError;
 
 /// `jal x0, 0`.
 const SELF_JUMP: u32 = 0x6F;
+/// `c.j 0`.
+const SHORT_SELF_JUMP: u16 = 0xA001;
 
 /// Whether an instruction is ECALL.
 #[inline(always)]
@@ -28,9 +31,19 @@ fn is_call(instruction: Instruction) -> bool
     matches!(instruction, Instruction::CallEnvironment)
 }
 
+/// Whether a code is a jump to itself.
+fn is_self_jump(code: Code) -> bool
+    ensures { result ≡ is_self_jump code }
+{
+    match code {
+        Code::Word(word) => word == SELF_JUMP,
+        Code::Half(half) => half == SHORT_SELF_JUMP,
+    }
+}
+
 impl Guest {
     /// The instruction that the next step carries out, if it carries one out.
-    #[tactic(auto, unfolding(crate::specs::Exec::fetched, crate::specs::Streams::row_in))]
+    #[tactic(auto, unfolding(crate::specs::Streams::row_in))]
     fn row_here(&self, hooks: &Hooks) -> Option<Instruction>
         ensures { result ≡ row_in (deed_at (core_of self.now) (bytes_of self.now) hooks.now) }
     {
@@ -38,8 +51,8 @@ impl Guest {
             return None;
         }
         match self.fetch() {
-            Some(word) => row_of(word.value),
-            None => None,
+            Fetch::Whole(code, _) => row_of_code(code),
+            Fetch::First(_) | Fetch::Nothing => None,
         }
     }
 
@@ -49,6 +62,17 @@ impl Guest {
         ensures { result ≡ false → (hooks : List (ℕ × HookOf)) → calls_out (row_in (deed_at (core_of self.now) (bytes_of self.now) hooks)) ≡ false }
     {
         match self.decoded() {
+            Some(instruction) => is_call(instruction),
+            None => self.may_call_short(),
+        }
+    }
+
+    /// The same if no word at pc was decoded lately.
+    #[inline(never)]
+    fn may_call_short(&self) -> bool
+        ensures { result ≡ false → (hooks : List (ℕ × HookOf)) → calls_out (row_in (deed_at (core_of self.now) (bytes_of self.now) hooks)) ≡ false }
+    {
+        match self.decoded_half() {
             Some(instruction) => is_call(instruction),
             None => true,
         }
@@ -120,8 +144,8 @@ impl Guest {
         }
     }
 
-    /// Whether the next step is a jump to itself, whose word is defined.
-    #[tactic(auto, unfolding(crate::specs::Exec::fetched, crate::specs::Streams::jumps_to_itself))]
+    /// Whether the next step is a jump to itself, whose code is defined.
+    #[tactic(auto, unfolding(crate::specs::Streams::jumps_to_itself))]
     fn is_idle(&self, hooks: &Hooks) -> bool
         ensures { result ≡ idles_in (core_of self.now) (deed_at (core_of self.now) (bytes_of self.now) hooks.now) }
     {
@@ -129,8 +153,8 @@ impl Guest {
             return false;
         }
         match self.fetch() {
-            Some(word) => word.value == SELF_JUMP && word.undef == 0,
-            None => false,
+            Fetch::Whole(code, undef) => is_self_jump(code) && undef == 0,
+            Fetch::First(_) | Fetch::Nothing => false,
         }
     }
 
@@ -168,7 +192,7 @@ impl Machine {
         self.guest.refuses_write(&setup.hooks)
     }
 
-    /// Whether the next step is a jump to itself, whose word is defined.
+    /// Whether the next step is a jump to itself, whose code is defined.
     #[tactic(auto, unfolding(crate::specs::Shows::Shows, crate::specs::Streams::is_idle))]
     pub fn is_idle(&self, setup: &Setup) -> bool
         ensures { (s : State) → Shows self.now s → result ≡ is_idle s setup.now }

@@ -4,6 +4,7 @@ import collections
 
 from . import instructions as isa
 from .elf import HAS_CODE, word_at
+from .halves import expanded, is_half
 
 Found = collections.namedtuple("Found", "address word")
 # How many words the walk through the start file takes, and the one back from mret.
@@ -39,13 +40,13 @@ def without(ranges, others):
 
 
 class Stretch:
-    """Addresses that may have code, in one piece of the file: the first that is a multiple of 4, the end, where they
-    stand, and which words have been looked at."""
+    """Addresses that may have code, in one piece of the file: the first that is a multiple of 4, or of another unit, the end, where they
+    stand, and which words have been looked at, or which units."""
 
-    def __init__(self, elf, start, end):
-        self.start, self.end = start + -start % 4, end
+    def __init__(self, elf, start, end, unit):
+        self.start, self.end = start + -start % unit, end
         self.place = elf.place(self.start, 0)
-        self.seen = bytearray(max(end - self.start, 0) // 4)
+        self.seen = bytearray(max(end - self.start, 0) // unit)
 
 
 class Code:
@@ -53,11 +54,13 @@ class Code:
     and what is reached from the entry, from functions without a size and from mapping symbols `$x`, by each next word,
     branch and jump. What follows a function of known size isn't reached from it. Closed ranges are never run."""
 
+    unit = 4
+
     def __init__(self, elf, closed=()):
         self.elf = elf
         sections = joined((it.addr, it.addr + it.size) for it in elf.sections if it.flags & HAS_CODE)
         closed = joined([*closed, *(without([[0, 1 << 32]], sections) if sections else ())])
-        self.stretches = [Stretch(elf, start, end) for it in elf.contents
+        self.stretches = [Stretch(elf, start, end, self.unit) for it in elf.contents
                           for start, end in without([[it.vaddr, it.vaddr + it.filesz]], closed)]
         self.starts = [it.start for it in self.stretches]
         self.sized = joined((it.value, it.value + it.size) for it in elf.functions if it.size)
@@ -67,7 +70,7 @@ class Code:
     def stretch_at(self, address):
         """The stretch that has the word at an address, or None."""
         index = bisect.bisect_right(self.starts, address) - 1
-        if index < 0 or address % 4 or address + 4 > self.stretches[index].end:
+        if index < 0 or address % self.unit or address + self.unit > self.stretches[index].end:
             return None
         return self.stretches[index]
 
@@ -92,7 +95,7 @@ class Code:
         for start, end in without(self.sized, self.data()):
             index = max(bisect.bisect_right(self.starts, start) - 1, 0)
             while index < len(self.starts) and self.starts[index] < end:
-                yield from unseen(self.stretches[index], start, end)
+                yield from unseen(self.stretches[index], start, end, self.unit)
                 index += 1
         yield from (it.value for it in self.elf.functions if not it.size)
         yield from (it.value for it in self.elf.symbols if self.elf.strings[it.name:it.name + 2] == b"$x")
@@ -141,11 +144,43 @@ class Code:
         return True
 
 
-def unseen(stretch, start, end):
-    """The words of a stretch from start to end that haven't been looked at when it is their turn."""
-    index, last = max(start + 3 - stretch.start, 0) // 4, (end - stretch.start) // 4
+class CodeOfHalves(Code):
+    """The same of a file that has instructions of 16 bits too. `compressed` has those that stand for none of RV32IM."""
+
+    unit = 2
+
+    def line(self, address):
+        stretch, elsewhere, before = self.stretch_at(address), [], 0
+        if stretch is None:
+            return elsewhere
+        while address + 2 <= stretch.end and not stretch.seen[(address - stretch.start) // 2]:
+            place = stretch.place + address - stretch.start
+            half = int.from_bytes(self.elf.data[place:place + 2], "little")
+            length = 2 if is_half(half) else 4
+            if address + length > stretch.end:
+                return elsewhere
+            stretch.seen[(address - stretch.start) // 2] = 1
+            stretch.seen[(address - stretch.start + length) // 2 - 1] = 1
+            word = (expanded(half) or half) if is_half(half) else word_at(self.elf.data, place)
+            if not isa.is_of_rv32im(word) and not self.is_instruction(address, word):
+                return elsewhere
+            if isa.may_jump(word):
+                elsewhere += targets(address, before, word)
+            address, before = address + length, word
+            if isa.ends(word) or address in self.ends:
+                return elsewhere
+        return elsewhere
+
+    def is_taken(self):
+        """Whether RV32IM with instructions of 16 bits has all instructions that were found."""
+        return not (self.control or self.atomic or self.floating or self.compressed or self.unknown)
+
+
+def unseen(stretch, start, end, unit):
+    """The words of a stretch from start to end, or the units, that haven't been looked at when it is their turn."""
+    index, last = max(start + unit - 1 - stretch.start, 0) // unit, (end - stretch.start) // unit
     while 0 <= (index := stretch.seen.find(0, index, last)):
-        yield stretch.start + 4 * index
+        yield stretch.start + unit * index
         index += 1
 
 

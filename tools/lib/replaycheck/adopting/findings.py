@@ -2,7 +2,7 @@
 cures."""
 import collections
 
-from .code import Code, joined, replaced, stack_words, without
+from .code import Code, CodeOfHalves, joined, replaced, stack_words, without
 from .devices import Driving
 from .elf import IS_COMPRESSED, REGIONS, ROOM, Elf, refusals
 from .heaps import Plan
@@ -14,10 +14,12 @@ Obstacle = collections.namedtuple("Obstacle", "what cure stops_all")
 # The refusals of files that no linker has written so.
 DAMAGED = (20, 23, 26, 28, 31)
 TARGET = "-march=rv32im -mabi=ilp32"
+SHORT = "--isa rv32imc"
 
 
 class Findings:
-    """All that is found in a file. `elf` is None where it can't be read so far."""
+    """All that is found in a file. `elf` is None where it can't be read so far. `option` is one of the program with which the file runs
+    although it is hopeless without; None if there is none."""
 
     def __init__(self, data, heaps, kept):
         refused = refusals(data)
@@ -25,11 +27,12 @@ class Findings:
         self.damaged = next((it for it in refused if it.number in DAMAGED), None)
         self.elf = Elf(data) if all(it.readable for it in refused) else None
         self.plan, self.control, self.stack, self.copied, self.devices = None, [], [], [], []
-        self.hosting, self.driving, self.runs = None, None, 0
+        self.hosting, self.driving, self.runs, self.option = None, None, 0, None
         if self.elf is None:
             return
         if self.elf.flags & IS_COMPRESSED:
-            self.obstacles.append(compressed(self.elf))
+            self.option = None if self.obstacles or not has_short_code(self.elf) else SHORT
+            self.obstacles.append(compressed(self.elf, self.option))
         if not self.hopeless():
             self.look(heaps, kept)
 
@@ -102,13 +105,21 @@ class Findings:
         return sum(len(it.sites) for it in self.added()) + len(taken) + len(self.control) + len(self.stack) + len(self.copied)
 
 
-def compressed(elf):
-    """The obstacle of compressed instructions, with the first that is reached."""
+def has_short_code(elf):
+    """Whether all code that is found is RV32IM's with instructions of 16 bits."""
+    code = CodeOfHalves(elf)
+    code.follow()
+    return code.is_taken()
+
+
+def compressed(elf, option):
+    """The obstacle of compressed instructions, with the first that is reached, and the option that takes them, if one does."""
     code = Code(elf)
     code.follow()
     place = f", at {places(elf, code.compressed)}" if code.compressed else ""
+    how = f"give the option {option}, which takes them; or " if option else ""
     return Obstacle(f"compressed instructions, by bit 0 of e_flags{place}: at the first the run stops",
-                    f"compile all of it, and link with libraries for it: {TARGET}", True)
+                    f"{how}compile all of it, and link with libraries for it: {TARGET}", True)
 
 
 def places(elf, found):

@@ -95,7 +95,7 @@ def lines(findings, written, changes):
         yield f"{DEVICES}:"
         yield from (f"  {device_line(findings.elf, it)}" for it in findings.devices)
     if findings.obstacles:
-        yield "needs a rebuild:"
+        yield "needs an option, or a rebuild:" if findings.option else "needs a rebuild:"
     for it in findings.obstacles:
         yield f"  {it.what}"
         yield f"    {it.cure}"
@@ -107,7 +107,8 @@ def lines(findings, written, changes):
 def verdict(findings, name, out):
     """How far it will run."""
     if findings.hopeless():
-        return f"{name} won't run" + (f", and {out} wasn't written" if out else "")
+        without = f" without {findings.option}" if findings.option else ""
+        return f"{name} won't run{without}" + (f", and {out} wasn't written" if out else "")
     devices = "waits for no device" if findings.devices else ""
     if findings.obstacles:
         return f"{out or name} will run as far as it meets nothing that needs a rebuild" + (devices and f" and {devices}")

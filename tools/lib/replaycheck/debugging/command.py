@@ -24,6 +24,7 @@ def options_of(page):
     reader.add_argument("file", nargs="?")
     reader.option("--input")
     reader.option("--supp")
+    reader.isa_option()
     reader.option("--port", type=number(0, 65535))
     reader.option("--commands", is_flag=True)
     options = reader.read()
@@ -36,7 +37,7 @@ def debug(options):
     if options.commands:
         write(COMMANDS)
         return 0
-    run = Run(options.file, options.input, options.supp)
+    run = Run(options.file, options.input, options.supp, options.isa)
     run.registers()  # what keeps the program from its work is told before gdb is answered
     goer = Goer(run)
     alterer = Alterer(run)

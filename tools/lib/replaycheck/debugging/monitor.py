@@ -12,7 +12,7 @@ from replaycheck.looking import DEFINED, NO_ACCESS
 from replaycheck.options import LAST_STEP
 from replaycheck.origins.image import HEAP, LONGEST_FILE, STACK, STACK_TOP
 from replaycheck.reports import SUMS
-from replaycheck.sessions import path_of
+from replaycheck.sessions import isa_words, path_of
 
 from .altering import register_of
 from .registers import NAMES
@@ -113,6 +113,7 @@ class Monitor:
         file, given, supp = self.run.files
         asked = ["--input", path_of(given)] if given is not None else []
         asked += ["--supp", path_of(supp)] if supp is not None else []
+        asked += isa_words(self.run.isa)
         asked += [it for line in self.run.edits for it in ("--line", line)]
         asked += [f"--last={min(self.run.step + 1, LAST_STEP)}", f"--error={number(words[0]) if words else 1}"]
         child = start([str(TOP / "tools" / "bin" / "replaycheck-origin"), path_of(file), *asked], stdin=subprocess.DEVNULL,

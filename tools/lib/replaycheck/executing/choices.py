@@ -3,6 +3,7 @@ import os
 
 from replaycheck.endings import Fault
 from replaycheck.options import BadValue, number
+from replaycheck.programs import ISAS
 from replaycheck.verdicts import LEAK_KINDS
 
 FAILED = 125
@@ -38,6 +39,7 @@ class Choices:
         self.quiet = self.verbose = self.require_heap = self.full_paths = self.asks_for_help = False
         self.demangle, self.strip_prefix, self.error_exitcode = True, None, 0
         self.suppressions, self.patches, self.unused = [], [], []
+        self.isa = ISAS[0]
         # Options of the program, by their names there.
         self.passed: dict[str, str] = {}
         self.file, self.arguments = "", []
@@ -122,6 +124,7 @@ def yes_or_no(text):
 
 
 WITH_VALUE = {
+    "--isa": sets("isa", one_of(*ISAS)),
     "--input": sets("input"), "--report": sets("report"), "--log-file": sets("log_file"), "--log-fd": sets("log_fd", number(0, 1023)),
     "--log-format": sets("log_format", one_of(*FORMATS)), "--demangle": sets("demangle", yes_or_no),
     "--strip-prefix": sets("strip_prefix"), "--error-exitcode": sets("error_exitcode", number(0, 255)),

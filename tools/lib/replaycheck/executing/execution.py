@@ -8,7 +8,7 @@ from replaycheck.executing.arguments import patches_for
 from replaycheck.executing.choices import FAILED, Choices, choices_of
 from replaycheck.executing.logs import NAME, Log, Unwritten, log_text, note
 from replaycheck.options import LAST_STEP
-from replaycheck.programs import path_of, program
+from replaycheck.programs import isa_words, path_of, program
 from replaycheck.reports import Lines, NoReport, read_report
 
 UNREADABLE, REFUSED = 127, 126
@@ -55,7 +55,7 @@ def all_patches(choices):
 
 def words_for(choices, supp, report):
     """The arguments of the program."""
-    words = [program(), "exec", "--report", report]
+    words = [program(), "exec", "--report", report, *isa_words(choices.isa)]
     for name, text in choices.passed.items():
         words += [f"--{name}", text]
     for name, path in (("--input", choices.input), ("--supp", supp)):
@@ -102,7 +102,7 @@ def heap_of(choices, report):
         return None
     from replaycheck.file_heaps import heap_of_run
     has_blocks = any(it.blocks for it in report.sums.values())
-    return heap_of_run(choices.file, choices.input, min(report.step, LAST_STEP), has_blocks)
+    return heap_of_run(choices.file, choices.input, min(report.step, LAST_STEP), has_blocks, choices.isa)
 
 
 def certificate(choices, report):
@@ -112,7 +112,7 @@ def certificate(choices, report):
     lines = [f"option {name} {choices.passed[name]}" for name in ("redzone", "queue") if name in choices.passed]
     lines += ["patch {} {}".format(*patch.split("=")) for patch in all_patches(choices)]
     lines += [f"goto {min(report.step, LAST_STEP)}", "look certify"]
-    given = ["--input", path_of(choices.input)] if choices.input is not None else []
+    given = isa_words(choices.isa) + (["--input", path_of(choices.input)] if choices.input is not None else [])
     _, told, _ = outcome([program(), "look", *given, path_of(choices.file)], "".join(f"{it}\n" for it in lines).encode())
     return "certify: " + told.decode("utf-8", "surrogateescape").rstrip("\n").rpartition("\n")[2]
 

@@ -6,11 +6,12 @@ import sys
 from replaycheck.endings import Fault, flush, write
 from replaycheck.file_heaps import heap_of_run
 from replaycheck.options import LAST_STEP, Reader, number
+from replaycheck.programs import ISAS
 from replaycheck.sessions import program
 
 from . import goals, remote, scripts
 from .altered import Instructions
-from .heads import MOST_PARTS
+from .heads import MOST_PARTS, told_isa
 from .keeping import Kept, Room
 from .lines import shown_name
 from .merging import Merged, in_order, sources_in, spooled
@@ -30,6 +31,7 @@ def options_of(page):
     reader.add_argument("file", nargs="?")
     for name in ("--input", "--supp", "--code", "--keep", "--goal", "--table", "--svg", "--sshlogin"):
         reader.option(name)
+    reader.option("--isa", choices=ISAS)
     reader.option("--step", type=number(0, LAST_STEP))
     reader.option("--bytes", type=range_of)
     reader.option("--words", type=words_of)
@@ -60,6 +62,7 @@ def check(reader, options):
               if getattr(options, it[2:].replace("-", "_")) not in (None, False)]
     faults = [(options.file is None and not options.tables, "no FILE, and no --from"),
               (options.file is None and (options.input or options.supp), "--input and --supp go with a FILE"),
+              (options.file is None and options.isa is not None, "--isa goes with a FILE"),
               (options.tables and making, f"--from takes tables that are there: {' '.join(making)} makes them"),
               (options.at is None and options.code is not None and options.words is not None, "--code and --words at once"),
               (options.code is not None and options.code_range is not None, "--code and --code-range at once"),
@@ -163,12 +166,13 @@ def told(options, request, sources, notes, room, outputs):
 def anonymous(head):
     """What a sweep is called of which the files aren't there."""
     (size, digest), (length, other), _ = head.files
-    return f"a program of {size} bytes ({digest[:12]}..)" + (f" with {length} bytes ({other[:12]}..)" if length else "")
+    given = f" with {length} bytes ({other[:12]}..)" if length else ""
+    return f"a program of {size} bytes ({digest[:12]}..){given}{told_isa(head.isa)}"
 
 
 def check_heap(options, request):
     """Says where errors of the heap can't be found in the runs of a sweep."""
-    heap = heap_of_run(request.program.path, request.input.path or None, request.step)
+    heap = heap_of_run(request.program.path, request.input.path or None, request.step, isa=request.isa)
     if heap and heap.is_unseen:
         notice = heap.notice(shown_name(request.program.name))
         if options.require_heap:

@@ -4,6 +4,7 @@ from dataclasses import dataclass
 from typing import List, Tuple, Union
 
 from replaycheck.options import LAST_STEP
+from replaycheck.programs import ISAS
 
 from .lines import NUMBER, BadTable, shown
 from .steps import Steps, models_fault
@@ -20,8 +21,9 @@ PART = re.compile(rb"part (%b)/(%b)" % (NUMBER, NUMBER))
 OLD = re.compile(rb"#\t(input|patch)\t")
 SMALL = {"program": 1 << 27, "input": LONGEST_INPUT, "supp": LONGEST_INPUT}
 MOST_EDITS = {"all": 255, "edges": 7, "skip": 1}
+ISA = re.compile(rb"isa ([a-z0-9]{1,20})")
 # The versions of tables, each with what its head has: a table has the least version that can say what it is of.
-VERSIONS = {b"sweep 1": "bytes or words", b"sweep 2": "steps too"}
+VERSIONS = {b"sweep 1": "bytes or words", b"sweep 2": "steps too, or an instruction set"}
 Values = Union[str, Tuple[int, ...]]
 
 
@@ -82,6 +84,7 @@ class Head:
     """`lines` are those before `part`, as they stand there. A digest is a length and a sum."""
 
     lines: Tuple[bytes, ...]
+    isa: str
     files: Tuple[Tuple[int, str], ...]
     ranges: Tuple[Union[Range, Steps], ...]
     step: int
@@ -108,7 +111,12 @@ class Head:
 
     def same(self):
         """What must be equal in the parts of one sweep."""
-        return self.files, self.ranges, self.step, self.has_output
+        return self.isa, self.files, self.ranges, self.step, self.has_output
+
+
+def told_isa(isa):
+    """What follows the name of a program in a text: its instruction set, where that isn't the usual one."""
+    return "" if isa == ISAS[0] else f" for {isa}"
 
 
 def cut(places, index, count):
@@ -151,16 +159,32 @@ def read_files(lines):
         yield at_most(lines, found[2], limit, "a length"), found[3].decode()
 
 
-def read_steps(lines, version, limit):
-    """The steps at which the machine is altered, or None where the next line has none. A table of version 1 has none, one of version 2
-    does."""
+def must_be_second(lines, version):
+    """Rejects the next line, which a table of version 1 doesn't have, in one."""
+    if version != b"sweep 2":
+        lines.here(f"a line of `sweep 2` in a table of `{version.decode()}`: {shown(lines.next)}")
+
+
+def read_isa(lines, version):
+    """The instruction set. A table has a line on it where it isn't the usual one, and is of version 2 then."""
+    if not lines.next.startswith(b"isa "):
+        return ISAS[0]
+    must_be_second(lines, version)
+    name = lines.must(ISA, "`isa NAME`")[1].decode()
+    if name not in ISAS[1:]:
+        lines.fault(f"not one of {', '.join(ISAS[1:])}")
+    return name
+
+
+def read_steps(lines, version, limit, isa):
+    """The steps at which the machine is altered, or None where the next line has none. A table of version 1 has none. One of version 2
+    does, unless it names an instruction set."""
     has_steps = lines.next.startswith(b"steps ")
-    if version == b"sweep 2" and not has_steps:
+    if version == b"sweep 2" and not has_steps and isa == ISAS[0]:
         lines.other("`steps A..B MODELS`, as in each table of `sweep 2`,")
     if not has_steps:
         return None
-    if version != b"sweep 2":
-        lines.here(f"a line of `sweep 2` in a table of `{version.decode()}`: {shown(lines.next)}")
+    must_be_second(lines, version)
     found = lines.must(STEPS, "`steps A..B MODELS`")
     first, last = (at_most(lines, it, limit, "a step") for it in found.groups()[:2])
     code = tuple(int(it, 16) for it in found.groups()[3:5]) if found[4] else None
@@ -191,10 +215,11 @@ def read_head(lines):
     """The head that the next lines are."""
     taken = lines.taken = []
     version = read_version(lines)
+    isa = read_isa(lines, version)
     files = tuple(read_files(lines))
     ranges: List[Union[Range, Steps, None]] = [read_range(lines, "bytes", BYTES, LONGEST_INPUT - 1, 255),
                                                read_range(lines, "words", WORDS, 0xFFFFFFFF, 0xFFFFFFFF),
-                                               read_steps(lines, version, LAST_STEP)]
+                                               read_steps(lines, version, LAST_STEP, isa)]
     step = at_most(lines, lines.must(STEP, "`step N`")[1], LAST_STEP, "a step")
     has_output = lines.must(OUTPUT, "`output yes` or `output no`")[1] == b"yes"
     before = tuple(taken)
@@ -207,4 +232,4 @@ def read_head(lines):
     if ranges[2] and ranges[2].last >= step:
         lines.fault(f"steps up to {ranges[2].last}, and runs that are compared at step {step}")
     lines.taken = None
-    return Head(before, files, tuple(it for it in ranges if it), step, has_output, (index, count))
+    return Head(before, isa, files, tuple(it for it in ranges if it), step, has_output, (index, count))

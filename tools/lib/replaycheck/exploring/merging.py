@@ -138,6 +138,8 @@ def expected(sources, parts):
 
 def difference(one, other):
     """What is not the same in two heads."""
+    if one.isa != other.isa:
+        return f"--isa {one.isa}, not {other.isa}"
     for name, left, right in zip(("program", "input", "supp"), one.files, other.files):
         if left != right:
             return (f"another {name}, {left[0]} bytes with the digest {left[1][:16]}.., not {right[0]} with "

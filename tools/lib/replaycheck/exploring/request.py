@@ -9,9 +9,10 @@ from dataclasses import dataclass
 from replaycheck.adopting.elf import Elf, refusals
 from replaycheck.endings import Fault
 from replaycheck.options import BadValue
+from replaycheck.programs import ISAS, isa_words
 from replaycheck.sessions import path_of
 
-from .heads import Range
+from .heads import Range, told_isa
 from .lines import shown_name
 from .steps import Steps, models_fault
 from .tables import EDGES
@@ -110,6 +111,7 @@ class Request:
         self.files = [given(what, name, room) for what, name in
                       (("program", options.file), ("input", options.input), ("supp", options.supp))]
         self.program, self.input, self.supp = self.files
+        self.isa = options.isa or ISAS[0]
         self.code = options.code
         self.elf = None if refusals(self.program.content) else Elf(self.program.content)
         self.ranges, self.notes = [], []
@@ -130,7 +132,7 @@ class Request:
             self.check_input()
         elif self.step is not None and not is_open:
             return
-        with Unedited(self.program.path, self.input.path or None, self.supp.path or None) as run:
+        with Unedited(self.program.path, self.input.path or None, self.supp.path or None, self.isa) as run:
             if self.step is None:
                 self.step, self.step_note = default_step(run.end())
             if is_open:
@@ -237,7 +239,9 @@ class Request:
         return count
 
     def check_files(self, source):
-        """Refuses a table that isn't of these files."""
+        """Refuses a table that isn't of these files, or that is of another instruction set."""
+        if source.head.isa != self.isa:
+            raise Fault(f"{source}: it is of --isa {source.head.isa}, not of {self.isa}")
         for given_file, was, now in zip(self.files, (it.digest for it in self.files), source.head.files):
             if was != now:
                 named = shown_name(given_file.name) or "a file that wasn't given"
@@ -271,11 +275,12 @@ class Request:
 
     def words(self):
         """The command line of a part, without its number."""
-        words = ["sweep", f"--step={self.step}", *(word for it in self.ranges for word in it.words())]
+        words = ["sweep", *isa_words(self.isa), f"--step={self.step}", *(word for it in self.ranges for word in it.words())]
         words += [f"--input={self.input.path}"] if self.input.path else []
         words += [f"--supp={self.supp.path}"] if self.supp.path else []
         return [*words, *(["--with-output"] if self.has_output else []), path_of(self.program.path)]
 
     def title(self):
         words = [os.path.basename(it.name) or it.name for it in self.files[:2] if it.name]
-        return shown_name(" with ".join(words)) + (f", {shown_name(self.code)}" if self.code else "")
+        code = f", {shown_name(self.code)}" if self.code else ""
+        return shown_name(" with ".join(words)) + told_isa(self.isa) + code

@@ -2,8 +2,10 @@
 import re
 
 from replaycheck.adopting.elf import FUNCTION, Elf, refusals, word_at
+from replaycheck.adopting.halves import expanded, is_half
 from replaycheck.adopting.instructions import AUIPC, IMMEDIATE, LOAD, LUI, REGISTERS, SP, STORE, SYSTEM, opcode, rd
 from replaycheck.endings import Fault
+from replaycheck.programs import ISAS
 
 LONGEST_FILE = 1 << 26
 MOST_MARKED = 1 << 20  # so many bytes one mark may have
@@ -15,9 +17,10 @@ MARK = re.compile(r"mark (\S+) (\S+) (\S+) undefined")
 
 
 class Image:
-    """A program's file, with the words that lines of the session patch."""
+    """A program's file, with the words that lines of the session patch, for an instruction set."""
 
-    def __init__(self, path, lines):
+    def __init__(self, path, lines, isa=ISAS[0]):
+        self.has_halves = isa != ISAS[0]
         with open(path, "rb") as file:
             data = file.read(LONGEST_FILE + 1)
         if any(not it.readable for it in refusals(data)):
@@ -33,10 +36,25 @@ class Image:
         place = self.elf.place(address)
         return self.patched.get(address, 0 if place is None else word_at(self.elf.data, place))
 
+    def instruction(self, address):
+        """The word of the instruction at an address: of one of 16 bits, that of what it stands for, and 0 if it stands for nothing."""
+        if not self.has_halves:
+            return self.word(address)
+        half = self.half(address)
+        return expanded(half) or 0 if is_half(half) else half | self.half(address + 2) << 16
+
+    def half(self, address):
+        """Two bytes at a multiple of 2."""
+        word = self.patched.get(address & ~3)
+        if word is not None:
+            return word >> 8 * (address & 2) & 0xFFFF
+        place = self.elf.place(address, 2)
+        return 0 if place is None else int.from_bytes(self.elf.data[place:place + 2], "little")
+
     def kind(self, address):
         """What an instruction is: the name of a function of the heap, `frame` where it moves the stack pointer,
         `store`, `load`, `call`, or `other`."""
-        word = self.word(address)
+        word = self.instruction(address)
         if address in self.heap:
             return self.heap[address]
         writes = opcode(word) in (IMMEDIATE, REGISTERS, LUI, AUIPC, LOAD)
@@ -44,7 +62,7 @@ class Image:
 
     def creates(self, address):
         """Whether an instruction can make bytes undefined."""
-        kind, word = self.kind(address), self.word(address)
+        kind, word = self.kind(address), self.instruction(address)
         is_raised = word & 0xFFFFF == SP << 15 | SP << 7 | IMMEDIATE and not word >> 31  # addi sp,sp, and no minus
         return kind in ("call", "malloc", "realloc") or kind == "frame" and not is_raised
 

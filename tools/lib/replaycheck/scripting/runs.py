@@ -9,6 +9,7 @@ from typing import Iterator, List, Optional, Union
 
 from replaycheck.looking import ALL, MOST_SEEN, TOP
 from replaycheck.options import LAST_STEP
+from replaycheck.programs import ISAS
 from replaycheck.reports import Address, Lines, NoReport, Report, read_report
 from replaycheck.scripting.errors import Error, Usage
 from replaycheck.scripting.files import Source
@@ -41,8 +42,9 @@ def number(name: str, value: int, least: int = 0, greatest: int = TOP - 1) -> in
 
 class Run:
     """A run of a program on an input. `program`, `input` and `suppressions` are paths, or bytes that take the place of a file; each is read
-    once, when the run is opened. Edits change the run, and reports and looks show it with all of them. It is a context manager; `close`
-    ends it otherwise. A run belongs to one thread at a time, and to the process that opened it; different runs don't share anything.
+    once, when the run is opened. `isa` is the instruction set that the program is read for. Edits change the run, and reports and looks
+    show it with all of them. It is a context manager; `close` ends it otherwise. A run belongs to one thread at a time, and to the process
+    that opened it; different runs don't share anything.
 
     # Errors
 
@@ -51,8 +53,8 @@ class Run:
     _talk: Optional[Talk] = None
 
     def __init__(self, program: Source, input: Optional[Source] = None,  # noqa: A002
-                 suppressions: Optional[Source] = None) -> None:
-        self._talk = Talk(program, input, suppressions)
+                 suppressions: Optional[Source] = None, *, isa: str = ISAS[0]) -> None:
+        self._talk = Talk(program, input, suppressions, isa)
         self._name = self._talk.names["image"]
 
     def __repr__(self) -> str:

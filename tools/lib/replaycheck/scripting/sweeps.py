@@ -11,7 +11,7 @@ from replaycheck.exploring import outcomes
 from replaycheck.exploring.lines import BadTable
 from replaycheck.exploring.tables import Table
 from replaycheck.options import USUAL_STEP
-from replaycheck.programs import built_program
+from replaycheck.programs import ISAS, built_program, isa_words
 from replaycheck.refusals import Ended
 from replaycheck.scripting.errors import Error, Usage, of_end
 from replaycheck.scripting.files import Room, Source, name_of, read
@@ -44,15 +44,17 @@ def sweep(program: Source, input: Optional[Source] = None, suppressions: Optiona
           bytes: Optional[Places] = None, values: Optional[Values] = None, words: Optional[Places] = None,  # noqa: A002
           words_values: Optional[Values] = None, function: Optional[str] = None, at: Optional[Places] = None,
           faults: Optional[Names] = None, code: Optional[Places] = None, pairs: bool = False, step: int = USUAL_STEP,
-          with_output: bool = False) -> Iterator[Tuple[str, Outcome]]:
+          with_output: bool = False, isa: str = ISAS[0]) -> Iterator[Tuple[str, Outcome]]:
     """Yields each edit of a sweep as a line of a session, with its outcome at a step. `bytes` of the input get `values`, and `words` of the
     program, or those of a `function`, get `words_values`; without all of these each byte of the input gets each other value. `at` are
     steps before which the machine is altered, by each of the models `faults`: only at addresses of `code`, or at those of a `function`;
-    with `pairs`, two instructions are left out as well. An edit of two lines has `; ` between them.
+    with `pairs`, two instructions are left out as well. An edit of two lines has `; ` between them. `isa` is the instruction set.
 
     # Errors
 
     As those of a `Run`, when the first edit is asked for."""
+    if isa not in ISAS:
+        raise Usage(f"isa: {isa!r}: none of {', '.join(ISAS)}")
     sources = {"image": program, "input": input, "suppressions": suppressions}
     there = {what: source for what, source in sources.items() if source is not None}
     data = {what: read(what, source) for what, source in there.items()}
@@ -65,7 +67,7 @@ def sweep(program: Source, input: Optional[Source] = None, suppressions: Optiona
              "at": places_of(at), "faults": faults if faults is None or isinstance(faults, str) else ",".join(faults),
              "code-range": places_of(code), "pairs": "skip" if pairs else None}
     options = [f"--{name}={text}" for name, text in given.items() if text is not None]
-    options += [f"--step={step}", *(["--with-output"] if with_output else [])]
+    options += [*isa_words(isa), f"--step={step}", *(["--with-output"] if with_output else [])]
     names |= {"bytes": f"bytes {given['bytes']}", "words": f"words {given['words']}"}
     yield from rows_of(data, options, names)
 

@@ -2,8 +2,43 @@ use Rattle.std.proofs.Common.{◌∙◌, inl, inr, refl}
 use Rattle.ends.proofs.EndSteps.{same-error}
 use Rattle.ends.specs.declared.ends.End.TheVariants.{Image as Refused}
 use Rattle.ends.specs.declared.exec_ends.ExecEnd.TheVariants.{Early}
-use Rattle.exec_orders.proofs.Stages.{no-image, untouched, waits-same, with-image, with-scenario}
+use Rattle.exec_orders.proofs.Stages.{no-file, no-image, untouched, waits-same, with-image, with-scenario}
 use Rattle.exec_orders.proofs.following.follow.Goals as goal
+
+pub returns-in_err-profile-clause-err : goal.returns-in_err-profile-clause-err
+returns-in_err-profile-clause-err g c =
+    same-error c.from_residual-in_err-profile.result (Early c.in_err-profile.field-0.0) _
+    c.from_residual-in_err-profile.ensures.1 (inr (
+      c.in_ok-show.show,
+      c.in_ok-show.choices.count,
+      c.in_ok-show.ensures.ok.show,
+      c.in_ok-show.ensures.ok.count,
+      inl (
+        c.in_err-profile.field-0.0,
+        refl,
+        inl c.in_err-profile.ensures.err,
+        untouched (g.R.Read.remaining c.args.reader.now) (g.W.Write.contents c.args.writer.now)
+            (g.L.Write.contents c.args.log.now),
+      ),
+    ))
+
+pub returns-in_err-file-clause-err : goal.returns-in_err-file-clause-err
+returns-in_err-file-clause-err g c =
+    same-error c.from_residual-in_err-file.result (Early c.in_err-file.field-0.0) _
+    c.from_residual-in_err-file.ensures.1 (inr (
+      c.in_ok-show.show,
+      c.in_ok-show.choices.count,
+      c.in_ok-show.ensures.ok.show,
+      c.in_ok-show.ensures.ok.count,
+      inl (
+        c.in_err-file.field-0.0,
+        refl,
+        no-file (g.F.Files.gives c.args.files.now) c.args.order.now.isa.now c.args.order.now.file.now
+            c.in_ok-profile.profile c.in_err-file.field-0.0 c.in_ok-profile.ensures.ok c.in_err-file.ensures.err,
+        untouched (g.R.Read.remaining c.args.reader.now) (g.W.Write.contents c.args.writer.now)
+            (g.L.Write.contents c.args.log.now),
+      ),
+    ))
 
 pub returns-in_err-image-clause-err : goal.returns-in_err-image-clause-err
 returns-in_err-image-clause-err g c =
@@ -17,8 +52,9 @@ returns-in_err-image-clause-err g c =
       inl (
         Refused fault,
         refl,
-        no-image (g.F.Files.gives c.args.files.now) c.args.order.now.file.now c.in_ok-file.file.items c.deref.result.now
-            fault c.in_ok-file.ensures.ok c.deref.ensures.value c.in_err-image.ensures.refused
+        no-image (g.F.Files.gives c.args.files.now) c.args.order.now.isa.now c.args.order.now.file.now
+            c.in_ok-file.file.items c.deref.result.now c.in_ok-profile.profile fault c.in_ok-profile.ensures.ok
+            c.in_ok-file.ensures.ok c.deref.ensures.value c.in_err-image.ensures.refused
             c.in_err-image.ensures.least,
         untouched (g.R.Read.remaining c.args.reader.now) (g.W.Write.contents c.args.writer.now)
             (g.L.Write.contents c.args.log.now),
@@ -30,8 +66,9 @@ returns-in_err-scenario-clause-err g c =
     same-error c.from_residual-in_err-scenario.result c.in_err-scenario.field-0.0 _
     c.from_residual-in_err-scenario.ensures.1
     (with-image (g.F.Files.gives c.args.files.now) c.args.order.now c.args.asked.now c.in_ok-show.show
-    c.in_ok-show.choices c.in_ok-file.file.items c.deref.result.now c.in_ok-image.image _ _ c.in_err-scenario.field-0.0
-    c.in_ok-show.ensures.ok c.in_ok-file.ensures.ok c.deref.ensures.value c.in_ok-image.ensures.image
+    c.in_ok-show.choices c.in_ok-profile.profile c.in_ok-file.file.items c.deref.result.now c.in_ok-image.image _ _
+    c.in_err-scenario.field-0.0 c.in_ok-show.ensures.ok c.in_ok-profile.ensures.ok c.in_ok-file.ensures.ok
+    c.deref.ensures.value c.in_ok-image.ensures.image
     (inl (
       c.in_err-scenario.ensures.err,
       untouched (g.R.Read.remaining c.args.reader.now) (g.W.Write.contents c.args.writer.now)
@@ -41,8 +78,9 @@ returns-in_err-scenario-clause-err g c =
 pub returns-clause-ok : goal.returns-clause-ok
 returns-clause-ok g c =
     with-image (g.F.Files.gives c.args.files.now) c.args.order.now c.args.asked.now c.in_ok-show.show
-    c.in_ok-show.choices c.in_ok-file.file.items c.deref.result.now c.in_ok-image.image _ _ c.open_and_execute.result
-    c.in_ok-show.ensures.ok c.in_ok-file.ensures.ok c.deref.ensures.value c.in_ok-image.ensures.image
+    c.in_ok-show.choices c.in_ok-profile.profile c.in_ok-file.file.items c.deref.result.now c.in_ok-image.image _ _
+    c.open_and_execute.result c.in_ok-show.ensures.ok c.in_ok-profile.ensures.ok c.in_ok-file.ensures.ok
+    c.deref.ensures.value c.in_ok-image.ensures.image
     (inr (
       c.in_ok-scenario.scenario,
       c.in_ok-scenario.ensures.ok,

@@ -1,4 +1,4 @@
-use Rattle.std.proofs.Common.{◌≡◌, ◌+◌, ◌-◌, ◌≤◌, min, List, ap, refl, sym, ◌∙◌, subst}
+use Rattle.std.proofs.Common.{◌≡◌, ◌+◌, ◌-◌, ◌≤◌, min, List, [], ap, refl, sym, ◌∙◌, subst}
 use Rattle.std.proofs.lemmas.Result.{on_ok_weaker}
 use Rattle.sweep_plans.specs.declared.change.Change.{Change}
 use Rattle.sweep_plans.specs.declared.change.Change.TheVariants.{Once}
@@ -8,7 +8,7 @@ use Rattle.sweeps.specs.Outcomes.{TakesSteps}
 use Rattle.sweeps.specs.Standing.{IsAt, pairs_from}
 use Rattle.sweeps.specs.Sweeps.{CountsMore}
 use Rattle.sweeps.proofs.PairSteps.{no-pairs, pairs-off, pairs-on, pairs-short}
-use Rattle.sweeps.proofs.Steps.{counts-none}
+use Rattle.sweeps.proofs.Steps.{counts-join, counts-none, counts-recalled}
 use Rattle.sweeps.proofs.pairs.meet_pairs.Goals as goal
 
 pub returns-in_default : goal.returns-in_default
@@ -63,12 +63,16 @@ returns-then-end-step-clause-met c =
 pub returns-clause-met : goal.returns-clause-met
 returns-clause-met c =
     let sc = c.args.scenario.now in
+    let wo = c.args.with_output in
+    let old = c.args.counts.now in
+    let out = c.args.out.now.items in
+    let step = c.in-Step.step in
     let end : c.lesser-end.result ≡ min c.args.plan.now.steps.end sc.step = c.lesser-end.ensures
     ∙ ap (min c.args.plan.now.steps.end) c.step-last.ensures in
-    let all = pairs-on sc c.args.plan.now c.args.spot.now.standing c.in-Step.step c.in-Step.pc c.in-Step.is
-    c.if-not-plan.false in
+    let all = pairs-on sc c.args.plan.now c.args.spot.now.standing step c.in-Step.pc c.in-Step.is c.if-not-plan.false in
     on_ok_weaker c.meet_after.result (λ met.
-    subst (λ (xs : List Change). CountsMore c.args.counts.now c.meet_after.new.counts c.args.with_output sc xs
-    c.args.out.now.items c.meet_after.new.out.items)
-    (ap (λ n. pairs_from sc c.args.plan.now.code c.in-Step.step (n - (c.in-Step.step + 1))) end ∙ sym all) met)
-    c.meet_after.ensures.met
+    subst (λ (xs : List Change). CountsMore old c.meet_after.new.counts wo sc xs out c.meet_after.new.out.items)
+    (ap (λ n. pairs_from sc c.args.plan.now.code step (n - (step + 1))) end ∙ sym all)
+    (counts-join wo sc old (record old { recall = c.foresee.new.self }) c.meet_after.new.counts []
+    (pairs_from sc c.args.plan.now.code step (c.lesser-end.result - (step + 1))) out out c.meet_after.new.out.items
+    (counts-recalled wo sc old c.foresee.new.self out c.in_ok-foresee.ensures) met)) c.meet_after.ensures.met

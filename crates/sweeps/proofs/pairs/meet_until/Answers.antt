@@ -1,11 +1,14 @@
-use Rattle.std.proofs.Common.{◌+◌, ◌-◌, ◌≤◌, List, sym, ◌∙◌, subst, arith, refl}
+use Rattle.std.proofs.Common.{◌+◌, ◌-◌, ◌≤◌, ◌≡◌, List, sym, ◌∙◌, subst, arith, refl}
 use Rattle.checkpoints.specs.Forks.{IsForkFor}
 use Rattle.checkpoints.specs.declared.effect.Effect.TheVariants.{After}
 use Rattle.scenario.specs.Scenario.{Scenario, run_of}
 use Rattle.sweep_plans.specs.declared.change.Change.{Change}
-use Rattle.sweeps.specs.Standing.{pair_by, pairs_from, standing_step}
+use Rattle.sweeps.specs.Standing.{pair_by, pairs_from, standing_step, state_before}
 use Rattle.sweeps.specs.Sweeps.{CountsMore}
-use Rattle.sweeps.proofs.ForkSteps.{fork-later}
+use Rattle.guest_machine.specs.Shows.{Shows}
+use Rattle.std.proofs.lemmas.Result.{on_ok_weaker}
+use Rattle.sweeps.specs.LoneSkips.{Joins, NoneFrom}
+use Rattle.sweeps.proofs.ForkSteps.{for-scout, fork-later}
 use Rattle.sweeps.proofs.PairSteps.{pairs-next, pairs-none}
 use Rattle.sweeps.proofs.Steps.{counts-join, counts-none}
 use Rattle.sweeps.proofs.pairs.meet_until.Goals as goal
@@ -59,3 +62,57 @@ loop-later-preserved c =
           c.args.out.now.items c.loop-later.out.items c.meet_later.new.out.items (inv.met sc left takes)
           (c.in_ok-scout-2.ensures.met sc now-left takes));
     }
+
+pub meet_rest-requires-clause-joins : goal.meet_rest-requires-clause-joins
+meet_rest-requires-clause-joins c =
+    let step = c.joins.ensures.step c.if-joins.true in
+    subst (λ n. Joins c.meet_later.new.counts.recall.lone c.in_ok-scout-2.scout.machine n c.args.end) (sym step)
+    (c.joins.ensures.joins c.if-joins.true)
+
+pub meet_rest-requires-clause-shows : goal.meet_rest-requires-clause-shows
+meet_rest-requires-clause-shows c =
+    let scout = c.in_ok-scout-2.scout in
+    let old = c.loop-later.scenario in
+    subst (λ (s : Scenario). Shows scout.machine (state_before s scout.step)) (sym c.meet_later.ensures.same)
+    (for-scout old c.loop-later.later scout c.in_ok-scout-2.ensures.fork).1
+
+pub meet_rest-requires-clause-from : goal.meet_rest-requires-clause-from
+meet_rest-requires-clause-from c =
+    let step = c.joins.ensures.step c.if-joins.true in
+    omega (arith, step)
+
+pub meet_rest-requires-clause-past : goal.meet_rest-requires-clause-past
+meet_rest-requires-clause-past c =
+    let step = c.joins.ensures.step c.if-joins.true in
+    let past = c.loop-later.invariant.past in
+    omega (arith, step, past)
+
+pub meet_rest-requires-clause-within : goal.meet_rest-requires-clause-within
+meet_rest-requires-clause-within c =
+    subst (λ (s : Scenario). c.args.end ≤ s.step) (sym (c.meet_later.ensures.same ∙ c.loop-later.invariant.same))
+    c.requires.within
+
+pub meet_rest-requires-clause-quiet : goal.meet_rest-requires-clause-quiet
+meet_rest-requires-clause-quiet c =
+    subst (λ (s : Scenario). NoneFrom (c.args.first.step + 1) s.marks)
+    (sym (c.meet_later.ensures.same ∙ c.loop-later.invariant.same)) c.requires.quiet
+
+pub returns-then-joins-clause-same : goal.returns-then-joins-clause-same
+returns-then-joins-clause-same c = c.meet_later.ensures.same ∙ c.loop-later.invariant.same
+
+pub returns-then-joins-clause-met : goal.returns-then-joins-clause-met
+returns-then-joins-clause-met c =
+    let first = c.args.first in
+    let inv = c.loop-later.invariant in
+    let later = c.loop-later.later in
+    on_ok_weaker c.meet_rest.result (λ rest sc left takes.
+    let now-left = inv.same ∙ left in
+    rest sc c.args.counts.now c.args.out.now.items (c.meet_later.ensures.same ∙ now-left) takes
+    (subst (λ (xs : List Change). CountsMore c.args.counts.now c.meet_later.new.counts first.with_output sc xs
+    c.args.out.now.items c.meet_later.new.out.items)
+    (sym (pairs-next sc c.loop-later.scenario first.code first.step later now-left inv.past))
+    (counts-join first.with_output sc c.args.counts.now c.loop-later.counts c.meet_later.new.counts
+    (pairs_from sc first.code first.step (later - (first.step + 1)))
+    (pair_by first.step (standing_step c.loop-later.scenario first.code later))
+    c.args.out.now.items c.loop-later.out.items c.meet_later.new.out.items (inv.met sc left takes)
+    (c.in_ok-scout-2.ensures.met sc now-left takes)))) c.meet_rest.ensures.met

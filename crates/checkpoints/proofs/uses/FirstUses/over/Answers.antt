@@ -7,7 +7,7 @@ use Rattle.run_values.specs.declared.span.Span.{Span}
 use Rattle.checkpoints.specs.declared.uses.Row.{Row}
 use Rattle.checkpoints.specs.Entries.{entry_of}
 use Rattle.checkpoints.specs.Words.{words_of, word_end, rows_from, never}
-use Rattle.checkpoints.proofs.WordSteps.{none-in, none-remembered, words-none, words-more}
+use Rattle.checkpoints.proofs.WordSteps.{no-words, none-in, none-remembered, words-none, words-more}
 use Rattle.checkpoints.proofs.Places.{furthest, furthest-more, rows-more}
 use Rattle.checkpoints.proofs.uses.FirstUses.over.Goals as goal
 
@@ -98,4 +98,5 @@ invariant_of-result c =
       bounded = λ k entered. absurd (entered (inv.none k));
       known = none-remembered _ _ 256;
       room = refl;
+      words = no-words 256;
     }

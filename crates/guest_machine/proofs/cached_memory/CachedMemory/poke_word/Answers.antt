@@ -6,6 +6,6 @@ invariant_of-self-inside c = (
   kept c.self.inside.memory c.poke_word.new.self c.self.inside.cache c.forget.new.self c.args.addr 4
       (poke-alters c.poke_word.result c.self.inside.memory c.poke_word.new.self c.args.addr c.args.word
       c.poke_word.ensures.shadows c.poke_word.ensures.bytes c.poke_word.ensures.err)
-      c.forget.ensures c.self.inside.kept,
+      c.forget.ensures.words c.forget.ensures.halves c.self.inside.kept,
   tt,
 )

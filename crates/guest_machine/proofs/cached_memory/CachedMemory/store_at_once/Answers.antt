@@ -7,6 +7,6 @@ invariant_of-self-inside c = (
       (at-once-alters c.store_at_once.result c.self.inside.memory c.store_at_once.new.self c.args.addr c.args.n
       c.args.bits c.store_at_once.ensures.bytes c.store_at_once.ensures.shadows c.store_at_once.ensures.bytes_kept
       c.store_at_once.ensures.shadows_kept)
-      c.forget.ensures c.self.inside.kept,
+      c.forget.ensures.words c.forget.ensures.halves c.self.inside.kept,
   tt,
 )

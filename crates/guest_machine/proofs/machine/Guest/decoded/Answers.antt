@@ -1,7 +1,12 @@
 use Rattle.std.proofs.Common.{sym}
-use Rattle.guest_machine.specs.Shows.{core_of}
-use Rattle.guest_machine.proofs.Fetching.{at_ready}
+use Rattle.guest_machine.specs.Shows.{bytes_of, core_of}
+use Rattle.guest_machine.proofs.Fetching.{at_ready, found_word}
 use Rattle.guest_machine.proofs.machine.Guest.decoded.Goals as goal
 
-pub decoded-requires : goal.decoded-requires
-decoded-requires c = at_ready (core_of c.args.self.now) (sym c.if-not-is_ready.ensures)
+pub decoded_word-requires : goal.decoded_word-requires
+decoded_word-requires c = at_ready (core_of c.args.self.now) (sym c.if-not-is_ready.ensures)
+
+pub returns : goal.returns
+returns c =
+    found_word (core_of c.args.self.now) (bytes_of c.args.self.now) c.decoded_word.result
+    (sym c.if-not-is_ready.ensures) c.decoded_word.ensures

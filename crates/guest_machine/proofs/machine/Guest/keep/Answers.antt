@@ -1,6 +1,34 @@
-use Rattle.guest_machine.specs.Shows.{core_of}
-use Rattle.guest_machine.proofs.Fetching.{at_multiple}
+use Rattle.std.proofs.Common.{◌≡◌, ◌∙◌, ap, sym, subst, arith, ℕ}
+use Rattle.guest_elf.specs.Profiles.{is_half}
+use Rattle.guest_elf.specs.declared.profile.Isa.TheVariants.{Rv32imc}
+use Rattle.instructions.specs.Codes.{len_of, row_of_code}
+use Rattle.instructions.specs.declared.code.Code.{Code}
+use Rattle.guest_machine.specs.Errors.{fetch_undef}
+use Rattle.guest_machine.specs.Exec.{fetched, Takes}
+use Rattle.guest_machine.specs.Shows.{bytes_of, core_of}
+use Rattle.guest_machine.proofs.Fetching.{at_code, keep_half, keep_word}
 use Rattle.guest_machine.proofs.machine.Guest.keep.Goals as goal
 
-pub keep-requires-clause-aligned : goal.keep-requires-clause-aligned
-keep-requires-clause-aligned c = at_multiple (core_of c.args.self.now) c.requires.taken
+pub keep_word-requires : goal.keep_word-requires
+keep_word-requires c =
+    let core = core_of c.args.self.now in
+    let bytes = bytes_of c.args.self.now in
+    let none : c.args.undef ≡ 0 = omega (arith, c.if-undef-ne0.false) in
+    keep_word core bytes c.in-Word.word c.args.instruction (c.requires.taken ∙ ap Takes c.in-Word.is)
+    (ap row_of_code (sym c.in-Word.is) ∙ c.requires.row)
+    (ap (λ code. fetch_undef core (len_of code)) (sym c.in-Word.is) ∙ sym c.requires.undef ∙ none)
+    (sym c.if-not-is_half.ensures)
+
+pub keep_half-requires-clause-aligned : goal.keep_half-requires-clause-aligned
+keep_half-requires-clause-aligned c =
+    at_code (core_of c.args.self.now) (bytes_of c.args.self.now) c.args.code c.requires.taken
+
+pub keep_half-requires-clause-there : goal.keep_half-requires-clause-there
+keep_half-requires-clause-there c =
+    let core = core_of c.args.self.now in
+    let bytes = bytes_of c.args.self.now in
+    let none : c.args.undef ≡ 0 = omega (arith, c.if-undef-ne0.false) in
+    keep_half core bytes c.in-Half.half c.args.instruction (c.requires.taken ∙ ap Takes c.in-Half.is)
+    (ap row_of_code (sym c.in-Half.is) ∙ c.requires.row)
+    (ap (λ code. fetch_undef core (len_of code)) (sym c.in-Half.is) ∙ sym c.requires.undef ∙ none)
+    (ap (is_half Rv32imc) (sym c.from.ensures) ∙ sym c.if-is_half.ensures)

@@ -3,10 +3,10 @@ use Rattle.shadow_memory.specs.Shadows.{HasDefined}
 use Rattle.definedness.specs.declared.Bits.{Bits}
 use Rattle.instructions.specs.Widths.{width_len}
 use Rattle.guest_machine.specs.Registers.{known}
-use Rattle.guest_machine.specs.Effects.{Effect, results_in}
+use Rattle.guest_machine.specs.Effects.{Effect, next_of, results_in}
 use Rattle.guest_machine.specs.Exec.{no_intake, nothing}
 use Rattle.guest_machine.specs.Shows.{bytes_of, core_of}
-use Rattle.guest_machine.specs.Doing.{Does, next_of}
+use Rattle.guest_machine.specs.Doing.{Does}
 use Rattle.guest_machine.proofs.AtOnce.{load-at-once}
 use Rattle.guest_machine.proofs.machine.Guest.load_of.Goals as goal
 

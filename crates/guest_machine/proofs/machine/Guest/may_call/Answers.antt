@@ -5,5 +5,5 @@ use Rattle.guest_machine.proofs.machine.Guest.may_call.Goals as goal
 
 pub returns-in-Some : goal.returns-in-Some
 returns-in-Some c other hooks =
-    quiet-decoded (core_of c.args.self.now) (bytes_of c.args.self.now) c.in-Some.instruction c.in-Some.ensures
+    quiet-decoded (core_of c.args.self.now) (bytes_of c.args.self.now) 4 c.in-Some.instruction c.in-Some.ensures
     (sym c.is_call.ensures ∙ other) hooks

@@ -2,11 +2,11 @@ use Rattle.std.proofs.Common.{◌≡◌, ◌∙◌, None, false, ap, subst, sym}
 use Rattle.shadow_memory.specs.Shadows.{first_inaccessible}
 use Rattle.definedness.specs.declared.Bits.{Bits}
 use Rattle.instructions.specs.Widths.{width_len}
-use Rattle.guest_machine.specs.Effects.{Effect}
+use Rattle.guest_machine.specs.Effects.{Effect, next_of}
 use Rattle.guest_machine.specs.Exec.{accessed, no_intake, writing}
 use Rattle.guest_machine.specs.Spans.{span_at}
 use Rattle.guest_machine.specs.Shows.{core_of}
-use Rattle.guest_machine.specs.Doing.{Does, next_of, stored_at}
+use Rattle.guest_machine.specs.Doing.{Does, stored_at}
 use Rattle.guest_machine.proofs.AtOnce.{store-at-once}
 use Rattle.guest_machine.proofs.machine.Guest.store_of.Goals as goal
 

@@ -1,0 +1,10 @@
+use Rattle.std.proofs.Common.{◌≡◌, arith, length}
+use Rattle.call_stacks.proofs.Lists.{same_lists}
+use Rattle.error_events.specs.Shown.{groups_of}
+use Rattle.error_events.proofs.groups.Groups.are_same.Goals as goal
+
+pub returns : goal.returns
+returns c all =
+    let long : length (groups_of c.args.self.now) ≡ length (groups_of c.args.others.now) = omega arith in
+    same_lists (groups_of c.args.self.now) (groups_of c.args.others.now) long (λ k inside. c.loop-index.invariant k
+    (omega arith))

@@ -1,0 +1,65 @@
+//! Machines that show the same.
+ghost use Rattle.std.specs.Prelude.{◌≡◌, IsTrue};
+ghost use Rattle.guest_machine.specs.Shows.{Holds, Shows};
+ghost use Rattle.guest_machine.specs.State.{State};
+
+use crate::machine::{Guest, Machine, Progress};
+use definedness::Bits;
+
+/// Returns whether registers are the same, with the same undefined bits.
+fn are_same(registers: &[Bits], others: &[Bits]) -> bool
+    ensures { IsTrue result → registers.now ≡ others.now }
+{
+    registers == others
+}
+
+impl Progress {
+    /// Returns whether another program has come as far.
+    fn is_same(&self, other: &Progress) -> bool
+        ensures { IsTrue result → self.now ≡ other.now }
+    {
+        self.position == other.position
+            && self.end_seen == other.end_seen
+            && self.output_len == other.output_len
+            && self.heap_calls == other.heap_calls
+    }
+}
+
+impl Guest {
+    /// Returns whether another guest has the same registers, pc, status and instruction set, and is as far.
+    fn has_core_of(&self, other: &Guest) -> bool
+        ensures pc { IsTrue result → self.now.pc ≡ other.now.pc }
+        ensures status { IsTrue result → self.now.status ≡ other.now.status }
+        ensures isa { IsTrue result → self.now.isa ≡ other.now.isa }
+        ensures registers { IsTrue result → self.now.registers ≡ other.now.registers }
+        ensures progress { IsTrue result → self.now.progress ≡ other.now.progress }
+    {
+        self.pc == other.pc
+            && self.status == other.status
+            && self.isa == other.isa
+            && self.progress.is_same(&other.progress)
+            && are_same(&self.registers, &other.registers)
+    }
+
+    /// Returns whether another guest holds the same. What costs least is compared first.
+    fn is_same(&self, other: &Guest) -> bool
+        ensures { IsTrue result → (s : State) → Holds self.now s → Holds other.now s }
+    {
+        self.has_core_of(other)
+            && self.frames.is_same(&other.frames)
+            && self.noted.groups.are_same(&other.noted.groups)
+            && self.heap.is_same(&other.heap)
+            && self.memory.memory().is_same(other.memory.memory())
+    }
+}
+
+impl Machine {
+    /// Returns whether another machine shows each state that this one shows. May also return `false` for such a machine, as it does if much
+    /// memory is used, there are many errors or many blocks, or if they are kept in another way. Compares what costs least first.
+    #[tactic(auto, unfolding(crate::specs::Shows::Shows))]
+    pub fn is_same(&self, other: &Machine) -> bool
+        ensures { IsTrue result → (s : State) → Shows self.now s → Shows other.now s }
+    {
+        self.guest.is_same(&other.guest)
+    }
+}

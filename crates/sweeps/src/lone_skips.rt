@@ -1,0 +1,242 @@
+//! What each skip of a run leads to by itself. Most runs in which an instruction is left out soon show a state of the run in which none is,
+//! one step ahead of it, as a skip needs no step. From there a second skip leads to what the skip of the step after it leads to by itself.
+ghost use Rattle.std.specs.Prelude.{◌≡◌, ℕ, ◌+◌, ◌-◌, ◌*◌, ◌<◌, ◌≤◌, ◌∷◌, ◌++◌, [], Bool, IfOk, IfSome, IsTrue, OnOk, Some, length, slice_get};
+ghost use Rattle.guest_machine.specs.Run.{pre};
+ghost use Rattle.guest_machine.specs.Shows.{Shows};
+ghost use Rattle.guest_machine.specs.State.{State};
+ghost use Rattle.scenario.specs.Limits.{most_steps};
+ghost use Rattle.scenario.specs.Scenario.{Scenario as ScenarioOf};
+ghost use Rattle.sweeps.specs.LoneSkips.{IsFound, IsLone, Outlines, left_out, struck_pc, strikes};
+ghost use Rattle.sweeps.specs.declared.lone_skips.LoneSkip.{LoneSkip as LoneSkipOf};
+
+use crate::recall::Outcome;
+use crate::spots::is_in_code;
+use checkpoints::Fork;
+use guest_machine::{Act, Alteration, Machine, Meter, Setup, Status};
+use scenario::Scenario;
+use std::alloc::{AllocError, Global};
+use sweep_plans::Range;
+
+/// The number of steps from one held machine to the next.
+const SPACING: usize = 16;
+
+/// What leaving an instruction out leads to.
+#[derive(Drop)]
+pub(crate) struct LoneSkip {
+    /// pc before its step, if a fault may strike there in some code.
+    pub(crate) pc: Option<u32>,
+    /// The outcome of the skip, one step after the chosen one.
+    pub(crate) outcome: Outcome,
+}
+
+/// Rows for steps of a run in a row, and machines of the run before each sixteenth of these steps.
+#[derive(Drop)]
+pub(crate) struct LoneSkips {
+    pub(crate) first: u32,
+    pub(crate) rows: Vec<LoneSkip>,
+    pub(crate) held: Vec<Machine>,
+}
+
+/// Returns pc, if a fault may strike the next step of a machine in some code.
+fn struck_pc(machine: &Machine, setup: &Setup) -> Option<u32>
+    ensures { (s : State) → Shows machine.now s → result ≡ struck_pc setup.now.hooks s.core }
+{
+    let pc = machine.pc();
+    let is_running = matches!(machine.status(), Status::Running);
+    if is_running && setup.hooks.at(pc).is_none() {
+        Some(pc)
+    } else {
+        None
+    }
+}
+
+/// Returns whether there is such a pc in this code.
+fn strikes(code: Option<Range>, pc: Option<u32>) -> bool
+    ensures { result ≡ strikes code pc }
+{
+    match pc {
+        Some(pc) => is_in_code(code, pc),
+        None => false,
+    }
+}
+
+/// Returns the outline of a machine whose next instruction is left out, a number of steps later.
+fn skip_outline(
+    scenario: &Scenario,
+    machine: &Machine,
+    steps: u32,
+    with_output: bool,
+) -> Result<Vec<u8>, AllocError>
+    ensures { IfOk result (λ text. (s : State) → Shows machine.now s
+        → Outlines with_output scenario.now (pre (left_out s) scenario.now.setup [] steps) text.items) }
+{
+    let copy = machine.share_ready()?;
+    let struck = copy.alter(&Alteration {
+        step: 0,
+        act: Act::Skip,
+    })?;
+    let end = struck.run(scenario.setup(), steps, &mut Meter::new())?;
+    scenario.outline_any(&end, with_output)
+}
+
+/// Returns the row of a machine whose next instruction is left out.
+fn lone_skip(
+    alloc: Global,
+    scenario: &Scenario,
+    machine: &Machine,
+    steps: u32,
+    with_output: bool,
+) -> Result<LoneSkip, AllocError>
+    ensures { IfOk result (λ row. (s : State) → Shows machine.now s → IsLone with_output scenario.now s steps row) }
+{
+    let text = skip_outline(scenario, machine, steps, with_output)?;
+    Ok(LoneSkip {
+        pc: struck_pc(machine, scenario.setup()),
+        outcome: Outcome::new(alloc, text)?,
+    })
+}
+
+impl LoneSkips {
+    ghost use Rattle.sweeps.specs.LoneSkips.{AreForeseen, AreSpaced, Follows, Joins};
+
+    /// Returns a table without rows, from a step on.
+    pub(crate) fn begin(alloc: Global, first: u32) -> LoneSkips
+        ensures first { result.first ≡ first }
+        ensures rows { result.rows.items ≡ [] }
+        ensures held { result.held.items ≡ [] }
+    {
+        LoneSkips {
+            first,
+            rows: Vec::new(alloc),
+            held: Vec::new(alloc),
+        }
+    }
+
+    /// Holds the machine before the next step, if that is a sixteenth one. Returns the machine that continues its run.
+    fn hold(&mut self, machine: Machine) -> Result<Machine, AllocError>
+        ensures first { OnOk result (self.new.first ≡ self.old.first) }
+        ensures rows { OnOk result (self.new.rows.items ≡ self.old.rows.items) }
+        ensures foreseen { OnOk result ((with_output : Bool) (sc : ScenarioOf) → AreForeseen with_output sc self.old → AreForeseen with_output sc self.new) }
+        ensures follows { IfOk result (λ next. (sc : ScenarioOf) → Follows sc self.old machine → Follows sc self.new next) }
+        ensures spaced { OnOk result (AreSpaced self.old → AreSpaced self.new) }
+    {
+        let rows = self.rows.len();
+        if rows / SPACING != self.held.len() || rows % SPACING != 0 {
+            return Ok(machine);
+        }
+        let mut machine = machine;
+        let next = machine.hand_on()?;
+        self.held.push(machine)?;
+        Ok(next)
+    }
+
+    /// Adds the row of the machine before the next step.
+    fn add(
+        &mut self,
+        alloc: Global,
+        scenario: &Scenario,
+        machine: &Machine,
+        steps: u32,
+        with_output: bool,
+    ) -> Result<(), AllocError>
+        requires { steps ≡ scenario.now.step + 1 - (self.old.first + length self.old.rows.items) }
+        ensures first { OnOk result (self.new.first ≡ self.old.first) }
+        ensures rows { OnOk result (length self.new.rows.items ≡ length self.old.rows.items + 1) }
+        ensures held { OnOk result (self.new.held.items ≡ self.old.held.items) }
+        ensures foreseen { OnOk result (Follows scenario.now self.old machine.now → AreForeseen with_output scenario.now self.old
+            → AreForeseen with_output scenario.now self.new) }
+    {
+        let row = lone_skip(alloc, scenario, machine, steps, with_output)?;
+        self.rows.push(row)?;
+        Ok(())
+    }
+
+    /// Returns the table of the steps from one on up to another, given the machine before the first.
+    pub(crate) fn along(
+        alloc: Global,
+        scenario: &Scenario,
+        before: &Machine,
+        first: u32,
+        end: u32,
+        with_output: bool,
+    ) -> Result<LoneSkips, AllocError>
+        requires within { end ≤ scenario.now.step }
+        requires near { scenario.now.step ≤ most_steps }
+        ensures { IfOk result (λ skips. AreForeseen with_output scenario.now skips) }
+    {
+        let mut skips = LoneSkips::begin(alloc, first);
+        let mut machine = before.share_ready()?;
+        for step in first..end + 1 {
+            let steps = scenario.step() - step + 1;
+            let held = skips.hold(machine)?;
+            skips.add(alloc, scenario, &held, steps, with_output)?;
+            machine = held.run(scenario.setup(), 1, &mut Meter::new())?;
+        }
+        Ok(skips)
+    }
+
+    /// Returns whether there are rows up to a step, with that step.
+    fn has_row(&self, step: u32) -> bool
+        ensures { IsTrue result → step < self.now.first + length self.now.rows.items }
+    {
+        match step.checked_sub(self.first) {
+            Some(row) => (row as usize) < self.rows.len(),
+            None => false,
+        }
+    }
+
+    /// Returns whether there are rows for the steps from one on up to another, with that step.
+    pub(crate) fn reaches(&self, step: u32, end: u32) -> bool {
+        self.first <= step && self.has_row(end)
+    }
+
+    /// Returns the place of the machine that is held before the step after this one, if there is one.
+    fn place_after(&self, step: u32) -> Option<usize>
+        ensures place { IfSome result (λ place. self.now.first + 16 * place ≡ step + 1) }
+        ensures within { IfSome result (λ place. place < length self.now.held.items) }
+    {
+        let row = step.checked_add(1)?.checked_sub(self.first)? as usize;
+        let place = row / SPACING;
+        if row % SPACING == 0 && place < self.held.len() {
+            Some(place)
+        } else {
+            None
+        }
+    }
+
+    /// Returns whether each state that a fork before a step shows is one that a held machine shows before the next step, and there are rows
+    /// up to a step.
+    pub(crate) fn joins(&self, fork: &Fork, step: u32, end: u32) -> bool
+        ensures joins { IsTrue result → Joins self.now fork.now.machine step end }
+        ensures step { IsTrue result → fork.now.step ≡ step }
+    {
+        let Some(place) = self.place_after(step) else {
+            return false;
+        };
+        if fork.step != step {
+            return false;
+        }
+        if !self.has_row(end) {
+            return false;
+        }
+        fork.machine.is_same(&self.held[place])
+    }
+
+    /// Returns the outcome of the skip of a step, if a fault may strike there in this code.
+    pub(crate) fn outcome_at(
+        &self,
+        step: u32,
+        code: Option<Range>,
+    ) -> Result<Option<Outcome>, AllocError>
+        requires first { self.now.first ≤ step }
+        requires rows { step < self.now.first + length self.now.rows.items }
+        ensures { IfOk result (λ found. (row : LoneSkipOf) → slice_get self.now.rows.items (step - self.now.first) ≡ Some row → IsFound code row found) }
+    {
+        let row = &self.rows[(step - self.first) as usize];
+        if strikes(code, row.pc) {
+            Ok(Some(row.outcome.clone()?))
+        } else {
+            Ok(None)
+        }
+    }
+}
