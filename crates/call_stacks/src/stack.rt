@@ -1,5 +1,5 @@
 //! Call stacks.
-ghost use Rattle.std.specs.Prelude.{◌≡◌, ◌==◌, [], IfOk, IsTrue, position};
+ghost use Rattle.std.specs.Prelude.{◌↔◌, ◌≡◌, ◌==◌, [], IfOk, IsTrue, position};
 ghost use Rattle.std.specs.Option.{option_copied};
 ghost use Rattle.call_stacks.specs.Frames.{called, returned, trace_at};
 
@@ -37,12 +37,13 @@ impl Model for CallStack {
     ghost invariant = { λ s. s.frames.capacity ≡ 256 };
 }
 
-/// Returns whether there are two frames, and they are the same.
+/// Returns whether two frames are the same, or there are none.
 fn are_same(one: Option<&Frame>, other: Option<&Frame>) -> bool
-    ensures { IsTrue result → option_copied one.entry ≡ option_copied other.entry }
+    ensures { IsTrue result ↔ option_copied one.entry ≡ option_copied other.entry }
 {
     match (one, other) {
         (Some(one), Some(other)) => *one == *other,
+        (None, None) => true,
         _ => false,
     }
 }
@@ -119,7 +120,7 @@ impl CallStack {
 
     /// Returns whether another stack has the same frames. Allocates nothing, and costs one pass over the frames.
     pub fn is_same(&self, other: &CallStack) -> bool
-        ensures { IsTrue result → self.now ≡ other.now }
+        ensures { IsTrue result ↔ self.now ≡ other.now }
     {
         if self.frames.len() != other.frames.len() {
             return false;

@@ -4,6 +4,8 @@
 #![tactic(auto)]
 
 #[cfg(test)]
+mod end_lines;
+#[cfg(test)]
 mod endings;
 #[cfg(test)]
 mod exec_cases;

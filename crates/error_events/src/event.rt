@@ -1,4 +1,4 @@
-ghost use Rattle.std.specs.Prelude.{◌≡◌, IsTrue};
+ghost use Rattle.std.specs.Prelude.{◌↔◌, ◌≡◌, IsTrue};
 
 use crate::kind::Kind;
 use call_stacks::Trace;
@@ -20,7 +20,7 @@ pub enum Note {
 impl Note {
     /// Returns whether another note is the same.
     pub fn is_same(&self, other: &Note) -> bool
-        ensures { IsTrue result → self.now ≡ other.now }
+        ensures { IsTrue result ↔ self.now ≡ other.now }
     {
         match (self, other) {
             (Note::Absent, Note::Absent) => true,
@@ -61,7 +61,7 @@ pub struct Group {
 impl Group {
     /// Returns whether another group is the same.
     pub fn is_same(&self, other: &Group) -> bool
-        ensures { IsTrue result → self.now ≡ other.now }
+        ensures { IsTrue result ↔ self.now ≡ other.now }
     {
         self.count == other.count
             && self.kind == other.kind

@@ -1,4 +1,4 @@
-ghost use Rattle.std.specs.Prelude.{◌≡◌, [], ◌∷◌, ◌++◌, map, None, position, length, take, List, ◌≤◌, ◌+◌, ◌<◌, slice_get, OnOk, OnErr, IfOk, IsTrue};
+ghost use Rattle.std.specs.Prelude.{◌↔◌, ◌≡◌, [], ◌∷◌, ◌++◌, map, None, position, length, take, List, ◌≤◌, ◌+◌, ◌<◌, slice_get, OnOk, OnErr, IfOk, IsTrue};
 ghost use Rattle.std.specs.List.{filter_map, range_with_len};
 ghost use Rattle.std.specs.Option.{option_map};
 ghost use Rattle.error_events.specs.Counts.{raised_at};
@@ -37,12 +37,13 @@ fn cut(key: &Key, callers: u32) -> Key
 /// The greatest number of groups that are compared.
 const MOST_COMPARED: usize = 64;
 
-/// Returns whether there are two groups, and they are the same.
+/// Returns whether two groups are the same, or there are none.
 fn are_same(one: &Option<Group>, other: &Option<Group>) -> bool
-    ensures { IsTrue result → one.now ≡ other.now }
+    ensures { IsTrue result ↔ one.now ≡ other.now }
 {
     match (one, other) {
         (Some(one), Some(other)) => one.is_same(other),
+        (None, None) => true,
         _ => false,
     }
 }
@@ -201,9 +202,10 @@ impl Groups {
             .collect(self.counts.allocator())
     }
 
-    /// Returns whether other groups are the same, in the same order. May also return `false` for such groups, if there are many.
+    /// Returns whether other groups are the same, in the same order. May also return `false` for such groups, if there are more than 64.
     pub fn are_same(&self, others: &Groups) -> bool
-        ensures { IsTrue result → groups_of self.now ≡ groups_of others.now }
+        ensures same { IsTrue result → groups_of self.now ≡ groups_of others.now }
+        ensures found { groups_of self.now ≡ groups_of others.now → length (groups_of self.now) ≤ 64 → IsTrue result }
     {
         let len = self.len();
         if len != others.len() || len > MOST_COMPARED {

@@ -35,6 +35,7 @@ use Rattle.guest_machine.specs.Exec.{written_to}
 use Rattle.guest_machine.specs.Streams.{calls_out, is_defined, is_idle, is_self_jump, jumps_to_itself, row_at, row_in}
 use Rattle.guest_machine.specs.Streams.{self_jump, short_self_jump, StaysAtRest}
 use Rattle.guest_machine.specs.declared.setup.Setup.{Setup}
+use Rattle.guest_machine.proofs.Deeds.{by, by-row}
 use Rattle.guest_machine.proofs.Fetching.{at_start, may_fetch}
 use Rattle.guest_machine.proofs.Halted.{halts, stays-halted}
 
@@ -109,46 +110,9 @@ after s e =
       events = s.events ++ e.raised;
     }
 
--- by what is done
-by : State → Setup → Deed → State
-by s setup deed =
-    let terms = deed_terms s.core deed s.position (length s.output) setup in
-    let uses = plan s.core terms deed in
-    let effect = outcome s.core terms deed (given_at s.position terms.intake.count setup)
-    (taken_from s.bytes uses.reads) in
-    let intake = intake_of (deed_asks s.core deed) (left_at s.position setup) in
-    record {
-      bytes = written_to s.bytes uses.writes effect.made;
-      core = effect.core;
-      position = s.position + intake.count;
-      end_seen = seen_also s.end_seen intake.ends;
-      output = s.output ++ effect.output;
-      heap_calls = counted s.heap_calls (is_heap_deed s.core deed);
-      events = s.events ++ effect.raised;
-    }
-
--- by the instruction that is carried out, and the length of its code
-by-row : State → Setup → ℕ → Option Instruction → State
-by-row s setup len row =
-    let terms = terms_of (calls_heap s.core row) (row_asks s.core row) s.position (length s.output) setup in
-    let uses = row_uses s.core row terms in
-    let effect =
-    rounded s.core len (row_effect s.core (next_of s.core len) row terms
-    (given_at s.position terms.intake.count setup) (taken_from s.bytes uses.reads)) in
-    let intake = intake_of (row_asks s.core row) (left_at s.position setup) in
-    record {
-      bytes = written_to s.bytes uses.writes effect.made;
-      core = effect.core;
-      position = s.position + intake.count;
-      end_seen = seen_also s.end_seen intake.ends;
-      output = s.output ++ effect.output;
-      heap_calls = counted s.heap_calls (calls_heap s.core row);
-      events = s.events ++ effect.raised;
-    }
-
 jumped-state : (s : State) (setup : Setup) (len : ℕ) → s.core.pc < 2 ^ 32 → is_aligned s.core.isa s.core.pc ≡ true
     → (fetch_undef s.core len == 0) ≡ true
-    → by-row s setup len (Some (Jump 0 0)) ≡ s
+    → by-row s setup len (Some (Jump 0 0)) (calls_heap s.core (Some (Jump 0 0))) (row_asks s.core (Some (Jump 0 0))) ≡ s
 unfolding by-row row_asks row_uses row_effect calls_heap event_unless after
 jumped-state s setup len small aligned defined =
     let there = jumps-here s.core (next_of s.core len) small aligned in
@@ -176,7 +140,8 @@ idle-step setup s small idle =
     let defined = ap (is_defined s.core) (sym found.1.0) ∙ parts.1 in
     let fetch = taken-by (called_here s.core setup.hooks) (fetched s.core s.bytes) found.0 found.1.0 in
     let aligned = at_start s.core (may_fetch s.core s.bytes found.0 fetch) in
-    ap (by s setup) found.1.0 ∙ ap (by-row s setup (len_of found.0)) found.1.1
+    ap (by s setup) found.1.0
+    ∙ ap (λ row. by-row s setup (len_of found.0) row (calls_heap s.core row) (row_asks s.core row)) found.1.1
     ∙ jumped-state s setup (len_of found.0) small aligned defined
 
 quiet-jump : (deed : Deed) → jumps_to_itself deed ≡ true → calls_out (row_in deed) ≡ false

@@ -6,7 +6,8 @@ use guest_machine::laws::{
     alters_as_marked, end_stays, fetches_codes, goes_by_fours, keeps_end, keeps_heap, keeps_input,
     keeps_isa, keeps_pokes, keeps_words, reads_on, runs_as_marked, stays_halted,
 };
-use guest_machine::{Input, Span, Status, Stop};
+use guest_machine::{Input, Status, Stop};
+use instructions::{Code, Instruction, Operation, row_of_code};
 use std::alloc::{AllocError, Global};
 
 /// `addi a7, x0, 93`, `1234` and `2001`; `addi a0, x0, 300`; ECALL
@@ -131,44 +132,10 @@ const TOUCHES: [Row; 3] = [
         false,
         Trial::Steps(
             &[
-                (
-                    Some(Span {
-                        start: 0x10000,
-                        len: 4,
-                    }),
-                    None,
-                    None,
-                ),
-                (
-                    Some(Span {
-                        start: 0x10004,
-                        len: 4,
-                    }),
-                    Some(Span {
-                        start: 0x10010,
-                        len: 4,
-                    }),
-                    None,
-                ),
-                (
-                    Some(Span {
-                        start: 0x10008,
-                        len: 4,
-                    }),
-                    None,
-                    Some(Span {
-                        start: 0x10016,
-                        len: 2,
-                    }),
-                ),
-                (
-                    Some(Span {
-                        start: 0x1000C,
-                        len: 4,
-                    }),
-                    None,
-                    None,
-                ),
+                (Some((0x10000, 4)), None, None),
+                (Some((0x10004, 4)), Some((0x10010, 4)), None),
+                (Some((0x10008, 4)), None, Some((0x10016, 2))),
+                (Some((0x1000C, 4)), None, None),
                 (None, None, None),
             ],
             0,
@@ -184,41 +151,10 @@ const TOUCHES: [Row; 3] = [
         true,
         Trial::Steps(
             &[
-                (
-                    Some(Span {
-                        start: 0x10000,
-                        len: 4,
-                    }),
-                    None,
-                    None,
-                ),
-                (
-                    Some(Span {
-                        start: 0x10004,
-                        len: 4,
-                    }),
-                    None,
-                    None,
-                ),
-                (
-                    None,
-                    None,
-                    Some(Span {
-                        start: 0x4000_0010,
-                        len: 128,
-                    }),
-                ),
-                (
-                    None,
-                    Some(Span {
-                        start: 0x4000_0010,
-                        len: 16,
-                    }),
-                    Some(Span {
-                        start: 0x4000_00B0,
-                        len: 16,
-                    }),
-                ),
+                (Some((0x10000, 4)), None, None),
+                (Some((0x10004, 4)), None, None),
+                (None, None, Some((0x4000_0010, 128))),
+                (None, Some((0x4000_0010, 16)), Some((0x4000_00B0, 16))),
             ],
             0,
             (Status::Running, 0, 0x4000_00B0, 0, 2),
@@ -278,54 +214,12 @@ const SHORT: [Row; 3] = [
         false,
         Trial::Steps(
             &[
-                (
-                    Some(Span {
-                        start: 0x10000,
-                        len: 2,
-                    }),
-                    None,
-                    None,
-                ),
-                (
-                    Some(Span {
-                        start: 0x10002,
-                        len: 2,
-                    }),
-                    None,
-                    None,
-                ),
-                (
-                    Some(Span {
-                        start: 0x10004,
-                        len: 4,
-                    }),
-                    None,
-                    None,
-                ),
-                (
-                    Some(Span {
-                        start: 0x10008,
-                        len: 2,
-                    }),
-                    None,
-                    None,
-                ),
-                (
-                    Some(Span {
-                        start: 0x1000A,
-                        len: 4,
-                    }),
-                    None,
-                    None,
-                ),
-                (
-                    Some(Span {
-                        start: 0x1000E,
-                        len: 2,
-                    }),
-                    None,
-                    None,
-                ),
+                (Some((0x10000, 2)), None, None),
+                (Some((0x10002, 2)), None, None),
+                (Some((0x10004, 4)), None, None),
+                (Some((0x10008, 2)), None, None),
+                (Some((0x1000A, 4)), None, None),
+                (Some((0x1000E, 2)), None, None),
             ],
             3,
             (Status::Stopped(Stop::Break), 0x1000E, 308, 0, 0),
@@ -339,22 +233,8 @@ const SHORT: [Row; 3] = [
         false,
         Trial::Steps(
             &[
-                (
-                    Some(Span {
-                        start: 0x10000,
-                        len: 2,
-                    }),
-                    None,
-                    None,
-                ),
-                (
-                    Some(Span {
-                        start: 0x10002,
-                        len: 2,
-                    }),
-                    None,
-                    None,
-                ),
+                (Some((0x10000, 2)), None, None),
+                (Some((0x10002, 2)), None, None),
             ],
             3,
             (Status::Stopped(Stop::Jump), 0x10002, 0, 1, 0),
@@ -373,6 +253,28 @@ const SHORT: [Row; 3] = [
 #[test]
 fn halves_are_executed(rt: HostRuntime) {
     assert_so_for(&rt, rt.alloc(), Isa::Rv32imc, &SHORT);
+}
+
+/// Returns whether a code of this length is `addi a0, a0, 1`.
+fn is_count(code: Code, len: u32) -> bool {
+    match row_of_code(code) {
+        Some(
+            Instruction::Immediate {
+                operation: Operation::Add,
+                rd,
+                rs1,
+                imm: 1,
+            },
+        ) => rd.number() == 10 && rs1.number() == 10 && code.len() == len,
+        _ => false,
+    }
+}
+
+#[test]
+fn codes_stand_for_instructions(rt: HostRuntime) {
+    assert!(rt; is_count(Code::Word(COUNT), 4), "a word");
+    assert!(rt; is_count(Code::Half(0x0505), 2), "a half");
+    assert!(rt; row_of_code(Code::Half(0)).is_none(), "no instruction");
 }
 
 #[test]

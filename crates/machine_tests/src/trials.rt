@@ -21,8 +21,11 @@ pub(crate) type State = (Status, u32, u32, usize, u64);
 /// The number of bytes of input read, the number of bytes of output written, and whether the end was seen.
 pub(crate) type Streams = (u64, u64, bool);
 
-/// What a step touches: its word, what it reads and what it writes.
-pub(crate) type Touches = (Option<Span>, Option<Span>, Option<Span>);
+/// Bytes: the address of the first, and their number.
+type Bytes = Option<(u32, u32)>;
+
+/// What a step touches: its code, what it reads and what it writes.
+pub(crate) type Touches = (Bytes, Bytes, Bytes);
 
 /// What is tested of a program's machine.
 pub(crate) enum Trial {
@@ -98,10 +101,17 @@ fn has_streams(machine: &Machine, streams: &Streams) -> bool {
         && machine.end_seen() == *end_seen
 }
 
+/// Returns the same bytes as a range.
+fn span_of(bytes: Bytes) -> Option<Span> {
+    bytes.map(|(start, len)| Span { start, len })
+}
+
 /// Returns whether a step touches what it should.
 fn is_touched(touched: Touched, want: &Touches) -> bool {
     let (fetch, reads, writes) = want;
-    touched.fetch == *fetch && touched.reads == *reads && touched.writes == *writes
+    touched.fetch == span_of(*fetch)
+        && touched.reads == span_of(*reads)
+        && touched.writes == span_of(*writes)
 }
 
 /// Returns the machine after a step for each row, if each touches what its row says.
@@ -218,10 +228,12 @@ fn loads(machine: Machine, copy: Machine, setup: &Setup) -> Result<bool, AllocEr
     Ok(pc == 0x10000 && later.value == 5 && again.value == 0)
 }
 
-/// Returns whether a copy stays as it was.
+/// Returns whether a copy is the same, and stays as it was when a word is written.
 fn copies(start: Machine, setup: &Setup) -> Result<bool, AllocError> {
     let copy = start.share()?;
-    loads(start.poke_word(0x7FFF_FFF0, 5)?, copy, setup)
+    let is_alike = copy.is_same(&start);
+    let poked = start.poke_word(0x7FFF_FFF0, 5)?;
+    Ok(is_alike && !copy.is_same(&poked) && loads(poked, copy, setup)?)
 }
 
 /// Returns the machine of a program before the first step, with another first word.

@@ -102,6 +102,20 @@ fn begin_at_fours() -> bool {
         && !isa.aligns(0x10006)
         && !isa.aligns(0x10007)
         && isa.aligns(0xFFFF_FFFC)
+        && isa.unit() == 4
+        && !isa.is_half(0x4502)
+}
+
+/// Returns whether those of RV32IMC may at multiples of 2, and have two bytes unless the two lowest bits are set.
+fn begin_at_twos() -> bool {
+    let isa = Isa::Rv32imc;
+    isa.aligns(0x10004)
+        && isa.aligns(0x10006)
+        && !isa.aligns(0x10005)
+        && isa.aligns(0xFFFF_FFFE)
+        && isa.unit() == 2
+        && isa.is_half(0x4502)
+        && !isa.is_half(0x0513)
 }
 
 /// Two changed words of the program, an address, whether the word there can be patched, and whether the segment has bytes.
@@ -277,7 +291,8 @@ fn files_by_hand(rt: HostRuntime) {
         "a program for a profile",
         is_read_for(rt.alloc(), usual),
     );
-    holds(&rt, "the places of instructions", begin_at_fours());
+    holds(&rt, "instructions of 32 bits", begin_at_fours());
+    holds(&rt, "those of 16 bits too", begin_at_twos());
     comes(
         &rt,
         "at the limit",

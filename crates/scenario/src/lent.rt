@@ -6,7 +6,7 @@ ghost use Rattle.replay_report.specs.Outlines.{IsOutline};
 ghost use Rattle.replay_report.specs.Report.{AppendsReport};
 ghost use Rattle.scenario.specs.Lent.{lent};
 ghost use Rattle.scenario.specs.Limits.{most_callers};
-ghost use Rattle.scenario.specs.Scenario.{IsOutlineOf, IsReportOf, chosen_state, first_state, with_words};
+ghost use Rattle.scenario.specs.Scenario.{IsReportOf, chosen_state, first_state, with_words};
 
 use crate::word::Word;
 use checkpoints::run_to;
@@ -81,30 +81,8 @@ impl<'a> ScenarioRef<'a> {
         )
     }
 
-    /// Returns the outline of a machine that is at the chosen step of the run.
-    #[tactic(auto, unfolding(crate::specs::Scenario::IsOutlineOf))]
-    pub(crate) fn outline(
-        &self,
-        alloc: Global,
-        machine: &Machine,
-        with_output: bool,
-    ) -> Result<Vec<u8>, AllocError>
-        requires some { 1 ≤ self.now.options.now.callers }
-        requires few { self.now.options.now.callers ≤ most_callers }
-        ensures { IfOk result (λ text. Shows machine.now (chosen_state (lent self.now)) → IsOutlineOf with_output (lent self.now) text.items) }
-    {
-        outline(
-            alloc,
-            machine,
-            self.image,
-            self.suppressions,
-            self.options,
-            with_output,
-        )
-    }
-
     /// Returns the outline of a machine, at whatever step of whatever run it is.
-    pub(crate) fn outline_any(
+    pub(crate) fn outline(
         &self,
         alloc: Global,
         machine: &Machine,

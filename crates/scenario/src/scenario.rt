@@ -6,7 +6,7 @@ ghost use Rattle.replay_report.specs.Outlines.{IsOutline};
 ghost use Rattle.replay_report.specs.Report.{AppendsReport};
 ghost use Rattle.scenario.specs.Lent.{lent};
 ghost use Rattle.scenario.specs.Limits.{longest_input, most_callers};
-ghost use Rattle.scenario.specs.Scenario.{IsOutlineOf, IsReportOf, begun, at_step, chosen_state, first_state};
+ghost use Rattle.scenario.specs.Scenario.{IsReportOf, begun, at_step, chosen_state, first_state};
 ghost use Rattle.scenario.specs.Edits.{with_input};
 
 use crate::lent::ScenarioRef;
@@ -167,18 +167,12 @@ impl<'a> Scenario<'a> {
         self.lent().render(self.alloc, machine, out)
     }
 
-    /// Returns the outline of a machine that is at the chosen step of the run, with or without the number of bytes written.
+    /// Returns the outline of a machine, at whatever step of whatever run it is, with or without the number of bytes written. The
+    /// scenario's files and options say how it is shown.
     pub fn outline(&self, machine: &Machine, with_output: bool) -> Result<Vec<u8>, AllocError>
-        ensures { IfOk result (λ text. Shows machine.now (chosen_state self.now) → IsOutlineOf with_output self.now text.items) }
-    {
-        self.lent().outline(self.alloc, machine, with_output)
-    }
-
-    /// Returns the outline of a machine, at whatever step of whatever run it is, as this scenario shows machines.
-    pub fn outline_any(&self, machine: &Machine, with_output: bool) -> Result<Vec<u8>, AllocError>
         ensures { IfOk result (λ text. (s : State) → Shows machine.now s
             → IsOutline s self.now.image self.now.rules self.now.options with_output text.items) }
     {
-        self.lent().outline_any(self.alloc, machine, with_output)
+        self.lent().outline(self.alloc, machine, with_output)
     }
 }

@@ -28,6 +28,7 @@ use Rattle.step_uses.specs.declared.passing.Passing.TheVariants.{Looks, Keeps, O
 use Rattle.step_uses.specs.Passing.{completes, passing, passing_deed, passing_row, reads, with_register}
 use Rattle.step_uses.specs.Passing.{writes}
 use Rattle.step_uses.specs.Laws.{KeepsRegisters, OverwritesRegisters}
+use Rattle.guest_machine.proofs.Deeds.{by, by-row}
 use Rattle.step_uses.proofs.Replaced.{put, set-is, register-other, ruled-other, ruled-stays, stack-stands}
 use Rattle.step_uses.proofs.RowSteps.{over, row-other, row-stays, row-again, uses-other, no-heap, asks-none}
 
@@ -155,42 +156,6 @@ module _ (core : Core) (len next : ℕ) (row : Option Instruction) (r : ℕ) (bi
 
 swapped : State → ℕ → Bits → State
 swapped s r bits = record s { core = put s.core r bits }
-
--- by what is done
-by : State → Setup → Deed → State
-by s setup deed =
-    let terms = deed_terms s.core deed s.position (length s.output) setup in
-    let uses = plan s.core terms deed in
-    let effect = outcome s.core terms deed (given_at s.position terms.intake.count setup)
-    (taken_from s.bytes uses.reads) in
-    let intake = intake_of (deed_asks s.core deed) (left_at s.position setup) in
-    record {
-      bytes = written_to s.bytes uses.writes effect.made;
-      core = effect.core;
-      position = s.position + intake.count;
-      end_seen = seen_also s.end_seen intake.ends;
-      output = s.output ++ effect.output;
-      heap_calls = counted s.heap_calls (is_heap_deed s.core deed);
-      events = s.events ++ effect.raised;
-    }
-
--- by the instruction that is carried out, what it asks for, and whether it calls the heap
-by-row : State → Setup → ℕ → Option Instruction → Bool → Option ℕ → State
-by-row s setup len row heap asks =
-    let terms = terms_of heap asks s.position (length s.output) setup in
-    let uses = row_uses s.core row terms in
-    let effect = rounded s.core len (row_effect s.core (next_of s.core len) row terms
-    (given_at s.position terms.intake.count setup) (taken_from s.bytes uses.reads)) in
-    let intake = intake_of asks (left_at s.position setup) in
-    record {
-      bytes = written_to s.bytes uses.writes effect.made;
-      core = effect.core;
-      position = s.position + intake.count;
-      end_seen = seen_also s.end_seen intake.ends;
-      output = s.output ++ effect.output;
-      heap_calls = counted s.heap_calls heap;
-      events = s.events ++ effect.raised;
-    }
 
 module _ (s : State) (setup : Setup) (len : ℕ) (row : Option Instruction) (r : ℕ) (bits : Bits) (asks : Option ℕ)
     (heap : Bool) where

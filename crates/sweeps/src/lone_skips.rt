@@ -76,7 +76,7 @@ fn skip_outline(
         act: Act::Skip,
     })?;
     let end = struck.run(scenario.setup(), steps, &mut Meter::new())?;
-    scenario.outline_any(&end, with_output)
+    scenario.outline(&end, with_output)
 }
 
 /// Returns the row of a machine whose next instruction is left out.
