@@ -36,7 +36,6 @@ pub(crate) fn scenario_at<'a>(
 }
 
 /// Returns the outcome of the unedited run.
-#[tactic(auto, unfolding(scenario::specs::Scenario::IsOutlineOf))]
 fn unedited_outcome(
     trail: &mut Trail,
     scenario: &Scenario,

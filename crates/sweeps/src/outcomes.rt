@@ -21,7 +21,6 @@ use std::alloc::AllocError;
 use sweep_plans::{Change, Glitch, Standing};
 
 /// Returns the outline of an edited scenario, whose run continues from a fork. An effect leads to it from the run of the fork.
-#[tactic(auto, unfolding(scenario::specs::Scenario::IsOutlineOf))]
 fn outline_from(
     scenario: &Scenario,
     fork: &Fork,

@@ -1,4 +1,5 @@
 use Rattle.std.proofs.lemmas.Result.{IfOk-weaker}
+use Rattle.scenario.specs.Scenario.{IsOutlineOf, chosen_state}
 use Rattle.scenario.proofs.TrailFacts.{moved, shown}
 use Rattle.sweeps.proofs.beginning.unedited_outcome.Goals as goal
 
@@ -9,11 +10,12 @@ returns-in_err-machine-clause-right c =
     c.marks.ensures c.at_altered.ensures.right c.requires.right
 
 pub returns-clause-outcome : goal.returns-clause-outcome
+unfolding IsOutlineOf
 returns-clause-outcome c =
     let shows = shown c.args.scenario.now c.setup.result.now c.marks.result.now c.step.result c.args.trail.now
     c.in_ok-machine.machine c.setup.ensures c.marks.ensures c.step.ensures c.in_ok-machine.ensures.shows
     c.requires.right in
-    IfOk-weaker c.outline.result _ _ (λ text told. told shows) c.outline.ensures
+    IfOk-weaker c.outline.result _ _ (λ text told. told (chosen_state c.args.scenario.now) shows) c.outline.ensures
 
 pub returns-clause-right : goal.returns-clause-right
 returns-clause-right c =
