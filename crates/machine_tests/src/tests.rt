@@ -255,17 +255,16 @@ fn halves_are_executed(rt: HostRuntime) {
     assert_so_for(&rt, rt.alloc(), Isa::Rv32imc, &SHORT);
 }
 
-/// Returns whether a code of this length is `addi a0, a0, 1`.
+/// Returns whether a code of this length adds 1 to a register.
 fn is_count(code: Code, len: u32) -> bool {
     match row_of_code(code) {
         Some(
             Instruction::Immediate {
                 operation: Operation::Add,
-                rd,
-                rs1,
                 imm: 1,
+                ..
             },
-        ) => rd.number() == 10 && rs1.number() == 10 && code.len() == len,
+        ) => code.len() == len,
         _ => false,
     }
 }

@@ -1,4 +1,5 @@
 //! What is compared with a copy, and with one in which one thing is another.
+use crate::heap::release;
 use crate::{comes, holds};
 use call_stacks::{CallStack, Trace};
 use error_events::{Event, Group, Groups, Kind, Note};
@@ -9,14 +10,19 @@ use std::alloc::{AllocError, Global};
 /// The groups that are compared; of more, no two lists are found to be the same.
 const MOST_GROUPS: u32 = 64;
 
-/// A live block of 8 bytes.
-fn block_at(start: u32) -> Block {
+/// A live block of 8 bytes, or with one thing changed, by its number from 1 to 5.
+fn block_with(change: u32) -> Block {
+    let freed = Trace::of(0x10010);
     Block {
-        start,
-        size: 8,
-        redzone: 16,
-        trace: Trace::of(0x10008),
-        freed: None,
+        start: if change == 1 {
+            0x4000_0020
+        } else {
+            0x4000_0010
+        },
+        size: if change == 2 { 9 } else { 8 },
+        redzone: if change == 3 { 24 } else { 16 },
+        trace: Trace::of(if change == 4 { 0x10000 } else { 0x10008 }),
+        freed: if change == 5 { Some(freed) } else { None },
     }
 }
 
@@ -32,35 +38,25 @@ fn group_of(count: u64) -> Group {
 
 fn near_by(distance: u32) -> Near {
     Near {
-        block: block_at(0x4000_0010),
+        block: block_with(0),
         place: Place::After,
         distance,
     }
 }
 
-/// Returns whether a block is the same as itself, and as none in which one thing is another.
+/// Returns whether blocks are the same if nothing is changed, or the same thing.
 fn blocks_differ() -> bool {
-    let block = block_at(0x4000_0010);
-    let freed = Some(Trace::of(0x10010));
-    let others = [
-        block_at(0x4000_0020),
-        Block { size: 9, ..block },
-        Block {
-            redzone: 24,
-            ..block
-        },
-        Block {
-            trace: Trace::of(0x10000),
-            ..block
-        },
-        Block { freed, ..block },
-    ];
-    block.is_same(&block)
-        && Block { freed, ..block }.is_same(&Block { freed, ..block })
-        && !others.iter().any(|other| block.is_same(other))
+    for one in 0..6 {
+        for other in 0..6 {
+            if block_with(one).is_same(&block_with(other)) != (one == other) {
+                return false;
+            }
+        }
+    }
+    true
 }
 
-/// Returns whether that is so of a block with the place of an address.
+/// Returns whether a block with the place of an address is the same as itself, and as none in which one thing is another.
 fn places_differ() -> bool {
     let near = near_by(0);
     let others = [
@@ -70,7 +66,7 @@ fn places_differ() -> bool {
             ..near
         },
         Near {
-            block: block_at(0x4000_0020),
+            block: block_with(1),
             ..near
         },
     ];
@@ -185,7 +181,7 @@ fn heaps_differ(alloc: Global) -> Result<bool, AllocError> {
     let place = heap.allocate(alloc, 8, Trace::of(8), 16)?;
     let live = heap.share()?;
     let is_grown = heap.is_same(&live) && !heap.is_same(&empty);
-    let _released = heap.release(alloc, place.unwrap_or(0), Trace::of(12), 1000)?;
+    let _start = release(alloc, &mut heap, place.unwrap_or(0), 1000)?;
     let freed = heap.share()?;
     Ok(is_alike && is_grown && heap.is_same(&freed) && !heap.is_same(&live))
 }

@@ -27,7 +27,7 @@ const ONE: Act = Act::Allocate(8, 16, Some(0x4000_0010));
 type Case = (&'static str, &'static [Act], &'static [Act]);
 
 /// Releases an address. Returns the start of the freed block, and whether the release is an error.
-fn release(
+pub(crate) fn release(
     alloc: Global,
     heap: &mut Heap,
     address: u32,
