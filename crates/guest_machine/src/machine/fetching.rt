@@ -1,5 +1,5 @@
 //! The code at pc: what can be fetched, and which instruction it is.
-ghost use Rattle.std.specs.Prelude.{◌≡◌, ◌&&◌, Option, Some, None, IfSome, OnOk, false};
+ghost use Rattle.std.specs.Prelude.{◌≡◌, ◌&&◌, Option, Some, None, IfSome, OnOk, false, true};
 ghost use Rattle.guest_elf.specs.Profiles.{is_aligned};
 ghost use Rattle.guest_machine.specs.Errors.{fetch_undef};
 ghost use Rattle.guest_machine.specs.Exec.{code_in, cut, fetched, is_running, jump_fault, no_intake, nothing, unfetched, Takes};
@@ -117,7 +117,16 @@ impl Guest {
         Ok(())
     }
 
-    /// The instruction of the word at pc, if the machine runs and it was decoded recently.
+    /// The instruction of the word at pc, if it was decoded recently; an instruction may begin there.
+    #[inline(always)]
+    pub(super) fn decoded_here(&self) -> Option<Instruction>
+        requires { (is_running (core_of self.now).status && is_aligned (core_of self.now).isa (core_of self.now).pc) ≡ true }
+        ensures { IfSome result (λ row. IsDecoded (core_of self.now) (bytes_of self.now) 4 row) }
+    {
+        self.memory.decoded_word(self.pc)
+    }
+
+    /// The same, if the machine runs and an instruction may begin at pc.
     #[inline(always)]
     pub(super) fn decoded(&self) -> Option<Instruction>
         ensures { IfSome result (λ row. IsDecoded (core_of self.now) (bytes_of self.now) 4 row) }
@@ -125,7 +134,7 @@ impl Guest {
         if !self.is_ready() {
             return None;
         }
-        self.memory.decoded_word(self.pc)
+        self.decoded_here()
     }
 
     /// The same of the half at pc, if the machine has instructions of 16 bits.

@@ -1,10 +1,11 @@
 //! One step.
-ghost use Rattle.std.specs.Prelude.{◌≡◌, ◌+◌, ◌%◌, ◌≤◌, [], min, length, nat_lt, false, Option, Some, None, IfOk, IfSome, OnErr, OnOk};
+ghost use Rattle.std.specs.Prelude.{◌≡◌, ◌+◌, ◌%◌, ◌≤◌, [], min, length, nat_lt, false, true, ◌&&◌, Option, Some, None, IfOk, IfSome, OnErr, OnOk};
 ghost use Rattle.guest_machine.specs.State.{State};
 ghost use Rattle.guest_machine.specs.Effects.{next_of};
 ghost use Rattle.guest_machine.specs.Errors.{fetch_undef};
 ghost use Rattle.instructions.specs.Codes.{len_of, row_of_code};
-ghost use Rattle.guest_machine.specs.Exec.{nothing, reading, writing, called_here, exec, touched_of};
+ghost use Rattle.guest_elf.specs.Profiles.{is_aligned};
+ghost use Rattle.guest_machine.specs.Exec.{nothing, reading, writing, called_here, exec, is_running, touched_of};
 ghost use Rattle.guest_machine.specs.Run.{pre};
 ghost use Rattle.guest_machine.specs.Shows.{core_of, bytes_of, Holds, Shows, has_raised};
 ghost use Rattle.guest_machine.specs.Spans.{span_at, IsCodeSpan};
@@ -185,6 +186,16 @@ impl Guest {
         }
     }
 
+    /// The function of the heap that is called by name; an instruction may begin at pc.
+    #[inline(always)]
+    #[tactic(auto, unfolding(crate::specs::Exec::called_here))]
+    fn named_here(&self, hooks: &Hooks) -> Option<Hook>
+        requires { (is_running (core_of self.now).status && is_aligned (core_of self.now).isa (core_of self.now).pc) ≡ true }
+        ensures { result ≡ called_here (core_of self.now) hooks.now }
+    {
+        hooks.at(self.pc)
+    }
+
     /// The function of the heap that is called by name.
     #[inline(always)]
     #[tactic(auto, unfolding(crate::specs::Exec::called_here))]
@@ -192,7 +203,7 @@ impl Guest {
         ensures { result ≡ called_here (core_of self.now) hooks.now }
     {
         if self.is_ready() {
-            hooks.at(self.pc)
+            self.named_here(hooks)
         } else {
             None
         }
@@ -326,7 +337,20 @@ impl Guest {
         Ok(used.touched(None))
     }
 
-    /// Calls the function of the heap that begins at pc, executes the code there, or halts. Returns which bytes that read or wrote.
+    /// The step if no instruction may begin at pc, or the machine doesn't run.
+    #[inline(always)]
+    #[tactic(auto, unfolding(crate::specs::Exec::called_here))]
+    fn perform_unready(&mut self, setup: &Setup) -> Result<Touched, AllocError>
+        requires { (is_running (core_of self.old).status && is_aligned (core_of self.old).isa (core_of self.old).pc) ≡ false }
+        ensures does { OnOk result (DoesStep self.old self.new setup.now) }
+        ensures touched { IfOk result (λ touched. touched ≡ touched_by self.old setup.now) }
+        ensures code { IfOk result (λ touched. IfSome touched.fetch IsCodeSpan) }
+    {
+        self.begin_anew(setup)
+    }
+
+    /// Calls the function of the heap that begins at pc, executes the code there, or halts. Returns which bytes that read or wrote. Asks only
+    /// once whether an instruction may begin at pc.
     #[inline(always)]
     #[tactic(auto, unfolding(instructions::specs::Codes::code_of, crate::specs::Exec::uses_at, crate::specs::Exec::intake_at, crate::specs::Exec::effect_at, crate::specs::Exec::touched_at))]
     fn perform(&mut self, setup: &Setup) -> Result<Touched, AllocError>
@@ -334,11 +358,14 @@ impl Guest {
         ensures touched { IfOk result (λ touched. touched ≡ touched_by self.old setup.now) }
         ensures code { IfOk result (λ touched. IfSome touched.fetch IsCodeSpan) }
     {
-        if let Some(function) = self.called_here(&setup.hooks) {
+        if !self.is_ready() {
+            return self.perform_unready(setup);
+        }
+        if let Some(function) = self.named_here(&setup.hooks) {
             return self.perform_by_name(function, setup);
         }
         let pc = self.pc;
-        match self.decoded() {
+        match self.decoded_here() {
             None => self.begin_anew(setup),
             Some(instruction) => {
                 let used = self.round(setup, 0, 4, instruction)?;

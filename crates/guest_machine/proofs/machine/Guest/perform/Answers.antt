@@ -4,4 +4,4 @@ use Rattle.guest_machine.proofs.machine.Guest.perform.Goals as goal
 
 pub touched_at-requires-clause-even : goal.touched_at-requires-clause-even
 touched_at-requires-clause-even c =
-    at_code (core_of c.args.self.now) (bytes_of c.args.self.now) _ c.in-Some-decoded.ensures.taken
+    at_code (core_of c.args.self.now) (bytes_of c.args.self.now) _ c.in-Some-decoded_here.ensures.taken
