@@ -1,9 +1,6 @@
 //! The orders of command lines.
 use clap::error::ErrorKind;
-use command_line::{Order, SweepWords, Task, isa_name, isa_named, read_order};
-use ends::End;
-use guest_elf::Isa;
-use program_files::profile_named;
+use command_line::{Order, SweepWords, Task, read_order};
 use std::alloc::{AllocError, Global};
 use std::process::Abort;
 
@@ -337,22 +334,4 @@ fn lines_without_an_order(rt: HostRuntime) {
             line.0
         );
     }
-}
-
-/// Whether this is the name of an instruction set, for which a file is read then.
-fn is_name_of(name: &str, isa: Isa) -> bool {
-    isa_name(isa) == name
-        && matches!(isa_named(name), Some(named) if named == isa)
-        && matches!(profile_named(name), Ok(profile) if profile.isa == isa)
-}
-
-#[test]
-fn instruction_sets_have_names(rt: HostRuntime) {
-    assert!(rt; is_name_of("rv32im", Isa::Rv32im), "the usual one");
-    assert!(rt; is_name_of("rv32imc", Isa::Rv32imc), "with 16 bits");
-    assert!(rt; isa_named("rv64").is_none(), "another");
-    assert!(rt;
-        matches!(profile_named("rv64"), Err(End::BadIsa("rv64"))),
-        "its end"
-    );
 }
