@@ -90,8 +90,8 @@ pub(crate) enum Action {
     Certify(u32),
 }
 
-/// Carries out an order for the report or the verdict of a step, or for a session: the name of the instruction set is judged, then the program
-/// is read, then the suppressions, then the input, each judged before the next is read.
+/// Carries out an order for the report or the verdict of a step, or for a session: the name of the instruction set is judged, then the
+/// program is read, then the suppressions, then the input, each judged before the next is read.
 fn follow_order<'a, F: Files, R: Read, W: Write>(
     alloc: Global,
     order: &Order<'a>,
@@ -149,8 +149,8 @@ fn sweep_image<'a, F: Files, R: Read, W: Write>(
     )
 }
 
-/// Carries out an order for a sweep: its arguments are read, the name of the instruction set last, and then the program, the suppressions and
-/// the input, each judged before the next is read.
+/// Carries out an order for a sweep: its arguments are read, the name of the instruction set last, and then the program, the suppressions
+/// and the input, each judged before the next is read.
 fn follow_sweep<'a, F: Files, R: Read, W: Write>(
     alloc: Global,
     order: &Order<'a>,

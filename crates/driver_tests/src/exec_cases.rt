@@ -73,7 +73,8 @@ const ENOUGH: Rooms = Rooms {
     opens: true,
 };
 
-/// A label; a program's words, the name of its instruction set, its arguments, standard input and the rooms; the exit status, the output, and the front of the report.
+/// A label; a program's words, the name of its instruction set, its arguments, standard input and the rooms; the exit status, the output,
+/// and the front of the report.
 #[derive(Clone, Copy)]
 struct Case {
     label: &'static str,

@@ -78,12 +78,12 @@ refused_writes start setup zero = 0
 refused_writes start setup (suc n) =
     refused_writes start setup n + (if refuses_write (pre start setup [] n) setup then 1 else 0)
 
--- does a jump to itself, whose code is defined?
+-- is the code that is taken defined?
 abbrev pub is_defined : Core → Deed → Bool
 is_defined core (Takes code) = fetch_undef core (len_of code) == 0
 is_defined core _ = false
 
--- is a state in a jump to itself, whose code is defined?
+-- is it a jump to itself, whose code is defined?
 abbrev pub idles_in : Core → Deed → Bool
 idles_in core deed = jumps_to_itself deed && is_defined core deed
 

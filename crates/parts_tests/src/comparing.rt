@@ -26,7 +26,7 @@ fn block_with(change: u32) -> Block {
     }
 }
 
-/// A read next to it.
+/// The group of this many reads just after a block.
 fn group_of(count: u64) -> Group {
     Group {
         kind: Kind::Read(4),
@@ -136,7 +136,7 @@ fn values_are_compared(rt: HostRuntime) {
     holds(&rt, "traces", traces_differ());
 }
 
-/// Returns whether a call stack is the same as its copy: until one more call; and after a return and a call from elsewhere it isn't again.
+/// Returns whether a call stack is the same as its copy, but not after one more call, nor after a return and a call from elsewhere.
 fn stacks_differ(alloc: Global) -> Result<bool, AllocError> {
     let mut stack = CallStack::new(alloc)?;
     stack.call(0x10, 0x14);

@@ -286,7 +286,7 @@ impl Mixed {
         None
     }
 
-    // Returns whether the marks are those of others. May also return `false` for such marks, if a byte was once partly defined.
+    /// Returns whether the marks are those of others. May also return `false` for such marks, if a byte was once partly defined.
     fn are_same(&self, others: &Mixed) -> bool
         ensures { IsTrue result → Agree (marks_mixed self.now) (marks_mixed others.now) }
     {
