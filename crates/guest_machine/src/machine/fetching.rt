@@ -1,11 +1,10 @@
 //! The code at pc: what can be fetched, and which instruction it is.
-ghost use Rattle.std.specs.Prelude.{◌≡◌, ◌&&◌, Option, Some, None, IfSome, OnOk, false, true};
-ghost use Rattle.guest_elf.specs.Profiles.{is_aligned};
+ghost use Rattle.std.specs.Prelude.{◌≡◌, Option, Some, None, IfSome, OnOk, false, true};
 ghost use Rattle.guest_machine.specs.Errors.{fetch_undef};
 ghost use Rattle.guest_machine.specs.Exec.{code_in, cut, fetched, is_running, jump_fault, no_intake, nothing, unfetched, Takes};
 ghost use Rattle.guest_machine.specs.Shows.{core_of, bytes_of, Shows};
 ghost use Rattle.guest_machine.specs.State.{State};
-ghost use Rattle.guest_machine.specs.Doing.{Does, IsDecoded, IsFetch};
+ghost use Rattle.guest_machine.specs.Doing.{is_ready, Does, IsDecoded, IsFetch};
 ghost use Rattle.instructions.specs.Codes.{len_of, row_of_code};
 
 use crate::machine::{Guest, Machine};
@@ -51,7 +50,7 @@ impl Guest {
     /// Whether it runs, and an instruction may begin at pc.
     #[inline(always)]
     pub(super) fn is_ready(&self) -> bool
-        ensures { result ≡ (is_running (core_of self.now).status && is_aligned (core_of self.now).isa (core_of self.now).pc) }
+        ensures { result ≡ is_ready (core_of self.now) }
     {
         self.runs() && self.isa.aligns(self.pc)
     }
@@ -120,7 +119,7 @@ impl Guest {
     /// The instruction of the word at pc, if it was decoded recently; an instruction may begin there.
     #[inline(always)]
     pub(super) fn decoded_here(&self) -> Option<Instruction>
-        requires { (is_running (core_of self.now).status && is_aligned (core_of self.now).isa (core_of self.now).pc) ≡ true }
+        requires { is_ready (core_of self.now) ≡ true }
         ensures { IfSome result (λ row. IsDecoded (core_of self.now) (bytes_of self.now) 4 row) }
     {
         self.memory.decoded_word(self.pc)

@@ -1,15 +1,14 @@
 //! One step.
-ghost use Rattle.std.specs.Prelude.{◌≡◌, ◌+◌, ◌%◌, ◌≤◌, [], min, length, nat_lt, false, true, ◌&&◌, Option, Some, None, IfOk, IfSome, OnErr, OnOk};
+ghost use Rattle.std.specs.Prelude.{◌≡◌, ◌+◌, ◌%◌, ◌≤◌, [], min, length, nat_lt, true, false, Option, Some, None, IfOk, IfSome, OnErr, OnOk};
 ghost use Rattle.guest_machine.specs.State.{State};
 ghost use Rattle.guest_machine.specs.Effects.{next_of};
 ghost use Rattle.guest_machine.specs.Errors.{fetch_undef};
 ghost use Rattle.instructions.specs.Codes.{len_of, row_of_code};
-ghost use Rattle.guest_elf.specs.Profiles.{is_aligned};
-ghost use Rattle.guest_machine.specs.Exec.{nothing, reading, writing, called_here, exec, is_running, touched_of};
+ghost use Rattle.guest_machine.specs.Exec.{nothing, reading, writing, called_here, exec, touched_of};
 ghost use Rattle.guest_machine.specs.Run.{pre};
 ghost use Rattle.guest_machine.specs.Shows.{core_of, bytes_of, Holds, Shows, has_raised};
 ghost use Rattle.guest_machine.specs.Spans.{span_at, IsCodeSpan};
-ghost use Rattle.guest_machine.specs.Doing.{touched_in, used_of, uses_by, touched_by, DoesRow, DoesRound, DoesStep, IsFetch};
+ghost use Rattle.guest_machine.specs.Doing.{is_ready, touched_in, used_of, uses_by, touched_by, DoesRow, DoesRound, DoesStep, IsFetch};
 
 use crate::hooks::Hooks;
 use crate::machine::fetching::Fetch;
@@ -190,7 +189,7 @@ impl Guest {
     #[inline(always)]
     #[tactic(auto, unfolding(crate::specs::Exec::called_here))]
     fn named_here(&self, hooks: &Hooks) -> Option<Hook>
-        requires { (is_running (core_of self.now).status && is_aligned (core_of self.now).isa (core_of self.now).pc) ≡ true }
+        requires { is_ready (core_of self.now) ≡ true }
         ensures { result ≡ called_here (core_of self.now) hooks.now }
     {
         hooks.at(self.pc)
@@ -341,7 +340,7 @@ impl Guest {
     #[inline(always)]
     #[tactic(auto, unfolding(crate::specs::Exec::called_here))]
     fn perform_unready(&mut self, setup: &Setup) -> Result<Touched, AllocError>
-        requires { (is_running (core_of self.old).status && is_aligned (core_of self.old).isa (core_of self.old).pc) ≡ false }
+        requires { is_ready (core_of self.old) ≡ false }
         ensures does { OnOk result (DoesStep self.old self.new setup.now) }
         ensures touched { IfOk result (λ touched. touched ≡ touched_by self.old setup.now) }
         ensures code { IfOk result (λ touched. IfSome touched.fetch IsCodeSpan) }
