@@ -17,7 +17,7 @@ use Rattle.guest_machine.specs.State.{Core}
 use Rattle.guest_machine.specs.DecodeCaches.{HasRow}
 use Rattle.guest_machine.specs.Doing.{IsDecoded}
 use Rattle.guest_machine.specs.Errors.{fetch_undef}
-use Rattle.guest_machine.specs.Exec.{Deed, Takes, Cut, Halts, fetch_by, fetch_fault, fetched, fetches, half_at}
+use Rattle.guest_machine.specs.Exec.{Takes, Cut, fetch_by, fetch_fault, fetched, fetches, half_at}
 use Rattle.guest_machine.specs.Exec.{is_running}
 use Rattle.guest_machine.specs.Exec.{word_at, word_fault}
 

@@ -1,5 +1,5 @@
 -- A machine that doesn't run stays as it is, and touches nothing.
-use Rattle.std.proofs.Common.{◌≡◌, ℕ, ◌+◌, ◌++◌, ◌&&◌, List, length, false, cond, Some, None, ap, ◌∙◌, add-zero}
+use Rattle.std.proofs.Common.{◌≡◌, ℕ, ◌+◌, ◌++◌, ◌&&◌, List, length, false, cond, None, ap, ◌∙◌, add-zero}
 use Rattle.std.proofs.Common.{append-nil}
 use Rattle.std.specs.Prelude.{is_none}
 use Rattle.guest_elf.specs.declared.hook.Hook.{Hook}

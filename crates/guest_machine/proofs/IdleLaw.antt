@@ -1,7 +1,7 @@
 -- A state that rests in a jump to itself stays as it is.
 use Rattle.std.proofs.Common.{◌≡◌, inl, inr, ℕ, ◌+◌, ◌%◌, ◌^◌, ◌<◌, ◌&&◌, ◌==◌, nat_lt, Bool, true}
-use Rattle.std.proofs.Common.{false, cond, List, [], ◌∷◌}
-use Rattle.std.proofs.Common.{◌++◌, length, append-nil, Option, Some, None, refl, ap, sym, ◌∙◌, arith}
+use Rattle.std.proofs.Common.{false, cond, [], ◌∷◌}
+use Rattle.std.proofs.Common.{◌++◌, append-nil, Option, Some, None, refl, ap, sym, ◌∙◌, arith}
 use Rattle.std.proofs.Common.{add-zero}
 use Rattle.std.proofs.lemmas.Bool.Decides.{nat_tests}
 use Rattle.guest_elf.specs.Profiles.{is_aligned}
@@ -15,7 +15,6 @@ use Rattle.rv_compressed.specs.Table.{expansion}
 use Rattle.rv_decode.specs.Table as words
 use Rattle.rv_decode.specs.Table.{insn}
 use Rattle.instructions.specs.CallStack.{hint_by, hinted, jal_hint}
-use Rattle.instructions.specs.declared.instruction.Instruction.{Instruction}
 use Rattle.instructions.specs.declared.instruction.Instruction.TheVariants.{Jump}
 use Rattle.guest_machine.specs.State.{Core, State}
 use Rattle.guest_machine.specs.Effects.{Effect, linked_jump, next_of, stopped}
@@ -26,12 +25,10 @@ use Rattle.guest_machine.specs.Registers.{register, set_register}
 use Rattle.guest_machine.specs.StackPointer.{framed, stack_moved, stack_ruled}
 use Rattle.shadow_memory.specs.declared.cells.RangeKind.TheVariants.{NoAccess, Undefined}
 use Rattle.run_values.specs.declared.status.Stop.TheVariants.{Misaligned}
-use Rattle.guest_machine.specs.Exec.{Deed, Takes, Cut, CallsByName, Halts, deed_at, deed_by, deed_terms, exec}
-use Rattle.guest_machine.specs.Exec.{outcome}
-use Rattle.guest_machine.specs.Exec.{called_here, fetched, intake_at, intake_of, left_at, deed_asks}
-use Rattle.guest_machine.specs.Exec.{given_at, taken_from, plan, row_asks, row_effect, row_uses, uses_at, effect_at}
-use Rattle.guest_machine.specs.Exec.{is_heap_deed, calls_heap, counted, is_running, rounded, seen_also, terms_of}
-use Rattle.guest_machine.specs.Exec.{written_to}
+use Rattle.guest_machine.specs.Exec.{Deed, Takes, Cut, CallsByName, Halts, deed_at, deed_by, exec}
+use Rattle.guest_machine.specs.Exec.{called_here, fetched, intake_at}
+use Rattle.guest_machine.specs.Exec.{row_asks, row_effect, row_uses, uses_at, effect_at}
+use Rattle.guest_machine.specs.Exec.{calls_heap, is_running}
 use Rattle.guest_machine.specs.Streams.{calls_out, is_defined, is_idle, is_self_jump, jumps_to_itself, row_at, row_in}
 use Rattle.guest_machine.specs.Streams.{self_jump, short_self_jump, StaysAtRest}
 use Rattle.guest_machine.specs.declared.setup.Setup.{Setup}

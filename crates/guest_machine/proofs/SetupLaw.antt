@@ -9,7 +9,7 @@ use Rattle.guest_machine.specs.Exec.{Deed, Terms, Intake, exec, plan, outcome, i
 use Rattle.guest_machine.specs.Exec.{uses_at, effect_at, touches, touched_at}
 use Rattle.guest_machine.specs.Exec.{has_touched, deed_at, deed_asks, deed_terms, is_heap_deed, given_at, taken_from}
 use Rattle.guest_machine.specs.Exec.{written_to, counted, fetch_span}
-use Rattle.guest_machine.specs.Laws.{KeepsInput, KeepsHeap, KeepsEnd, EndStays, Extends, is_heap_step}
+use Rattle.guest_machine.specs.Laws.{KeepsInput, KeepsHeap, KeepsEnd, EndStays, is_heap_step}
 use Rattle.guest_machine.specs.Run.{pre}
 use Rattle.guest_machine.specs.Streams.{HasMore, KeepsFront}
 use Rattle.guest_machine.specs.declared.setup.Setup.{Setup}

@@ -1,8 +1,7 @@
 -- What the next instruction is, and what it asks for.
-use Rattle.std.proofs.Common.{◌≡◌, ◌⊎◌, inl, inr, ℕ, ◌+◌, ◌-◌, ◌<◌, ◌≤◌, ◌&&◌, min, nat_lt, nat_le, Bool, true, false}
-use Rattle.std.proofs.Common.{cond, List, []}
+use Rattle.std.proofs.Common.{◌≡◌, ◌⊎◌, inl, inr, ℕ, ◌+◌, ◌<◌, false}
+use Rattle.std.proofs.Common.{List, []}
 use Rattle.std.proofs.Common.{Option, Some, None, refl, ap, sym, subst, ◌∙◌, arith}
-use Rattle.std.proofs.lemmas.Bool.Decides.{nat_tests}
 use Rattle.guest_elf.specs.declared.hook.Hook.{Hook}
 use Rattle.instructions.specs.Codes.{code_of, row_of_code}
 use Rattle.instructions.specs.declared.code.Code.{Code}
@@ -10,7 +9,7 @@ use Rattle.instructions.specs.declared.instruction.Instruction.{Instruction}
 use Rattle.shadow_memory.specs.Ranges.{little_word, window}
 use Rattle.guest_machine.specs.State.{Core, State}
 use Rattle.guest_machine.specs.Exec.{Deed, Takes, Cut, CallsByName, Halts, called_here, deed_asks, deed_at, deed_by}
-use Rattle.guest_machine.specs.Exec.{exec, row_asks}
+use Rattle.guest_machine.specs.Exec.{row_asks}
 use Rattle.guest_machine.specs.Run.{pre}
 use Rattle.guest_machine.specs.Shows.{core_of, bytes_of, Holds}
 use Rattle.guest_machine.specs.Doing.{IsDecoded}

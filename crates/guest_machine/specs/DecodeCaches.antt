@@ -1,6 +1,6 @@
 -- Instructions that were decoded recently, each with the address of the code that it was decoded from. Those of words
 -- are in one table, and those of halves in another one.
-use Rattle.std.specs.Prelude.{◌≡◌, ℕ, ◌+◌, ◌/◌, ◌%◌, ◌^◌, ◌<◌, ◌≤◌, ◌==◌, ◌⊎◌, false, Some, None, List, slice_index_or}
+use Rattle.std.specs.Prelude.{◌≡◌, ℕ, ◌+◌, ◌/◌, ◌%◌, ◌<◌, ◌≤◌, ◌==◌, ◌⊎◌, false, Some, None, List, slice_index_or}
 use Rattle.guest_elf.specs.Profiles.{is_half}
 use Rattle.guest_elf.specs.declared.profile.Isa.TheVariants.{Rv32imc}
 use Rattle.shadow_memory.specs.Ranges.{is_in, little_word, window}

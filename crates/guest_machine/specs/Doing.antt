@@ -1,5 +1,5 @@
 -- What the machine's private functions do to the parts that it shows.
-use Rattle.std.specs.Prelude.{◌≡◌, ℕ, ◌+◌, ◌%◌, ◌^◌, ◌&&◌, true, false, Bool, length, List, [], ◌∷◌, Option, Some, None}
+use Rattle.std.specs.Prelude.{◌≡◌, ℕ, ◌+◌, ◌&&◌, true, false, Bool, length, List, [], ◌∷◌, Option, Some, None}
 use Rattle.guest_machine.specs.State.{Core}
 use Rattle.guest_machine.specs.Effects.{Effect, moved_to, next_of, stored_core}
 use Rattle.run_values.specs.declared.span.Span.{Span}
@@ -10,7 +10,7 @@ use Rattle.guest_machine.specs.Exec.{Uses, Terms, Intake, no_intake, intake_of, 
 use Rattle.guest_machine.specs.Exec.{call_asks, counted, written_to, row_uses, row_effect, rounded, calls_heap}
 use Rattle.guest_machine.specs.Exec.{read_uses, write_uses, work_uses, heap_uses, named_uses, moved_from, moved_into}
 use Rattle.guest_machine.specs.Exec.{terms_of, given_at, taken_from, is_heap_deed, deed_at, uses_at, effect_at}
-use Rattle.guest_machine.specs.Exec.{Deed, Takes, Cut, Halts, fetched, is_running, touched_at}
+use Rattle.guest_machine.specs.Exec.{Takes, Cut, Halts, fetched, is_running, touched_at}
 use Rattle.guest_elf.specs.Profiles.{is_aligned}
 use Rattle.guest_machine.specs.Errors.{fetch_undef}
 use Rattle.instructions.specs.Codes.{code_of, len_of, row_of_code}

@@ -1,7 +1,7 @@
 -- One step, in three parts: what it does, by the code at pc and the functions that are called by name; what it uses, by
 -- this and what decides the step; and what it leaves, by these, the input that it gets and the bytes that it reads. It
 -- depends on no other byte value and no other part of the setup.
-use Rattle.std.specs.Prelude.{nat_lt, ◌≡◌, ℕ, ◌+◌, ◌-◌, ◌*◌, ◌==◌, ◌&&◌, ◌||◌, Bool, true, false, if◌then◌else◌}
+use Rattle.std.specs.Prelude.{nat_lt, ℕ, ◌+◌, ◌-◌, ◌*◌, ◌==◌, ◌&&◌, ◌||◌, Bool, true, false, if◌then◌else◌}
 use Rattle.std.specs.Prelude.{List, ◌++◌, take, drop, length, min, Option, Some, None, is_none}
 use Rattle.shadow_memory.specs.Ranges.{window, little_word, written}
 use Rattle.guest_machine.specs.Spans.{span_at, covers}
@@ -17,7 +17,7 @@ use Rattle.guest_machine.specs.Calls.{unknown_call}
 use Rattle.guest_elf.specs.Hooks.{hook_at}
 use Rattle.guest_elf.specs.Profiles.{is_aligned, is_half, unit}
 use Rattle.guest_machine.specs.NamedCalls.{returns, named_call}
-use Rattle.guest_machine.specs.Errors.{here, event_about, fetch_undef, fetch_errors}
+use Rattle.guest_machine.specs.Errors.{here, event_about, fetch_errors}
 use Rattle.guest_machine.specs.StackPointer.{stack_ruled}
 use Rattle.guest_machine.specs.Registers.{register}
 use Rattle.guest_machine.specs.declared.environment_call.EnvironmentCall.{EnvironmentCall}

@@ -1,6 +1,5 @@
-use Rattle.std.proofs.Common.{◌≡◌, ℕ, length}
+use Rattle.std.proofs.Common.{◌≡◌, length}
 use Rattle.shadow_memory.specs.Memories.{bytes_in, shadows_in}
-use Rattle.guest_machine.specs.DecodeCaches.{IsEntry, entry_at}
 use Rattle.guest_machine.proofs.SameCodes.{AreFit}
 use Rattle.guest_machine.proofs.fitting.fit_each.Given as goal
 

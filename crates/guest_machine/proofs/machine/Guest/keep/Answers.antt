@@ -1,10 +1,9 @@
-use Rattle.std.proofs.Common.{◌≡◌, ◌∙◌, ap, sym, subst, arith, ℕ}
+use Rattle.std.proofs.Common.{◌≡◌, ◌∙◌, ap, sym, arith}
 use Rattle.guest_elf.specs.Profiles.{is_half}
 use Rattle.guest_elf.specs.declared.profile.Isa.TheVariants.{Rv32imc}
 use Rattle.instructions.specs.Codes.{len_of, row_of_code}
-use Rattle.instructions.specs.declared.code.Code.{Code}
 use Rattle.guest_machine.specs.Errors.{fetch_undef}
-use Rattle.guest_machine.specs.Exec.{fetched, Takes}
+use Rattle.guest_machine.specs.Exec.{Takes}
 use Rattle.guest_machine.specs.Shows.{bytes_of, core_of}
 use Rattle.guest_machine.proofs.Fetching.{at_code, keep_half, keep_word}
 use Rattle.guest_machine.proofs.machine.Guest.keep.Goals as goal
