@@ -11,8 +11,9 @@ use Rattle.suppressions.specs.Words.{leak_kinds}
 use Rattle.suppressions.specs.declared.leak_kinds.LeakKinds.{LeakKinds}
 use Rattle.commands.specs.Commands.{add_with, alone, append_of, append_with, command_among, command_of, cut_of, fields}
 use Rattle.commands.specs.Commands.{goto_with, has_empty, input_of, input_with, kind_of, mark_of, mark_with, number}
-use Rattle.commands.specs.Commands.{one_number, option_named, option_of, option_with, parsed, patch_of, patch_with}
-use Rattle.commands.specs.Commands.{replace_of, show_with, small, switch_of, switch_with, taken, unmark_with}
+use Rattle.commands.specs.Commands.{one_number, option_named, option_of, option_with, parsed, patch_half_of}
+use Rattle.commands.specs.Commands.{patch_half_with, patch_of, patch_with, replace_of, short, show_with, small}
+use Rattle.commands.specs.Commands.{switch_of, switch_with, taken, unmark_with}
 use Rattle.commands.specs.Laws.{LinesMakeRanges, MakesRange}
 use Rattle.commands.specs.declared.command.Command.{Command}
 use Rattle.commands.specs.declared.command.Command.TheVariants.{Report, Worked}
@@ -94,6 +95,18 @@ patches (addr ∷ []) = tt
 patches (addr ∷ word ∷ []) = patches-with (number addr) (number word)
 patches (addr ∷ word ∷ field ∷ more) = tt
 
+patch-halves-with : (addr half : Option ℕ) → Suits (patch_half_with addr half)
+patch-halves-with None half = tt
+patch-halves-with (Some addr) None = tt
+patch-halves-with (Some addr) (Some half) = tt
+
+patch-halves : (more : List (List ℕ)) → Suits (patch_half_of more)
+unfolding patch_half_of
+patch-halves [] = tt
+patch-halves (addr ∷ []) = tt
+patch-halves (addr ∷ half ∷ []) = patch-halves-with (number addr) (short (number half))
+patch-halves (addr ∷ half ∷ field ∷ more) = tt
+
 -- a mark makes a range
 marks-with : (step addr len : Option ℕ) (kind : Option RangeKind) → Suits (mark_with step addr len kind)
 marks-with None addr len kind = tt
@@ -172,11 +185,12 @@ commands word more =
     (either (bytes_eq word (codes "report")) _ _ (stands-alone Report more tt)
     (either (bytes_eq word (codes "input")) _ _ (takes _ (inputs more))
     (either (bytes_eq word (codes "patch")) _ _ (takes _ (patches more))
+    (either (bytes_eq word (codes "patch16")) _ _ (takes _ (patch-halves more))
     (either (bytes_eq word (codes "mark")) _ _ (takes _ (marks more))
     (either (bytes_eq word (codes "unmark")) _ _ (takes _ (unmarks (one_number more)))
     (either (bytes_eq word (codes "supp")) _ _ (takes _ (switches more))
     (either (bytes_eq word (codes "option")) _ _ (options more)
-    (either (bytes_eq word (codes "worked")) _ (Err BadCommand) (stands-alone Worked more tt) tt))))))))
+    (either (bytes_eq word (codes "worked")) _ (Err BadCommand) (stands-alone Worked more tt) tt)))))))))
 
 among : (words : List (List ℕ)) → Fits (command_among words)
 among [] = tt

@@ -14,7 +14,7 @@ use Rattle.suppressions.specs.Rules.{Rule}
 use Rattle.suppressions.specs.Words.{leak_kinds}
 use Rattle.suppressions.specs.declared.leak_kinds.LeakKinds.{LeakKinds}
 use Rattle.commands.specs.declared.edit.Edit.TheVariants.{Input, Append, Cut, Patch, Mark, Unmark, Switch, Add, Callers}
-use Rattle.commands.specs.declared.edit.Edit.TheVariants.{Redzone, Volume, Show}
+use Rattle.commands.specs.declared.edit.Edit.TheVariants.{PatchHalf, Redzone, Volume, Show}
 use Rattle.commands.specs.declared.edit.Edit.{Edit as AnEdit}
 use Rattle.commands.specs.declared.command.Command.{Command}
 use Rattle.commands.specs.declared.command.Command.TheVariants.{Goto, Report, Worked, Edit}
@@ -48,6 +48,11 @@ number field = if starts_with nat_eq field (codes "0x") then number_in 16 8 (dro
 abbrev pub small : Option ℕ → Option ℕ
 small None = None
 small (Some n) = if nat_lt n 256 then Some n else None
+
+-- and if it is a half's
+abbrev pub short : Option ℕ → Option ℕ
+short None = None
+short (Some n) = if nat_lt n 65536 then Some n else None
 
 -- the number in the only field
 unfoldable pub one_number : List (List ℕ) → Option ℕ
@@ -124,6 +129,16 @@ unfoldable pub patch_of : List (List ℕ) → Option Command
 patch_of (addr ∷ word ∷ []) = patch_with (number addr) (number word)
 patch_of _ = None
 
+-- `patch16 ADDR HALF`
+abbrev pub patch_half_with : Option ℕ → Option ℕ → Option Command
+patch_half_with (Some addr) (Some half) = Some (Edit (PatchHalf addr half))
+patch_half_with (Some addr) None = None
+patch_half_with None half = None
+
+unfoldable pub patch_half_of : List (List ℕ) → Option Command
+patch_half_of (addr ∷ half ∷ []) = patch_half_with (number addr) (short (number half))
+patch_half_of _ = None
+
 -- `mark STEP ADDR LEN KIND`
 abbrev pub mark_with : Option ℕ → Option ℕ → Option ℕ → Option RangeKind → Option Command
 mark_with (Some step) (Some addr) (Some len) (Some kind) =
@@ -184,6 +199,7 @@ command_of word more =
     else if bytes_eq word (codes "report") then alone Report more
     else if bytes_eq word (codes "input") then taken (input_of more)
     else if bytes_eq word (codes "patch") then taken (patch_of more)
+    else if bytes_eq word (codes "patch16") then taken (patch_half_of more)
     else if bytes_eq word (codes "mark") then taken (mark_of more)
     else if bytes_eq word (codes "unmark") then taken (unmark_with (one_number more))
     else if bytes_eq word (codes "supp") then taken (switch_of more)

@@ -29,6 +29,7 @@ abbrev pub fault_of : Refusal → Fault
 fault_of Edit.OutsideInput = OutsideInput
 fault_of Edit.InputTooLarge = InputTooLarge
 fault_of Edit.NotPatchable = NotPatchable
+fault_of Edit.NoHalves = BadCommand
 fault_of Edit.StepLimit = StepLimit
 fault_of Edit.BadRange = BadRange
 fault_of Edit.TooManyMarks = TooManyMarks

@@ -13,6 +13,8 @@ pub enum Edit {
     Cut,
     /// Replaces a word of the loaded program.
     Patch { addr: u32, word: u32 },
+    /// Replaces a half of the loaded program, if there are instructions of 16 bits.
+    PatchHalf { addr: u32, half: u16 },
     /// Appends an alteration to the list of marks.
     Mark(Alteration),
     /// Removes the mark at an index.

@@ -15,13 +15,14 @@ pub enum Fault {
     /// reject the line.
     #[error("no memory")]
     Memory,
-    /// An unknown word, another number of fields, an empty field, or one of another form.
+    /// An unknown word, another number of fields, an empty field, or one of another form; or `patch16` where there are no instructions of 16
+    /// bits.
     #[error("unknown command or bad fields")]
     BadCommand,
     /// An offset at or above the input's length, or the last byte of an empty input.
     #[error("outside of the input")]
     OutsideInput,
-    /// An address that is no multiple of 4, or whose word isn't loaded whole.
+    /// An address at which no instruction of this length may be, or whose bytes aren't all loaded.
     #[error("no loaded word")]
     NotPatchable,
     /// A step above 4,194,304.
@@ -97,6 +98,7 @@ impl From<Refusal> for Fault {
             Refusal::OutsideInput => Fault::OutsideInput,
             Refusal::InputTooLarge => Fault::InputTooLarge,
             Refusal::NotPatchable => Fault::NotPatchable,
+            Refusal::NoHalves => Fault::BadCommand,
             Refusal::StepLimit => Fault::StepLimit,
             Refusal::BadRange => Fault::BadRange,
             Refusal::TooManyMarks => Fault::TooManyMarks,

@@ -1,7 +1,7 @@
 //! The numbers in the fields of a line.
 ghost use Rattle.std.specs.Prelude.{◌≡◌, ◌≤◌};
 ghost use Rattle.std.specs.Char.{digit_value};
-ghost use Rattle.commands.specs.Commands.{number_in, number, small, one_number};
+ghost use Rattle.commands.specs.Commands.{number_in, number, small, short, one_number};
 
 use text_parts::Parts;
 
@@ -54,6 +54,14 @@ pub(crate) fn byte(field: &[u8]) -> Option<u8>
 {
     let value = number(field)?;
     u8::try_from(value).ok()
+}
+
+/// A number, if it is a half's value.
+pub(crate) fn half(field: &[u8]) -> Option<u16>
+    ensures { result ≡ short (number field.now) }
+{
+    let value = number(field)?;
+    u16::try_from(value).ok()
 }
 
 /// The number in the only field.

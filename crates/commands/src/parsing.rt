@@ -1,12 +1,12 @@
 //! A line read as a command.
 ghost use Rattle.std.specs.Prelude.{◌≡◌, true, false};
-ghost use Rattle.commands.specs.Commands.{has_empty, kind_of, taken, alone, replace_of, append_of, cut_of, input_of, patch_of, mark_of, one_number, unmark_with, switch_of, add_with, option_named, option_of, command_of, parsed, Reads};
+ghost use Rattle.commands.specs.Commands.{has_empty, kind_of, taken, alone, replace_of, append_of, cut_of, input_of, patch_of, patch_half_of, mark_of, one_number, unmark_with, switch_of, add_with, option_named, option_of, command_of, parsed, Reads};
 ghost use Rattle.suppressions.specs.Added.{added};
 
 use crate::command::Command;
 use crate::edit::Edit;
 use crate::fault::Fault;
-use crate::numbers::{byte, number, one_number};
+use crate::numbers::{byte, half, number, one_number};
 use run_values::{Act, Alteration};
 use shadow_memory::RangeKind;
 use std::alloc::Global;
@@ -42,6 +42,8 @@ const APPEND: &[u8] = b"append";
 const CUT: &[u8] = b"cut";
 
 const PATCH: &[u8] = b"patch";
+
+const PATCH_HALF: &[u8] = b"patch16";
 
 const MARK: &[u8] = b"mark";
 
@@ -169,6 +171,21 @@ fn patch_of(mut fields: Parts<'_>) -> Option<Command>
     Some(Command::Edit(Edit::Patch { addr, word }))
 }
 
+/// `patch16 ADDR HALF`.
+#[tactic(auto, unfolding(crate::specs::Commands::patch_half_of))]
+fn patch_half_of(mut fields: Parts<'_>) -> Option<Command>
+    ensures { result ≡ patch_half_of fields.entry }
+{
+    let addr = fields.next()?;
+    let value = fields.next()?;
+    if fields.next().is_some() {
+        return None;
+    }
+    let addr = number(addr)?;
+    let half = half(value)?;
+    Some(Command::Edit(Edit::PatchHalf { addr, half }))
+}
+
 /// `mark STEP ADDR LEN KIND`.
 #[tactic(auto, unfolding(crate::specs::Commands::mark_of))]
 fn mark_of(mut fields: Parts<'_>) -> Option<Command>
@@ -284,6 +301,8 @@ fn command_of(word: &[u8], fields: Parts<'_>) -> Result<Command, Fault>
         taken(input_of(fields))
     } else if word == PATCH {
         taken(patch_of(fields))
+    } else if word == PATCH_HALF {
+        taken(patch_half_of(fields))
     } else if word == MARK {
         taken(mark_of(fields))
     } else if word == UNMARK {

@@ -7,8 +7,10 @@ pub enum Refusal {
     OutsideInput,
     /// The input has 1,048,576 bytes already.
     InputTooLarge,
-    /// An address that is no multiple of 4, or whose word isn't loaded whole.
+    /// An address at which no instruction of this length may be, or whose bytes aren't all loaded.
     NotPatchable,
+    /// A half, where there are no instructions of 16 bits.
+    NoHalves,
     /// A step above 4,194,304.
     StepLimit,
     /// A mark of no bytes, of more than 1,048,576, or that ends above 2^32.

@@ -1,6 +1,6 @@
 -- What a file is read for, besides its own bytes: an instruction set (RISC-V Unprivileged ISA 20191213, chapter
 -- 27, "ISA Extension Naming Conventions").
-use Rattle.std.specs.Prelude.{ℕ, ◌%◌, ◌==◌, Bool, false, not}
+use Rattle.std.specs.Prelude.{ℕ, ◌%◌, ◌==◌, Bool, true, false, not}
 use Rattle.guest_elf.specs.declared.profile.Isa.{Isa}
 use Rattle.guest_elf.specs.declared.profile.Isa.TheVariants.{Rv32im, Rv32imc}
 use Rattle.guest_elf.specs.declared.profile.Profile.{Profile}
@@ -13,6 +13,11 @@ usual = record { isa = Rv32im }
 unfoldable pub unit : Isa → ℕ
 unit Rv32im = 4
 unit Rv32imc = 2
+
+-- are there instructions of 16 bits? (chapter 16)
+unfoldable pub has_halves : Isa → Bool
+has_halves Rv32im = false
+has_halves Rv32imc = true
 
 -- has an instruction 16 bits? With C it has if its two lowest bits aren't both set (section 1.5, figure 1.1)
 unfoldable pub is_half : Isa → ℕ → Bool

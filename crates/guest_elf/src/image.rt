@@ -3,7 +3,7 @@ ghost use Rattle.std.specs.Prelude.{◌≡◌, ℕ, ◌+◌, ◌%◌, ◌^◌, �
 ghost use Rattle.std.specs.List.Sorted.{IsNonDecreasingBy};
 ghost use Rattle.guest_elf.specs.Hooks.{hooks_by, IsRising};
 ghost use Rattle.guest_elf.specs.declared.hook.Hook.{Hook as HookOf};
-ghost use Rattle.guest_elf.specs.Images.{segments_of, entry_of, loaded_at, name_at, hooks_of, profile_of};
+ghost use Rattle.guest_elf.specs.Images.{segments_of, entry_of, loaded_at, name_at, hooks_of, profile_of, has_room, is_half_word, is_loaded, is_word};
 ghost use Rattle.guest_elf.specs.Names.{named_by};
 ghost use Rattle.guest_elf.specs.Segments.{has_address, Fits};
 ghost use Rattle.std.specs.List.{list_any};
@@ -16,6 +16,9 @@ use std::alloc::{AllocError, Global};
 
 /// The number of bytes in a word.
 const WORD_SIZE: u32 = 4;
+
+/// The number of addresses.
+const ADDRESSES: u64 = 1 << 32;
 
 /// What an executable file loads, and where it begins.
 #[derive(Drop)]
@@ -102,6 +105,41 @@ impl<'a> Image<'a> {
             ↔ ((i : ℕ) → i < 4 → IsSome (loaded_at self.now ((addr + i) % 2 ^ 32))) }
     {
         (0..WORD_SIZE).all(|offset| self.is_loaded(addr.wrapping_add(offset)))
+    }
+
+    /// Returns whether a word of the program is at an address: an instruction may begin there, and each of the four bytes is loaded.
+    #[tactic(auto, unfolding(crate::specs::Images::is_word))]
+    pub fn is_word(&self, addr: u32) -> bool
+        ensures { result ≡ is_word self.now addr }
+    {
+        self.has_room(addr, 4)
+            && self.is_loaded_after(addr, 0)
+            && self.is_loaded_after(addr, 1)
+            && self.is_loaded_after(addr, 2)
+            && self.is_loaded_after(addr, 3)
+    }
+
+    /// Returns whether a half of the program is at an address: an instruction may begin there, and both bytes are loaded.
+    #[tactic(auto, unfolding(crate::specs::Images::is_half_word))]
+    pub fn is_half_word(&self, addr: u32) -> bool
+        ensures { result ≡ is_half_word self.now addr }
+    {
+        self.has_room(addr, 2) && self.is_loaded_after(addr, 0) && self.is_loaded_after(addr, 1)
+    }
+
+    /// Returns whether an instruction of some bytes may be at an address.
+    #[tactic(auto, unfolding(crate::specs::Images::profile_of))]
+    fn has_room(&self, addr: u32, len: u32) -> bool
+        ensures { result ≡ has_room self.now addr len }
+    {
+        self.profile.isa.aligns(addr) && u64::from(addr) + u64::from(len) <= ADDRESSES
+    }
+
+    /// Returns whether the byte at a distance after an address is loaded.
+    fn is_loaded_after(&self, addr: u32, distance: u32) -> bool
+        ensures { result ≡ is_loaded self.now addr distance }
+    {
+        self.is_loaded(addr.wrapping_add(distance))
     }
 
     /// Returns whether the byte at an address is loaded.

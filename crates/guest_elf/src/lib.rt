@@ -16,6 +16,7 @@
 //! | [`Image::entry`] | the address of the first instruction |
 //! | [`Image::profile`] | what the file was read for |
 //! | [`Image::patchable`] | whether each byte of the word at an address is loaded |
+//! | [`Image::is_word`], [`Image::is_half_word`] | whether an instruction of 32 bits or of 16 may be at an address, and all of its bytes are loaded |
 //! | [`Image::name_of`] | the name of the function at an address |
 //! | [`Image::hooks`] | the functions named `malloc`, `free`, `calloc` and `realloc`, by their addresses |
 //! | [`ElfFault::number`] | the number of a fault: 1, or from 20 to 31 |

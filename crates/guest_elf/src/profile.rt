@@ -1,6 +1,6 @@
 //! What a file is read for.
 ghost use Rattle.std.specs.Prelude.{◌≡◌};
-ghost use Rattle.guest_elf.specs.Profiles.{is_aligned, is_half, unit};
+ghost use Rattle.guest_elf.specs.Profiles.{has_halves, is_aligned, is_half, unit};
 
 /// An instruction set, named as the RISC-V ISA manual names it (volume I, 20191213, chapter 27).
 #[derive(Clone, Copy, PartialEq, Eq)]
@@ -21,6 +21,18 @@ impl Isa {
         match self {
             Isa::Rv32im => 4,
             Isa::Rv32imc => 2,
+        }
+    }
+
+    /// Returns whether there are instructions of 16 bits.
+    #[inline(always)]
+    #[tactic(auto, unfolding(crate::specs::Profiles::has_halves))]
+    pub fn has_halves(self) -> bool
+        ensures { result ≡ has_halves self }
+    {
+        match self {
+            Isa::Rv32im => false,
+            Isa::Rv32imc => true,
         }
     }
 
