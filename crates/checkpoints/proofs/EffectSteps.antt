@@ -6,25 +6,26 @@ use Rattle.std.proofs.lemmas.Bool.{cases_lt, true≢false, false≢true}
 use Rattle.std.proofs.lemmas.Bool.Decides.{nat_tests}
 use Rattle.std.proofs.lemmas.List.{length-take, get_or-take}
 use Rattle.guest_machine.specs.State.{State}
+use Rattle.instructions.specs.declared.code.Code.{Code}
 use Rattle.guest_machine.specs.Run.{pre, poked}
 use Rattle.guest_machine.specs.Shows.{Shows}
 use Rattle.guest_machine.specs.Laws.{KeepsInput, KeepsHeap, KeepsEnd, EndStays, ReadsOn}
 use Rattle.run_values.specs.declared.alteration.Alteration.{Alteration}
 use Rattle.guest_machine.specs.declared.setup.Setup.{Setup}
-use Rattle.checkpoints.specs.Entries.{below}
-use Rattle.checkpoints.specs.FirstUses.{uses_word, IsFirstBelow}
+use Rattle.checkpoints.specs.FirstUses.{uses_code, first_of_code, IsFirstBelow}
 use Rattle.checkpoints.specs.FirstEffects.{IsBelowFirst, MarkShows, InputShows, EndShows, HeapShows, PatchShows}
+use Rattle.checkpoints.specs.FirstEffects.{ShowsAfter}
 use Rattle.checkpoints.specs.Effects.{EffectShows, DifferBy, Tells, written_by}
 use Rattle.checkpoints.specs.Edits.{IsRightForEdited, IsRightForLed, IsRightForPoked, HasFollowed, StaysWhole}
-use Rattle.checkpoints.specs.Trails.{machines_of, table_of, is_short, IsRightFor, KeepsJust}
+use Rattle.checkpoints.specs.Trails.{machines_of, table_of, loaded_of, last_held, is_short, IsRightFor, KeepsJust}
+use Rattle.checkpoints.specs.Words.{IsCodeIn}
 use Rattle.checkpoints.specs.declared.trail.Trail.{Trail}
 use Rattle.checkpoints.specs.declared.effect.Effect.{Effect}
-use Rattle.checkpoints.specs.declared.effect.Effect.TheVariants.{Nowhere, After, Input, End, Heap, Word}
+use Rattle.checkpoints.specs.declared.effect.Effect.TheVariants.{Nowhere, After, Input, End, Heap, Patch}
 use Rattle.checkpoints.specs.declared.effect.Effect.TheVariants.{Anew}
 use Rattle.checkpoints.proofs.RunSteps.{SameStep, reads-rise, no-calls, unseen-before, same-before-input}
 use Rattle.checkpoints.proofs.RunSteps.{same-before-end, same-before-heap, same-before-mark}
-use Rattle.checkpoints.proofs.FirstSteps.{first-fewer}
-use Rattle.checkpoints.proofs.TrailSteps.{right-for-fewer, keeps-just, shows-same}
+use Rattle.checkpoints.proofs.TrailSteps.{first-of-code, right-for-fewer, keeps-just, shows-same}
 
 -- ---- what is told
 
@@ -66,29 +67,30 @@ told-heap law start setup marks calls k e = tells (HeapShows start setup marks) 
     (λ told j l called. let few : calls ≤ 0 = grind (arith, nat_tests) in
     let none = no-calls law start setup marks k j l (omega arith) in omega arith)
 
--- by the step, for a word that is written anew
+-- by the step, for a code that is written anew
 pub told-anew : (k n : ℕ) → n ≡ k → Tells (λ (j : ℕ). 0 < j) k (nat_lt 0 n)
 told-anew k n e = tells (λ (j : ℕ). 0 < j) k (nat_lt 0 n)
     (λ told hidden. let past : 0 < n = grind (arith, nat_tests) in hidden k (omega arith) (omega arith))
     (λ told j l at. let early : n ≤ 0 = grind (arith, nat_tests) in omega arith)
 
--- by the word's first use
-pub told-use : (start : State) (setup : Setup) (marks : List Alteration) (addr k : ℕ) (found : Option ℕ)
-    → IsFirstBelow (uses_word start setup marks addr) k found
-    → Tells (PatchShows addr start setup marks) k (is_some found)
-told-use start setup marks addr k None unused = λ j l shown.
+-- by the first step that passes a test
+pub told-use : (p : ℕ → Bool) (k : ℕ) (found : Option ℕ) → IsFirstBelow p k found
+    → Tells (ShowsAfter p) k (is_some found)
+told-use p k None unused = λ j l shown.
     let next = shown.1 in
     false≢true (sym (unused shown.0 (omega arith)) ∙ shown.2)
-told-use start setup marks addr k (Some s) first =
+told-use p k (Some s) first =
     λ hidden. let l = first.0 in hidden (s + 1) (omega arith) (s, refl, first.1)
 
-pub told-word : (start : State) (setup : Setup) (marks : List Alteration) (addr last entry k n : ℕ) → n ≡ k → k ≤ last
-    → IsFirstBelow (uses_word start setup marks addr) last (below last entry)
-    → Tells (PatchShows addr start setup marks) k (is_some (below n entry))
-told-word start setup marks addr last entry k n e l h =
-    subst (λ m. Tells (PatchShows addr start setup marks) k (is_some (below m entry))) (sym e)
-    (told-use start setup marks addr k (below k entry)
-    (first-fewer (uses_word start setup marks addr) last k entry l h))
+-- by the first use of a code
+pub told-code : (trail : Trail) (start : State) (setup : Setup) (marks : List Alteration) (addr len k n : ℕ) → n ≡ k
+    → k ≤ last_held trail → IsRightFor trail start setup marks → IsCodeIn (loaded_of trail) addr len
+    → Tells (PatchShows addr len start setup marks) k (is_some (first_of_code (table_of trail) addr len n))
+told-code trail start setup marks addr len k n e l h code =
+    subst (λ m. Tells (PatchShows addr len start setup marks) k (is_some (first_of_code (table_of trail) addr len m)))
+    (sym e)
+    (told-use (uses_code start setup marks addr len) k (first_of_code (table_of trail) addr len k)
+    (first-of-code trail start setup marks addr len k h code l))
 
 -- no edit shows at step 0
 pub hidden-at-start : (effect : Effect) (trail : Trail) (start : State) (setup : Setup) (marks : List Alteration)
@@ -111,8 +113,8 @@ hidden-at-start Heap trail start setup marks h j l shown =
     let called : 0 < start.heap_calls = subst (HeapShows start setup marks) first shown in
     let none = h.nothing_called in
     omega arith
-hidden-at-start (Word addr word) trail start setup marks h j l shown = let next = shown.1 in omega arith
-hidden-at-start (Anew addr word) trail start setup marks h j l shown = omega arith
+hidden-at-start (Patch addr code) trail start setup marks h j l shown = let next = shown.1 in omega arith
+hidden-at-start (Anew addr code) trail start setup marks h j l shown = omega arith
 
 -- ---- how far the edited run does the same
 
@@ -172,9 +174,9 @@ goes-alike laws Heap start setup other marks edited n d hidden k l =
     let few = not-past 0 (pre start setup marks n).heap_calls (hidden n (omega arith)) in
     let none : (pre start setup marks n).heap_calls ≡ 0 = omega arith in
     with-marks start setup other marks edited k d.1 (same-before-heap laws.heap start setup other marks n d.0 none k l)
-goes-alike laws (Word addr word) start setup other marks edited n d hidden k l =
+goes-alike laws (Patch addr code) start setup other marks edited n d hidden k l =
     same-run start setup other marks edited k d.0 d.1
-goes-alike laws (Anew addr word) start setup other marks edited n d hidden k l =
+goes-alike laws (Anew addr code) start setup other marks edited n d hidden k l =
     same-run start setup other marks edited k d.0 d.1
 
 -- ---- the machines below the effect
@@ -201,21 +203,21 @@ keeps-cut P old new kept e some from last =
 
 -- ---- the run that is led to
 
--- where a word was written
-pub led-by-word : (addr word : ℕ) (old new : Trail) → IsRightForPoked addr word old new
-    → IsRightForLed (Word addr word) old new
-led-by-word addr word old new right one other l h =
-    let poked-start : IsRightFor new (poked one.start addr word) one.setup one.marks = right one.start one.setup
+-- where a code was written
+pub led-by-code : (addr : ℕ) (code : Code) (old new : Trail) → IsRightForPoked addr code old new
+    → IsRightForLed (Patch addr code) old new
+led-by-code addr code old new right one other l h =
+    let poked-start : IsRightFor new (poked one.start addr code) one.setup one.marks = right one.start one.setup
     one.marks l.differ.2 h in
-    let setup = subst (λ (s : Setup). IsRightFor new (poked one.start addr word) s one.marks) l.differ.0 poked-start in
-    let marks = subst (λ (ms : List Alteration). IsRightFor new (poked one.start addr word) other.setup ms) l.differ.1
+    let setup = subst (λ (s : Setup). IsRightFor new (poked one.start addr code) s one.marks) l.differ.0 poked-start in
+    let marks = subst (λ (ms : List Alteration). IsRightFor new (poked one.start addr code) other.setup ms) l.differ.1
     setup in
     subst (λ (s : State). IsRightFor new s other.setup other.marks) (sym l.start) marks
 
 -- and where none was
 abbrev pub WritesNothing : Effect → Type 0
 WritesNothing effect =
-    ((addr word : ℕ) → effect ≡ Word addr word → ⊥) × ((addr word : ℕ) → effect ≡ Anew addr word → ⊥)
+    ((addr : ℕ) (code : Code) → effect ≡ Patch addr code → ⊥) × ((addr : ℕ) (code : Code) → effect ≡ Anew addr code → ⊥)
 
 pub unwritten : (effect : Effect) → WritesNothing effect → (s : State) → written_by effect s ≡ s
 unwritten Nowhere none s = refl
@@ -223,8 +225,8 @@ unwritten (After step) none s = refl
 unwritten (Input offset) none s = refl
 unwritten End none s = refl
 unwritten Heap none s = refl
-unwritten (Word addr word) none s = absurd (none.0 addr word refl)
-unwritten (Anew addr word) none s = absurd (none.1 addr word refl)
+unwritten (Patch addr code) none s = absurd (none.0 addr code refl)
+unwritten (Anew addr code) none s = absurd (none.1 addr code refl)
 
 pub led-by-cut : (effect : Effect) → WritesNothing effect → (old new : Trail) → IsRightForEdited effect old new
     → IsRightForLed effect old new
@@ -250,5 +252,5 @@ whole-by-cut (After step) old new e = e
 whole-by-cut (Input offset) old new e = e
 whole-by-cut End old new e = e
 whole-by-cut Heap old new e = e
-whole-by-cut (Word addr word) old new e = λ h. e ∙ h
-whole-by-cut (Anew addr word) old new e = e
+whole-by-cut (Patch addr code) old new e = λ h. e ∙ h
+whole-by-cut (Anew addr code) old new e = e

@@ -4,17 +4,21 @@ use Rattle.std.proofs.Common.{false, cond, List, [], ◌∷◌, refl, ap, sym, a
 use Rattle.std.proofs.Common.{◌++◌, ◌⊎◌, ◌∙◌, inl, inr, arith, min, length, get_or}
 use Rattle.std.specs.Prelude.{replicate}
 use Rattle.std.proofs.Math.ListN.{set}
-use Rattle.std.proofs.lemmas.Bool.{cases_eq, cases_lt, false≢true}
+use Rattle.std.proofs.lemmas.Bool.{cases_eq, cases_lt, false≢true, true≢false}
 use Rattle.std.proofs.lemmas.Bool.Decides.{nat_tests}
 use Rattle.std.proofs.lemmas.List.{get_or-set_other, get_or-set_same}
 use Rattle.shadow_memory.specs.Ranges.{is_in, offset}
 use Rattle.guest_machine.specs.Spans.{covers}
+use Rattle.instructions.specs.Codes.{len_of}
+use Rattle.instructions.specs.declared.code.Code.{Code}
+use Rattle.instructions.specs.declared.code.Code.TheVariants.{Half, Word}
 use Rattle.run_values.specs.declared.span.Span.{Span}
 use Rattle.guest_machine.specs.declared.setup.Touched.{Touched}
 use Rattle.guest_machine.specs.Exec.{has_touched}
 use Rattle.checkpoints.specs.Words.{AreWords, meets, has_address, is_among, is_from, IsWordIn, words_in, words_of}
+use Rattle.checkpoints.specs.FirstUses.{uses_code, uses_word, UsesByWords}
 use Rattle.checkpoints.specs.Words.{has_word}
-use Rattle.checkpoints.specs.Words.{place_in, IsPlaced, AreEntered, never}
+use Rattle.checkpoints.specs.Words.{place_in, word_with, meets_code, IsCodeIn, IsCodeLen, IsPlaced, AreEntered, never}
 
 -- words in and out of a range
 inside : (r : Span) (w : ℕ) → has_word r w ≡ true → (r.start / 4 ≤ w) × (w < r.start / 4 + words_in r)
@@ -50,8 +54,23 @@ place-of-address (r ∷ rs) a w h e = go (λ m. place-of-address rs a w m e) (ha
     go rest true false k l m = absurd (false≢true (sym l ∙ has-word r a w k e))
     go rest false false k l m = let x = rest m in omega arith
 
+met-somewhere : (p : ℕ → Bool) (a : ℕ) → meets p a ≡ true → (j : ℕ) × (j < 4) × (p (a + j) ≡ true)
+met-somewhere p a h = go (p a) (p (a + 1)) (p (a + 2)) (p (a + 3)) refl refl refl refl h
+  where
+    go : (b c d e : Bool) → p a ≡ b → p (a + 1) ≡ c → p (a + 2) ≡ d → p (a + 3) ≡ e → (b || (c || (d || e))) ≡ true
+        → (j : ℕ) × (j < 4) × (p (a + j) ≡ true)
+    go true c d e x y z w h = (0, omega arith, ap p (add-zero a) ∙ x)
+    go false true d e x y z w h = (1, omega arith, y)
+    go false false true e x y z w h = (2, omega arith, z)
+    go false false false true x y z w h = (3, omega arith, w)
+    go false false false false x y z w h = absurd (false≢true h)
+
 pub placed-word : (rs : List Span) (addr : ℕ) → IsWordIn rs addr → IsPlaced rs (addr / 4)
-placed-word rs addr h = place-of-address rs (addr + 0) (addr / 4) (h.loaded 0 (omega arith)) (omega arith)
+placed-word rs addr h =
+    let at = met-somewhere (is_among rs) addr h.met in
+    let aligned = h.aligned in
+    let few = at.1 in
+    place-of-address rs (addr + at.0) (addr / 4) at.2 (omega arith)
 
 -- an entry, after a step was entered for a word that has a place
 pub entered-there : (rs : List Span) (ss : List ℕ) (v w step first : ℕ) (d : ℕ) → length ss ≡ words_of rs
@@ -131,6 +150,18 @@ or-none : (a b : Bool) → a ≡ false → b ≡ false → (a || b) ≡ false
 or-none true b h k = h
 or-none false b h k = k
 
+pub or-left : (a b : Bool) → (a || b) ≡ false → a ≡ false
+or-left true b h = h
+or-left false b h = refl
+
+pub or-right : (a b : Bool) → (a || b) ≡ false → b ≡ false
+or-right true b h = absurd (true≢false h)
+or-right false b h = h
+
+is-false : (b : Bool) → (b ≡ true → ⊥) → b ≡ false
+is-false true h = absurd (h refl)
+is-false false h = refl
+
 or-swap : (a b c d : Bool) → ((a || b) || (c || d)) ≡ ((a || c) || (b || d))
 or-swap true b c d = refl
 or-swap false true true d = refl
@@ -159,6 +190,94 @@ unmet p addr a h m e = go (p a) refl
       where
         back : addr ≤ a → addr + (a - addr) ≡ a
         back l = omega arith
+
+-- the word with a byte of the ranges is one of theirs
+pub word-of-byte : (rs : List Span) (a : ℕ) → a < 2 ^ 32 → is_among rs a ≡ true → IsWordIn rs (word_with a)
+word-of-byte rs a small h = record {
+  aligned = omega arith;
+  small = omega arith;
+  met = meets-at (a % 4) (is_among rs) (word_with a) (omega arith) (ap (is_among rs) at ∙ h);
+}
+  where
+    at : word_with a + a % 4 ≡ a
+    at = omega arith
+
+pub quarter : (a : ℕ) → word_with a / 4 ≡ a / 4
+quarter a = omega arith
+
+-- the lengths of codes
+pub len-is : (code : Code) → IsCodeLen (len_of code)
+len-is (Word word) = inr refl
+len-is (Half half) = inl refl
+
+pub len-some : (len : ℕ) → IsCodeLen len → 0 < len
+len-some len (inl two) = omega arith
+len-some len (inr four) = omega arith
+
+pub len-few : (len : ℕ) → IsCodeLen len → len ≤ 4
+len-few len (inl two) = omega arith
+len-few len (inr four) = omega arith
+
+-- both words of a code are words of the ranges
+pub first-word : (rs : List Span) (addr len : ℕ) → IsCodeIn rs addr len → IsWordIn rs (word_with addr)
+first-word rs addr len h =
+    let some = len-some len h.sized in
+    let whole = h.whole in
+    word-of-byte rs addr (omega arith) (ap (is_among rs) (sym (add-zero addr)) ∙ h.loaded 0 some)
+
+pub last-word : (rs : List Span) (addr len : ℕ) → IsCodeIn rs addr len → IsWordIn rs (word_with (addr + len - 1))
+last-word rs addr len h =
+    let some = len-some len h.sized in
+    let whole = h.whole in
+    let at : addr + (len - 1) ≡ addr + len - 1 = omega arith in
+    word-of-byte rs (addr + len - 1) (omega arith) (ap (is_among rs) (sym at) ∙ h.loaded (len - 1) (omega arith))
+
+-- each byte of a code is one of these two words
+in-range : (addr len a : ℕ) → addr + len ≤ 2 ^ 32 → is_in addr len a ≡ true → (addr ≤ a) × (a < addr + len)
+in-range addr len a whole h = (grind (arith, nat_tests), grind (arith, nat_tests))
+
+pub in-words : (addr len a : ℕ) → 0 < len → len ≤ 4 → addr + len ≤ 2 ^ 32 → is_in addr len a ≡ true
+    → (a / 4 ≡ addr / 4) ⊎ (a / 4 ≡ (addr + len - 1) / 4)
+in-words addr len a some few whole h =
+    let at = in-range addr len a whole h in
+    let from = at.0 in
+    let to = at.1 in
+    elim (cases_eq (a / 4) (addr / 4)) [
+      | inl first ↦ inl first
+      | inr other ↦ inr (next a addr len few from to other)
+    ]
+  where
+    next : (a addr len : ℕ) → len ≤ 4 → addr ≤ a → a < addr + len → (a / 4 ≡ addr / 4 → ⊥)
+        → a / 4 ≡ (addr + len - 1) / 4
+    next a addr len few from to other = omega arith
+
+-- a step that touches neither touches no byte of the code
+pub untouched : (p : ℕ → Bool) (addr : ℕ) (code : Code) (a : ℕ) → addr + len_of code ≤ 2 ^ 32
+    → meets p (word_with addr) ≡ false → meets p (word_with (addr + len_of code - 1)) ≡ false
+    → is_in addr (len_of code) a ≡ true → p a ≡ false
+untouched p addr code a whole first last h =
+    elim (in-words addr (len_of code) a (len-some (len_of code) (len-is code)) (len-few (len_of code) (len-is code))
+    whole h) [
+      | inl e ↦ unmet p (word_with addr) a first (omega arith) (e ∙ sym (quarter addr))
+      | inr e ↦ unmet p (word_with (addr + len_of code - 1)) a last (omega arith)
+          (e ∙ sym (quarter (addr + len_of code - 1)))
+    ]
+
+-- and a set without a byte of a code has none
+pub unmet-code : (p : ℕ → Bool) (addr : ℕ) (code : Code) (a : ℕ) → addr + len_of code ≤ 2 ^ 32
+    → meets_code p addr (len_of code) ≡ false → is_in addr (len_of code) a ≡ true → p a ≡ false
+unmet-code p addr (Word word) a whole none h =
+    let at = in-range addr 4 a whole h in go (a - addr) (omega arith) (omega arith)
+  where
+    go : (j : ℕ) → j < 4 → addr + j ≡ a → p a ≡ false
+    go j few e = is-false (p a) (λ met. false≢true (sym none ∙ meets-at j p addr few (ap p e ∙ met)))
+unmet-code p addr (Half half) a whole none h =
+    let at = in-range addr 2 a whole h in go (a - addr) (omega arith) (omega arith)
+  where
+    go : (j : ℕ) → j < 2 → addr + j ≡ a → p a ≡ false
+    go zero few e = ap p (sym e ∙ add-zero addr) ∙ or-left (p addr) (p (addr + 1)) none
+    go (suc zero) few e = ap p (sym e) ∙ or-right (p addr) (p (addr + 1)) none
+    go (suc (suc j)) few e = absurd (omega arith)
 
 pub meets-or : (p q : ℕ → Bool) (a : ℕ) → meets (λ x. p x || q x) a ≡ (meets p a || meets q a)
 meets-or p q a =
@@ -277,3 +396,17 @@ pub words-more : (rs : List Span) (r : Span) → words_of (rs ++ r ∷ []) ≡ w
 unfolding words_of
 words-more [] r = omega arith
 words-more (x ∷ rs) r = omega (arith, words-more rs r)
+
+-- a word at a multiple of 4 has its bytes in one word
+either-is : (b : Bool) → (b || b) ≡ b
+either-is true = refl
+either-is false = refl
+
+pub uses-by-words : UsesByWords
+unfolding uses_code
+uses-by-words start setup marks addr k aligned =
+    let first : word_with addr ≡ addr = omega arith in
+    let last : word_with (addr + 4 - 1) ≡ addr = omega arith in
+    ap (λ a. uses_word start setup marks a k || uses_word start setup marks (word_with (addr + 4 - 1)) k) first
+    ∙ ap (λ a. uses_word start setup marks addr k || uses_word start setup marks a k) last
+    ∙ either-is (uses_word start setup marks addr k)

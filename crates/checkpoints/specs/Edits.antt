@@ -2,6 +2,8 @@
 -- machines are kept.
 use Rattle.std.specs.Prelude.{◌≡◌, ℕ, ◌⊎◌, List, Bool, Option, true, false, slice_index_or}
 use Rattle.guest_machine.specs.State.{State}
+use Rattle.instructions.specs.Codes.{len_of}
+use Rattle.instructions.specs.declared.code.Code.{Code}
 use Rattle.guest_machine.specs.Run.{poked}
 use Rattle.guest_machine.specs.Shows.{Shows}
 use Rattle.guest_machine.specs.declared.machine.Machine.{Machine}
@@ -13,8 +15,8 @@ use Rattle.checkpoints.specs.Work.{IsBelow, lowered}
 use Rattle.checkpoints.specs.Trails.{machines_of, is_short, last_held, KeepsJust, KeepsOnly, IsRightFor}
 use Rattle.checkpoints.specs.declared.trail.Trail.{Trail}
 use Rattle.checkpoints.specs.declared.effect.Effect.{Effect}
-use Rattle.checkpoints.specs.declared.effect.Effect.TheVariants.{Word}
-use Rattle.checkpoints.specs.Writes.{write_word}
+use Rattle.checkpoints.specs.declared.effect.Effect.TheVariants.{Patch}
+use Rattle.checkpoints.specs.Writes.{write_code}
 
 -- ---- for which run it is right
 
@@ -26,19 +28,19 @@ abbrev pub IsRightForLed : Effect → Trail → Trail → Type 0
 IsRightForLed effect old new =
     (one other : Run) → LeadsTo effect one other → IsRightForRun old one → IsRightForRun new other
 
--- for that run, except for a word that is still to be written
+-- for that run, except for a code that is still to be written
 abbrev pub IsRightForEdited : Effect → Trail → Trail → Type 0
 IsRightForEdited effect old new =
     (start : State) (setup other : Setup) (marks edited : List Alteration) → DifferBy effect setup marks other edited
     → IsRightFor old start setup marks → IsRightFor new start other edited
 
--- for a start with a word written, if no mark writes it
-abbrev pub IsRightForPoked : ℕ → ℕ → Trail → Trail → Type 0
-IsRightForPoked addr word old new =
-    (start : State) (setup : Setup) (marks : List Alteration) → write_word marks addr ≡ false
-    → IsRightFor old start setup marks → IsRightFor new (poked start addr word) setup marks
+-- for a start with a code written, if no mark writes a byte of it
+abbrev pub IsRightForPoked : ℕ → Code → Trail → Trail → Type 0
+IsRightForPoked addr code old new =
+    (start : State) (setup : Setup) (marks : List Alteration) → write_code marks addr (len_of code) ≡ false
+    → IsRightFor old start setup marks → IsRightFor new (poked start addr code) setup marks
 
--- machine i of the new trail is that of the old one, with the word written if the edit writes one
+-- machine i of the new trail is that of the old one, with the code written if the edit writes one
 abbrev pub HasFollowed : Effect → Trail → Trail → ℕ → Type 0
 HasFollowed effect old new i =
     (d : Machine) (s : State) → Shows (slice_index_or (machines_of old) i d) s
@@ -65,9 +67,9 @@ KeepsBelowEffectOrIsShort effect old new =
     → (KeepsJust (IsBelowFirst (EffectShows effect start setup marks)) old new × (is_short new ≡ is_short old))
     ⊎ (KeepsOnly (IsBelowFirst (EffectShows effect start setup marks)) old new × (is_short new ≡ true))
 
--- only a written word makes a trail short, and a short one stays so; by whether it is short before and after
+-- only a written code makes a trail short, and a short one stays so; by whether it is short before and after
 abbrev pub MayShorten : Effect → Bool → Bool → Type 0
-MayShorten (Word addr word) old new = old ≡ true → new ≡ true
+MayShorten (Patch addr code) old new = old ≡ true → new ≡ true
 MayShorten _ old new = new ≡ old
 
 -- and the same for the trails

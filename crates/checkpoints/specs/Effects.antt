@@ -1,17 +1,19 @@
 -- The effect of an edit: at which steps of a run the edit may show, and from which run to which it leads.
 use Rattle.std.specs.Prelude.{◌≡◌, ℕ, ◌<◌, Bool, true, false, List}
 use Rattle.guest_machine.specs.State.{State}
+use Rattle.instructions.specs.Codes.{len_of}
+use Rattle.instructions.specs.declared.code.Code.{Code}
 use Rattle.guest_machine.specs.Run.{poked, marks_at}
 use Rattle.guest_machine.specs.Laws.{SharesFront, Extends}
 use Rattle.guest_machine.specs.declared.setup.Setup.{Setup}
 use Rattle.run_values.specs.declared.alteration.Alteration.{Alteration}
 use Rattle.run_values.specs.declared.span.Span.{Span}
-use Rattle.checkpoints.specs.Words.{IsWordIn}
+use Rattle.checkpoints.specs.Words.{IsCodeIn}
 use Rattle.checkpoints.specs.FirstEffects.{IsBelowFirst, MarkShows, InputShows, EndShows, HeapShows, PatchShows}
 use Rattle.checkpoints.specs.declared.effect.Effect.{Effect}
-use Rattle.checkpoints.specs.declared.effect.Effect.TheVariants.{Nowhere, After, Input, End, Heap, Word}
+use Rattle.checkpoints.specs.declared.effect.Effect.TheVariants.{Nowhere, After, Input, End, Heap, Patch}
 use Rattle.checkpoints.specs.declared.effect.Effect.TheVariants.{Anew}
-use Rattle.checkpoints.specs.Writes.{write_word}
+use Rattle.checkpoints.specs.Writes.{write_code}
 
 -- the steps of a run at which an edit with this effect may show
 abbrev pub EffectShows : Effect → State → Setup → List Alteration → ℕ → Type 0
@@ -20,24 +22,24 @@ EffectShows (After s) start setup marks k = MarkShows s k
 EffectShows (Input offset) start setup marks k = InputShows offset start setup marks k
 EffectShows End start setup marks k = EndShows start setup marks k
 EffectShows Heap start setup marks k = HeapShows start setup marks k
-EffectShows (Word addr word) start setup marks k = PatchShows addr start setup marks k
-EffectShows (Anew addr word) start setup marks k = 0 < k
+EffectShows (Patch addr code) start setup marks k = PatchShows addr (len_of code) start setup marks k
+EffectShows (Anew addr code) start setup marks k = 0 < k
 
 -- a result says whether something holds at a step or before it
 abbrev pub Tells : (ℕ → Type 0) → ℕ → Bool → Type 0
 Tells P k true = IsBelowFirst P k → ⊥
 Tells P k false = IsBelowFirst P k
 
--- if the effect writes a word, that is in one of these ranges
+-- if the effect writes a code, that is in these ranges
 abbrev pub WritesWithin : List Span → Effect → Type 0
-WritesWithin ranges (Word addr word) = IsWordIn ranges addr
-WritesWithin ranges (Anew addr word) = IsWordIn ranges addr
+WritesWithin ranges (Patch addr code) = IsCodeIn ranges addr (len_of code)
+WritesWithin ranges (Anew addr code) = IsCodeIn ranges addr (len_of code)
 WritesWithin ranges _ = Unit {0}
 
--- the effect writes a word
+-- the effect writes a code
 abbrev pub IsWrite : Effect → Type 0
-IsWrite (Word addr word) = Unit {0}
-IsWrite (Anew addr word) = Unit {0}
+IsWrite (Patch addr code) = Unit {0}
+IsWrite (Anew addr code) = Unit {0}
 IsWrite _ = ⊥
 
 -- ---- from which run to which
@@ -51,31 +53,31 @@ pub record DifferInHeap (setup other : Setup) : Type 0 where
   pub input : setup.input ≡ other.input
   pub hooks : setup.hooks ≡ other.hooks
 
--- setups and marks before and after an edit with this effect. A word that a mark writes too is written anew, as the
--- machines from the mark on hold what the mark wrote
+-- setups and marks before and after an edit with this effect. A code of which a mark writes a byte too is written anew,
+-- as the machines from the mark on hold what the mark wrote
 abbrev pub DifferBy : Effect → Setup → List Alteration → Setup → List Alteration → Type 0
 DifferBy Nowhere setup marks other edited = (setup ≡ other) × (marks ≡ edited)
 DifferBy (After s) setup marks other edited = (setup ≡ other) × DifferAtStep s marks edited
 DifferBy (Input offset) setup marks other edited = SharesFront offset setup other × (marks ≡ edited)
 DifferBy End setup marks other edited = Extends setup other × (marks ≡ edited)
 DifferBy Heap setup marks other edited = DifferInHeap setup other × (marks ≡ edited)
-DifferBy (Word addr word) setup marks other edited =
-    (setup ≡ other) × (marks ≡ edited) × (write_word marks addr ≡ false)
-DifferBy (Anew addr word) setup marks other edited = (setup ≡ other) × (marks ≡ edited)
+DifferBy (Patch addr code) setup marks other edited =
+    (setup ≡ other) × (marks ≡ edited) × (write_code marks addr (len_of code) ≡ false)
+DifferBy (Anew addr code) setup marks other edited = (setup ≡ other) × (marks ≡ edited)
 
--- a state with the word written, if the effect writes one
+-- a state with the code written, if the effect writes one
 abbrev pub written_by : Effect → State → State
-written_by (Word addr word) s = poked s addr word
-written_by (Anew addr word) s = poked s addr word
+written_by (Patch addr code) s = poked s addr code
+written_by (Anew addr code) s = poked s addr code
 written_by _ s = s
 
--- the effect of another word at an address: whether a mark writes it, too
-abbrev pub effect_by : Bool → ℕ → ℕ → Effect
-effect_by true addr word = Anew addr word
-effect_by false addr word = Word addr word
+-- the effect of another code at an address: whether a mark writes a byte of it, too
+abbrev pub effect_by : Bool → ℕ → Code → Effect
+effect_by true addr code = Anew addr code
+effect_by false addr code = Patch addr code
 
-abbrev pub word_effect : List Alteration → ℕ → ℕ → Effect
-word_effect marks addr word = effect_by (write_word marks addr) addr word
+abbrev pub code_effect : List Alteration → ℕ → Code → Effect
+code_effect marks addr code = effect_by (write_code marks addr (len_of code)) addr code
 
 -- a run, by what it begins with
 pub record Run : Type 0 where

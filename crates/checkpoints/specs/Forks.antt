@@ -1,17 +1,18 @@
 -- Where an edited run continues from the run that it is an edit of: the machine before the last step at which the edit
 -- doesn't show yet.
-use Rattle.std.specs.Prelude.{◌≡◌, ℕ, ◌+◌, ◌%◌, ◌^◌, ◌<◌, ◌≤◌, List}
+use Rattle.std.specs.Prelude.{◌≡◌, ℕ, ◌+◌, ◌^◌, ◌<◌, ◌≤◌, List}
 use Rattle.guest_machine.specs.Run.{pre, post}
 use Rattle.guest_machine.specs.Shows.{Shows}
 use Rattle.guest_machine.specs.declared.machine.Machine.{Machine}
 use Rattle.guest_machine.specs.declared.setup.Setup.{Setup}
 use Rattle.run_values.specs.declared.alteration.Alteration.{Alteration}
 use Rattle.guest_machine.specs.State.{State}
+use Rattle.instructions.specs.Codes.{len_of}
 use Rattle.checkpoints.specs.Effects.{EffectShows, LeadsTo, Run}
 use Rattle.checkpoints.specs.FirstEffects.{IsBelowFirst}
 use Rattle.checkpoints.specs.Trails.{IsRightFor}
 use Rattle.checkpoints.specs.declared.effect.Effect.{Effect}
-use Rattle.checkpoints.specs.declared.effect.Effect.TheVariants.{Word, Anew}
+use Rattle.checkpoints.specs.declared.effect.Effect.TheVariants.{Patch, Anew}
 use Rattle.checkpoints.specs.declared.forks.Fork.{Fork}
 use Rattle.checkpoints.specs.declared.trail.Trail.{Trail}
 
@@ -21,15 +22,15 @@ pub record IsLastUnshown (effect : Effect) (run : Run) (last k : ℕ) : Type 0 w
   pub hidden : IsBelowFirst (EffectShows effect run.start run.setup run.marks) k
   pub next : k < last → IsBelowFirst (EffectShows effect run.start run.setup run.marks) (k + 1) → ⊥
 
--- if the effect writes a word, that is one at a multiple of 4
-abbrev pub WritesAligned : Effect → Type 0
-WritesAligned (Word addr word) = (addr % 4 ≡ 0) × (addr < 2 ^ 32)
-WritesAligned (Anew addr word) = (addr % 4 ≡ 0) × (addr < 2 ^ 32)
-WritesAligned _ = Unit {0}
+-- if the effect writes a code, none of its bytes lies past the last address
+abbrev pub WritesWhole : Effect → Type 0
+WritesWhole (Patch addr code) = addr + len_of code ≤ 2 ^ 32
+WritesWhole (Anew addr code) = addr + len_of code ≤ 2 ^ 32
+WritesWhole _ = Unit {0}
 
 -- a fork's machine shows the state of a run before the fork's step, which is that one
 pub record IsForkFor (effect : Effect) (run : Run) (last : ℕ) (fork : Fork) : Type 0 where
-  pub aligned : WritesAligned effect
+  pub whole : WritesWhole effect
   pub shows : Shows fork.machine (pre run.start run.setup run.marks fork.step)
   pub step : IsLastUnshown effect run last fork.step
 

@@ -1,5 +1,7 @@
 //! From which step on an edit shows.
 
+use guest_machine::Code;
+
 /// Where the first effect of an edit lies: no state of the run before it depends on the edit.
 #[derive(Clone, Copy)]
 pub enum Effect {
@@ -13,8 +15,8 @@ pub enum Effect {
     End,
     /// Once a heap call was executed: the options of the heap are others.
     Heap,
-    /// After a step that touches the word at an address: another word is written there, which no mark writes.
-    Word { addr: u32, word: u32 },
-    /// From step 1 on: another word is written at an address that marks write too. The run is begun anew.
-    Anew { addr: u32, word: u32 },
+    /// After a step that touches a word with a byte of the code at an address: another code is written there, of which no mark writes a byte.
+    Patch { addr: u32, code: Code },
+    /// From step 1 on: another code is written at an address, of which marks write a byte too. The run is begun anew.
+    Anew { addr: u32, code: Code },
 }

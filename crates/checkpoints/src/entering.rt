@@ -11,6 +11,7 @@ ghost use Rattle.guest_machine.specs.Spans.{covers, span_at, IsCodeSpan};
 ghost use Rattle.guest_elf.specs.declared.segment.Segment.{Segment as SegmentOf};
 ghost use Rattle.checkpoints.specs.Words.{meets, is_among, is_from, words_in, word_end, words_of, IsPlaced, IsPlace, never, kept_below, group_size, AreBelowBounds, DropsAt, IsEntered, is_in_group};
 ghost use Rattle.checkpoints.specs.Entries.{ranges_of, entry_of, below, EntersAt, IsClean};
+ghost use Rattle.checkpoints.specs.FirstUses.{earliest, first_of_code};
 
 use crate::searches::later;
 use crate::uses::{FirstUses, GROUP, Place, REMEMBERED, Row};
@@ -54,6 +55,19 @@ fn greater(x: u64, y: u64) -> u64
     ensures { result ≡ max x y }
 {
     if x < y { y } else { x }
+}
+
+/// The lesser of two steps, if there is one.
+fn earliest(one: Option<u32>, other: Option<u32>) -> Option<u32>
+    ensures { result ≡ earliest one other }
+{
+    let Some(x) = one else {
+        return other;
+    };
+    let Some(y) = other else {
+        return Some(x);
+    };
+    if x < y { Some(x) } else { Some(y) }
 }
 
 /// The number of rows that end before a word, if there are many: found by halves.
@@ -182,6 +196,19 @@ impl FirstUses {
             }
             Place::NoneBelow(_) => None,
         }
+    }
+
+    /// The first step that was entered for a word with a byte of the code of some bytes at an address, if it lies below another.
+    pub(crate) fn first_of_code(&self, addr: u32, len: u32, step: u32) -> Option<u32>
+        requires some { 0 < len }
+        requires whole { addr + len ≤ 2 ^ 32 }
+        ensures { result ≡ first_of_code self.now addr len step }
+    {
+        let last = addr + (len - 1);
+        earliest(
+            self.first_below(addr / 4, step),
+            self.first_below(last / 4, step),
+        )
     }
 
     /// Enters a step for a word that has a place, or skips a word that has none and those like it above it. Returns the number of words

@@ -5,11 +5,13 @@ ghost use Rattle.guest_machine.specs.Run.{pre};
 ghost use Rattle.guest_machine.specs.Shows.{Shows};
 ghost use Rattle.guest_machine.specs.declared.setup.Setup.{Setup as SetupOf};
 ghost use Rattle.run_values.specs.declared.alteration.Alteration.{Alteration as AlterationOf};
-ghost use Rattle.checkpoints.specs.Effects.{LeadsTo, Run, word_effect, written_by};
+ghost use Rattle.checkpoints.specs.Effects.{LeadsTo, Run, code_effect, written_by};
 ghost use Rattle.checkpoints.specs.FirstEffects.{IsBelowFirst, InputShows};
-ghost use Rattle.checkpoints.specs.Forks.{IsLastUnshown, IsForkFor, ShowsEdited, WritesAligned, IsStepOf, IsForkOf};
+ghost use Rattle.checkpoints.specs.Forks.{IsLastUnshown, IsForkFor, ShowsEdited, WritesWhole, IsStepOf, IsForkOf};
 ghost use Rattle.checkpoints.specs.Trails.{is_short, loaded_of, last_held, IsRightFor};
-ghost use Rattle.checkpoints.specs.Words.{IsWordIn};
+ghost use Rattle.checkpoints.specs.Words.{IsCodeIn};
+ghost use Rattle.instructions.specs.Codes.{len_of};
+ghost use Rattle.instructions.specs.declared.code.Code.{Code as CodeOf};
 ghost use Rattle.checkpoints.specs.declared.effect.Effect.{Effect as EffectOf};
 
 use crate::cuts::poked_copy;
@@ -17,7 +19,7 @@ use crate::effect::Effect;
 use crate::reaching::SPACING;
 use crate::running::{apply_marks, next_step, pass_marks, run_on};
 use crate::trail::Trail;
-use crate::writes::write_word;
+use crate::writes::write_code;
 use guest_machine::laws::{end_stays, keeps_end, keeps_heap, keeps_input, keeps_pokes, reads_on};
 use guest_machine::{Alteration, Machine, Meter, Setup};
 use std::alloc::AllocError;
@@ -80,13 +82,13 @@ impl Fork {
     }
 }
 
-/// A copy of a machine, with the word written if an effect writes one.
+/// A copy of a machine, with the code written if an effect writes one.
 fn written_copy(machine: &Machine, effect: Effect) -> Result<Machine, AllocError>
     ensures { IfOk result (λ copy. (s : State) → Shows machine.now s → Shows copy (written_by effect s)) }
 {
     match effect {
-        Effect::Word { addr, word } | Effect::Anew { addr, word } => poked_copy(
-            machine, addr, word,
+        Effect::Patch { addr, code } | Effect::Anew { addr, code } => poked_copy(
+            machine, addr, code,
         ),
         _ => machine.share_ready(),
     }
@@ -115,26 +117,27 @@ impl Trail {
         self.fork_at(step, setup, marks)
     }
 
-    /// Returns a fork of the run before the last step, up to another, with no earlier use of the word at an address; before step 0 if a
-    /// mark writes the word. Each run in which another word is written there continues from it.
+    /// Returns a fork of the run before the last step, up to another, with no earlier use of a word with a byte of the code of `len` bytes, 2
+    /// or 4, at an address; before step 0 if a mark writes a byte of it. Each run in which another code is written there continues from it.
     #[tactic(auto, unfolding(crate::specs::Trails::last_held))]
-    pub fn fork_at_word(
+    pub fn fork_at_code(
         &mut self,
         addr: u32,
+        len: u32,
         last: u32,
         setup: &Setup,
         marks: &[Alteration],
     ) -> Result<Fork, AllocError>
         requires small { last < 2 ^ 31 }
-        requires word { IsWordIn (loaded_of self.old) addr }
+        requires code { IsCodeIn (loaded_of self.old) addr len }
         ensures right { (start : State) → IsRightFor self.old start setup.now marks.now → IsRightFor self.new start setup.now marks.now }
-        ensures fork { IfOk result (λ fork. (word : ℕ) (start : State) → IsRightFor self.old start setup.now marks.now
-            → IsForkFor (word_effect marks.now addr word) (record { start = start; setup = setup.now; marks = marks.now }) last fork) }
+        ensures fork { IfOk result (λ fork. (code : CodeOf) (start : State) → len_of code ≡ len → IsRightFor self.old start setup.now marks.now
+            → IsForkFor (code_effect marks.now addr code) (record { start = start; setup = setup.now; marks = marks.now }) last fork) }
         ensures short { is_short self.new ≡ is_short self.old }
         ensures loaded { loaded_of self.new ≡ loaded_of self.old }
     {
         self.reach((last / SPACING + 1) as usize, setup, marks)?;
-        let step = self.last_without(addr, last, marks);
+        let step = self.last_without(addr, len, last, marks);
         self.fork_at(step, setup, marks)
     }
 
@@ -179,28 +182,29 @@ impl Trail {
         unread_until(copy, setup, marks, offset, place * SPACING, last)
     }
 
-    /// The last step, up to another, at which another word at an address doesn't show.
-    fn last_without(&self, addr: u32, last: u32, marks: &[Alteration]) -> u32
+    /// The last step, up to another, at which another code at an address doesn't show.
+    fn last_without(&self, addr: u32, len: u32, last: u32, marks: &[Alteration]) -> u32
         requires held { last < last_held self.now }
-        requires word { IsWordIn (loaded_of self.now) addr }
+        requires code { IsCodeIn (loaded_of self.now) addr len }
         ensures within { result ≤ last }
-        ensures step { (word : ℕ) (setup : SetupOf) → IsStepOf (word_effect marks.now addr word) self.now setup marks.now last result }
+        ensures step { (code : CodeOf) (setup : SetupOf) → len_of code ≡ len → IsStepOf (code_effect marks.now addr code) self.now setup marks.now last result }
     {
-        if write_word(marks, addr) {
+        if write_code(marks, addr, len) {
             return 0;
         }
-        self.last_unused(addr, last)
+        self.last_unused(addr, len, last)
     }
 
-    /// The last step, up to another, with no earlier use of the word at an address.
+    /// The last step, up to another, with no earlier use of a word with a byte of the code at an address.
     #[tactic(auto, unfolding(crate::specs::Trails::table_of, crate::specs::Trails::loaded_of))]
-    fn last_unused(&self, addr: u32, last: u32) -> u32
+    fn last_unused(&self, addr: u32, len: u32, last: u32) -> u32
         requires held { last < last_held self.now }
-        requires word { IsWordIn (loaded_of self.now) addr }
+        requires code { IsCodeIn (loaded_of self.now) addr len }
         ensures within { result ≤ last }
-        ensures step { (word : ℕ) (setup : SetupOf) (marks : List AlterationOf) → IsStepOf (Effect.Word addr word) self.now setup marks last result }
+        ensures step { (code : CodeOf) (setup : SetupOf) (marks : List AlterationOf) → len_of code ≡ len
+            → IsStepOf (Effect.Patch addr code) self.now setup marks last result }
     {
-        self.uses.first_below(addr / 4, last).unwrap_or(last)
+        self.uses.first_of_code(addr, len, last).unwrap_or(last)
     }
 
     /// The machine of the run before a step.
@@ -208,7 +212,7 @@ impl Trail {
     fn fork_at(&self, step: u32, setup: &Setup, marks: &[Alteration]) -> Result<Fork, AllocError>
         requires { step < last_held self.now }
         ensures step { IfOk result (λ fork. fork.step ≡ step) }
-        ensures fork { IfOk result (λ fork. (effect : EffectOf) (last : ℕ) → WritesAligned effect → IsStepOf effect self.now setup.now marks.now last step
+        ensures fork { IfOk result (λ fork. (effect : EffectOf) (last : ℕ) → WritesWhole effect → IsStepOf effect self.now setup.now marks.now last step
             → IsForkOf effect self.now setup.now marks.now last fork) }
     {
         let copy = self.copy_of((step / SPACING) as usize)?;

@@ -1,12 +1,12 @@
-//! Whether alterations write a word.
+//! Whether alterations write a code.
 ghost use Rattle.std.specs.Prelude.{◌≡◌};
 ghost use Rattle.shadow_memory.specs.Ranges.{is_in};
-ghost use Rattle.checkpoints.specs.Effects.{word_effect};
-ghost use Rattle.checkpoints.specs.Words.{meets};
-ghost use Rattle.checkpoints.specs.Writes.{write_word, writes_word};
+ghost use Rattle.checkpoints.specs.Effects.{code_effect};
+ghost use Rattle.checkpoints.specs.Words.{meets_code};
+ghost use Rattle.checkpoints.specs.Writes.{write_code, writes_code};
 
 use crate::effect::Effect;
-use guest_machine::{Act, Alteration, Span};
+use guest_machine::{Act, Alteration, Code, Span};
 
 /// Whether an address is in a range.
 fn is_in(range: Span, address: u64) -> bool
@@ -15,41 +15,44 @@ fn is_in(range: Span, address: u64) -> bool
     address < 1 << 32 && (address as u32).wrapping_sub(range.start) < range.len
 }
 
-/// Whether a range has a byte of the word at an address.
-fn meets_word(range: Span, addr: u32) -> bool
-    ensures { result ≡ meets (is_in range.start range.len) addr }
+/// Whether a range has a byte of the code of some bytes, two or four, at an address.
+fn meets_code(range: Span, addr: u32, len: u32) -> bool
+    ensures { result ≡ meets_code (is_in range.start range.len) addr len }
 {
     let first = u64::from(addr);
+    if len == 2 {
+        return is_in(range, first) || is_in(range, first + 1);
+    }
     is_in(range, first)
         || is_in(range, first + 1)
         || is_in(range, first + 2)
         || is_in(range, first + 3)
 }
 
-/// Whether an act may change a byte of the word at an address.
-fn writes_word(act: &Act, addr: u32) -> bool
-    ensures { result ≡ writes_word act.now addr }
+/// Whether an act may change a byte of the code at an address.
+fn writes_code(act: &Act, addr: u32, len: u32) -> bool
+    ensures { result ≡ writes_code act.now addr len }
 {
     match act.writes() {
-        Some(range) => meets_word(range, addr),
+        Some(range) => meets_code(range, addr, len),
         None => false,
     }
 }
 
-/// Whether one of some alterations may change a byte of the word at an address.
-pub(crate) fn write_word(marks: &[Alteration], addr: u32) -> bool
-    ensures { result ≡ write_word marks.now addr }
+/// Whether one of some alterations may change a byte of the code at an address.
+pub(crate) fn write_code(marks: &[Alteration], addr: u32, len: u32) -> bool
+    ensures { result ≡ write_code marks.now addr len }
 {
-    marks.iter().any(|mark| writes_word(&mark.act, addr))
+    marks.iter().any(|mark| writes_code(&mark.act, addr, len))
 }
 
-/// Returns the effect of another word at an address, in a run with alterations.
-pub fn word_effect(marks: &[Alteration], addr: u32, word: u32) -> Effect
-    ensures { result ≡ word_effect marks.now addr word }
+/// Returns the effect of another code at an address, in a run with alterations.
+pub fn code_effect(marks: &[Alteration], addr: u32, code: Code) -> Effect
+    ensures { result ≡ code_effect marks.now addr code }
 {
-    if write_word(marks, addr) {
-        Effect::Anew { addr, word }
+    if write_code(marks, addr, code.len()) {
+        Effect::Anew { addr, code }
     } else {
-        Effect::Word { addr, word }
+        Effect::Patch { addr, code }
     }
 }

@@ -1,15 +1,17 @@
--- What an alteration leaves as it is: whether the machine runs, and the bytes of a word that it doesn't write.
-use Rattle.std.proofs.Common.{◌≡◌, ℕ, ◌<◌, ◌≤◌, ◌^◌, ◌%◌, Bool, true, false, cond, nat_lt, refl, ap, sym}
+-- What an alteration leaves as it is: whether the machine runs, and the bytes of a code that it doesn't write.
+use Rattle.std.proofs.Common.{◌≡◌, ℕ, ◌<◌, ◌≤◌, ◌^◌, Bool, true, false, cond, nat_lt, refl, ap, sym}
 use Rattle.std.proofs.Common.{◌∙◌}
 use Rattle.std.proofs.Common.{arith, inl, inr}
 use Rattle.std.proofs.Math.Path.{fun_ext}
 use Rattle.std.proofs.lemmas.Bool.{cases_lt, true≢false}
 use Rattle.std.proofs.lemmas.Bool.Decides.{nat_tests}
 use Rattle.definedness.specs.Operations.{xor_of}
+use Rattle.instructions.specs.Codes.{len_of, number_of}
 use Rattle.instructions.specs.Widths.{width_len}
+use Rattle.instructions.specs.declared.code.Code.{Code}
 use Rattle.shadow_memory.specs.Ranges.{above, byte_of, changed_in, is_in, little_word, offset, window, written}
 use Rattle.guest_machine.specs.Alterations.{altered, altered_bytes, altered_core, alters, bytes_by, core_by}
-use Rattle.guest_machine.specs.Laws.{InWord}
+use Rattle.guest_machine.specs.Laws.{InCode}
 use Rattle.guest_machine.specs.Registers.{set_register}
 use Rattle.guest_machine.specs.Run.{poked}
 use Rattle.guest_machine.specs.Spans.{covers}
@@ -18,7 +20,6 @@ use Rattle.run_values.specs.Alterations.{writes_of}
 use Rattle.run_values.specs.declared.alteration.Act.{Act}
 use Rattle.run_values.specs.declared.alteration.Act.TheVariants.{Make, Set, Flip, Jump, FlipPc, Write, Turn, Skip}
 use Rattle.run_values.specs.declared.alteration.Alteration.{Alteration}
-use Rattle.guest_machine.proofs.PokeLaw.{in-word}
 
 -- ---- whether the machine runs
 
@@ -41,25 +42,28 @@ altered-status s alteration = go (alters alteration.act s.core)
     go true = by-status alteration.act s.core
     go false = refl
 
--- ---- the bytes of a word that it doesn't write
+-- ---- the bytes of a code that it doesn't write
 
--- none of the n bytes from start on is one of the word
-abbrev pub IsApart : ℕ → ℕ → ℕ → Type 0
-IsApart addr start n = (a : ℕ) → InWord addr a → is_in start n a ≡ false
+-- none of the n bytes from start on is one of the code
+abbrev pub IsApart : ℕ → Code → ℕ → ℕ → Type 0
+IsApart addr code start n = (a : ℕ) → InCode addr code a → is_in start n a ≡ false
 
 swap : (p q : Bool) (x y z : ℕ) → (p ≡ true → q ≡ false) → cond q x (cond p y z) ≡ cond p y (cond q x z)
 swap true true x y z h = absurd (true≢false (h refl))
 swap true false x y z h = refl
 swap false q x y z h = refl
 
--- other bytes are written before the word or after it
-written-apart : (f : ℕ → ℕ) (start n : ℕ) (made : ℕ → ℕ) (addr word : ℕ) → addr % 4 ≡ 0 → addr < 2 ^ 32
-    → IsApart addr start n
-    → written (written f addr 4 (byte_of word)) start n made ≡ written (written f start n made) addr 4 (byte_of word)
+-- byte values with those of the code
+abbrev pub poked_bytes : (ℕ → ℕ) → ℕ → Code → ℕ → ℕ
+poked_bytes f addr code = written f addr (len_of code) (byte_of (number_of code))
+
+-- other bytes are written before the code or after it
+written-apart : (f : ℕ → ℕ) (start n : ℕ) (made : ℕ → ℕ) (addr : ℕ) (code : Code) → IsApart addr code start n
+    → written (poked_bytes f addr code) start n made ≡ poked_bytes (written f start n made) addr code
 unfolding written changed_in
-written-apart f start n made addr word m small apart =
-    fun_ext (λ a. swap (is_in addr 4 a) (is_in start n a) (made (offset start a)) (byte_of word (offset addr a)) (f a)
-    (λ inside. apart a (in-word addr a m small inside)))
+written-apart f start n made addr code apart =
+    fun_ext (λ a. swap (is_in addr (len_of code) a) (is_in start n a) (made (offset start a))
+    (byte_of (number_of code) (offset addr a)) (f a) (λ inside. apart a inside))
 
 -- and read before or after
 is-above : (start i : ℕ) → i < 4 → is_in start 4 (above start i) ≡ true
@@ -74,46 +78,46 @@ is-above start i l = elim (cases_lt start (2 ^ 32)) [
     from-high : (start i : ℕ) → 2 ^ 32 ≤ start → i < 4 → is_in start 4 (above start i) ≡ true
     from-high start i high l = grind (arith, nat_tests)
 
-window-apart : (f : ℕ → ℕ) (start addr word : ℕ) → addr % 4 ≡ 0 → addr < 2 ^ 32 → IsApart addr start 4
-    → window (written f addr 4 (byte_of word)) start 4 ≡ window f start 4
+window-apart : (f : ℕ → ℕ) (start addr : ℕ) (code : Code) → IsApart addr code start 4
+    → window (poked_bytes f addr code) start 4 ≡ window f start 4
 unfolding window written changed_in
-window-apart f start addr word m small apart = fun_ext (λ i. go i (nat_lt i 4) refl)
+window-apart f start addr code apart = fun_ext (λ i. go i (nat_lt i 4) refl)
   where
-    at : (i : ℕ) → i < 4 → (b : Bool) → is_in addr 4 (above start i) ≡ b
-        → cond b (byte_of word (offset addr (above start i))) (f (above start i)) ≡ f (above start i)
-    at i l true inside = absurd (true≢false (sym (is-above start i l)
-        ∙ apart (above start i) (in-word addr (above start i) m small inside)))
+    at : (i : ℕ) → i < 4 → (b : Bool) → is_in addr (len_of code) (above start i) ≡ b
+        → cond b (byte_of (number_of code) (offset addr (above start i))) (f (above start i)) ≡ f (above start i)
+    at i l true inside = absurd (true≢false (sym (is-above start i l) ∙ apart (above start i) inside))
     at i l false outside = refl
 
     go : (i : ℕ) (b : Bool) → nat_lt i 4 ≡ b
-        → cond b (cond (is_in addr 4 (above start i)) (byte_of word (offset addr (above start i))) (f
-        (above start i))) 0
+        → cond b (cond (is_in addr (len_of code) (above start i))
+        (byte_of (number_of code) (offset addr (above start i))) (f (above start i))) 0
         ≡ cond b (f (above start i)) 0
-    go i true l = at i (let low : i < 4 = grind (arith, nat_tests) in low) (is_in addr 4 (above start i)) refl
+    go i true l = at i (let low : i < 4 = grind (arith, nat_tests) in low)
+        (is_in addr (len_of code) (above start i)) refl
     go i false l = refl
 
-bytes-poked : (act : Act) (f : ℕ → ℕ) (addr word : ℕ) → addr % 4 ≡ 0 → addr < 2 ^ 32
-    → ((a : ℕ) → InWord addr a → covers (writes_of act) a ≡ false)
-    → bytes_by act (written f addr 4 (byte_of word)) ≡ written (bytes_by act f) addr 4 (byte_of word)
-bytes-poked (Make start len kind) f addr word m small apart = refl
-bytes-poked (Set r value undef) f addr word m small apart = refl
-bytes-poked (Flip r mask) f addr word m small apart = refl
-bytes-poked (Jump target) f addr word m small apart = refl
-bytes-poked (FlipPc mask) f addr word m small apart = refl
-bytes-poked (Write start width value) f addr word m small apart =
-    written-apart f start (width_len width) (byte_of value) addr word m small apart
-bytes-poked (Turn start mask) f addr word m small apart =
-    ap (λ w. written (written f addr 4 (byte_of word)) start 4 (byte_of (xor_of (little_word w) mask)))
-    (window-apart f start addr word m small apart)
-    ∙ written-apart f start 4 (byte_of (xor_of (little_word (window f start 4)) mask)) addr word m small apart
-bytes-poked Skip f addr word m small apart = refl
+bytes-poked : (act : Act) (f : ℕ → ℕ) (addr : ℕ) (code : Code)
+    → ((a : ℕ) → InCode addr code a → covers (writes_of act) a ≡ false)
+    → bytes_by act (poked_bytes f addr code) ≡ poked_bytes (bytes_by act f) addr code
+bytes-poked (Make start len kind) f addr code apart = refl
+bytes-poked (Set r value undef) f addr code apart = refl
+bytes-poked (Flip r mask) f addr code apart = refl
+bytes-poked (Jump target) f addr code apart = refl
+bytes-poked (FlipPc mask) f addr code apart = refl
+bytes-poked (Write start width value) f addr code apart =
+    written-apart f start (width_len width) (byte_of value) addr code apart
+bytes-poked (Turn start mask) f addr code apart =
+    ap (λ w. written (poked_bytes f addr code) start 4 (byte_of (xor_of (little_word w) mask)))
+    (window-apart f start addr code apart)
+    ∙ written-apart f start 4 (byte_of (xor_of (little_word (window f start 4)) mask)) addr code apart
+bytes-poked Skip f addr code apart = refl
 
--- the word may be poked before the alteration or after it
-pub altered-poked : (alteration : Alteration) (s : State) (addr word : ℕ) → addr % 4 ≡ 0 → addr < 2 ^ 32
-    → ((a : ℕ) → InWord addr a → covers (writes_of alteration.act) a ≡ false)
-    → altered (poked s addr word) alteration ≡ poked (altered s alteration) addr word
+-- the code may be poked before the alteration or after it
+pub altered-poked : (alteration : Alteration) (s : State) (addr : ℕ) (code : Code)
+    → ((a : ℕ) → InCode addr code a → covers (writes_of alteration.act) a ≡ false)
+    → altered (poked s addr code) alteration ≡ poked (altered s alteration) addr code
 unfolding altered altered_bytes poked
-altered-poked alteration s addr word m small apart =
+altered-poked alteration s addr code apart =
     ap (λ (f : ℕ → ℕ). record s { bytes = f; core = altered_core alteration.act s.core })
     (go (alters alteration.act s.core))
   where
@@ -121,7 +125,7 @@ altered-poked alteration s addr word m small apart =
     f = s.bytes
 
     go : (b : Bool)
-        → cond b (bytes_by alteration.act (written f addr 4 (byte_of word))) (written f addr 4 (byte_of word))
-        ≡ written (cond b (bytes_by alteration.act f) f) addr 4 (byte_of word)
-    go true = bytes-poked alteration.act f addr word m small apart
+        → cond b (bytes_by alteration.act (poked_bytes f addr code)) (poked_bytes f addr code)
+        ≡ poked_bytes (cond b (bytes_by alteration.act f) f) addr code
+    go true = bytes-poked alteration.act f addr code apart
     go false = refl

@@ -113,12 +113,12 @@ range-alters r old new start n kind bytes whole front =
       shadows = made-outside _ _ start k kind is;
     }) whole front
 
-pub poke-alters : {T E : Type 0} (r : Result T E) (old new : Memory) (start word : ℕ)
-    → shadows_in new ≡ shadows_in old → OnOk r (bytes_in new ≡ written (bytes_in old) start 4 (byte_of word))
-    → OnErr r (SomeFront 4 (λ k. bytes_in new ≡ written (bytes_in old) start k (byte_of word)))
-    → Alters old new start 4
-poke-alters r old new start word shadows whole front =
-    within r old new start 4 (λ k. bytes_in new ≡ written (bytes_in old) start k (byte_of word))
+pub poke-alters : {T E : Type 0} (r : Result T E) (old new : Memory) (start n number : ℕ)
+    → shadows_in new ≡ shadows_in old → OnOk r (bytes_in new ≡ written (bytes_in old) start n (byte_of number))
+    → OnErr r (SomeFront n (λ k. bytes_in new ≡ written (bytes_in old) start k (byte_of number)))
+    → Alters old new start n
+poke-alters r old new start n number shadows whole front =
+    within r old new start n (λ k. bytes_in new ≡ written (bytes_in old) start k (byte_of number))
     (λ k is. record {
       bytes = written-outside _ _ start k _ is;
       shadows = same-outside _ _ start k shadows;

@@ -16,6 +16,8 @@ use Rattle.guest_machine.specs.Exec.{seen_also, intake_at}
 use Rattle.guest_machine.specs.Acting.{IsDone}
 use Rattle.guest_machine.specs.Alterations.{altered, altered_bytes, altered_core}
 use Rattle.guest_machine.specs.Run.{poked}
+use Rattle.instructions.specs.Codes.{len_of, number_of}
+use Rattle.instructions.specs.declared.code.Code.{Code}
 use Rattle.error_events.specs.Adding.{add_event, add_events, GroupsGrowBy}
 use Rattle.error_events.specs.Shown.{groups_of}
 use Rattle.error_events.specs.declared.event.Event.{Event}
@@ -156,15 +158,16 @@ holds-altered old new alteration c s h =
       groups = ap (λ (n : Noted). groups_of n.groups) c.noted ∙ h.groups;
     }
 
--- a guest with four byte values written
-pub holds-poked : (m : Guest) (memory : Memory) (addr word : ℕ)
-    → bytes_in memory ≡ written (bytes_in m.memory) addr 4 (byte_of word) → shadows_in memory ≡ shadows_in m.memory
+-- a guest with the byte values of a code written
+pub holds-poked : (m : Guest) (memory : Memory) (addr : ℕ) (code : Code)
+    → bytes_in memory ≡ written (bytes_in m.memory) addr (len_of code) (byte_of (number_of code))
+    → shadows_in memory ≡ shadows_in m.memory
     → (zero : slice_index_or m.registers 0 (known 0) ≡ known 0) (s : State) → Holds m s
-    → Holds (record m { memory = memory; zero = zero }) (poked s addr word)
+    → Holds (record m { memory = memory; zero = zero }) (poked s addr code)
 unfolding poked
-holds-poked m memory addr word b c zero s h =
+holds-poked m memory addr code b c zero s h =
     record {
-      bytes = b ∙ ap (λ f. written f addr 4 (byte_of word)) h.bytes;
+      bytes = b ∙ ap (λ f. written f addr (len_of code) (byte_of (number_of code))) h.bytes;
       core =
           (λ i. record {
             shadow = c i;

@@ -174,9 +174,11 @@ module _ (W : ℕ → Type 0) (setup : Setup) (s : State) (g : ℕ
         },
       )
 
-pub keeps-words : KeepsWords
+-- two states that differ only at addresses that the step doesn't touch
+pub keeps-bytes : (W : ℕ → Type 0) (setup : Setup) (s t : State) → DifferWithin W s t → TouchesNone W s setup
+    → (touches s setup ≡ touches t setup) × DifferWithin W (exec s setup) (exec t setup)
 unfolding EqualOutside other
-keeps-words setup word s t d h =
+keeps-bytes W setup s t d h =
     let same : record s { bytes = t.bytes } ≡ t =
     λ i. record {
       bytes = t.bytes;
@@ -188,5 +190,8 @@ keeps-words setup word s t d h =
       events = d.events i;
     } in
     let P : State → Type 0 = λ x. (touches s setup ≡ touches x setup)
-    × DifferWithin (InWord word) (exec s setup) (exec x setup) in
-    subst P same (law (InWord word) setup s t.bytes d.bytes h)
+    × DifferWithin W (exec s setup) (exec x setup) in
+    subst P same (law W setup s t.bytes d.bytes h)
+
+pub keeps-words : KeepsWords
+keeps-words setup word s t d h = keeps-bytes (InWord word) setup s t d h

@@ -1,5 +1,5 @@
 -- Laws of one step, which follow from its form and not from any instruction.
-use Rattle.std.specs.Prelude.{◌≡◌, ℕ, ◌/◌, ◌%◌, ◌^◌, ◌<◌, ◌≤◌, true, false, Bool, List, [], ◌∷◌, ◌++◌, length}
+use Rattle.std.specs.Prelude.{◌≡◌, ℕ, ◌/◌, ◌%◌, ◌<◌, ◌≤◌, true, false, Bool, List, [], ◌∷◌, ◌++◌, length}
 use Rattle.std.specs.Prelude.{slice_get, ◌==◌, ◌&&◌, if◌then◌else◌, is_none, None}
 use Rattle.guest_elf.specs.Hooks.{hook_at}
 use Rattle.guest_elf.specs.declared.hook.Hook.{Hook}
@@ -20,12 +20,19 @@ use Rattle.run_values.specs.declared.mark.Mark.{Mark}
 use Rattle.guest_machine.specs.Exec.{exec, touches, counted, is_heap_deed, is_running, deed_at}
 use Rattle.guest_machine.specs.Exec.{Takes, Halts, called_here, fetched, fetches, jump_fault, unfetched, word_at}
 use Rattle.guest_machine.specs.Exec.{word_fault}
+use Rattle.instructions.specs.Codes.{len_of}
+use Rattle.instructions.specs.declared.code.Code.{Code}
 use Rattle.instructions.specs.declared.code.Code.TheVariants.{Word}
+use Rattle.shadow_memory.specs.Ranges.{is_in}
 use Rattle.guest_machine.specs.declared.setup.Setup.{Setup}
 
 -- the addresses of the word at an address
 abbrev pub InWord : ℕ → ℕ → Type 0
 InWord word a = a / 4 ≡ word / 4
+
+-- the addresses of the bytes of a code at an address
+abbrev pub InCode : ℕ → Code → ℕ → Type 0
+InCode addr code a = is_in addr (len_of code) a ≡ true
 
 -- two states differ only in byte values, and only at these addresses
 pub record DifferWithin (W : ℕ → Type 0) (s t : State) : Type 0 where
@@ -74,12 +81,12 @@ pub record KeepsHeap : Type 0 where
   pub counts : (setup : Setup) (s : State)
       → (exec s setup).heap_calls ≡ counted s.heap_calls (is_heap_step s setup.hooks)
 
--- a word may be poked before a step that doesn't touch it or after it, and the step touches the same
+-- a code may be poked before a step that touches none of its bytes or after it, and the step touches the same
 abbrev pub KeepsPokes : Type 0
 KeepsPokes =
-    (setup : Setup) (addr word : ℕ) (s : State) → addr % 4 ≡ 0 → addr < 2 ^ 32 → TouchesNone (InWord addr) s setup
-    → (touches s setup ≡ touches (poked s addr word) setup)
-    × (exec (poked s addr word) setup ≡ poked (exec s setup) addr word)
+    (setup : Setup) (addr : ℕ) (code : Code) (s : State) → TouchesNone (InCode addr code) s setup
+    → (touches s setup ≡ touches (poked s addr code) setup)
+    × (exec (poked s addr code) setup ≡ poked (exec s setup) addr code)
 
 -- a step gives no input back
 abbrev pub ReadsOn : Type 0

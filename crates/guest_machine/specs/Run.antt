@@ -4,6 +4,8 @@ use Rattle.std.specs.Prelude.{replicate, slice_set, []}
 use Rattle.guest_elf.specs.declared.image.Image.{Image}
 use Rattle.guest_heap.specs.Blocks.{no_blocks}
 use Rattle.guest_elf.specs.Images.{loaded_at, entry_of, profile_of}
+use Rattle.instructions.specs.Codes.{len_of, number_of}
+use Rattle.instructions.specs.declared.code.Code.{Code}
 use Rattle.shadow_memory.specs.Ranges.{written, byte_of}
 use Rattle.shadow_memory.specs.Shadows.{Shadow, shadow_of, made_so}
 use Rattle.guest_machine.specs.State.{State}
@@ -59,9 +61,9 @@ made_state s start len kind = record s { core = record s.core { shadow = made_so
 unfoldable pub marked : State → Mark → State
 marked s mark = made_state s mark.addr mark.len mark.kind
 
--- four byte values of a state changed, little-endian
-unfoldable pub poked : State → ℕ → ℕ → State
-poked s addr word = record s { bytes = written s.bytes addr 4 (byte_of word) }
+-- the byte values of a state changed to those of a code, from an address on
+unfoldable pub poked : State → ℕ → Code → State
+poked s addr code = record s { bytes = written s.bytes addr (len_of code) (byte_of (number_of code)) }
 
 -- the alterations of a step, in list order
 abbrev pub marks_at : ℕ → List Alteration → List Alteration

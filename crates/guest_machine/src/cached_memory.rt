@@ -5,7 +5,7 @@ ghost use Rattle.guest_machine.specs.DecodeCaches.{HasBoth};
 
 use crate::decode_cache::{DecodeCache, Decoded};
 use definedness::Bits;
-use instructions::Instruction;
+use instructions::{Code, Instruction};
 use shadow_memory::{Bad, Loaded, Memory, RangeKind};
 use std::alloc::{AllocError, Global};
 use std::marker::Model;
@@ -35,6 +35,7 @@ impl Model for CachedMemory {
 impl CachedMemory {
     ghost use Rattle.std.specs.Prelude.{◌+◌, ◌*◌, ◌%◌, ◌^◌, ◌<◌, None, IfOk, IfSome, IsTrue, IsFalse, OnOk, length, slice_index};
     ghost use Rattle.guest_machine.specs.DecodeCaches.{HasRow};
+    ghost use Rattle.instructions.specs.Codes.{len_of, number_of};
     ghost use Rattle.shadow_memory.specs.Changes.{AreApart, IsWidth};
     ghost use Rattle.shadow_memory.specs.Ranges.{byte_of, copied, little_word, window, written};
     ghost use Rattle.shadow_memory.specs.Shadows.{copied_undef, first_bad, first_inaccessible, loaded_undef, made_so, stored_undef, HasDefined};
@@ -205,6 +206,26 @@ impl CachedMemory {
     {
         self.cache.forget(addr, 4);
         self.memory.poke_word(addr, word)
+    }
+
+    /// Changes the bytes of a code. Their accessibility and undefined bits stay.
+    pub(crate) fn poke(&mut self, addr: u32, code: Code) -> Result<(), AllocError>
+        ensures bytes { OnOk result (bytes_in self.new ≡ written (bytes_in self.old) addr (len_of code) (byte_of (number_of code))) }
+        ensures shadows { shadows_in self.new ≡ shadows_in self.old }
+    {
+        match code {
+            Code::Word(word) => self.poke_word(addr, word),
+            Code::Half(half) => self.poke_half(addr, half),
+        }
+    }
+
+    /// See [`Memory::poke_half`].
+    fn poke_half(&mut self, addr: u32, half: u16) -> Result<(), AllocError>
+        ensures bytes { OnOk result (bytes_in self.new ≡ written (bytes_in self.old) addr 2 (byte_of half)) }
+        ensures shadows { shadows_in self.new ≡ shadows_in self.old }
+    {
+        self.cache.forget(addr, 2);
+        self.memory.poke_half(addr, half)
     }
 
     /// See [`Memory::share`]. The copy has nothing decoded.

@@ -4,7 +4,7 @@
 //! registers with their undefined bits; pc; whether it runs; the frames of the calls that it is in; the blocks of the heap; how much of the
 //! input was read, how much output was written, and the number of heap calls; and the errors so far, counted by kind and trace.
 //! [`Machine::step`] executes one instruction (ECALL included), or one call of a function of the heap that the setup names by its first
-//! address. [`Machine::run`] executes many steps. Between steps a range can be marked, a word poked, and the machine altered in other ways.
+//! address. [`Machine::run`] executes many steps. Between steps a range can be marked, a code poked, and the machine altered in other ways.
 //! Once the machine is halted, a step changes nothing, and `run` executes none.
 //!
 //! # Public items
@@ -17,7 +17,7 @@
 //! | [`Machine::run`] | returns the machine many steps later |
 //! | [`Machine::mark`] | returns the machine with a range made inaccessible, undefined or defined |
 //! | [`Machine::alter`] | returns the machine with any [`Alteration`] made: a range, a register, pc, or bytes |
-//! | [`Machine::poke_word`] | returns the machine with the four bytes at an address changed |
+//! | [`Machine::poke`], [`Machine::poke_word`] | returns the machine with the bytes of a code at an address changed, or four bytes |
 //! | [`Machine::share`] | returns a copy, which later changes of the original don't reach |
 //! | [`Machine::hand_on`] | likewise, for the copy that continues the run: what was decoded moves to it |
 //! | [`Machine::share_ready`] | likewise, for one of several such copies: it has decoded what this one has |
@@ -58,7 +58,7 @@
 //! - `unmoved`: if memory ran out, the meter is where it was.
 //!
 //! The calls between steps have the same form: `start` shows `start_state`, `mark` leads from a state to `marked`, `alter` to `altered`,
-//! `poke_word` to `poked`, `share` to the same state, and each observer except `has_raised` returns a field of it. So a run of any length
+//! `poke` to `poked`, `share` to the same state, and each observer except `has_raised` returns a field of it. So a run of any length
 //! is the definition `pre` or `post`, by as many calls. The laws let a caller replay less after an edit. A step is the same if the edit
 //! changed only a word that it doesn't touch, input that it hasn't come to, or, if it is no heap call, the heap's options. A word that it
 //! doesn't touch may as well be poked after it. A step of a halted machine need not be executed.
@@ -101,7 +101,7 @@ mod setup;
 
 pub use hooks::Hooks;
 pub use input::Input;
-pub use instructions::{Register, Width};
+pub use instructions::{Code, Register, Width};
 pub use machine::Machine;
 pub use meter::Meter;
 pub use run_values::{Act, Alteration, Mark, Span, Status, Stop};

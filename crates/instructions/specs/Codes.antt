@@ -10,6 +10,11 @@ abbrev pub len_of : Code → ℕ
 len_of (Word word) = 4
 len_of (Half half) = 2
 
+-- and the number that they are, the lowest byte first
+abbrev pub number_of : Code → ℕ
+number_of (Word word) = word
+number_of (Half half) = half
+
 -- the code of this many bytes, 4 or 2, that is this number
 unfoldable pub code_of : ℕ → ℕ → Code
 code_of len number = if len == 2 then Half number else Word number

@@ -184,7 +184,7 @@ fn steps_touch_and_read(rt: HostRuntime) {
     assert_so(&rt, rt.alloc(), &TOUCHES);
 }
 
-const OTHERS: [Row; 5] = [
+const OTHERS: [Row; 6] = [
     (
         "it rests where it has ended",
         &[EXIT, ECALL],
@@ -193,6 +193,7 @@ const OTHERS: [Row; 5] = [
         Trial::Rests,
     ),
     ("a mark and a poke", &[LOAD], b"", false, Trial::Marks),
+    ("a half poked", &[LOAD], b"", false, Trial::PokesHalf),
     ("alterations", &[LOAD], b"", false, Trial::Alters),
     ("a copy", &[LOAD], b"", false, Trial::Copies),
     // `next: addi a0, a0, 1; j next`

@@ -39,6 +39,8 @@ pub(crate) enum Trial {
     Rests,
     /// A mark and a written word take effect.
     Marks,
+    /// A half is written into the word at the stack pointer, and loaded with it.
+    PokesHalf,
     /// A register is set, bits of it are turned, and an instruction is left out.
     Alters,
     /// A copy stays as it was.
@@ -193,6 +195,13 @@ fn marks(start: Machine, setup: &Setup) -> Result<bool, AllocError> {
     Ok(bits.value == 0x8765_4321 && bits.undef == u32::MAX)
 }
 
+/// Returns whether a half that is written into the word at the stack pointer is loaded with it.
+fn pokes_half(start: Machine, setup: &Setup) -> Result<bool, AllocError> {
+    let poked = start.poke(0x7FFF_FFF2, Code::Half(0x8765))?;
+    let bits = answer(poked, setup, 1)?;
+    Ok(bits.value == 0x8765_0000 && bits.undef == 0)
+}
+
 /// Returns the machine with a0 set to a number, one bit of which is undefined, and bits of it turned.
 fn turned(start: Machine) -> Result<Machine, AllocError> {
     let register = Register::new(10);
@@ -334,6 +343,7 @@ fn goes_well(
         ),
         Trial::Rests => rests(start, setup),
         Trial::Marks => marks(start, setup),
+        Trial::PokesHalf => pokes_half(start, setup),
         Trial::Alters => alters(start),
         Trial::Copies => copies(start, setup),
         Trial::Learns => learns(alloc, image, start, setup),

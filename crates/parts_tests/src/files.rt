@@ -103,6 +103,7 @@ fn begin_at_fours() -> bool {
         && !isa.aligns(0x10007)
         && isa.aligns(0xFFFF_FFFC)
         && isa.unit() == 4
+        && !isa.has_halves()
         && !isa.is_half(0x4502)
 }
 
@@ -114,6 +115,7 @@ fn begin_at_twos() -> bool {
         && !isa.aligns(0x10005)
         && isa.aligns(0xFFFF_FFFE)
         && isa.unit() == 2
+        && isa.has_halves()
         && isa.is_half(0x4502)
         && !isa.is_half(0x0513)
 }
@@ -142,6 +144,40 @@ const PATCHABLE: [Patchable; 12] = [
     (LAST, NONE, 0xFFFF_FFFD, false, true),
     (EMPTY, (OFFSET, 0xFFFF_FFFF), 0x10000, true, false),
 ];
+
+/// A changed word of the program; an address; and whether a word of RV32IM is there, and with C a word and a half.
+type Coded = (Change, u32, bool, bool, bool);
+
+const CODED: [Coded; 9] = [
+    (NONE, 0xFFFE, false, false, false),
+    (NONE, 0x10000, true, true, true),
+    (NONE, 0x10001, false, false, false),
+    (NONE, 0x10002, false, true, true),
+    (NONE, 0x10008, true, true, true),
+    (NONE, 0x1000A, false, false, true),
+    (NONE, 0x1000C, false, false, false),
+    (LAST, 0xFFFF_FFFC, true, true, true),
+    (LAST, 0xFFFF_FFFE, false, false, true),
+];
+
+/// Returns whether a row holds of the program, read for an instruction set, without its halves if there are none.
+fn is_coded_for(alloc: Global, file: &[u8], isa: Isa, row: &Coded) -> bool {
+    let (_, addr, word, long, half) = row;
+    match read_for(alloc, file, Profile { isa }) {
+        Ok(image) => match isa {
+            Isa::Rv32im => image.is_word(*addr) == *word,
+            Isa::Rv32imc => image.is_word(*addr) == *long && image.is_half_word(*addr) == *half,
+        },
+        Err(_) => false,
+    }
+}
+
+/// Returns whether a row holds.
+fn is_coded(alloc: Global, row: &Coded) -> bool {
+    let mut file = PROGRAM;
+    change(&mut file, row.0);
+    is_coded_for(alloc, &file, Isa::Rv32im, row) && is_coded_for(alloc, &file, Isa::Rv32imc, row)
+}
 
 /// Returns whether there is one segment, with bytes or without.
 fn have_bytes(segments: &[Segment<'_>], want: bool) -> bool {
@@ -309,6 +345,13 @@ fn files_by_hand(rt: HostRuntime) {
 fn words_are_patchable_where_each_byte_is_loaded(rt: HostRuntime) {
     for row in &PATCHABLE {
         assert!(rt; is_patchable(rt.alloc(), row), "at {:#010x}", row.2);
+    }
+}
+
+#[test]
+fn codes_are_where_an_instruction_may_begin_and_each_byte_is_loaded(rt: HostRuntime) {
+    for row in &CODED {
+        assert!(rt; is_coded(rt.alloc(), row), "at {:#010x}", row.1);
     }
 }
 

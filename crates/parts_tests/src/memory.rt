@@ -199,12 +199,18 @@ fn are_poked(memory: &mut Memory) -> Result<bool, AllocError> {
     )
 }
 
+/// Returns whether a half is written into that word.
+fn is_half_poked(memory: &mut Memory) -> Result<bool, AllocError> {
+    memory.poke_half(0x9000, 0x0605)?;
+    Ok(has_word(memory, 0x8FFF, 0x0406_0501))
+}
+
 /// Returns whether bytes from outside are stored and overwritten.
 fn are_stored_and_poked(memory: &mut Memory) -> Result<bool, AllocError> {
     if !are_stored(memory)? {
         return Ok(false);
     }
-    are_poked(memory)
+    Ok(are_poked(memory)? && is_half_poked(memory)?)
 }
 
 /// Returns whether scans of bytes find one that differs.

@@ -7,7 +7,7 @@ use crate::runs::setup_of;
 use checkpoints::{Effect, Fork, Sought, Trail, Watch, run_to};
 use guest_elf::{Image, read};
 use guest_machine::{
-    Act as Deed, Alteration, Input, Machine, Mark, Meter, Setup, Span, Status, Stop, Width,
+    Act as Deed, Alteration, Code, Input, Machine, Mark, Meter, Setup, Span, Status, Stop, Width,
 };
 use guest_programs::sized_program;
 use shadow_memory::RangeKind;
@@ -108,6 +108,8 @@ pub(crate) enum Act {
     AskUnmarked(u32, Told),
     /// A word is patched.
     Patch(u32, u32),
+    /// A half is patched.
+    PatchHalf(u32, u16),
     /// A mark is appended to the list.
     AddMark(Mark),
     /// A word is written just before a step.
@@ -135,7 +137,7 @@ pub(crate) enum Act {
 /// A label, a program, and the acts on its trail.
 pub(crate) type Case = (&'static str, Program, &'static [Act]);
 
-const EDITS: [Case; 4] = [
+const EDITS: [Case; 5] = [
     // A word that isn't read by the step asked for, and one that is read in step 1201.
     (
         "words that are read late",
@@ -148,6 +150,18 @@ const EDITS: [Case; 4] = [
             Act::Patch(0x10654, 1),
             Act::Ask(4000, (8880, ENDS, 0x10010, 0)),
             Act::Ask(1204, (9060, RUNS, 0x10010, 0)),
+        ],
+    ),
+    // The second half of a word that is read in step 1201, and a half over two words, of which the first is read in step 1024.
+    (
+        "halves go by the words that have their bytes",
+        Program::ReadsOn,
+        &[
+            Act::Ask(3000, (3000, RUNS, 0x1000C, 0)),
+            Act::PatchHalf(0x10656, 1),
+            Act::Ask(4000, (5976, ENDS, 0x10010, 0)),
+            Act::PatchHalf(0x1056B, 0),
+            Act::Ask(4000, (8952, ENDS, 0x10010, 0)),
         ],
     ),
     // A word that is read in step 4, there and back; and one that is read in step 1024: the machine at 1024 is kept and has the word.
@@ -324,7 +338,22 @@ impl<'a> Edited<'a> {
         if addr % 4 != 0 || !self.image.patchable(addr) {
             return Ok(false);
         }
-        self.trail.follow(Effect::Word { addr, word })?;
+        self.trail.follow(Effect::Patch {
+            addr,
+            code: Code::Word(word),
+        })?;
+        Ok(true)
+    }
+
+    /// Patches a half, if the bytes of the word from there on are loaded.
+    fn patches_half(&mut self, addr: u32, half: u16) -> Result<bool, AllocError> {
+        if addr > 0xFFFF_FFF0 || !self.image.patchable(addr) {
+            return Ok(false);
+        }
+        self.trail.follow(Effect::Patch {
+            addr,
+            code: Code::Half(half),
+        })?;
         Ok(true)
     }
 
@@ -359,7 +388,10 @@ impl<'a> Edited<'a> {
         if addr % 4 != 0 || !self.image.patchable(addr) {
             return Ok(false);
         }
-        self.trail.follow(Effect::Anew { addr, word })?;
+        self.trail.follow(Effect::Anew {
+            addr,
+            code: Code::Word(word),
+        })?;
         Ok(true)
     }
 
@@ -412,8 +444,12 @@ impl<'a> Edited<'a> {
         }
         let fork = self
             .trail
-            .fork_at_word(addr, 4000, &self.setup, &self.marks)?;
-        goes_on(&fork, Effect::Word { addr, word }, &self.setup, 4000, told)
+            .fork_at_code(addr, 4, 4000, &self.setup, &self.marks)?;
+        let effect = Effect::Patch {
+            addr,
+            code: Code::Word(word),
+        };
+        goes_on(&fork, effect, &self.setup, 4000, told)
     }
 
     /// Returns whether the next step that does what is sought is found.
@@ -473,6 +509,7 @@ impl<'a> Edited<'a> {
             Act::Ask(step, told) => self.asks(*step, told),
             Act::AskUnmarked(step, told) => self.asks_unmarked(*step, told),
             Act::Patch(addr, word) => self.patches(*addr, *word),
+            Act::PatchHalf(addr, half) => self.patches_half(*addr, *half),
             Act::AddMark(mark) => self.adds_mark(mark),
             Act::Write(step, addr, value) => self.writes(*step, *addr, *value),
             Act::PatchWritten(addr, word) => self.patches_written(*addr, *word),

@@ -244,8 +244,27 @@ impl Memory {
         ensures shadows { shadows_in self.new ≡ shadows_in self.old }
         ensures err { OnErr result (SomeFront 4 (λ k. bytes_in self.new ≡ written (bytes_in self.old) addr k (byte_of word))) }
     {
-        for i in 0..4 {
-            self.poke(addr.wrapping_add(i), byte_at(word, i))?;
+        self.poke_bytes(addr, 4, word)
+    }
+
+    /// Changes the two bytes of a half. Their accessibility and undefined bits stay. On an error, a front of them is changed.
+    pub fn poke_half(&mut self, addr: u32, half: u16) -> Result<(), AllocError>
+        ensures bytes { OnOk result (bytes_in self.new ≡ written (bytes_in self.old) addr 2 (byte_of half)) }
+        ensures shadows { shadows_in self.new ≡ shadows_in self.old }
+        ensures err { OnErr result (SomeFront 2 (λ k. bytes_in self.new ≡ written (bytes_in self.old) addr k (byte_of half))) }
+    {
+        self.poke_bytes(addr, 2, u32::from(half))
+    }
+
+    /// Changes up to four bytes to the lowest ones of a number.
+    fn poke_bytes(&mut self, addr: u32, len: u32, number: u32) -> Result<(), AllocError>
+        requires { len ≤ 4 }
+        ensures bytes { OnOk result (bytes_in self.new ≡ written (bytes_in self.old) addr len (byte_of number)) }
+        ensures shadows { shadows_in self.new ≡ shadows_in self.old }
+        ensures err { OnErr result (SomeFront len (λ k. bytes_in self.new ≡ written (bytes_in self.old) addr k (byte_of number))) }
+    {
+        for i in 0..len {
+            self.poke(addr.wrapping_add(i), byte_at(number, i))?;
         }
         Ok(())
     }

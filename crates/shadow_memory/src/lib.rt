@@ -16,7 +16,7 @@
 //! | [`Memory::store_at_once`] | stores as `store` does, if one look-up shows that it can; returns whether it did | no |
 //! | [`Memory::set_range`] | makes a range inaccessible, undefined or defined; its bytes stay | yes |
 //! | [`Memory::fill`] | makes a range defined, with these bytes and zeros after them | yes |
-//! | [`Memory::poke`], [`Memory::poke_word`] | change a byte or four; their accessibility and undefined bits stay | yes |
+//! | [`Memory::poke`], [`Memory::poke_half`], [`Memory::poke_word`] | change a byte, two or four; their accessibility and undefined bits stay | yes |
 //! | [`Memory::store_bytes`] | stores bytes that are all defined, as input is | yes |
 //! | [`Memory::copy_with_shadow`] | copies a range, with its undefined bits, to one that doesn't overlap it | yes |
 //! | [`Memory::first_bad`] | returns the first byte of a range that is inaccessible or, if asked, not defined | no |

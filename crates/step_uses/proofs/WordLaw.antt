@@ -8,9 +8,11 @@ use Rattle.shadow_memory.specs.Ranges.{above, byte_of, changed_in, is_in, little
 use Rattle.shadow_memory.proofs.Ranging.{byte-of-number, same-number}
 use Rattle.guest_machine.specs.Alterations.{altered, altered_bytes, altered_core}
 use Rattle.guest_machine.specs.Exec.{exec, is_running, touches}
-use Rattle.guest_machine.specs.Laws.{InWord, KeepsPokes, TouchesNone}
+use Rattle.guest_machine.specs.Laws.{InCode, KeepsPokes, TouchesNone}
 use Rattle.guest_machine.specs.Run.{poked, post}
+use Rattle.guest_machine.proofs.PokeLaw.{in-word}
 use Rattle.guest_machine.specs.State.{State}
+use Rattle.instructions.specs.declared.code.Code.TheVariants.{Word}
 use Rattle.guest_machine.specs.declared.setup.Setup.{Setup}
 use Rattle.run_values.specs.declared.alteration.Act.TheVariants.{Turn}
 use Rattle.step_uses.specs.declared.passing.Passing.TheVariants.{Keeps, Looks}
@@ -74,7 +76,7 @@ in-place addr i aligned near less =
 
 -- it has them
 poked-at : (s : State) (addr word i : ℕ) → addr % 4 ≡ 0 → addr < 2 ^ 32 → i < 4
-    → (poked s addr word).bytes (addr + i) ≡ byte_of word i
+    → (poked s addr (Word word)).bytes (addr + i) ≡ byte_of word i
 unfolding poked written changed_in
 poked-at s addr word i aligned near less =
     let at = in-place addr i aligned near less in
@@ -82,7 +84,7 @@ poked-at s addr word i aligned near less =
 
 -- and if these are its own, nothing has changed
 same-poked : (s : State) (addr : ℕ) → addr % 4 ≡ 0 → addr < 2 ^ 32 → HasBytes s addr
-    → poked s addr (little_word (window s.bytes addr 4)) ≡ s
+    → poked s addr (Word (little_word (window s.bytes addr 4))) ≡ s
 unfolding poked written changed_in
 same-poked s addr aligned near fits = λ i. record s { bytes = λ a. each a i }
   where
@@ -120,9 +122,10 @@ one-of-four : (addr a : ℕ) → a / 4 ≡ addr / 4 → addr % 4 ≡ 0
     → (a ≡ addr) ⊎ ((a ≡ addr + 1) ⊎ ((a ≡ addr + 2) ⊎ (a ≡ addr + 3)))
 one-of-four addr a same aligned = grind arith
 
-touches-none : (s : State) (setup : Setup) (addr : ℕ) → addr % 4 ≡ 0 → touches_word s setup addr ≡ false
-    → TouchesNone (InWord addr) s setup
-touches-none s setup addr aligned h a same =
+touches-none : (s : State) (setup : Setup) (addr : ℕ) → addr % 4 ≡ 0 → addr < 2 ^ 32 → touches_word s setup addr ≡ false
+    → (word : ℕ) → TouchesNone (InCode addr (Word word)) s setup
+touches-none s setup addr aligned near h word a inside =
+    let same = in-word addr a aligned near inside in
     let halves = neither (touches s setup addr || touches s setup (addr + 1))
     (touches s setup (addr + 2) || touches s setup (addr + 3)) h in
     let front = neither (touches s setup addr) (touches s setup (addr + 1)) halves.0 in
@@ -136,7 +139,7 @@ touches-none s setup addr aligned h a same =
 
 -- it leaves the word's bytes
 word-stays : KeepsPokes → (setup : Setup) (addr : ℕ) (s : State) → addr % 4 ≡ 0 → addr < 2 ^ 32 → HasBytes s addr
-    → TouchesNone (InWord addr) s setup
+    → ((word : ℕ) → TouchesNone (InCode addr (Word word)) s setup)
     → little_word (window s.bytes addr 4) ≡ little_word (window (exec s setup).bytes addr 4)
 word-stays law setup addr s aligned near fits none =
     same-number (window s.bytes addr 4) (window (exec s setup).bytes addr 4) each
@@ -144,9 +147,9 @@ word-stays law setup addr s aligned near fits none =
     word : ℕ
     word = little_word (window s.bytes addr 4)
 
-    stepped : exec s setup ≡ poked (exec s setup) addr word
+    stepped : exec s setup ≡ poked (exec s setup) addr (Word word)
     stepped =
-        ap (λ t. exec t setup) (sym (same-poked s addr aligned near fits)) ∙ (law setup addr word s aligned near none).1
+        ap (λ t. exec t setup) (sym (same-poked s addr aligned near fits)) ∙ (law setup addr (Word word) s (none word)).1
 
     each : (i : ℕ) → i < 4 → window s.bytes addr 4 i ≡ window (exec s setup).bytes addr 4 i
     each i less =
@@ -157,7 +160,7 @@ word-stays law setup addr s aligned near fits none =
 
 -- bits of a word that are turned in a machine that runs
 turns : (k addr mask : ℕ) (s : State) → is_running s.core.status ≡ true
-    → by-act k (Turn addr mask) s ≡ poked s addr (xor_of (little_word (window s.bytes addr 4)) mask)
+    → by-act k (Turn addr mask) s ≡ poked s addr (Word (xor_of (little_word (window s.bytes addr 4)) mask))
 unfolding by-act altered altered_core altered_bytes poked
 turns k addr mask s runs =
     ap (λ b. record s {
@@ -170,10 +173,11 @@ turned-kept : KeepsPokes → (setup : Setup) (k addr mask : ℕ) (s : State) →
     → exec (by-act k (Turn addr mask) s) setup ≡ by-act (suc k) (Turn addr mask) (exec s setup)
 turned-kept law setup k addr mask s near fits h then =
     let kept = is-kept s setup addr h in
-    let none = touches-none s setup addr kept.0 kept.1 in
+    let none = touches-none s setup addr kept.0 near kept.1 in
     ap (λ t. exec t setup) (turns k addr mask s (runs-before s setup then))
-    ∙ (law setup addr (xor_of (little_word (window s.bytes addr 4)) mask) s kept.0 near none).1
-    ∙ ap (λ w. poked (exec s setup) addr (xor_of w mask)) (word-stays law setup addr s kept.0 near fits none)
+    ∙ (law setup addr (Word (xor_of (little_word (window s.bytes addr 4)) mask)) s
+    (none (xor_of (little_word (window s.bytes addr 4)) mask))).1
+    ∙ ap (λ w. poked (exec s setup) addr (Word (xor_of w mask))) (word-stays law setup addr s kept.0 near fits none)
     ∙ sym (turns (suc k) addr mask (exec s setup) then)
 
 pub runs-keep-words : KeepsPokes → RunsKeepWords

@@ -6,6 +6,7 @@ ghost use Rattle.guest_machine.specs.State.{State};
 ghost use Rattle.guest_machine.specs.Alterations.{altered};
 ghost use Rattle.guest_machine.specs.Run.{start_state, marked, poked};
 ghost use Rattle.guest_machine.specs.Shows.{bytes_of, core_of, Holds, Shows};
+ghost use Rattle.instructions.specs.declared.code.Code.TheVariants.{Word};
 
 use crate::cached_memory::CachedMemory;
 use crate::machine::registers::known;
@@ -14,6 +15,7 @@ use call_stacks::CallStack;
 use error_events::Groups;
 use guest_elf::{Image, Segment};
 use guest_heap::Heap;
+use instructions::Code;
 use run_values::{Alteration, Mark, Status};
 use shadow_memory::Memory;
 use std::alloc::{AllocError, Global};
@@ -61,10 +63,10 @@ impl Guest {
         self.act(alteration.act)
     }
 
-    fn poke_word(&mut self, addr: u32, word: u32) -> Result<(), AllocError>
-        ensures { OnOk result ((s : State) → Holds self.old s → Holds self.new (poked s addr word)) }
+    fn poke(&mut self, addr: u32, code: Code) -> Result<(), AllocError>
+        ensures { OnOk result ((s : State) → Holds self.old s → Holds self.new (poked s addr code)) }
     {
-        self.memory.poke_word(addr, word)?;
+        self.memory.poke(addr, code)?;
         Ok(())
     }
 
@@ -162,14 +164,21 @@ impl Machine {
         Ok(machine)
     }
 
-    /// Returns the machine with the four bytes from `addr` on (modulo 2^32) set to a word, the lowest first. Their accessibility and
+    /// Returns the machine with the bytes from `addr` on (modulo 2^32) set to those of a code, the lowest first. Their accessibility and
     /// undefined bits stay. Drops the machine if memory runs out.
-    pub fn poke_word(self, addr: u32, word: u32) -> Result<Machine, AllocError>
-        ensures { IfOk result (λ r. (s : State) → Shows self s → Shows r (poked s addr word)) }
+    pub fn poke(self, addr: u32, code: Code) -> Result<Machine, AllocError>
+        ensures { IfOk result (λ r. (s : State) → Shows self s → Shows r (poked s addr code)) }
     {
         let mut machine = self;
-        machine.guest.poke_word(addr, word)?;
+        machine.guest.poke(addr, code)?;
         Ok(machine)
+    }
+
+    /// Returns the machine with four bytes set to a word, as [`Machine::poke`] does.
+    pub fn poke_word(self, addr: u32, word: u32) -> Result<Machine, AllocError>
+        ensures { IfOk result (λ r. (s : State) → Shows self s → Shows r (poked s addr (Word word))) }
+    {
+        self.poke(addr, Code::Word(word))
     }
 
     /// Returns another machine that shows the same.

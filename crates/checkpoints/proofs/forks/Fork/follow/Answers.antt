@@ -16,6 +16,6 @@ returns-clause-shows c last one start l fork =
     })
     c.keeps_pokes.ensures c.args.effect one
     (record { start = start; setup = c.args.setup.now; marks = c.args.marks.now }) c.args.self.now.step
-    fork.aligned l fork.step.hidden in
+    fork.whole l fork.step.hidden in
     c.in_ok-marked.ensures _ (c.in_ok-machine.ensures.shows start
     (shows-along _ _ _ _ refl same (c.in_ok-written.ensures _ fork.shows)))

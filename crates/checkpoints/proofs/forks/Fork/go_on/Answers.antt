@@ -15,9 +15,9 @@ returns-clause-fork c s one start last within l fork =
     })
     c.keeps_pokes.ensures (After s) one
     (record { start = start; setup = c.args.setup.now; marks = c.args.marks.now }) c.args.self.now.step
-    fork.aligned l fork.step.hidden in
+    fork.whole l fork.step.hidden in
     record {
-      aligned = tt;
+      whole = tt;
       shows = c.in_ok-machine.ensures.shows start
           (shows-along _ _ _ _ refl same (c.in_ok-copy.ensures _ fork.shows));
       step =

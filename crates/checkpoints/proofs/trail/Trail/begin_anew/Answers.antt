@@ -53,7 +53,7 @@ returns-clause-followed c =
     let start = c.in_ok-begun.begun in
     let set-up = c.put_first.ensures.machines ∙ ap (λ ms. set ms 0 start) c.keep.ensures.machines in
     let size = ap length (set-up ∙ alone (machines_of old) start (some-held old)) in
-    each-written old new new 1 c.index.result.now start c.args.addr c.args.word set-up (omega arith) c.index.ensures
+    each-written old new new 1 c.index.result.now start c.args.addr c.args.code set-up (omega arith) c.index.ensures
     c.in_ok-begun.ensures (λ d. refl) (λ i up l. absurd (omega (arith, size))) (omega arith)
 
 pub returns-clause-kept : goal.returns-clause-kept

@@ -1,12 +1,13 @@
-use Rattle.std.proofs.Common.{ℕ, Option, ◌*◌, ◌/◌, nat_lt, refl, ap, sym, ◌∙◌, arith, subst, Bool}
+use Rattle.std.proofs.Common.{◌≡◌, ℕ, Option, ◌*◌, nat_lt, refl, ap, sym, ◌∙◌, arith, subst, Bool}
 use Rattle.std.specs.Prelude.{is_some}
-use Rattle.checkpoints.specs.Trails.{machines_of, table_of, loaded_of, last_held, first_use}
-use Rattle.checkpoints.specs.Entries.{entry_of}
+use Rattle.checkpoints.specs.Trails.{machines_of, table_of, loaded_of, last_held}
+use Rattle.checkpoints.specs.FirstUses.{first_of_code}
+use Rattle.instructions.specs.Codes.{len_of}
 use Rattle.checkpoints.specs.Effects.{Tells, WritesWithin}
 use Rattle.checkpoints.specs.declared.effect.Effect.{Effect}
 use Rattle.checkpoints.specs.FirstEffects.{InputShows, PatchShows}
 use Rattle.checkpoints.proofs.HeldSteps.{held-at}
-use Rattle.checkpoints.proofs.EffectSteps.{told-after, told-input, told-end, told-heap, told-word, told-anew}
+use Rattle.checkpoints.proofs.EffectSteps.{told-after, told-input, told-end, told-heap, told-code, told-anew}
 use Rattle.checkpoints.proofs.trail.Trail.has_shown.Goals as goal
 
 pub returns-in-After : goal.returns-in-After
@@ -42,17 +43,20 @@ returns-in-Heap c start setup marks h =
     rw c.in-Heap.is (told-heap c.keeps_heap.ensures start setup marks c.heap_calls.result (1024 * place)
     (c.heap_calls.ensures _ shows))
 
-pub returns-in-Word : goal.returns-in-Word
-unfolding machines_of table_of loaded_of last_held first_use
-returns-in-Word c start setup marks h =
+pub returns-in-Patch : goal.returns-in-Patch
+unfolding machines_of table_of loaded_of last_held
+returns-in-Patch c start setup marks h =
     let place = c.args.place in
     let low = c.requires.held in
-    let word = subst (λ (e : Effect). WritesWithin (loaded_of c.args.self.now) e) c.in-Word.is c.requires.within in
-    rw c.in-Word.is (subst (λ (b : Bool). Tells (PatchShows c.in-Word.addr start setup marks) (1024 * place) b)
-    (sym (c.is_some.ensures ∙ ap (λ (o : Option ℕ). is_some o) c.first_below.ensures))
-    (told-word start setup marks c.in-Word.addr (last_held c.args.self.now)
-    (entry_of c.args.self.now.uses (c.in-Word.addr / 4)) (1024 * place) (place * 1024) (omega arith) (omega arith)
-    (h.uses c.in-Word.addr word)))
+    let addr = c.in-Patch.addr in
+    let len = len_of c.in-Patch.code in
+    let code = subst (λ (e : Effect). WritesWithin (loaded_of c.args.self.now) e) c.in-Patch.is c.requires.within in
+    let size : c.len.result ≡ len = c.len.ensures in
+    rw c.in-Patch.is (subst (λ (b : Bool). Tells (PatchShows addr len start setup marks) (1024 * place) b)
+    (sym (c.is_some.ensures ∙ ap (λ (o : Option ℕ). is_some o) (c.first_of_code.ensures
+    ∙ ap (λ n. first_of_code c.args.self.now.uses addr n (place * 1024)) size)))
+    (told-code c.args.self.now start setup marks addr len (1024 * place) (place * 1024) (omega arith) (omega arith)
+    h code))
 
 pub returns-in-Anew : goal.returns-in-Anew
 returns-in-Anew c start setup marks h =

@@ -3,7 +3,7 @@ use Rattle.shadow_memory.specs.Memories.{bytes_in}
 use Rattle.shadow_memory.specs.Ranges.{byte_of, written}
 use Rattle.shadow_memory.proofs.Growing.{byte-more, range-empty}
 use Rattle.shadow_memory.proofs.Seen.{at_refusal}
-use Rattle.shadow_memory.proofs.memory.Memory.poke_word.Goals as goal
+use Rattle.shadow_memory.proofs.memory.Memory.poke_bytes.Goals as goal
 
 pub loop-i-preserved : goal.loop-i-preserved
 loop-i-preserved c =
@@ -12,7 +12,7 @@ loop-i-preserved c =
     record {
       bytes =
           c.in_ok-poke.ensures.bytes
-          ∙ byte-more (bytes_in c.args.self.now) (bytes_in c.loop-i.self) c.args.addr c.loop-i.i (byte_of c.args.word) _
+          ∙ byte-more (bytes_in c.args.self.now) (bytes_in c.loop-i.self) c.args.addr c.loop-i.i (byte_of c.args.number) _
           small few c.loop-i.invariant.bytes
           c.byte_at.ensures;
       shadows = c.in_ok-poke.ensures.shadows ∙ c.loop-i.invariant.shadows;
@@ -23,12 +23,12 @@ returns-in_err-poke-clause-shadows c = c.in_err-poke.ensures.shadows ∙ c.loop-
 
 pub returns-in_err-poke-clause-err : goal.returns-in_err-poke-clause-err
 returns-in_err-poke-clause-err c =
-    let below : c.loop-i.i < 4 = omega arith in
+    let below : c.loop-i.i < c.args.len = omega arith in
     at_refusal c.from_residual.result (c.loop-i.i, below, c.in_err-poke.ensures.err ∙ c.loop-i.invariant.bytes)
 
 pub loop-i-init : goal.loop-i-init
 unfolding written
 loop-i-init c = record {
-  bytes = sym (range-empty (bytes_in c.args.self.now) c.args.addr (λ i b. byte_of c.args.word i));
+  bytes = sym (range-empty (bytes_in c.args.self.now) c.args.addr (λ i b. byte_of c.args.number i));
   shadows = refl;
 }
