@@ -23,7 +23,7 @@ use Rattle.replay_report.specs.Outlines.{IsOutline, end_line, error_outline, lea
 use Rattle.replay_report.specs.Outlines.{outline_text, stop_place}
 use Rattle.replay_report.specs.Report.{IsReport, head_lines, report_text}
 use Rattle.scenario.specs.Scenario.{IsReportOf, at_step, begun, chosen_state, first_state, with_words}
-use Rattle.scenario.specs.declared.word.Word.{Word}
+use Rattle.scenario.specs.declared.written.Written.{Written}
 use Rattle.clean_reports.specs.Disturbed.{IsStartOf}
 use Rattle.clean_reports.specs.Uses.{NoUse}
 use Rattle.clean_reports.proofs.Inputs.{has-bytes}
@@ -138,11 +138,11 @@ unfolding start_state
 begins image = record { core = refl; events = refl }
 
 -- words that are written change only bytes
-words-begin : (image : Image) (s : State) (words : List Word) → IsStartOf image s → IsStartOf image (with_words s words)
+words-begin : (image : Image) (s : State) (words : List Written) → IsStartOf image s → IsStartOf image (with_words s words)
 unfolding poked
 words-begin image s [] h = h
 words-begin image s (w ∷ words) h =
-    words-begin image (poked s w.addr w.word) words (record { core = h.core; events = h.events })
+    words-begin image (poked s w.addr w.code) words (record { core = h.core; events = h.events })
 
 module _ (input : List ℕ) (fits : (k : ℕ) → slice_index input k < 2 ^ 8) where
   pub clean-texts : CleanTexts input

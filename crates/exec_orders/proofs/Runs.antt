@@ -17,22 +17,22 @@ use Rattle.guest_machine.specs.Streams.{OutputGrows}
 use Rattle.run_values.specs.declared.alteration.Alteration.{Alteration}
 use Rattle.scenario.specs.Edits.{with_input}
 use Rattle.scenario.specs.Scenario.{Scenario, chosen_state, first_state, with_words}
-use Rattle.scenario.specs.declared.word.Word.{Word}
+use Rattle.scenario.specs.declared.written.Written.{Written}
 use Rattle.exec_orders.specs.Executed.{Cuts, CutsOutput, HasInputOf, HasRun, HasRunAll, IsFault, WritesOutput}
 use Rattle.exec_orders.specs.Executed.{end_of_fault}
 use Rattle.program_files.specs.Files.{HasStream}
 
 -- ---- the start
 
-words-output : (s : State) (words : List Word) → (with_words s words).output ≡ s.output
+words-output : (s : State) (words : List Written) → (with_words s words).output ≡ s.output
 unfolding poked
 words-output s [] = refl
-words-output s (w ∷ words) = words-output (poked s w.addr w.word) words
+words-output s (w ∷ words) = words-output (poked s w.addr w.code) words
 
-words-unseen : (s : State) (words : List Word) → (with_words s words).end_seen ≡ s.end_seen
+words-unseen : (s : State) (words : List Written) → (with_words s words).end_seen ≡ s.end_seen
 unfolding poked
 words-unseen s [] = refl
-words-unseen s (w ∷ words) = words-unseen (poked s w.addr w.word) words
+words-unseen s (w ∷ words) = words-unseen (poked s w.addr w.code) words
 
 pub first-output : (sc : Scenario) → (state_at sc 0).output ≡ []
 unfolding pre first_state start_state

@@ -7,12 +7,13 @@ use Rattle.std.proofs.lemmas.Bool.{cases_lt, false≢true}
 use Rattle.std.proofs.lemmas.Bool.Decides.{Decides-ltb, Decides-eqb}
 use Rattle.std.proofs.lemmas.List.Elements.{All-nil, All-push, All-pop}
 use Rattle.guest_machine.specs.Run.{pre}
+use Rattle.instructions.specs.Codes.{len_of}
 use Rattle.checkpoints.specs.Effects.{EffectShows, Run}
 use Rattle.checkpoints.specs.FirstEffects.{IsBelowFirst}
-use Rattle.checkpoints.specs.FirstUses.{uses_word}
+use Rattle.checkpoints.specs.FirstUses.{uses_code}
 use Rattle.checkpoints.specs.Work.{Work, floor, reached, steps_made, ReportMoves, EditMoves}
 use Rattle.checkpoints.specs.declared.effect.Effect.{Effect}
-use Rattle.checkpoints.specs.declared.effect.Effect.TheVariants.{Nowhere, After, Input, End, Heap, Word, Anew}
+use Rattle.checkpoints.specs.declared.effect.Effect.TheVariants.{Nowhere, After, Input, End, Heap, Patch, Anew}
 use Rattle.scenario.specs.Edits.{row}
 use Rattle.scenario.specs.Scenario.{Scenario, run_of}
 use Rattle.scenario.proofs.FrontSteps.{nothing_read, nothing_ended, nothing_called}
@@ -70,12 +71,12 @@ tested-by Heap run fresh = record {
   decides = λ k. Decides-ltb 0 _;
   later = λ x. absurd (let none = fresh.2 in omega arith);
 }
-tested-by (Word addr word) run fresh = record {
-  test = patch_test (uses_word run.start run.setup run.marks addr);
+tested-by (Patch addr code) run fresh = record {
+  test = patch_test (uses_code run.start run.setup run.marks addr (len_of code));
   decides = patch-decided _;
   later = λ x. absurd (let e = x.1 in omega arith);
 }
-tested-by (Anew addr word) run fresh = record {
+tested-by (Anew addr code) run fresh = record {
   test = λ k. nat_lt 0 k;
   decides = λ k. Decides-ltb 0 k;
   later = λ x. absurd (omega arith);

@@ -15,7 +15,8 @@ use Rattle.scenario.specs.Edits.{Follows, IsTaken, row}
 use Rattle.scenario.specs.Scenario.{Scenario, run_of}
 use Rattle.commands.specs.declared.edit.Edit.{Edit as AnEdit}
 use Rattle.commands.specs.declared.edit.Edit.TheVariants.{Input, Append, Cut, Patch, Mark, Unmark, Switch, Add, Callers}
-use Rattle.commands.specs.declared.edit.Edit.TheVariants.{Redzone, Volume, Show}
+use Rattle.commands.specs.declared.edit.Edit.TheVariants.{PatchHalf, Redzone, Volume, Show}
+use Rattle.instructions.specs.declared.code.Code.TheVariants.{Half, Word}
 use Rattle.scenario.proofs.EditLaws.{cut-appended, image_kept}
 
 -- ---- edits
@@ -50,7 +51,9 @@ an-error (Err e) h p = p
 pub word-dropped : (sc : Scenario) (edit : AnEdit) → IsWrite (row sc edit).effect
     → record (row sc edit).after { words = take (length (row sc edit).after.words - 1) (row sc edit).after.words } ≡ sc
 word-dropped sc (Patch addr word) h =
-    ap (λ ws. record sc { words = ws }) (cut-appended sc.words (record { addr = addr; word = word }))
+    ap (λ ws. record sc { words = ws }) (cut-appended sc.words (record { addr = addr; code = Word word }))
+word-dropped sc (PatchHalf addr half) h =
+    ap (λ ws. record sc { words = ws }) (cut-appended sc.words (record { addr = addr; code = Half half }))
 word-dropped sc (Input offset byte) h = absurd h
 word-dropped sc (Append byte) h = absurd h
 word-dropped sc Cut h = absurd h

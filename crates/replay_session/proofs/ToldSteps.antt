@@ -10,7 +10,7 @@ use Rattle.replay_session.specs.LinesWork.{AnswersLead, Leads, LinesMove, TellsW
 use Rattle.replay_session.specs.Replies.{Answers, HadMemory, IsReplyTo, Replies, Says, worked_line, is_over}
 use Rattle.checkpoints.specs.Edits.{MayShorten as ShortenedBy}
 use Rattle.checkpoints.specs.declared.effect.Effect.{Effect}
-use Rattle.checkpoints.specs.declared.effect.Effect.TheVariants.{Word}
+use Rattle.checkpoints.specs.declared.effect.Effect.TheVariants.{Patch}
 use Rattle.scenario.specs.Edits.{row}
 use Rattle.scenario.specs.Scenario.{Scenario}
 use Rattle.replay_session.specs.Turns.{Turn, accepted, applied}
@@ -49,8 +49,8 @@ answers_lead old (line ∷ lines) (reply ∷ replies) (next, here, rest) same =
 
 -- a trail that isn't short wasn't before
 whole-before : (effect : Effect) (old new : Bool) → ShortenedBy effect old new → new ≡ false → old ≡ false
-whole-before (Word addr word) true new may whole = absurd (let e : true ≡ false = sym (may refl) ∙ whole in cc)
-whole-before (Word addr word) false new may whole = refl
+whole-before (Patch addr code) true new may whole = absurd (let e : true ≡ false = sym (may refl) ∙ whole in cc)
+whole-before (Patch addr code) false new may whole = refl
 whole-before _ old new may whole = sym may ∙ whole
 
 was-whole : (sc : Scenario) (outcome : Result Command Fault) (old new : Bool) → MayShorten sc outcome old new

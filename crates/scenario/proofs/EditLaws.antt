@@ -5,15 +5,18 @@ use Rattle.std.specs.Prelude.{slice_get, slice_set, slice_index_or}
 use Rattle.std.proofs.lemmas.Bool.Decides.{nat_tests}
 use Rattle.std.proofs.lemmas.List.{length-set, length-append, length-take}
 use Rattle.guest_machine.specs.Run.{marks_at, start_state}
+use Rattle.instructions.specs.Codes.{len_of}
+use Rattle.instructions.specs.declared.code.Code.{Code}
+use Rattle.instructions.specs.declared.code.Code.TheVariants.{Half, Word}
 use Rattle.run_values.specs.declared.alteration.Alteration.{Alteration}
 use Rattle.suppressions.specs.Rules.{Rule}
 use Rattle.checkpoints.specs.Effects.{DifferAtStep, LeadsTo, effect_by}
-use Rattle.checkpoints.specs.Writes.{write_word}
+use Rattle.checkpoints.specs.Writes.{write_code}
 use Rattle.scenario.specs.Scenario.{Scenario, first_state, run_of}
-use Rattle.scenario.specs.Edits.{Follows, TakesBack, IsTaken, row, refused_if, mark_step, switched, is_on}
+use Rattle.scenario.specs.Edits.{Follows, TakesBack, IsTaken, row, refused_if, mark_step, switched, is_on, with_code}
 use Rattle.commands.specs.declared.edit.Edit.{Edit}
 use Rattle.commands.specs.declared.edit.Edit.TheVariants.{Input, Append, Cut, Patch, Mark, Unmark, Switch, Add, Callers}
-use Rattle.commands.specs.declared.edit.Edit.TheVariants.{Redzone, Volume, Show}
+use Rattle.commands.specs.declared.edit.Edit.TheVariants.{PatchHalf, Redzone, Volume, Show}
 use Rattle.commands.specs.declared.refusal.Refusal.{Refusal}
 use Rattle.scenario.proofs.FrontSteps.{with-more}
 
@@ -67,13 +70,13 @@ differ-removed (m ∷ ms) (suc i) k n = ap (λ rest. cond (m.step == k) (m ∷ r
 
 -- ---- an edit leads from run to run
 
-patch-leads : (sc : Scenario) (addr word : ℕ) (b : Bool) → write_word sc.marks addr ≡ b
-    → LeadsTo (effect_by b addr word) (run_of sc) (run_of (row sc (Patch addr word)).after)
+code-leads : (sc : Scenario) (addr : ℕ) (code : Code) (b : Bool) → write_code sc.marks addr (len_of code) ≡ b
+    → LeadsTo (effect_by b addr code) (run_of sc) (run_of (with_code sc addr code))
 unfolding first_state
-patch-leads sc addr word true h = record
-    { start = with-more (start_state sc.image) sc.words (record { addr = addr; word = word }); differ = (refl, refl) }
-patch-leads sc addr word false h = record {
-  start = with-more (start_state sc.image) sc.words (record { addr = addr; word = word });
+code-leads sc addr code true h = record
+    { start = with-more (start_state sc.image) sc.words (record { addr = addr; code = code }); differ = (refl, refl) }
+code-leads sc addr code false h = record {
+  start = with-more (start_state sc.image) sc.words (record { addr = addr; code = code });
   differ =
       (refl, refl, h);
 }
@@ -118,7 +121,8 @@ follows sc Cut h =
         refl,
       );
     }
-follows sc (Patch addr word) h = patch-leads sc addr word (write_word sc.marks addr) refl
+follows sc (Patch addr word) h = code-leads sc addr (Word word) (write_code sc.marks addr 4) refl
+follows sc (PatchHalf addr half) h = code-leads sc addr (Half half) (write_code sc.marks addr 2) refl
 follows sc (Mark mark) h = record { start = refl; differ = (refl, differ-appended sc.marks mark) }
 follows sc (Unmark i) h = record { start = refl; differ = (refl, differ-removed sc.marks i) }
 follows sc (Switch i on) h = record { start = refl; differ = (refl, refl) }
@@ -186,6 +190,7 @@ goes_back sc edit back h e = go edit back h e
         along Cut _ back (taken-back _ back e)
         (same-input sc _ (append-cut sc.setup.input (length sc.setup.input - 1) (omega arith)))
     go (Patch addr word) back h e = absurd (cc)
+    go (PatchHalf addr half) back h e = absurd (cc)
     go (Mark mark) back h e =
         along (Mark mark) _ back (taken-back _ back e) (λ i. record sc { marks = remove-last sc.marks mark i })
     go (Unmark k) back h e = absurd (cc)

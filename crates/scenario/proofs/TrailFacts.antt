@@ -1,8 +1,8 @@
--- A trail of a scenario's run: the words that an edit writes are among its ranges, and asking it for a machine leaves
+-- A trail of a scenario's run: the codes that an edit writes are among its ranges, and asking it for a machine leaves
 -- it right.
-use Rattle.std.proofs.Common.{◌≡◌, ℕ, ◌+◌, ◌<◌, Bool, true, List, ap, sym, ◌∙◌, arith, zero, suc}
+use Rattle.std.proofs.Common.{◌≡◌, ℕ, ◌+◌, ◌≤◌, ◌<◌, Bool, true, List, ap, sym, ◌∙◌, arith, inl, inr, nat_le, refl, zero, suc}
 use Rattle.std.proofs.Math.Path.{transport}
-use Rattle.std.specs.Prelude.{◌^◌, ◌%◌, ◌==◌, ◌&&◌, is_some}
+use Rattle.std.specs.Prelude.{◌^◌, ◌%◌, ◌&&◌, is_some}
 use Rattle.std.proofs.lemmas.Bool.Decides.{nat_tests}
 use Rattle.error_events.proofs.SameKeys.{left-true, right-true}
 use Rattle.guest_elf.specs.Images.{loaded_at}
@@ -16,54 +16,87 @@ use Rattle.run_values.specs.declared.alteration.Alteration.{Alteration}
 use Rattle.checkpoints.specs.Edits.{IsRightForRun}
 use Rattle.checkpoints.specs.Effects.{WritesWithin}
 use Rattle.checkpoints.specs.Trails.{IsRightFor, LoadsAs, loaded_of}
-use Rattle.checkpoints.specs.Words.{IsWordIn}
+use Rattle.checkpoints.specs.Words.{is_among, IsCodeIn}
 use Rattle.checkpoints.specs.declared.effect.Effect.{Effect}
-use Rattle.checkpoints.specs.declared.effect.Effect.TheVariants.{Word as WordAt, Anew}
+use Rattle.checkpoints.specs.declared.effect.Effect.TheVariants.{Patch as PatchAt, Anew}
 use Rattle.checkpoints.specs.declared.trail.Trail.{Trail}
-use Rattle.guest_elf.specs.Images.{is_word, is_loaded}
-use Rattle.scenario.specs.Edits.{WritesLoaded}
+use Rattle.guest_elf.specs.Images.{has_room, is_half_word, is_loaded, is_word, profile_of}
+use Rattle.guest_elf.specs.Profiles.{is_aligned}
+use Rattle.instructions.specs.Codes.{len_of}
+use Rattle.instructions.specs.declared.code.Code.{Code}
+use Rattle.instructions.specs.declared.code.Code.TheVariants.{Half, Word}
+use Rattle.scenario.specs.Edits.{is_code, WritesLoaded}
 use Rattle.scenario.specs.Scenario.{Scenario, chosen_state, first_state, run_of}
 
--- a loaded word of an image is one of the ranges of its trail
-pub word-in : (trail : Trail) (image : Image) (addr : ℕ) → LoadsAs trail image → addr < 2 ^ 32
-    → is_word image addr ≡ true → IsWordIn (loaded_of trail) addr
+-- a loaded word of an image is in the ranges of its trail, and so is a loaded half
+plain : (addr i n : ℕ) → nat_le (addr + n) (2 ^ 32) ≡ true → i < n → (addr + i) % 2 ^ 32 ≡ addr + i
+plain addr i n h l = let whole : addr + n ≤ 2 ^ 32 = grind (arith, nat_tests) in omega arith
+
+there : (trail : Trail) (image : Image) (addr i n : ℕ) → LoadsAs trail image → nat_le (addr + n) (2 ^ 32) ≡ true
+    → i < n → is_loaded image addr i ≡ true → is_among (loaded_of trail) (addr + i) ≡ true
+there trail image addr i n loads whole l h =
+    loads (addr + i) ∙ ap (λ a. is_some (loaded_at image a)) (sym (plain addr i n whole l)) ∙ h
+
+pub word-in : (trail : Trail) (image : Image) (addr : ℕ) → LoadsAs trail image → is_word image addr ≡ true
+    → IsCodeIn (loaded_of trail) addr 4
 unfolding is_word
-word-in trail image addr loads small is =
-    let aligned : addr % 4 ≡ 0 = grind (arith, nat_tests) in record {
-      aligned = aligned;
-      small = small;
-      loaded = λ i h. loads (addr + i) ∙ each i h aligned;
-    }
+word-in trail image addr loads is = record {
+  sized = inr refl;
+  whole = grind (arith, nat_tests);
+  loaded = each;
+}
   where
-    tests : Bool
-    tests = is_loaded image addr 0 && (is_loaded image addr 1 && (is_loaded image addr 2 && is_loaded image addr 3))
+    whole : nat_le (addr + 4) (2 ^ 32) ≡ true
+    whole = right-true (is_aligned (profile_of image).isa addr) _ (left-true (has_room image addr 4) _ is)
 
-    all : tests ≡ true
-    all = right-true (addr % 4 == 0) tests is
+    all : (is_loaded image addr 0 && (is_loaded image addr 1 && (is_loaded image addr 2 && is_loaded image addr 3)))
+        ≡ true
+    all = right-true (has_room image addr 4) _ is
 
-    at : (i : ℕ) → is_loaded image addr i ≡ true → (addr + i) % 2 ^ 32 ≡ addr + i
-        → is_some (loaded_at image (addr + i)) ≡ true
-    at i h e = ap (λ a. is_some (loaded_at image a)) (sym e) ∙ h
+    one : (is_loaded image addr 1 && (is_loaded image addr 2 && is_loaded image addr 3)) ≡ true
+    one = right-true (is_loaded image addr 0) _ all
 
-    plain : (i : ℕ) → i < 4 → addr % 4 ≡ 0 → (addr + i) % 2 ^ 32 ≡ addr + i
-    plain i h m = omega arith
+    two : (is_loaded image addr 2 && is_loaded image addr 3) ≡ true
+    two = right-true (is_loaded image addr 1) _ one
 
-    each : (i : ℕ) → i < 4 → addr % 4 ≡ 0 → is_some (loaded_at image (addr + i)) ≡ true
-    each zero h m = at 0 (left-true (is_loaded image addr 0) _ all) (plain 0 h m)
-    each (suc zero) h m =
-        at 1 (left-true (is_loaded image addr 1) _ (right-true (is_loaded image addr 0) _ all)) (plain 1 h m)
-    each (suc (suc zero)) h m =
-        at 2 (left-true (is_loaded image addr 2) _
-        (right-true (is_loaded image addr 1) _ (right-true (is_loaded image addr 0) _ all))) (plain 2 h m)
-    each (suc (suc (suc zero))) h m =
-        at 3 (right-true (is_loaded image addr 2) _
-        (right-true (is_loaded image addr 1) _ (right-true (is_loaded image addr 0) _ all))) (plain 3 h m)
-    each (suc (suc (suc (suc i)))) h m = absurd (omega arith)
+    each : (i : ℕ) → i < 4 → is_among (loaded_of trail) (addr + i) ≡ true
+    each zero l = there trail image addr 0 4 loads whole l (left-true (is_loaded image addr 0) _ all)
+    each (suc zero) l = there trail image addr 1 4 loads whole l (left-true (is_loaded image addr 1) _ one)
+    each (suc (suc zero)) l = there trail image addr 2 4 loads whole l (left-true (is_loaded image addr 2) _ two)
+    each (suc (suc (suc zero))) l =
+        there trail image addr 3 4 loads whole l (right-true (is_loaded image addr 2) _ two)
+    each (suc (suc (suc (suc i)))) l = absurd (omega arith)
+
+pub half-in : (trail : Trail) (image : Image) (addr : ℕ) → LoadsAs trail image → is_half_word image addr ≡ true
+    → IsCodeIn (loaded_of trail) addr 2
+unfolding is_half_word
+half-in trail image addr loads is = record {
+  sized = inl refl;
+  whole = grind (arith, nat_tests);
+  loaded = each;
+}
+  where
+    whole : nat_le (addr + 2) (2 ^ 32) ≡ true
+    whole = right-true (is_aligned (profile_of image).isa addr) _ (left-true (has_room image addr 2) _ is)
+
+    both : (is_loaded image addr 0 && is_loaded image addr 1) ≡ true
+    both = right-true (has_room image addr 2) _ is
+
+    each : (i : ℕ) → i < 2 → is_among (loaded_of trail) (addr + i) ≡ true
+    each zero l = there trail image addr 0 2 loads whole l (left-true (is_loaded image addr 0) _ both)
+    each (suc zero) l = there trail image addr 1 2 loads whole l (right-true (is_loaded image addr 0) _ both)
+    each (suc (suc i)) l = absurd (omega arith)
+
+-- and so is a loaded code of either length
+pub code-in : (trail : Trail) (image : Image) (addr : ℕ) (code : Code) → LoadsAs trail image
+    → is_code image addr (len_of code) ≡ true → IsCodeIn (loaded_of trail) addr (len_of code)
+code-in trail image addr (Word word) loads is = word-in trail image addr loads is
+code-in trail image addr (Half half) loads is = half-in trail image addr loads is
 
 pub within : (trail : Trail) (image : Image) (effect : Effect) → LoadsAs trail image → WritesLoaded image effect
     → WritesWithin (loaded_of trail) effect
-within trail image (WordAt addr word) loads h = word-in trail image addr loads h.0 h.1
-within trail image (Anew addr word) loads h = word-in trail image addr loads h.0 h.1
+within trail image (PatchAt addr code) loads h = code-in trail image addr code loads h
+within trail image (Anew addr code) loads h = code-in trail image addr code loads h
 within trail image _ loads h = tt
 
 -- a trail that a report moved on is right for the same run

@@ -1,10 +1,14 @@
 -- The one table of edits, and its two laws.
-use Rattle.std.specs.Prelude.{◌≡◌, ℕ, zero, suc, ◌+◌, ◌-◌, ◌^◌, ◌<◌, ◌||◌, nat_le, nat_lt, Bool, true}
+use Rattle.std.specs.Prelude.{◌≡◌, ℕ, zero, suc, ◌+◌, ◌-◌, ◌^◌, ◌==◌, ◌||◌, nat_le, nat_lt, Bool, true}
 use Rattle.std.specs.Prelude.{false, not, if◌then◌else◌, List, [], ◌∷◌, ◌++◌, length, take, remove, slice_set}
 use Rattle.std.specs.Prelude.{slice_index_or, map, Option, Some, None}
-use Rattle.guest_elf.specs.Images.{is_word}
+use Rattle.guest_elf.specs.Images.{is_half_word, is_word, profile_of}
+use Rattle.guest_elf.specs.Profiles.{has_halves}
 use Rattle.guest_elf.specs.declared.image.Image.{Image}
+use Rattle.instructions.specs.Codes.{len_of}
 use Rattle.instructions.specs.Widths.{width_len}
+use Rattle.instructions.specs.declared.code.Code.{Code}
+use Rattle.instructions.specs.declared.code.Code.TheVariants.{Word, Half as HalfWord}
 use Rattle.instructions.specs.declared.width.Width.{Width}
 use Rattle.instructions.specs.declared.width.Width.TheVariants.{Byte, Half, Word as WholeWord}
 use Rattle.run_values.specs.declared.alteration.Act.{Act}
@@ -12,20 +16,20 @@ use Rattle.run_values.specs.declared.alteration.Act.TheVariants.{Make, Write, Tu
 use Rattle.run_values.specs.declared.alteration.Alteration.{Alteration}
 use Rattle.suppressions.specs.Rules.{Rule}
 use Rattle.suppressions.specs.declared.leak_kinds.LeakKinds.{LeakKinds}
-use Rattle.checkpoints.specs.Effects.{LeadsTo, word_effect}
+use Rattle.checkpoints.specs.Effects.{LeadsTo, code_effect}
 use Rattle.checkpoints.specs.declared.effect.Effect.{Effect}
 use Rattle.checkpoints.specs.declared.effect.Effect.TheVariants.{Nowhere, After, Input as InputFrom, End, Heap}
-use Rattle.checkpoints.specs.declared.effect.Effect.TheVariants.{Word as WordAt, Anew}
+use Rattle.checkpoints.specs.declared.effect.Effect.TheVariants.{Patch as PatchAt, Anew}
 use Rattle.scenario.specs.Limits.{longest_input, most_steps, most_marks, longest_mark, most_callers, largest_redzone}
 use Rattle.scenario.specs.Limits.{largest_volume}
 use Rattle.scenario.specs.Scenario.{Scenario, run_of}
 use Rattle.commands.specs.declared.edit.Edit.{Edit}
 use Rattle.commands.specs.declared.edit.Edit.TheVariants.{Input, Append, Cut, Patch, Mark, Unmark, Switch, Add, Callers}
-use Rattle.commands.specs.declared.edit.Edit.TheVariants.{Redzone, Volume, Show}
+use Rattle.commands.specs.declared.edit.Edit.TheVariants.{PatchHalf, Redzone, Volume, Show}
 use Rattle.commands.specs.declared.refusal.Refusal.{Refusal}
 use Rattle.commands.specs.declared.refusal.Refusal.TheVariants.{OutsideInput, InputTooLarge, NotPatchable, StepLimit}
 use Rattle.commands.specs.declared.refusal.Refusal.TheVariants.{BadRange, TooManyMarks, NoSuchMark, NoSuchSuppression}
-use Rattle.commands.specs.declared.refusal.Refusal.TheVariants.{BadOption}
+use Rattle.commands.specs.declared.refusal.Refusal.TheVariants.{BadOption, NoHalves}
 
 -- a refusal if a test holds
 abbrev pub refused_if : Bool → Refusal → Option Refusal
@@ -56,6 +60,16 @@ mark_refusal marks mark =
 -- with another input
 abbrev pub with_input : Scenario → List ℕ → Scenario
 with_input sc input = record sc { setup = record sc.setup { input = input } }
+
+-- with a code written into the program
+abbrev pub with_code : Scenario → ℕ → Code → Scenario
+with_code sc addr code = record sc { words = sc.words ++ record { addr = addr; code = code } ∷ [] }
+
+-- why a half isn't written, in order: there are no instructions of 16 bits; there is no loaded half
+unfoldable pub half_refusal : Image → ℕ → Option Refusal
+half_refusal image addr =
+    if has_halves (profile_of image).isa then refused_if (not (is_half_word image addr)) NotPatchable
+    else Some NoHalves
 
 -- the step of the mark at an index
 abbrev pub mark_step : List Alteration → ℕ → ℕ
@@ -110,8 +124,15 @@ row sc Cut = record {
 }
 row sc (Patch addr word) = record {
   refusal = refused_if (not (is_word sc.image addr)) NotPatchable;
-  after = record sc { words = sc.words ++ record { addr = addr; word = word } ∷ [] };
-  effect = word_effect sc.marks addr word;
+  after = with_code sc addr (Word word);
+  effect = code_effect sc.marks addr (Word word);
+  may_fail = true;
+  back = None;
+}
+row sc (PatchHalf addr half) = record {
+  refusal = half_refusal sc.image addr;
+  after = with_code sc addr (HalfWord half);
+  effect = code_effect sc.marks addr (HalfWord half);
   may_fail = true;
   back = None;
 }
@@ -188,8 +209,12 @@ TakesBack =
     (sc : Scenario) (edit back : Edit) → IsTaken sc edit → (row sc edit).back ≡ Some back
     → (row (row sc edit).after back).after ≡ sc
 
--- the word that an effect writes is a loaded one
+-- is a code of this many bytes loaded at an address?
+abbrev pub is_code : Image → ℕ → ℕ → Bool
+is_code image addr len = if len == 2 then is_half_word image addr else is_word image addr
+
+-- the code that an effect writes is one in the place of a loaded one
 abbrev pub WritesLoaded : Image → Effect → Type 0
-WritesLoaded image (WordAt addr word) = (addr < 2 ^ 32) × (is_word image addr ≡ true)
-WritesLoaded image (Anew addr word) = (addr < 2 ^ 32) × (is_word image addr ≡ true)
+WritesLoaded image (PatchAt addr code) = is_code image addr (len_of code) ≡ true
+WritesLoaded image (Anew addr code) = is_code image addr (len_of code) ≡ true
 WritesLoaded image _ = Unit {0}

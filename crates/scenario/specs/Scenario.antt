@@ -11,13 +11,13 @@ use Rattle.replay_report.specs.declared.options.Options.{Options}
 use Rattle.suppressions.specs.Rules.{Rule}
 use Rattle.checkpoints.specs.Effects.{Run}
 use Rattle.scenario.specs.Setups.{setup_with}
-use Rattle.scenario.specs.declared.word.Word.{Word}
+use Rattle.scenario.specs.declared.written.Written.{Written}
 
--- a program with the words that were written into it, its input and heap settings, the marks, the suppressions with
+-- a program with the words and halves that were written into it, its input and heap settings, the marks, the suppressions with
 -- their switches, the options of the report and the chosen step
 pub record Scenario : Type 0 where
   pub image : Image
-  pub words : List Word
+  pub words : List Written
   pub setup : Setup
   pub marks : List Alteration
   pub rules : List Rule
@@ -25,8 +25,8 @@ pub record Scenario : Type 0 where
   pub step : ℕ
 
 -- a state with words written into it, in order
-abbrev pub with_words : State → List Word → State
-with_words s words = fold (λ s (w : Word). poked s w.addr w.word) s words
+abbrev pub with_words : State → List Written → State
+with_words s words = fold (λ s (w : Written). poked s w.addr w.code) s words
 
 -- the state before step 0: the start of the program, with its words written
 unfoldable pub first_state : Scenario → State

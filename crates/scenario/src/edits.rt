@@ -11,6 +11,7 @@ ghost use Rattle.scenario.specs.Edits.{refused_if};
 use crate::scenario::Scenario;
 use checkpoints::Effect;
 use commands::{Edit, Refusal};
+use guest_machine::Code;
 use std::alloc::AllocError;
 
 /// Returns a refusal if a test holds.
@@ -33,6 +34,7 @@ impl<'a> Scenario<'a> {
             Edit::Append(_) => self.append_refusal(),
             Edit::Cut => self.cut_refusal(),
             Edit::Patch { addr, .. } => self.patch_refusal(*addr),
+            Edit::PatchHalf { addr, .. } => self.half_refusal(*addr),
             Edit::Mark(mark) => self.mark_refusal(mark),
             Edit::Unmark(index) => self.unmark_refusal(*index),
             Edit::Switch { index, .. } => self.switch_refusal(*index),
@@ -43,7 +45,7 @@ impl<'a> Scenario<'a> {
         }
     }
 
-    /// Returns where an edit shows in the run. If the edit isn't rejected and writes a word, that word is a loaded one.
+    /// Returns where an edit shows in the run. If the edit isn't rejected and writes a code, that replaces a loaded one.
     pub fn effect(&self, edit: &Edit) -> Effect
         ensures effect { result ≡ (row self.now edit.now).effect }
         ensures loaded { IsTaken self.now edit.now → WritesLoaded self.now.image result }
@@ -53,6 +55,7 @@ impl<'a> Scenario<'a> {
             Edit::Append(_) => Effect::End,
             Edit::Cut => self.last_byte(),
             Edit::Patch { addr, word } => self.word_shows(*addr, *word),
+            Edit::PatchHalf { addr, half } => self.half_shows(*addr, *half),
             Edit::Mark(mark) => Effect::After(mark.step),
             Edit::Unmark(index) => self.mark_at(*index),
             Edit::Redzone(_) | Edit::Volume(_) => Effect::Heap,
@@ -72,7 +75,8 @@ impl<'a> Scenario<'a> {
             Edit::Input { offset, byte } => self.set_byte(offset, byte),
             Edit::Append(byte) => return self.append(byte),
             Edit::Cut => self.cut(),
-            Edit::Patch { addr, word } => return self.write(addr, word),
+            Edit::Patch { addr, word } => return self.write(addr, Code::Word(word)),
+            Edit::PatchHalf { addr, half } => return self.write(addr, Code::Half(half)),
             Edit::Mark(mark) => return self.mark(mark),
             Edit::Unmark(index) => self.unmark(index),
             Edit::Switch { index, on } => self.switch(index, on),

@@ -8,7 +8,7 @@ ghost use Rattle.scenario.specs.Lent.{lent};
 ghost use Rattle.scenario.specs.Limits.{most_callers};
 ghost use Rattle.scenario.specs.Scenario.{IsReportOf, chosen_state, first_state, with_words};
 
-use crate::word::Word;
+use crate::written::Written;
 use checkpoints::run_to;
 use guest_elf::Image;
 use guest_machine::{Alteration, Machine, Meter, Setup};
@@ -21,8 +21,8 @@ use suppressions::Suppression;
 pub struct ScenarioRef<'a> {
     /// The program.
     pub image: &'a Image<'a>,
-    /// The words that were written into it, in order.
-    pub words: &'a [Word],
+    /// The words and halves that were written into it, in order.
+    pub words: &'a [Written],
     /// The input and the heap's settings.
     pub setup: &'a Setup,
     /// The marks, in order.
@@ -103,7 +103,7 @@ impl<'a> ScenarioRef<'a> {
         )
     }
 
-    /// Returns the machine before step 0, with the words written.
+    /// Returns the machine before step 0, with the codes written.
     #[tactic(auto, unfolding(crate::specs::Scenario::first_state))]
     pub(crate) fn start(&self, alloc: Global) -> Result<Machine, AllocError>
         ensures { IfOk result (λ machine. Shows machine (first_state (lent self.now))) }
@@ -113,13 +113,13 @@ impl<'a> ScenarioRef<'a> {
     }
 }
 
-/// Returns a machine with words written into it, in order.
-fn with_words(machine: Machine, words: &[Word]) -> Result<Machine, AllocError>
+/// Returns a machine with codes written into it, in order.
+fn with_words(machine: Machine, words: &[Written]) -> Result<Machine, AllocError>
     ensures { IfOk result (λ written. (s : State) → Shows machine s → Shows written (with_words s words.now)) }
 {
     let mut machine = machine;
     for written in words {
-        machine = machine.poke_word(written.addr, written.word)?;
+        machine = machine.poke(written.addr, written.code)?;
     }
     Ok(machine)
 }

@@ -1,6 +1,6 @@
 //! A run as a user has set it up, as one value; each edit of it, as one value; and the report of it by one run from step zero.
 //!
-//! A [`Scenario`] is a program with the words that were written into it, its input and the heap's settings, marks, suppressions with
+//! A [`Scenario`] is a program with the words and halves that were written into it, its input and the heap's settings, marks, suppressions with
 //! their switches, options of the report, and the chosen step. An [`Edit`] changes one of them.
 //!
 //! # Public items
@@ -12,7 +12,7 @@
 //! | [`Scenario::refusal`] | returns why an edit is rejected, if it is |
 //! | [`Scenario::effect`] | returns where an edit shows in the run |
 //! | [`Scenario::edit`] | applies an edit that isn't rejected |
-//! | [`Scenario::drop_word`] | removes the word that was written last |
+//! | [`Scenario::drop_word`] | removes the word or half that was written last |
 //! | [`Scenario::give`] | replaces the input |
 //! | [`Scenario::start`] | returns the machine before step 0 |
 //! | [`Scenario::report`] | appends the report at the chosen step, by one run from step zero |
@@ -31,7 +31,7 @@
 //! says. If memory runs out, an edit leaves the scenario as it was.
 //!
 //! A text is the report of a scenario (`IsReportOf`) if it is the report of the state at the chosen step of one run from step zero, with
-//! the words written in order. The outline (`IsOutlineOf`) is defined likewise.
+//! the words and halves written in order. The outline (`IsOutlineOf`) is defined likewise.
 //!
 //! # Where the definitions are
 //!
@@ -44,11 +44,11 @@ mod lent;
 mod limits;
 mod scenario;
 mod setups;
-mod word;
+mod written;
 
 pub use commands::{Edit, Refusal};
 pub use lent::ScenarioRef;
 pub use limits::{LONGEST_INPUT, MOST_STEPS};
 pub use scenario::Scenario;
 pub use setups::setup_with;
-pub use word::Word;
+pub use written::Written;

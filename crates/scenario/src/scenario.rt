@@ -11,7 +11,7 @@ ghost use Rattle.scenario.specs.Edits.{with_input};
 
 use crate::lent::ScenarioRef;
 use crate::setups::setup_with;
-use crate::word::Word;
+use crate::written::Written;
 use guest_elf::Image;
 use guest_machine::{Alteration, Input, Machine, Meter, Setup};
 use replay_report::Options;
@@ -19,13 +19,13 @@ use std::alloc::{AllocError, Global};
 use std::marker::Model;
 use suppressions::Suppression;
 
-/// A program with the words that were written into it, its input and the heap's settings, marks, suppressions, options of the report and
+/// A program with the words and halves that were written into it, its input and the heap's settings, marks, suppressions, options of the report and
 /// the chosen step.
 #[derive(Drop)]
 pub struct Scenario<'a> {
     pub(crate) alloc: Global,
     pub(crate) image: Image<'a>,
-    pub(crate) words: Vec<Word>,
+    pub(crate) words: Vec<Written>,
     pub(crate) setup: Setup,
     pub(crate) marks: Vec<Alteration>,
     pub(crate) suppressions: Vec<Suppression>,

@@ -55,3 +55,10 @@ returns-clause-moves c = λ whole.
     (moves-followed c.keeps_lower.ensures _ sc _ _ c.args.self.now.right
     (no-error c.follow.result (sym c.is_err.ensures.value ∙ c.if-is_err.false) c.follow.ensures.kept)
     c.follow.ensures.meter whole)
+
+pub invariant_of-self : goal.invariant_of-self
+invariant_of-self c =
+    let same = c.in_err-edit.ensures.err.1 in record {
+      loads = rw same c.args.self.now.loads;
+      right = rw same c.args.self.now.right;
+    }
