@@ -29,7 +29,8 @@ def test_merge(tests):
     sweeps = [("a list", Made(43)), ("bytes and words", Made(17, 23, "flips")), ("all values", Made(3, 0, "all")),
               ("one place", Made(1)), ("words that aren't loaded", Made(1, 40)),
               ("bytes, words and steps", Made(5, 7, "flips", steps=30)), ("bytes for rv32imc", Made(5, isa="rv32imc")),
-              ("steps for rv32imc", Made(5, steps=9, isa="rv32imc"))]
+              ("steps for rv32imc", Made(5, steps=9, isa="rv32imc")),
+              ("bytes, words and steps for rv32imc", Made(5, 7, "flips", steps=9, isa="rv32imc"))]
     for label, made in sweeps:
         whole, chance = made.part(), random.Random(3)
         for count in range(1, 51) if label in ("a list", "bytes and words", "bytes, words and steps") else (1, 2, 7, 50):

@@ -86,7 +86,7 @@ def texts():
 def scripts():
     good = elf(EXITS)
     numbers = ["0", "1", str(2**32 - 1), "0xffffffff", str(2**32), "-1", "", "9" * 4000]
-    forms = ["goto N", "input N N", "input append N", "input cut N", "patch N N", "mark N N N defined", "unmark N"]
+    forms = ["goto N", "input N N", "input append N", "input cut N", "patch N N", "patch16 N N", "mark N N N defined", "unmark N"]
     forms += ["supp on N", "supp off N"]
     forms += ["supp add N", "supp add Cond N", "option callers N", "option redzone N", "option queue N"]
     forms += ["option show N"]

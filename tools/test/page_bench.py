@@ -31,9 +31,10 @@ def same(what, got, want):
 
 
 def words_of(example):
-    """The files of an example, as the program's words."""
+    """The files of an example, and its instruction set, as the program's words."""
     it = EXAMPLES[example]
     given = ["--input", str(TOP / "examples" / it["input"])] if "input" in it else []
+    given += [f"--isa={it['isa']}"] if "isa" in it else []
     return [str(TOP / "examples" / it["program"]), *given]
 
 
@@ -43,6 +44,10 @@ class Bench:
     def __init__(self, program, browser, address, built):
         self.program, self.browser, self.address = program, browser, address
         self.folder, self.file = built / "page", (built / "replaycheck.html").as_uri()
+
+    def has_halves(self):
+        """Whether the program takes a `patch16` with the right fields."""
+        return self.native(words_of("boot for rv32imc"), ["patch16 0x10000 1"]) != ["refused 2"]
 
     def native(self, words, lines):
         """The program's replies to lines: those of a session, unless one alters a step."""
@@ -62,7 +67,7 @@ class Bench:
             if first == "outcome" and len(fields) == 1:
                 outcomes.append([])
                 text = outcomes[-1]
-            elif first in ("input", "patch") and len(fields) == 3:
+            elif first in ("input", "patch", "patch16") and len(fields) == 3:
                 edits[int(fields[0], 0), int(fields[1], 0)] = int(fields[2])
                 text = None
             elif first in ("unedited", "tally", "end"):

@@ -4,7 +4,8 @@ import random
 import subprocess
 import tempfile
 
-from page_bench import EXAMPLES, expect, same, words_of
+import page_modules
+from page_bench import EXAMPLES, SWEPT, expect, same, words_of
 from replaycheck.guest_files import DATA, TOP, Worked
 
 STATION = words_of("station")
@@ -67,6 +68,46 @@ def each_order(bench):
                     same(f"{path.stem}: {first} and then {second}", asked(page, worked, [worked.lines]), native_replies(bench, worked))
 
 
+PATCHES = """import { Scenario, linesBetween } from './scenario.js';
+const SIZE = 12, base = new Uint8Array();
+let seed = 1;
+const random = (below) => { seed = (Math.imul(seed, 1103515245) + 12345) >>> 0; return (seed >>> 8) % below; };
+const file = Array.from({ length: SIZE }, () => random(256));
+const number = (bytes, at, length) => bytes.slice(at, at + length).reduceRight((sum, it) => sum * 256 + it, 0);
+const loaded = (at, length = 4) => (at + length <= SIZE ? number(file, at, length) : null);
+function after(bytes, line) {
+  const [word, at, value] = line.split(' '), copy = [...bytes], length = word === 'patch' ? 4 : 2;
+  for (let i = 0; i < length; i++) copy[Number(at) + i] = Math.floor(Number(value) / 256 ** i) % 256;
+  return copy;
+}
+function patched(unit) {
+  let scenario = new Scenario(base), bytes = file;
+  for (let left = random(6); left > 0; left--) {
+    const isHalf = unit === 2 && random(2), at = unit * random((SIZE - (isHalf ? 2 : 4)) / unit + 1);
+    const line = isHalf ? `patch16 ${at} ${random(65536)}` : `patch ${at} ${random(65536) * 65536 + random(65536)}`;
+    [scenario, bytes] = [scenario.after(line), after(bytes, line)];
+  }
+  return { scenario, bytes };
+}
+const faults = [];
+for (let turn = 0; turn < 2000; turn++) {
+  const unit = turn % 2 ? 2 : 4, [one, other] = [patched(unit), patched(unit)];
+  const lines = linesBetween(one.scenario, other.scenario, loaded);
+  const led = lines?.reduce(after, one.bytes), made = other.scenario.lines.reduce(after, file);
+  const seen = Array.from({ length: SIZE / 2 }, (_, i) => other.scenario.valueAt(2 * i, 2, loaded));
+  const isThere = seen.every((it, i) => it === number(other.bytes, 2 * i, 2));
+  const isWell = isThere && [led, made].every((it) => it?.join() === other.bytes.join());
+  if (!isWell || (unit === 4 && lines.some((it) => it.startsWith('patch16')))) faults.push([turn, lines]);
+}
+console.log(JSON.stringify(faults));
+"""
+
+
+def patches_in_node():
+    """Patches of words and halves over one another: what is at each place, and the lines from one scenario to another."""
+    same("patches", page_modules.answered(PATCHES)[:3], [])
+
+
 # ---- edits
 
 
@@ -102,6 +143,69 @@ def edits_in_turn(bench):
         page.press("Enter")
         check("another word")
         expect("patch 0x000101e0 0x00460513" in page.run("replaycheck.scenario.lines"), "the patch isn't among the lines")
+
+
+def sets_in_turn(bench):
+    """The instruction set: chosen, undone, in a link, and in the lines of a text. Edits that fit stay."""
+    words, short = words_of("boot"), [*words_of("boot"), "--isa=rv32imc"]
+    with bench.open("boot") as page:
+        def check(isa, given, *lines):
+            page.until(f"replaycheck.opened?.isa === '{isa}'")
+            bench.same_report(page, given, f"a run for {isa}")
+            same(f"lines for {isa}", page.run("replaycheck.scenario.lines"), list(lines))
+            same("the set that is shown", page.run("document.getElementById('isa').value"), isa)
+        page.run("replaycheck.use('patch 0x10230 0x13\\ninput 1 5')")
+        kept = ("patch 0x00010230 0x00000013", "input 1 5")
+        check("rv32im", words, *kept)
+        page.set("isa", "rv32imc", "change")
+        check("rv32imc", short, *kept)
+        expect(page.run("document.getElementById('lines').value").startswith("# --isa rv32imc\n"), "the lines don't say the set")
+        page.until("location.hash.includes('isa=rv32imc')")
+        link = page.run("location.hash")
+        page.click_on("#undo")
+        check("rv32im", words, *kept)
+        page.run("replaycheck.use('# --isa rv32imc\\ninput 1 6')")
+        check("rv32imc", short, "input 1 6")
+        page.run("replaycheck.use('# --isa rv32imac')")
+        same("a set that there isn't", page.text("notice"), "There is no instruction set “rv32imac” here, but rv32im and rv32imc.")
+    with bench.page(f"?still{link}") as page:
+        bench.settle(page)
+        same("a link", page.run("[replaycheck.opened.isa, ...replaycheck.scenario.lines]"), ["rv32imc", *kept])
+
+
+def halves_in_turn(bench):
+    """Instructions of 16 bits, edited as a user does it, with the program's report after each; and their sweep, beside the program's."""
+    name = "boot for rv32imc"
+    words = words_of(name)
+    with bench.open(name) as page:
+        page.run("replaycheck.code.visit(0x1018e)")
+        same("lengths", page.run("replaycheck.code.range.starts.length"), 13)
+        skips = ["patch16 0x0001018e 0x0001", "patch 0x0001019e 0x00000013"]
+        for at, lines in ((0x1018E, skips[:1]), (0x1019E, skips)):
+            page.run(f"replaycheck.code.visit({at})")
+            page.click_on("#code-rows .at button")
+            bench.same_report(page, words, "an instruction left out")
+            same("its lines", page.run("replaycheck.scenario.lines"), lines)
+        for at, text, line in ((0x1018E, "0x4505", "patch16 0x0001018e 0x4505"), (0x10192, "0x00150513", "patch 0x00010192 0x00150513"),
+                               (0x1019E, "0x4501", "patch16 0x0001019e 0x4501")):
+            page.run(f"replaycheck.code.visit({at})")
+            page.click_on("#code-rows .at button", 1)
+            page.set("new-word", text)
+            page.focus("new-word")
+            page.press("Enter")
+            bench.same_report(page, words, f"{text} at {at:#x}")
+            expect(line in page.run("replaycheck.scenario.lines"), f"{line} isn't among the lines")
+        page.click_on("#none")
+        page.run("replaycheck.code.visit(0x1018e)")
+        page.set("sweep-what", "words", "change")
+        for values in ("skip", "flips"):
+            page.set("sweep-values", values)
+            page.click_on("#sweep")
+            page.until(f"{SWEPT} && replaycheck.sweeps.of.asked.values === '{values}'", 120)
+            table = bench.table(words, "--words=0x1018e..0x101a8", f"--words-values={values}", f"--step={page.run('replaycheck.step')}")
+            found = page.run("""[...replaycheck.sweeps.sweep.swept.places].flatMap(([at, it]) => it.values.map((value, i) =>
+              [at, value, replaycheck.sweeps.sweep.swept.outcomes[it.outcomes[i]]]))""")
+            same(f"the sweep of {values}", {(at, value): text for at, value, text in found}, table)
 
 
 def forms_in_turn(bench):

@@ -25,7 +25,8 @@ sys.dont_write_bytecode = True
 LAST_STEP, MOST_PARTS, AT_ONCE = 4194304, 1000000, 20000
 NUMBER = r"0[xX][0-9a-fA-F]{1,8}|[0-9]{1,10}"
 EDGES = (0, 1, 0x7F, 0x80, 0xFF)
-NO_OP = 0x13
+HALF, WORD = 2, 4  # bytes of an instruction
+NO_OP = {HALF: 0x0001, WORD: 0x00000013}
 JUMP = "Jump to the invalid address stated on the next line"
 
 
@@ -175,9 +176,46 @@ def bytes_for(values, was):
     return sorted(set(named[values] if isinstance(values, str) else values) - {was})
 
 
-def words_for(values, was):
-    named = {"skip": [NO_OP], "flips": [was ^ 1 << bit for bit in range(32)]}
-    return [it for it in (named[values] if isinstance(values, str) else values) if it != was]
+def words_for(values, was, length):
+    named = {"skip": [NO_OP[length]], "flips": [was ^ 1 << bit for bit in range(8 * length)]}
+    listed = named[values] if isinstance(values, str) else values if length == WORD else []
+    return [it for it in listed if it != was]
+
+
+def value_at(memory, at, length):
+    """The bytes from an address on as a number, None where not all of them are loaded."""
+    whole = [memory.get(at + i) for i in range(length)]
+    return None if None in whole else int.from_bytes(bytes(whole), "little")
+
+
+def words_in(memory, first, last):
+    """The words at multiples of 4, each its address, its length and what is there, None where it isn't loaded."""
+    for at in range((first + 3) // 4 * 4, last + 1, WORD):
+        yield at, WORD, value_at(memory, at, WORD)
+
+
+def instructions_in(memory, first, last):
+    """The instructions from one address on, by their lengths: 16 bits, if the two lowest aren't both set. Where none is loaded, or only the
+    first half of one, there may be one two bytes later."""
+    at = (first + 1) // HALF * HALF
+    while at <= last:
+        half = value_at(memory, at, HALF)
+        length = WORD if half is None or half & 3 == 3 else HALF
+        was = None if half is None else value_at(memory, at, length)
+        if was is not None:
+            yield at, length, was
+        at += HALF if was is None else length
+
+
+def code_places(options, program):
+    """The words or the instructions of a sweep, as `places_of` has them."""
+    look = words_in if options.isa == "rv32im" else instructions_in
+    places = list(look(loaded(program), *options.words))
+    if all(was is None for _, _, was in places):
+        raise Bad(3, "replaycheck: words refused 4")
+    for at, length, was in places:
+        form = f"patch 0x{at:08x} 0x%08x" if length == WORD else f"patch16 0x{at:08x} 0x%04x"
+        yield "patch", at, form, was, [] if was is None else words_for(options.words_values, was, length)
 
 
 def places_of(options, given, program):
@@ -193,16 +231,7 @@ def places_of(options, given, program):
         found += [("input", at, f"input {at} %d", given[at], bytes_for(options.values, given[at]))
                   for at in range(first, last + 1)]
     if options.words:
-        memory, first, last = loaded(program), *options.words
-        words = []
-        for at in range((first + 3) // 4 * 4, last + 1, 4):
-            whole = [memory.get(at + i) for i in range(4)]
-            was = None if None in whole else int.from_bytes(bytes(whole), "little")
-            words.append(("patch", at, f"patch 0x{at:08x} 0x%08x", was,
-                          [] if was is None else words_for(options.words_values, was)))
-        if all(it[3] is None for it in words):
-            raise Bad(3, "replaycheck: words refused 4")
-        found += words
+        found += code_places(options, program)
     index, count = options.part
     return found[len(found) * (index - 1) // count:len(found) * index // count]
 

@@ -161,6 +161,8 @@ def compare_rows():
     yield Row("compare: no line", compare, 2, "", "*no line, no --before and no --after*")
     yield Row("compare: a refused line", [*compare, "option color 1"], 2, "",
               "replaycheck compare: option color 1: refused 9: no such option, or its value is out of range\n")
+    yield Row("compare: a half for rv32im", [*compare, "patch16 0x10000 1"], 2, "",
+              "replaycheck compare: patch16 0x10000 1: refused 2: no such line, or *")
     yield Row("compare: two lines in one word", [*compare, "input 0 8\ninput 0 3"], 2, "", "*two lines in one argument*")
     yield Row("compare: no edit", [*compare, "report"], 2, "", "*not an edit: 'report'*")
     yield Row("compare: a script with another line", [*compare, "--after", "not edits"], 2, "",
@@ -210,11 +212,18 @@ def word_rows():
     yield Row("word: not of RV32IM", ["word", "c.nop"], 1, "", "*Error*", needs=BINUTILS)
     short = ["word", "--isa=rv32imc"]
     for word, instruction in (("0x00150513", "addi a0,a0,1"), ("0x00010001", "c.nop; c.nop"), ("0x45050001", "c.nop;c.li a0,1"),
-                              ("0xa0010001", "C.NOP; c.j .")):
+                              ("0xa0010001", "C.NOP; c.j ."), ("0x0001", "c.nop"), ("0x4505", "c.li a0,1"), ("0x0001", " C.NOP")):
         yield Row(f"word: of rv32imc, {instruction}", [*short, instruction], 0, f"{word}\n", needs=BINUTILS)
-    for instruction in ("c.nop", "c.nop; c.nop; c.nop", "c.nop; ecall"):
+    for instruction, at, word in (("c.j .+16", "0x10002", "0xa801"), ("c.beqz a0,.-6", "0x10006", "0xdd6d"),
+                                  ("jal 0x10918", "0x101ea", "0x72e000ef")):
+        yield Row(f"word: of rv32imc, {instruction}", [*short, instruction, "--at", at], 0, f"{word}\n", needs=BINUTILS)
+    yield Row("word: of rv32imc, an odd address", [*short, "c.nop", "--at=0x10001"], 2, "", "*--at 0x10001: not a multiple of 2*")
+    yield Row("word: of rv32imc, a half to an address", [*short, "c.j 0x10012", "--at=0x10002"], 1, "",
+              "replaycheck word: the assembler makes 32 bits of it: a distance, such as .+16, keeps 16\n", needs=BINUTILS)
+    for instruction in ("c.nop; c.nop; c.nop", "c.nop; ecall"):
         yield Row(f"word: of rv32imc, refused, {instruction}", [*short, instruction], 1, "",
-                  "replaycheck word: not a word: two instructions of 16 bits are one, such as 'c.nop; c.nop'\n", needs=BINUTILS)
+                  "replaycheck word: more than one word: that is one instruction, or two of 16 bits, such as 'c.nop; c.nop'\n",
+                  needs=BINUTILS)
     yield Row("word: of rv32imc, two words", [*short, "li a0,70000"], 1, "", "*2 words, not one*", needs=BINUTILS)
     yield Row("word: not of rv32imc", [*short, "c.flw fa0,0(a0)"], 1, "", "*Error*", needs=BINUTILS)
     yield Row("word: another instruction set", ["word", "nop", "--isa=rv32imac"], 2, "", NO_SET)

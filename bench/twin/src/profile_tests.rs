@@ -239,18 +239,28 @@ fn patches_are_at_each_half_and_later_ones_are_over_earlier_ones() {
         entry: START,
         functions: Vec::new(),
     };
-    let mut session = Session::new(Isa::Rv32imc, image(), Vec::new());
-    for (line, reply) in [
-        ("patch 0x10002 0x04030201", "ok"),
-        ("patch16 0x10004 0xffff", "ok"),
-        ("look memory 0x10000 8", "bytes 01000102ffff0100\nundef 0000000000000000"),
-        ("patch 0x10006 0", "refused 4"),
-        ("patch16 0x10008 0", "refused 4"),
-        ("patch16 0x10001 0", "refused 4"),
-        ("patch16 0x10000 0x10000", "refused 2"),
-    ] {
-        assert_eq!(session.reply(line), reply, "{line}");
+    for isa in [Isa::Rv32imc, Isa::Rv32imac] {
+        let mut session = Session::new(isa, image(), Vec::new());
+        for (line, reply) in [
+            ("patch 0x10002 0x04030201", "ok"),
+            ("patch16 0x10004 0xffff", "ok"),
+            ("look memory 0x10000 8", "bytes 01000102ffff0100\nundef 0000000000000000"),
+            ("patch16 0x10006 65535", "ok"),
+            ("patch 0x10006 0", "refused 4"),
+            ("patch16 0x10008 0", "refused 4"),
+            ("patch16 0x10001 0", "refused 4"),
+            ("patch16 0x10000 0x10000", "refused 2"),
+            ("patch16 0x10001 0x10000", "refused 2"),
+            ("patch16 0x10000", "refused 2"),
+            ("patch16 0x10000 0 0", "refused 2"),
+            ("patch16 10000x 0", "refused 2"),
+        ] {
+            assert_eq!(session.reply(line), reply, "{line}");
+        }
     }
     let mut usual = Session::new(Isa::Rv32im, image(), Vec::new());
-    assert_eq!((usual.reply("patch16 0x10000 0"), usual.reply("patch 0x10002 0")), ("refused 2".into(), "refused 4".into()));
+    for line in ["patch16 0x10000 0", "patch16 0x10001 0x10000", "patch16"] {
+        assert_eq!(usual.reply(line), "refused 2", "{line}");
+    }
+    assert_eq!(usual.reply("patch 0x10002 0"), "refused 4");
 }

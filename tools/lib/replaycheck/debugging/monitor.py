@@ -31,12 +31,12 @@ skip                              leaves out the instruction here, this once
 flip REGISTER|ADDR MASK           turns bits of a register, of pc or of the four bytes at ADDR, here
 changes                           the edits that stand; marks and what was altered at a step have a number
 unmark I | unmark I..J            takes one of these back, or several
-input .. | patch .. | mark .. | option .. | supp ..     edits the run, as a line of a session does;
+input .. | patch .. | patch16 .. | mark .. | option .. | supp ..  edits the run, as a line of a session does;
 set STEP .. | write STEP .. | flip STEP .. | skip STEP  alters it at a step, as a line of replaycheck look does;
                                   the step stays, and all else is that of the edited run
 worked                            how many steps were made for reports and looks
 """
-EDITS = ("input", "patch", "mark", "set", "write", "option", "supp")
+EDITS = ("input", "patch", "patch16", "mark", "set", "write", "option", "supp")
 KINDS = ("noaccess", "undefined", "defined")
 MOST = 1 << 20  # bytes of memory that one line asks about
 HEAP_SEEN = 1 << 24  # bytes of the heap that are looked at for blocks

@@ -86,8 +86,8 @@ def check(reader, options):
 # ---- the tables
 
 
-def tables_given(options, room):
-    """The tables of --from, in order."""
+def tables_given(options, request, room):
+    """The tables of --from, in order. With a file they are of that."""
     found = []
     for name in options.tables:
         path = name
@@ -97,6 +97,8 @@ def tables_given(options, room):
             with open(name, "rb") as file:
                 path = spooled(file, name, room)
         found += sources_in(path, "standard input" if name == "-" else name)
+    for it in found if request else ():
+        request.check_files(it)
     return in_order(found)
 
 
@@ -194,9 +196,7 @@ def explore(options):
                         "all parts run here")
         with Outputs(options, room) as outputs:
             if options.tables:
-                sources, notes = tables_given(options, room), []
-                for it in sources if request else ():
-                    request.check_files(it)
+                sources, notes = tables_given(options, request, room), []
             else:
                 sources, notes = tables_made(options, request, room)
             return told(options, request, sources, [*(request.notes if request else []), *notes], room, outputs)

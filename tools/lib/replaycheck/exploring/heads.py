@@ -1,12 +1,15 @@
 """The head of a sweep's table: which files, edits and step it is of, and which of its parts."""
+from __future__ import annotations
+
 import re
-from dataclasses import dataclass
-from typing import List, Tuple, Union
+from dataclasses import dataclass, replace
+from typing import Callable, List, Optional, Tuple, Union
 
 from replaycheck.options import LAST_STEP
 from replaycheck.programs import ISAS
 
 from .lines import NUMBER, BadTable, shown
+from .ranges import Code, Range
 from .steps import Steps, models_fault
 
 MOST_PARTS, LONGEST_INPUT = 1000000, 1048576
@@ -20,63 +23,9 @@ OUTPUT = re.compile(rb"output (yes|no)")
 PART = re.compile(rb"part (%b)/(%b)" % (NUMBER, NUMBER))
 OLD = re.compile(rb"#\t(input|patch)\t")
 SMALL = {"program": 1 << 27, "input": LONGEST_INPUT, "supp": LONGEST_INPUT}
-MOST_EDITS = {"all": 255, "edges": 7, "skip": 1}
 ISA = re.compile(rb"isa ([a-z0-9]{1,20})")
 # The versions of tables, each with what its head has: a table has the least version that can say what it is of.
 VERSIONS = {b"sweep 1": "bytes or words", b"sweep 2": "steps too, or an instruction set"}
-Values = Union[str, Tuple[int, ...]]
-
-
-@dataclass(frozen=True)
-class Range:
-    """Bytes or words, each from a first place to a last one, and the values that they are given."""
-
-    kind: str
-    first: int
-    last: int
-    values: Values
-
-    @property
-    def most(self):
-        """So many edits a place has at most."""
-        if self.values == "flips":
-            return 8 if self.kind == "bytes" else 32
-        return MOST_EDITS[self.values] if isinstance(self.values, str) else len(self.values)
-
-    @property
-    def start(self):
-        """The first place: words are multiples of 4."""
-        return self.first if self.kind == "bytes" else -(-self.first // 4) * 4
-
-    @property
-    def stride(self):
-        return 1 if self.kind == "bytes" else 4
-
-    @property
-    def size(self):
-        return max(0, (self.last - self.start) // self.stride + 1)
-
-    def place(self, index):
-        return self.start + index * self.stride
-
-    def named(self, place):
-        return f"0x{place:08x}" if self.kind == "words" else str(place)
-
-    def line(self, place, value):
-        """The line of a session that makes an edit."""
-        return f"patch 0x{place:08x} 0x{value:08x}" if self.kind == "words" else f"input {place} {value}"
-
-    def __str__(self):
-        values = self.values
-        if not isinstance(values, str):
-            values = ",".join(self.named(it) for it in values)
-        return f"{self.kind} {self.named(self.first)}..{self.named(self.last)}, values {values}"
-
-    def words(self):
-        """The options that ask for it."""
-        told = self.values if isinstance(self.values, str) else ",".join(map(self.named, self.values))
-        names = ("--bytes", "--values") if self.kind == "bytes" else ("--words", "--words-values")
-        return [f"{names[0]}={self.named(self.first)}..{self.named(self.last)}", f"{names[1]}={told}"]
 
 
 @dataclass(frozen=True)
@@ -92,22 +41,38 @@ class Head:
     part: Tuple[int, int]
 
     @property
-    def places(self):
+    def places(self) -> int:
+        """How many ordinals there are."""
         return sum(it.size for it in self.ranges)
 
     @property
-    def interval(self):
-        """The places of the part: from one, up to and without another."""
-        index, count = self.part
-        return cut(self.places, index - 1, count), cut(self.places, index, count)
+    def is_counted(self) -> bool:
+        """Whether it is known how many places there are: of instructions the program's file says that."""
+        return not any(isinstance(it, Code) and it.known is None for it in self.ranges)
 
-    def place(self, ordinal):
-        """The range and the place of an ordinal among all places."""
-        for it in self.ranges:
-            if ordinal < it.size:
-                return it, it.place(ordinal)
-            ordinal -= it.size
-        raise IndexError(ordinal)
+    @property
+    def interval(self) -> Optional[Tuple[int, int]]:
+        """The ordinals of the part: from one, up to and without another; None where the places aren't counted."""
+        index, count = self.part
+        if count == 1:
+            return 0, self.places
+        if not self.is_counted:
+            return None
+        total = sum(it.count for it in self.ranges)
+        return self.ordinal(cut(total, index - 1, count)), self.ordinal(cut(total, index, count))
+
+    def ordinal(self, number: int) -> int:
+        """The ordinal of the place with a number among all: 0 for the first one, and the number of all ordinals past the last one."""
+        before = 0
+        for it in self.ranges if number else ():
+            if number < it.count:
+                return before + it.ordinal(number)
+            before, number = before + it.size, number - it.count
+        return before
+
+    def over(self, known: Callable[[Code], Code]) -> Head:
+        """The head with the instructions that the program's file has: `known` gives a range with them."""
+        return replace(self, ranges=tuple(known(it) if isinstance(it, Code) else it for it in self.ranges))
 
     def same(self):
         """What must be equal in the parts of one sweep."""
@@ -140,7 +105,7 @@ def values_of(lines, text, limit):
     return found
 
 
-def read_range(lines, kind, pattern, limit, most):
+def read_range(lines, kind, pattern, limit, most, form=Range):
     """A range of bytes or words, or None where the next line is none."""
     if not lines.next.startswith(kind.encode() + b" "):
         return None
@@ -148,7 +113,12 @@ def read_range(lines, kind, pattern, limit, most):
     first, last = (at_most(lines, it, limit, "a place") for it in found.groups()[:2])
     if first > last:
         lines.fault("a range that ends before it begins")
-    return Range(kind, first, last, values_of(lines, found[3], most))
+    return form(kind, first, last, values_of(lines, found[3], most))
+
+
+def form_of_words(isa):
+    """What words of a program are: instructions by their lengths, where these differ."""
+    return Range if isa == ISAS[0] else Code
 
 
 def read_files(lines):
@@ -218,7 +188,8 @@ def read_head(lines):
     isa = read_isa(lines, version)
     files = tuple(read_files(lines))
     ranges: List[Union[Range, Steps, None]] = [read_range(lines, "bytes", BYTES, LONGEST_INPUT - 1, 255),
-                                               read_range(lines, "words", WORDS, 0xFFFFFFFF, 0xFFFFFFFF),
+                                               read_range(lines, "words", WORDS, 0xFFFFFFFF, 0xFFFFFFFF,
+                                                          form_of_words(isa)),
                                                read_steps(lines, version, LAST_STEP, isa)]
     step = at_most(lines, lines.must(STEP, "`step N`")[1], LAST_STEP, "a step")
     has_output = lines.must(OUTPUT, "`output yes` or `output no`")[1] == b"yes"

@@ -4,8 +4,9 @@ import re
 from dataclasses import dataclass
 from typing import Callable, Dict, List, Optional, Tuple
 
-from .heads import Head, Range, read_head
+from .heads import Head, read_head
 from .lines import BadTable, Lines, shown_name
+from .ranges import Range
 from .tables import Table
 
 MOST_SPOOLED = 1 << 34
@@ -89,7 +90,7 @@ class Ahead:
 def in_order(sources, sample: Optional[Tuple[List[int], int]] = None):
     """Tables by their places. All are parts of one sweep, and together they are the whole of it, or just the parts that
     are a sample: their numbers, of how many."""
-    sources = sorted(sources, key=lambda it: (it.head.interval, it.head.part))
+    sources = sorted(sources, key=lambda it: (it.head.interval or (), it.head.part))
     first = sources[0]
     for it in sources[1:]:
         if it.head.same() != first.head.same():
@@ -97,6 +98,8 @@ def in_order(sources, sample: Optional[Tuple[List[int], int]] = None):
     if sample is not None:
         return expected(sources, [(index, sample[1]) for index in sample[0]])
     check_numbers(sources)
+    if not first.head.is_counted:
+        return sources
     end, before = 0, None
     for it in sources:
         low, high = it.head.interval
@@ -111,9 +114,12 @@ def in_order(sources, sample: Optional[Tuple[List[int], int]] = None):
 
 
 def check_numbers(sources):
-    """Parts of one cut are there each once."""
+    """Parts of one cut are there each once. Where the places of the sweep aren't counted, there may be no other cut."""
     counts = {it.head.part[1] for it in sources}
     if len(counts) > 1:
+        if not sources[0].head.is_counted:
+            cuts = " and ".join(map(str, sorted(counts)))
+            raise BadTable(f"parts of cuts into {cuts}: which instructions are in each is known only with the program's FILE")
         return
     count, met = counts.pop(), {}
     for it in sources:
@@ -173,23 +179,26 @@ class Merged:
 
     def places(self, write: Optional[Callable] = None):
         """The places of all tables, each with the numbers of the whole. `write` takes the lines of the merged table."""
-        write = write or (lambda _: None)
+        write, last = write or (lambda _: None), -1
         for source in self.sources:
             table = source.open()
             with table.lines.file:
                 if source.head != table.head:
                     raise BadTable(f"{source}: it was changed while it was read")
-                yield from self.places_of(table, source, write)
+                table.head = source.head
+                for place in self.places_of(table, source, write, last):
+                    last = place.last_ordinal
+                    yield place
         self.write_end(write)
 
-    def places_of(self, table, source, write):
+    def places_of(self, table, source, write, last):
         if not self.outcomes:
             self.number(table.outcomes[0])
             write(b"\n".join([*self.head.lines, b"part 1/1", b"outcome 0", self.outcomes[0], b"unedited 0", b""]))
         elif table.outcomes[0] != self.outcomes[0]:
             raise BadTable(f"{source}: its unedited run is another one than in {self.sources[0]}")
         of_table = {0: 0}
-        for place in table.places():
+        for place in table.places(last, source is self.sources[-1]):
             for value, old in place.edits.items():
                 place.edits[value] = self.add(place, value, old, of_table, table, write)
             yield place

@@ -23,13 +23,13 @@ class Panel:
     """The places of a range that the tables have. `begin` is the ordinal of its first place."""
 
     def __init__(self, it, begin, intervals):
-        self.range, self.columns_at, self.ordinals = it, [], []
+        self.range, self.columns_at, self.numbers = it, [], []
         self.count = 0
         for low, high in intervals:
-            low, high = max(low, begin), min(high, begin + it.size)
+            low, high = (it.number(min(max(at - begin, 0), it.size)) for at in (low, high))
             if low < high:
                 self.columns_at.append(self.count)
-                self.ordinals.append(low - begin)
+                self.numbers.append(low)
                 self.count += high - low
         self.begin = begin
         self.bins = min(self.count, MOST_COLUMNS)
@@ -45,12 +45,12 @@ class Panel:
     def place(self, column):
         """The place of a column."""
         index = bisect.bisect_right(self.columns_at, column) - 1
-        return self.range.place(self.ordinals[index] + column - self.columns_at[index])
+        return self.range.place(self.range.ordinal(self.numbers[index] + column - self.columns_at[index]))
 
     def bin(self, ordinal):
-        ordinal -= self.begin
-        index = bisect.bisect_right(self.ordinals, ordinal) - 1
-        return (self.columns_at[index] + ordinal - self.ordinals[index]) * self.bins // self.count
+        number = self.range.number(ordinal - self.begin)
+        index = bisect.bisect_right(self.numbers, number) - 1
+        return (self.columns_at[index] + number - self.numbers[index]) * self.bins // self.count
 
     def places_of(self, index):
         """The first and the last place of a bin."""
@@ -131,6 +131,8 @@ class Panel:
 def panels_of(head, sources):
     """A panel for each range of bytes or words of a sweep."""
     intervals = [it.head.interval for it in sources]
+    if None in intervals:  # the parts of a whole, which aren't counted
+        intervals = [(0, head.places)]
     begin, found = 0, []
     for it in head.ranges:
         if it.kind != "steps":

@@ -4,7 +4,7 @@ import os
 import re
 import stat
 import sys
-from dataclasses import dataclass
+from dataclasses import dataclass, replace
 
 from replaycheck.adopting.elf import Elf, refusals
 from replaycheck.endings import Fault
@@ -12,8 +12,9 @@ from replaycheck.options import BadValue
 from replaycheck.programs import ISAS, isa_words
 from replaycheck.sessions import path_of
 
-from .heads import Range, told_isa
+from .heads import form_of_words, told_isa
 from .lines import shown_name
+from .ranges import HALF, WORD, Code, Loaded, Range
 from .steps import Steps, models_fault
 from .tables import EDGES
 from .unedited import Unedited, default_step
@@ -113,6 +114,8 @@ class Request:
         self.program, self.input, self.supp = self.files
         self.isa = options.isa or ISAS[0]
         self.code = options.code
+        self.unit = WORD if self.isa == ISAS[0] else HALF  # each instruction is at a multiple of it
+        self.instructions = {}
         self.elf = None if refusals(self.program.content) else Elf(self.program.content)
         self.ranges, self.notes = [], []
         code = self.code_range(options.code) if options.code is not None else options.code_range
@@ -121,7 +124,7 @@ class Request:
         if not options.tables:
             self.choose(options, bool(options.bytes or not words and not options.at))
         if words:
-            self.ranges.append(Range("words", *words, options.words_values or "skip"))
+            self.ranges.append(self.known(form_of_words(self.isa)("words", *words, options.words_values or "skip")))
         if self.at and not options.tables:
             self.ranges.append(self.steps_range(options.faults, code, options.pairs is not None))
 
@@ -193,25 +196,37 @@ class Request:
         if self.elf is None:
             raise Fault(f"--code {shown_name(name)}: {shown_name(self.program.name)} has no functions that can be read")
         found = {(it.value, self.elf.extent(it)) for it in self.elf.functions
-                 if self.elf.name(it) == name and self.elf.extent(it) >= 4}
+                 if self.elf.name(it) == name and self.elf.extent(it) >= self.unit}
         if not found:
             raise Fault(f"--code {shown_name(name)}: no such function")
         if len(found) > 1:
-            where = "; ".join(f"--words 0x{at:08x}..0x{at + size - 4:08x}" for at, size in sorted(found))
+            where = "; ".join(f"--words 0x{at:08x}..0x{at + size - self.unit:08x}" for at, size in sorted(found))
             raise Fault(f"--code {shown_name(name)}: {len(found)} functions have that name: {where}")
         (at, size), = found
-        return at, at + size // 4 * 4 - 4
+        return at, at + size // self.unit * self.unit - self.unit
+
+    def known(self, it):
+        """A range of instructions with those that the program's file has there; any other range, or one over a file that can't be read, as
+        it is."""
+        if not isinstance(it, Code) or self.elf is None:
+            return it
+        span = it.first, it.last
+        if span not in self.instructions:
+            self.instructions[span] = Loaded(self.elf, *span)
+        return replace(it, known=self.instructions[span])
 
     # ---- what is told of it
 
     @property
     def places(self):
-        return sum(it.size for it in self.ranges)
+        return sum(it.count for it in self.ranges)
 
     def before(self, it, at):
         """The value that stands at a place, None where none does."""
         if it.kind == "bytes":
             return self.input.content[at] if at < len(self.input.content) else None
+        if isinstance(it, Code):
+            return it.before(at)
         return None if self.elf is None or it.kind == "steps" else self.word(at)
 
     def word(self, address):
@@ -235,11 +250,12 @@ class Request:
                 for was in self.input.content[it.first:it.last + 1]:
                     count += len({*EDGES, (was + 1) % 256, (was - 1) % 256} - {was})
             else:
-                count += it.size * it.most
+                count += it.most_edits
         return count
 
     def check_files(self, source):
-        """Refuses a table that isn't of these files, or that is of another instruction set."""
+        """Refuses a table that isn't of these files, or that is of another instruction set. Gives its head the instructions of the
+        program."""
         if source.head.isa != self.isa:
             raise Fault(f"{source}: it is of --isa {source.head.isa}, not of {self.isa}")
         for given_file, was, now in zip(self.files, (it.digest for it in self.files), source.head.files):
@@ -247,6 +263,7 @@ class Request:
                 named = shown_name(given_file.name) or "a file that wasn't given"
                 raise Fault(f"{source}: it has another {named}, {now[0]} bytes with the digest {now[1][:16]}.., not "
                             f"{was[0]} with {was[1][:16]}..: the file was changed, or the table is of another sweep")
+        source.head = source.head.over(self.known)
 
     def check(self, source):
         """Refuses a table that isn't of this request."""

@@ -10,13 +10,14 @@ from dataclasses import dataclass, field
 from replaycheck.endings import Fault, start
 from replaycheck.refusals import with_words
 
+from . import tables
 from .lines import shown_name
 from .merging import sources_in
 
 AGAIN = 2  # so often a part is tried
 REFUSED = (2, 3)  # the statuses with which the program says that it will never do it
 MOST_SAID = 1 << 16
-EDITS = (b"\ninput ", b"\npatch ", b"\nskip ", b"\nflip ", b"\nset ")  # how rows begin
+EDITS = tuple(b"\n" + it for it in tables.EDITS)  # how rows begin
 
 
 class Progress:

@@ -4,6 +4,8 @@ from dataclasses import dataclass
 from itertools import takewhile
 from typing import Iterator, List, Optional, Tuple
 
+from .ranges import Places
+
 LAST_REGISTER, BITS, ONES, BYTE_BITS, ADDRESSES = 31, 32, 0xFFFFFFFF, 8, 1 << 32
 # The fault models, each with what it does: in the order of a place's edits, but that those of `memory` come after the others.
 MODELS = {
@@ -26,7 +28,7 @@ PAIR = re.compile(r"skip ([0-9]+); skip ([0-9]+)")
 
 
 @dataclass(frozen=True)
-class Steps:
+class Steps(Places):
     """Steps of the unedited run, from a first to a last one, at which the machine is altered. `values` are the fault models, as they
     were given, between commas; `code` is the range of pc at which it is, if that is narrowed."""
 
@@ -73,12 +75,14 @@ class Steps:
         return (self.single + (BYTE_BITS * ADDRESSES if self.has_memory else 0)
                 + (self.last - self.first if self.has_pairs else 0))
 
-    def place(self, index):
-        return self.first + index
-
     @staticmethod
     def named(place):
         return str(place)
+
+    @staticmethod
+    def called(place):
+        """A place in words."""
+        return f"step {place}"
 
     @staticmethod
     def line(_, edit):

@@ -139,7 +139,7 @@ class Summary:
             yield from (f"{INDENT}step {step}: {where}" for step, where in self.instructions.told(value))
         before = self.before(it, at) if it.kind == "words" else None
         if before is not None:
-            yield f"{INDENT}was 0x{before:08x}{self.sources.behind(f'0x{at:08x}')}"
+            yield f"{INDENT}was {it.named(before)}{self.sources.behind(f'0x{at:08x}')}"
         for part in outcome.parts:
             yield f"{INDENT}{'  ' if part.text in had else '+ '}{self.sources.told(part)}"
         for part in self.unedited.parts:

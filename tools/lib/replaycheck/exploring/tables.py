@@ -6,14 +6,17 @@ from typing import Dict, List, Union
 
 from replaycheck.reports import LEAK_KINDS, kind_of
 
-from .heads import Head, Range, read_head
+from .heads import Head, read_head
 from .lines import NUMBER, Lines, shown
+from .ranges import NO_OP, WORD, Code, Half, Range, length_of
 from .steps import Steps
 
-ROW = re.compile(rb"(?:input (%b) (%b)|patch (0x[0-9a-f]{8}) (0x[0-9a-f]{8})|((?:skip|flip|set) (%b)(?:[; ][!-~ ]*)?)) (%b)" % (
-    (NUMBER,) * 4))
+ROW = re.compile(rb"(?:input (%b) (%b)|patch (0x[0-9a-f]{8}) (0x[0-9a-f]{8})|patch16 (0x[0-9a-f]{8}) (0x[0-9a-f]{4})"
+                 rb"|((?:skip|flip|set) (%b)(?:[; ][!-~ ]*)?)) (%b)" % ((NUMBER,) * 4))
+# How a row begins.
+EDITS = (b"input ", b"patch ", b"patch16 ", b"skip ", b"flip ", b"set ")
 # What begins a line that isn't one of an outcome.
-NO_OUTCOME = (b"input ", b"patch ", b"skip ", b"flip ", b"set ", b"unedited ")
+NO_OUTCOME = (*EDITS, b"unedited ")
 OUTCOME = re.compile(rb"outcome (%b)" % NUMBER)
 STATE = re.compile(rb"running|exited %b|stopped (?:break|illegal|misaligned) 0x[0-9a-f]{8}|stopped jump" % NUMBER)
 WRITTEN = re.compile(rb"output %b" % NUMBER)
@@ -22,24 +25,29 @@ TALLY = re.compile(rb"tally (%b) (%b)" % (NUMBER, NUMBER))
 END = re.compile(rb"end (%b) (%b) (%b)" % (NUMBER, NUMBER, NUMBER))
 UNEDITED = re.compile(rb"unedited 0")
 EDGES = (0, 1, 0x7F, 0x80, 0xFF)
-NO_OP = 0x13
 MOST_FRAMES, MOST_LINES = 24, 200000
 NO_FRAME = b"Jump to the invalid address stated on the next line"
 
 
 @dataclass
 class Place:
-    """A byte, a word or a step, its number among all places, and its edits: the values, and the numbers of their outcomes. A value of a
-    step is the edit's text."""
+    """A byte, a word, an instruction or a step, its ordinal among all places, and its edits: the values, and the numbers of their outcomes.
+    A value of a step is the edit's text. `length` is how many bytes an instruction has."""
 
     range: Union[Range, Steps]
     at: int
     ordinal: int
+    length: int = WORD
     edits: Dict[Union[int, str], int] = field(default_factory=dict)
 
     @property
     def values(self):
         return list(self.edits)
+
+    @property
+    def last_ordinal(self):
+        """The last ordinal that belongs to the place."""
+        return self.ordinal + self.range.ordinals_of(self.length) - 1
 
 
 # ---- an outcome
@@ -92,16 +100,19 @@ def byte_before(values, edited):
     return None
 
 
-def word_before(values, edited):
-    if values == "flips" and len(edited) == 32:
+def word_before(values, edited, length):
+    """The instruction of so many bytes, or the word, that stood where these values are all the edits of it; None where they aren't, or
+    where that can't be told."""
+    if values == "flips" and len(edited) == 8 * length:
         was = edited[0] ^ 1
-        return was if [was ^ 1 << bit for bit in range(32)] == edited else None
+        return was if [was ^ 1 << bit for bit in range(8 * length)] == edited else None
     return None
 
 
 def value_before(place):
-    before = byte_before if place.range.kind == "bytes" else word_before
-    return before(place.range.values, place.values)
+    if place.range.kind == "bytes":
+        return byte_before(place.range.values, place.values)
+    return word_before(place.range.values, place.values, place.length)
 
 
 def has_all(place):
@@ -109,9 +120,14 @@ def has_all(place):
     values, edited = place.range.values, place.values
     if place.range.kind == "steps":
         return place.range.has_all(place.at, edited)
+    wanted = place.range.wanted(place.at)
+    if wanted is not None:
+        return edited == wanted
     if isinstance(values, str) and values != "skip":
         return value_before(place) is not None
-    wanted = [NO_OP] if values == "skip" else sorted(values) if place.range.kind == "bytes" else list(values)
+    wanted = [NO_OP[place.length]] if values == "skip" else sorted(values) if place.range.kind == "bytes" else list(values)
+    if values != "skip" and place.length != WORD:
+        return False
     return edited == wanted or len(edited) == len(wanted) - 1 and edited == [it for it in wanted if it in set(edited)]
 
 
@@ -156,28 +172,26 @@ class Table:
                 if lines.next.startswith(b"tally ") and tallies[-1] >= 0:
                     return
                 lines.other("an edit, `outcome K` or `tally K COUNT`")
-            outcome = int(found[7])
+            outcome = int(found[9])
             if outcome >= len(tallies) or tallies[-1] < 0 and outcome != len(tallies) - 1:
                 lines.here(f"outcome {len(tallies) - 1} comes here: {shown(lines.next)}")
             tallies[outcome] = tallies[outcome] + 1 if tallies[outcome] >= 0 else 1
             self.edits += 1
-            if found[5]:
-                yield "steps", int(found[6]), found[5].decode(), outcome
-            else:
-                yield ("bytes", int(found[1]), int(found[2]), outcome) if found[1] else (
-                    "words", int(found[3], 16), int(found[4], 16), outcome)
+            yield (*edit_of(found), outcome)
             lines.go_on()
 
-    def places(self):
-        """The places in order, each with its edits, those that have none left out."""
-        last, place = self.head.interval[0] - 1, None
+    def places(self, before=-1, is_last=True):
+        """The places in order, each with its edits, those that have none left out. If the places of the sweep aren't counted, `before` is
+        the last ordinal of the part before, and `is_last` says whether no part comes after."""
+        interval = self.head.interval
+        last, place = interval[0] - 1 if interval else before, None
         for kind, at, value, outcome in self.rows():
-            if place is None or at != place.at or kind != place.range.kind:
+            if place is None or at != place.at or kind != place.range.kind or length_of(value) != place.length:
                 if place:
                     self.close(place)
                     yield place
-                place = self.open(kind, at, last)
-                last = place.ordinal
+                place = self.open(kind, at, value, last)
+                last = place.last_ordinal
             if value in place.edits:
                 again = "" if place.edits[value] == outcome else ", with two outcomes"
                 self.lines.here(f"the edit `{place.range.line(at, value)}` stands there twice{again}")
@@ -187,36 +201,40 @@ class Table:
         if place:
             self.close(place)
             yield place
-        self.none_left_out(last, self.head.interval[1])
+        if interval or is_last:
+            self.none_left_out(last, interval[1] if interval else self.head.places)
         self.read_end()
 
-    def open(self, kind, at, last):
+    def open(self, kind, at, value, last):
         """A place that comes after another one, and is the part's."""
-        before = 0
+        before, interval = 0, self.head.interval
         for it in self.head.ranges:
-            if it.kind == kind and it.start <= at <= it.last and (at - it.start) % it.stride == 0:
+            if it.takes(kind, at, value):
                 ordinal = before + (at - it.start) // it.stride
-                first, end = self.head.interval
-                if not first <= ordinal < end:
+                if interval and not interval[0] <= ordinal < interval[1]:
                     self.lines.here(f"an edit of another part: {shown(self.lines.next)}")
                 if ordinal <= last:
                     self.lines.here(f"an edit out of turn: {shown(self.lines.next)}")
                 self.none_left_out(last, ordinal)
-                return Place(it, at, ordinal)
+                return Place(it, at, ordinal, length_of(value))
             before += it.size
+        if any(isinstance(it, Code) and it.first <= at <= it.last for it in self.head.ranges if kind == "words"):
+            self.lines.here(f"the program has no instruction of {8 * length_of(value)} bits there: {shown(self.lines.next)}")
         return self.lines.here(f"an edit outside of the sweep: {shown(self.lines.next)}")
 
     def none_left_out(self, last, ordinal):
-        """Each byte has edits, unless one value alone is tried, which may be the one that stands there."""
-        if ordinal > last + 1:
-            it, at = self.head.place(last + 1)
-            if it.kind == "bytes" and (isinstance(it.values, str) or len(it.values) > 1):
-                self.lines.here(f"a gap: no edit of byte {at}")
+        """Refuses the next line where a place between two ordinals must have an edit."""
+        before = 0
+        for it in self.head.ranges if ordinal > last + 1 else ():
+            begin, end = max(last + 1 - before, 0), min(ordinal - before, it.size)
+            at = it.first_missing(begin, end) if begin < end else None
+            if at is not None:
+                self.lines.here(f"a gap: no edit of {it.called(at)}")
+            before += it.size
 
     def close(self, place):
         if not has_all(place):
-            self.lines.here(f"a gap, or edits out of turn: those of {place.range.kind[:-1]} "
-                            f"{place.range.named(place.at)} aren't all that values "
+            self.lines.here(f"a gap, or edits out of turn: those of {place.range.called(place.at)} aren't all that values "
                             f"{place.range.values if isinstance(place.range.values, str) else 'of the list'} are")
 
     def read_end(self):
@@ -230,3 +248,12 @@ class Table:
         self.steps = int(found[3])
         if self.lines.next and not self.lines.next.startswith(b"sweep "):
             self.lines.here(f"something behind the end: {shown(self.lines.next)}")
+
+
+def edit_of(found):
+    """The edit that a pattern has found in a row: its kind, place and value."""
+    if found[7]:
+        return "steps", int(found[8]), found[7].decode()
+    if found[1]:
+        return "bytes", int(found[1]), int(found[2])
+    return ("words", int(found[3], 16), int(found[4], 16)) if found[3] else ("words", int(found[5], 16), Half(found[6], 16))

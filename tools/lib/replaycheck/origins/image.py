@@ -1,7 +1,7 @@
 """What the program's file tells of a run: which memory is loaded, and what an instruction does to bytes."""
 import re
 
-from replaycheck.adopting.elf import FUNCTION, Elf, refusals, word_at
+from replaycheck.adopting.elf import FUNCTION, Elf, refusals
 from replaycheck.adopting.halves import expanded, is_half
 from replaycheck.adopting.instructions import AUIPC, IMMEDIATE, LOAD, LUI, REGISTERS, SP, STORE, SYSTEM, opcode, rd
 from replaycheck.endings import Fault
@@ -12,7 +12,7 @@ MOST_MARKED = 1 << 20  # so many bytes one mark may have
 HEAP, STACK_TOP, STACK = 0x40000000, 0x80000000, 0x7F000000
 HEAP_FUNCTIONS = ("malloc", "free", "calloc", "realloc")
 KINDS = {STORE: "store", LOAD: "load", SYSTEM: "call"}
-PATCH = re.compile(r"patch (\S+) (\S+)")
+PATCH = re.compile(r"patch(16)? (\S+) (\S+)")
 MARK = re.compile(r"mark (\S+) (\S+) (\S+) undefined")
 
 
@@ -28,26 +28,24 @@ class Image:
         self.elf = Elf(data)
         self.heap = {it.value: self.elf.name(it) for it in reversed(self.elf.symbols)
                      if it.info & 15 == FUNCTION and self.elf.name(it) in HEAP_FUNCTIONS}
-        self.patched = {int(it[1], 0): int(it[2], 0) for it in filter(None, map(PATCH.fullmatch, lines))}
+        self.patched = halves_of(filter(None, map(PATCH.fullmatch, lines)))
         found = filter(None, map(MARK.fullmatch, lines))
         self.marked = [(int(it[1], 0), int(it[2], 0), int(it[2], 0) + int(it[3], 0), it[0]) for it in found]
 
     def word(self, address):
-        place = self.elf.place(address)
-        return self.patched.get(address, 0 if place is None else word_at(self.elf.data, place))
+        return self.half(address) | self.half(address + 2) << 16
 
     def instruction(self, address):
         """The word of the instruction at an address: of one of 16 bits, that of what it stands for, and 0 if it stands for nothing."""
         if not self.has_halves:
             return self.word(address)
         half = self.half(address)
-        return expanded(half) or 0 if is_half(half) else half | self.half(address + 2) << 16
+        return expanded(half) or 0 if is_half(half) else self.word(address)
 
     def half(self, address):
         """Two bytes at a multiple of 2."""
-        word = self.patched.get(address & ~3)
-        if word is not None:
-            return word >> 8 * (address & 2) & 0xFFFF
+        if address in self.patched:
+            return self.patched[address]
         place = self.elf.place(address, 2)
         return 0 if place is None else int.from_bytes(self.elf.data[place:place + 2], "little")
 
@@ -77,6 +75,16 @@ class Image:
         ranges += [(HEAP, HEAP + reach), (STACK_TOP - min(reach, STACK_TOP - STACK), STACK_TOP)]
         return [(low, min(low + MOST_MARKED, end)) for begin, end in joined(ranges)
                 for low in range(begin, end, MOST_MARKED)]
+
+
+def halves_of(patches):
+    """What patches write, two bytes at each address: a later one over those before it."""
+    found = {}
+    for it in patches:
+        at, value = int(it[2], 0), int(it[3], 0)
+        for place in range(1 if it[1] else 2):
+            found[at + 2 * place] = value >> 16 * place & 0xFFFF
+    return found
 
 
 def joined(ranges):

@@ -147,6 +147,7 @@ changed in check.elf:
         Example("A text that no report has:", "replaycheck when station.elf --input station.input 'exited 7'", status=1)),
     "word": (
         Example("An instruction:", "replaycheck word 'addi a0,a2,4'", "0x00460513\n", needs=ASSEMBLER),
+        Example("An instruction of 16 bits:", "replaycheck word --isa=rv32imc 'c.li a0,1'", "0x4505\n", needs=ASSEMBLER),
         Example("A call of a function, at an address:", "replaycheck word 'jal malloc' --at 0x101e8 --symbols station.elf",
                 "0x730000ef\n", needs=ASSEMBLER)),
 }

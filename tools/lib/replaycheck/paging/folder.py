@@ -10,6 +10,7 @@ from replaycheck.endings import Fault
 from replaycheck.exploring import outcomes, picture
 from replaycheck.guest_files import TOP
 from replaycheck.options import LAST_STEP
+from replaycheck.programs import ISAS
 from replaycheck.refusals import WORDS
 from replaycheck.reports import LEAK_KINDS, TEXTS
 
@@ -29,7 +30,7 @@ def constant(name, value):
 def facts(module):
     """What the page has in common with the tools."""
     return "".join(constant(name, value) for name, value in (
-        ("LAST_STEP", LAST_STEP), ("REFUSALS", WORDS), ("LEAK_KINDS", LEAK_KINDS),
+        ("LAST_STEP", LAST_STEP), ("ISAS", ISAS), ("REFUSALS", WORDS), ("LEAK_KINDS", LEAK_KINDS),
         ("ERROR_KINDS", [(pattern.pattern, name) for pattern, name in TEXTS]),
         ("BADNESS", outcomes.BADNESS), ("FRAMES_TOLD", outcomes.FRAMES_TOLD), ("RUNNING", outcomes.RUNNING),
         ("NEW", picture.NEW), ("OTHER_NEW", picture.OTHER_NEW), ("NOT_NEW", picture.NOT_NEW), ("OTHER", picture.OTHER),
@@ -45,7 +46,7 @@ def examples():
     """The examples that the page offers, with their files."""
     made = []
     for it in json.loads((SOURCES / "examples.json").read_text()):
-        example = {"name": it["name"], "about": " ".join(it["about"]), **({"goal": it["goal"]} if "goal" in it else {})}
+        example = {"name": it["name"], "about": " ".join(it["about"]), **{role: it[role] for role in ("goal", "isa") if role in it}}
         for role in ("program", "input"):
             if role in it:
                 path = EXAMPLES / it[role]

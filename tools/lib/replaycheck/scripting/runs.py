@@ -125,6 +125,14 @@ class Run:
         """Puts another word into the loaded program: an instruction, or the first value of a variable."""
         self.edit(f"patch 0x{self._address(address):x} 0x{number('word', word):08x}")
 
+    def patch16(self, address: Place, half: int) -> None:
+        """Puts another half into the loaded program: an instruction of 16 bits, or half of another one.
+
+        # Errors
+
+        `Refused` with the number 2 if the run's instruction set has no instructions of 16 bits."""
+        self.edit(f"patch16 0x{self._address(address):x} 0x{number('half', half):04x}")
+
     def mark(self, step: int, address: Place, length: int, kind: str) -> int:
         """Marks bytes from a step on as "undefined", "noaccess" or "defined". Returns the number of the mark, for `unmark`."""
         where = f"0x{self._address(address):x} {number('length', length)}"

@@ -2,21 +2,26 @@
 from one to another one take edits back, and begin another session with all of them."""
 from __future__ import annotations
 
-from typing import Dict, FrozenSet, Iterator, List, NamedTuple, Tuple
+from typing import Dict, FrozenSet, Iterator, List, NamedTuple, Optional, Tuple
 
 from replaycheck.sessions import MARKS
 
-EDITS = ("input", "patch", *MARKS, "unmark", "option", "supp")
+EDITS = ("input", "patch", "patch16", *MARKS, "unmark", "option", "supp")
 # The values of options that no line has changed.
 USUAL = {"redzone": "16", "queue": "20000000", "callers": "12", "show": "definite,possible"}
 PART = 4096  # bytes of an input that are compared at a time
+HALF, BITS = 2, 16  # of half a word: bytes and bits
+LOW = (1 << BITS) - 1
+# The halves that patches have written at a multiple of 4, the one at the lower address first: None for one that none has written.
+Halves = Tuple[Optional[int], Optional[int]]
+UNPATCHED: Halves = (None, None)
 
 
 class Scenario(NamedTuple):
     """What a session has after some edits. None of its values is changed: each edit makes another scenario."""
 
     input: bytes
-    words: Dict[int, int] = {}
+    words: Dict[int, Halves] = {}
     marks: Tuple[str, ...] = ()
     options: Dict[str, str] = {}
     added: Tuple[str, ...] = ()  # suppressions after those of the file
@@ -33,7 +38,10 @@ class Scenario(NamedTuple):
             return self._replace(input=input_after(self.input, words))
         if name == "patch":
             at, word = map(number, words)
-            return self._replace(words={**self.words, at: word})
+            return self._replace(words=words_after(self.words, at, [word & LOW, word >> BITS]))
+        if name == "patch16":
+            at, half = map(number, words)
+            return self._replace(words=words_after(self.words, at, [half]))
         if name in MARKS:
             return self._replace(marks=(*self.marks, line))
         if name == "unmark":
@@ -53,8 +61,10 @@ class Scenario(NamedTuple):
     def lines_to(self, other: Scenario, unedited: Dict[int, int]) -> Iterator[str]:
         """Yields lines that lead to another scenario. `unedited` has the words of the program's file where one was patched."""
         yield from input_lines(self.input, other.input)
-        yield from (f"patch 0x{at:x} 0x{unedited[at]:08x}" for at in self.words if at not in other.words)
-        yield from (f"patch 0x{at:x} 0x{word:08x}" for at, word in other.words.items() if self.words.get(at) != word)
+        for at in dict.fromkeys((*self.words, *other.words)):
+            had, wanted = self.words.get(at, UNPATCHED), other.words.get(at, UNPATCHED)
+            if had != wanted:
+                yield from patch_lines(at, had, wanted, unedited)
         same = 0
         while same < min(len(self.marks), len(other.marks)) and self.marks[same] == other.marks[same]:
             same += 1
@@ -67,6 +77,32 @@ class Scenario(NamedTuple):
         yield from (f"supp add {it}" for it in other.added[len(self.added):])
         yield from (f"supp off {index}" for index in sorted(other.off - self.off))
         yield from (f"supp on {index}" for index in sorted(self.off - other.off))
+
+
+def words_after(words: Dict[int, Halves], at: int, halves: List[int]) -> Dict[int, Halves]:
+    """Returns words after halves were written from an address on.
+
+    # Errors
+
+    `ValueError` for an odd address, which no accepted line has."""
+    if at % HALF:
+        raise ValueError(at)
+    after = dict(words)
+    for place, half in zip(range(at, at + HALF * len(halves), HALF), halves):
+        low, high = after.get(place & ~3, UNPATCHED)
+        after[place & ~3] = (low, half) if place & HALF else (half, high)
+    return after
+
+
+def patch_lines(at: int, had: Halves, wanted: Halves, unedited: Dict[int, int]) -> Iterator[str]:
+    """Yields the lines that make halves at a multiple of 4 those of another scenario. One that no patch has written there is as in the
+    file. Where only one of the two was ever patched, that is a line for instructions of 16 bits."""
+    first = (unedited[at] & LOW, unedited[at] >> BITS) if None in wanted else UNPATCHED
+    found = [old if half is None and was is not None else half for half, was, old in zip(wanted, had, first)]
+    if None not in found:
+        yield f"patch 0x{at:x} 0x{found[1] << BITS | found[0]:08x}"
+        return
+    yield from (f"patch16 0x{at + HALF * place:x} 0x{half:04x}" for place, half in enumerate(found) if half is not None)
 
 
 def number(text: str) -> int:

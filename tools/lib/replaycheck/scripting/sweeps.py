@@ -9,6 +9,7 @@ from replaycheck.children import Child, piped
 from replaycheck.endings import Fault
 from replaycheck.exploring import outcomes
 from replaycheck.exploring.lines import BadTable
+from replaycheck.exploring.ranges import HALF, WORD
 from replaycheck.exploring.tables import Table
 from replaycheck.options import USUAL_STEP
 from replaycheck.programs import ISAS, built_program, isa_words
@@ -60,9 +61,9 @@ def sweep(program: Source, input: Optional[Source] = None, suppressions: Optiona
     data = {what: read(what, source) for what, source in there.items()}
     names = {what: name_of(what, source) for what, source in there.items()}
     if function is not None and at is None:
-        words = words_of(data["image"], function, names["image"])
+        words = words_of(data["image"], function, names["image"], isa)
     elif function is not None:
-        code = words_of(data["image"], function, names["image"])
+        code = words_of(data["image"], function, names["image"], isa)
     given = {"bytes": places_of(bytes), "values": values_of(values), "words": places_of(words), "words-values": values_of(words_values),
              "at": places_of(at), "faults": faults if faults is None or isinstance(faults, str) else ",".join(faults),
              "code-range": places_of(code), "pairs": "skip" if pairs else None}
@@ -85,16 +86,17 @@ def values_of(values: Optional[Values]) -> Optional[str]:
     return values if values is None or isinstance(values, str) else ",".join(map(str, values))
 
 
-def words_of(data: bytes, name: str, file: str) -> Optional[str]:
+def words_of(data: bytes, name: str, file: str, isa: str) -> Optional[str]:
     """Returns the words of a function as an option has them; none of a file that the program rejects, which says why."""
     if refusals(data):
         return None
     symbols = Symbols(data, file)
     at = symbols.address(name)
     size = max((symbols.elf.extent(it) for it in symbols.elf.functions if it.value == at), default=0)
-    if size < 4:
+    unit = WORD if isa == ISAS[0] else HALF
+    if size < unit:
         raise Usage(f"{file}: {name} is no function")
-    return f"0x{at:08x}..0x{at + size // 4 * 4 - 4:08x}"
+    return f"0x{at:08x}..0x{at + size // unit * unit - unit:08x}"
 
 
 def rows_of(data: Dict[str, bytes], options: List[str], names: Dict[str, str]) -> Iterator[Tuple[str, Outcome]]:

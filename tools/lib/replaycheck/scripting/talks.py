@@ -164,7 +164,7 @@ class Talk(looking.Run):
             after = self.scenario.after(line)
         except (ValueError, IndexError):
             return None
-        for at in after.words.keys() - self.unedited.keys():
+        for at in after.words.keys() - self.unedited.keys():  # multiples of 4
             if at + 4 > looking.TOP:
                 return None
             self.unedited[at] = self.first_word(at)

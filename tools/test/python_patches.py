@@ -1,0 +1,80 @@
+"""Patches of words and halves by `import replaycheck`, for tools/test/test-python."""
+from __future__ import annotations
+
+import random
+from typing import Callable
+
+import replaycheck
+from replaycheck.guest_files import ENTRY
+from replaycheck.scripting.scenarios import Scenario
+from rows import Rows
+
+SIZE, TURNS = 16, 500
+
+
+def refusal(action: Callable[[], None]) -> int | None:
+    """The number with which an action is rejected, None where it isn't."""
+    try:
+        action()
+    except replaycheck.Refused as fault:
+        return fault.number
+    return None
+
+
+def differs(what: str, found: object, wanted: object) -> list[str]:
+    return [] if found == wanted else [f"{what}: {found!r}, and not {wanted!r}"]
+
+
+def test_halves(rows: Rows, data: bytes) -> None:
+    """Patches of two bytes. For the usual set there are none; for rv32imc, if the program has them, they are taken back."""
+    with replaycheck.Run(data) as run:
+        rows.row("a half for the usual set", differs("number", refusal(lambda: run.patch16("main", 1)), 2))
+    with replaycheck.Run(data, isa="rv32imc") as run:
+        if refusal(lambda: run.edit(f"patch16 {ENTRY} 1")) == 2:
+            rows.left_out("patches of halves", "line `patch16` of the program")
+            return
+        run.patch16("main", 1)
+        before = run.report(9).text
+        with run.edited("patch16 0x10006 0x9002", "patch 0x10002 0x90020001"):
+            run.patch16(ENTRY + 4, 1)
+            wanted = bytes.fromhex("0100010001000290")
+            rows.row("halves over a word", differs("bytes", run.at(0).memory("main", 8).data, wanted))
+            run._talk.drop()
+            rows.row("halves in another session", differs("bytes", run.at(0).memory("main", 8).data, wanted))
+        rows.row("halves that are taken back", differs("text", run.report(9).text, before))
+        for line, number in (("patch16 0x10001 1", 4), ("patch16 0x20000 1", 4), ("patch16 0x10000 0x10000", 2), ("patch16 0x10000", 2)):
+            rows.row(f"rejected: {line}", differs("number", refusal(lambda line=line: run.edit(line)), number))
+
+
+def written(data: bytes, line: str) -> bytes:
+    """Bytes after a patch of them."""
+    name, at, value = line.split(" ")
+    length = 4 if name == "patch" else 2
+    return data[:int(at, 0)] + int(value, 0).to_bytes(length, "little") + data[int(at, 0) + length:]
+
+
+def patched(chosen: random.Random, loaded: bytes, unit: int) -> tuple[Scenario, bytes]:
+    """A scenario with some patches at multiples of a unit, and what they leave."""
+    scenario, data = Scenario(b""), loaded
+    for _ in range(chosen.randrange(5)):
+        is_word = unit == 4 or chosen.randrange(2)
+        line = (f"patch {chosen.randrange(0, SIZE - 3, unit)} {chosen.getrandbits(32)}" if is_word else
+                f"patch16 {chosen.randrange(0, SIZE, 2)} {chosen.getrandbits(16)}")
+        scenario, data = scenario.after(line), written(data, line)
+    return scenario, data
+
+
+def test_patches(rows: Rows) -> None:
+    """The lines from one scenario to another one, with patches of words and halves, lead there."""
+    chosen = random.Random(1)
+    loaded = chosen.randbytes(SIZE)
+    unedited = {at: int.from_bytes(loaded[at:at + 4], "little") for at in range(0, SIZE, 4)}
+    for unit in (2, 4):
+        faults = []
+        for _ in range(TURNS):
+            (before, found), (after, wanted) = patched(chosen, loaded, unit), patched(chosen, loaded, unit)
+            lines = list(before.lines_to(after, unedited))
+            for line in lines:
+                found = written(found, line)
+            faults += [f"{lines}"] if found != wanted or unit == 4 and any("patch16" in it for it in lines) else []
+        rows.row(f"lines between patches at multiples of {unit}", faults)
